@@ -1,0 +1,57 @@
+-- Items one after another.
+use Rattle.std.proofs.Common.{◌≡◌, ℕ, suc, ◌+◌, ◌<◌, Bool, true, false, ◌||◌, nat_lt, List, [], ◌∷◌, ◌++◌, length, get_or, drop, refl, ap, sym, ◌∙◌, add-one, append_assoc, Ok, Err, if◌then◌else◌}
+use Rattle.std.proofs.Math.Seq.{drop-cons}
+use Rattle.qs_script.specs.declared.tree.KindText.{KindText}
+use Rattle.qs_script.specs.declared.tree.KindText.TheVariants.{Account, Buffer, Grid}
+use Rattle.qs_script.specs.declared.tree.Item.{Item}
+use Rattle.qs_script.specs.declared.tree.Item.TheVariants.{Object, Client}
+use Rattle.qs_check.specs.declared.fault.CheckFault.{CheckFault}
+use Rattle.qs_check.specs.declared.fault.CheckFault.TheVariants as f
+use Rattle.qs_check.specs.Numbering.{Name, is_among}
+use Rattle.qs_check.specs.Places.{Scope, Place, Met, number, met, then_at, over, without_variables, with_object, kind_of, kind_places, script_places, Fails}
+use Rattle.qs_check.specs.Resolve.{lists_of}
+use Rattle.qs_check.proofs.Walks.{met-then, fails_first}
+
+-- a walk that has come from s to t, but for the variables of the clients that are over
+module _ (s t : Scope) (all left here later : List Place) (so_far : over (met s all) ≡ over (met t left)) (parts : left ≡ here ++ later) where
+  pub over_fails : (fault : CheckFault) → Fails fault (met t here) → Fails fault (over (met s all))
+  over_fails fault h = λ n. so_far ∙ ap (λ ps. over (met t ps)) parts ∙ ap over (fails_first fault t here later h n)
+
+  pub over_goes_on : (u : Scope) → met t here ≡ Ok u → over (met s all) ≡ over (met u later)
+  over_goes_on u h = so_far ∙ ap (λ ps. over (met t ps)) parts ∙ ap over (met-then t u here later h)
+
+after_object : (b c : Bool) (s : Scope) (next : Scope → Met) → over (next s) ≡ over (next (without_variables s)) → over (then_at (if b then Err f.Twice else (if c then Ok s else Err f.Limit)) next) ≡ over (then_at (if b then Err f.Twice else (if c then Ok (without_variables s) else Err f.Limit)) next)
+after_object true c s next h = refl
+after_object false true s next h = h
+after_object false false s next h = refl
+
+after_number : (b : Bool) (s : Scope) (next : Scope → Met) → over (next s) ≡ over (next (without_variables s)) → over (then_at (if b then Err f.Range else Ok s) next) ≡ over (then_at (if b then Err f.Range else Ok (without_variables s)) next)
+after_number true s next h = refl
+after_number false s next h = h
+
+after_kind : (k : KindText) (s : Scope) (ps : List Place) → over (met s ps) ≡ over (met (without_variables s) ps) → over (met s (kind_places k ++ ps)) ≡ over (met (without_variables s) (kind_places k ++ ps))
+after_kind (Account n) s ps h = after_number (nat_lt n 0 || nat_lt 1000000000000000 n) s (λ t. met t ps) h
+after_kind (Buffer n) s ps h = after_number (nat_lt n 1 || nat_lt 1024 n) s (λ t. met t ps) h
+after_kind (Grid r c) s ps h =
+    after_number (nat_lt r 1 || nat_lt 16 r) s (λ t. met t (number 1 16 c ∷ ps)) (after_number (nat_lt c 1 || nat_lt 16 c) s (λ t. met t ps) h)
+
+-- no item asks for the variables of the client before it
+pub forget : (items : List Item) (s : Scope) → over (met s (script_places items)) ≡ over (met (without_variables s) (script_places items))
+forget [] s = refl
+forget (Client c ∷ rest) s = refl
+forget (Object o ∷ rest) s =
+    let k = kind_of o.kind in
+    after_object (is_among s.objects o.name) (nat_lt (length s.objects) 8) (with_object s o.name k) (λ t. met t (kind_places o.kind ++ script_places rest))
+    (after_kind o.kind (with_object s o.name k) (script_places rest) (forget rest (with_object s o.name k)))
+
+-- the lists of variables of the items from i on, of which the one at i is known
+pub lists_at : (xs : List Item) (i : ℕ) (item : Item) → i < length xs → item ≡ get_or xs i item → lists_of (drop i xs) ≡ lists_of (item ∷ drop (i + 1) xs)
+lists_at xs i item within item_is = rw (drop-cons xs i item within, add-one) (ap (λ x. lists_of (x ∷ drop (suc i) xs)) (sym item_is))
+
+-- one more list of variables, where so many are left
+pub list_added : (first all vs left rest now : List (List Name)) (v : List Name) → first ++ all ≡ vs ++ left → left ≡ v ∷ rest → now ≡ vs ++ v ∷ [] → first ++ all ≡ now ++ rest
+list_added first all vs left rest now v so_far here added =
+    so_far ∙ ap (λ ls. vs ++ ls) here ∙ sym (append_assoc vs (v ∷ []) rest) ∙ ap (λ ls. ls ++ rest) (sym added)
+
+pub list_kept : (first all vs left rest now : List (List Name)) → first ++ all ≡ vs ++ left → left ≡ rest → now ≡ vs → first ++ all ≡ now ++ rest
+list_kept first all vs left rest now so_far here same = so_far ∙ ap (λ ls. vs ++ ls) here ∙ ap (λ ls. ls ++ rest) (sym same)

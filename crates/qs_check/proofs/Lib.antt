@@ -1,0 +1,14 @@
+pub mod StatementLists
+pub mod Loads
+pub mod Walks
+pub mod Resolving
+pub mod Steps
+pub mod Items
+pub mod Found
+pub mod Inner
+pub mod Kept
+pub mod Sounds
+pub mod Scripts
+pub mod Soundness
+pub mod RequestPaths
+pub mod Bounds

@@ -1,0 +1,208 @@
+-- Why a script with no fault makes a sound program: blocks, clients and the whole.
+use Rattle.std.proofs.Common.{◌≡◌, ℕ, suc, ◌+◌, ◌<◌, ◌≤◌, Bool, true, false, ◌||◌, ◌==◌, List, [], ◌∷◌, ◌++◌, length, map, slice_index_or, refl, ap, sym, ◌∙◌, subst, arith, append_assoc, append-nil, length-append, Ok, Err, None, pos}
+use Rattle.std.proofs.Math.ListN.{get_or-append}
+use Rattle.std.proofs.lemmas.List.{length-map}
+use Rattle.std.specs.Cmp.Lexicographic.{same_text}
+use Rattle.std.specs.List.{AllByRecursion, IsDistinct}
+use Rattle.qs_objects.specs.declared.object.Kind.{Kind}
+use Rattle.qs_objects.specs.declared.object.Kind.TheVariants.{Account}
+use Rattle.qs_script.specs.declared.tree.Block.{Block}
+use Rattle.qs_script.specs.declared.tree.ClientItem.{ClientItem}
+use Rattle.qs_script.specs.declared.tree.Item.{Item}
+use Rattle.qs_script.specs.declared.tree.Item.TheVariants.{Object, Client}
+use Rattle.qs_check.specs.declared.program.Declared.{Declared}
+use Rattle.qs_check.specs.Numbering.{Name, same_name, is_among, found_at}
+use Rattle.qs_check.specs.Places.{Scope, Met, separate, listed, met, places, listed_places, block_places, blocks_places, item_places, script_places, start, with_block, with_listed, with_client, kind_of, over, without_variables}
+use Rattle.qs_check.specs.Checked.{first_fault, text_fault}
+use Rattle.qs_check.specs.Program.{ProgramShape, whole_load, whole_weight}
+use Rattle.qs_check.specs.Resolve.{block_of, client_of, clients_of, objects_of, names_of, kinds_of, lists_of, variables_of, resolved}
+use Rattle.qs_check.specs.Sound.{IsSoundBlock, IsSoundClient, IsSound, is_in}
+use Rattle.qs_check.proofs.Found.{apart, same, false_not_true, or_true, is_among-append, is_among-last, found_within, found_append, found_apart}
+use Rattle.qs_check.proofs.Inner.{parted}
+use Rattle.qs_check.proofs.Kept.{block_stays, blocks_stay}
+use Rattle.qs_check.proofs.Scripts.{object_stays, client_stays, few_variables, scripted}
+use Rattle.qs_check.proofs.Sounds.{names, kinds, Known, Here, sound_body}
+use Rattle.qs_check.proofs.Steps.{split, ok_same}
+
+abbrev with_list : Scope → List Name → Scope
+with_list s r = record s { reserved = r }
+
+-- the first name of a list, and the others
+listed_first : (s t : Scope) (n : Name) (ns : List Name) → met s (listed_places (n ∷ ns)) ≡ Ok t → (is_among s.objects n ≡ true) × (is_among s.reserved n ≡ false) × (met (with_listed s n) (listed_places ns) ≡ Ok t)
+listed_first s t n ns h =
+    let w = split s t (listed n) (listed_places ns) h in
+    (w.1.0, w.1.1, ap (λ u. met u (listed_places ns)) (sym w.1.2) ∙ w.2)
+
+list_kept : (ns : List Name) (s t : Scope) → met s (listed_places ns) ≡ Ok t → t ≡ with_list s (s.reserved ++ ns)
+list_kept [] s t h = ok_same s t h ∙ ap (with_list s) (sym (append-nil s.reserved))
+list_kept (n ∷ ns) s t h =
+    let w = listed_first s t n ns h in list_kept ns (with_listed s n) t w.2 ∙ ap (with_list s) (append_assoc s.reserved (n ∷ []) ns)
+
+either : (b first later rest : Bool) → (b ≡ true → first ≡ true) → (later ≡ true → rest ≡ true) → (b || later) ≡ true → (first || rest) ≡ true
+either true first later rest f g h = ap (λ x. x || rest) (f refl)
+either false first later rest f g h = or_true first rest (g h)
+
+module _ (D : List Declared) where
+  number_of : Name → ℕ
+  number_of n = found_at (names D) n
+
+  known_within : (ks : List Kind) (os : List Name) → Known D os ks → (n : Name) → is_among os n ≡ true → found_at (names D) n < length D
+  known_within ks os known n h = let w = found_within (names D) n (known n h).0 in omega (arith, w, length-map D (λ (o : Declared). o.name))
+
+  list_within : (ns : List Name) (s t : Scope) → Known D s.objects s.kinds → met s (listed_places ns) ≡ Ok t → AllByRecursion (λ h. h < length D) (map (found_at (names D)) ns)
+  list_within [] s t known h = tt
+  list_within (n ∷ ns) s t known h =
+      let w = listed_first s t n ns h in
+      (known_within s.kinds s.objects known n w.0, list_within ns (with_listed s n) t known w.2)
+
+  list_apart : (x : Name) (ns : List Name) (s t : Scope) → Known D s.objects s.kinds → is_among s.reserved x ≡ true → is_among (names D) x ≡ true → met s (listed_places ns) ≡ Ok t → AllByRecursion (λ y. (found_at (names D) x == y) ≡ false) (map (found_at (names D)) ns)
+  list_apart x [] s t known old among h = tt
+  list_apart x (n ∷ ns) s t known old among h =
+      let w = listed_first s t n ns h in
+      let other : found_at (names D) x ≡ found_at (names D) n → ⊥ = λ e.
+      let P : Name → Type 0 = λ y. is_among s.reserved y ≡ true in
+      false_not_true (is_among s.reserved n) (subst P (found_apart (names D) x n among (known n w.0).0 e) old) w.1 in
+      (apart (found_at (names D) x) (found_at (names D) n) other, list_apart x ns (with_listed s n) t known (is_among-append s.reserved (n ∷ []) x old) among w.2)
+
+  list_distinct : (ns : List Name) (s t : Scope) → Known D s.objects s.kinds → met s (listed_places ns) ≡ Ok t → IsDistinct ◌==◌ (map (found_at (names D)) ns)
+  unfolding IsDistinct
+  list_distinct [] s t known h = tt
+  list_distinct (n ∷ ns) s t known h =
+      let w = listed_first s t n ns h in
+      (list_apart n ns (with_listed s n) t known (is_among-last s.reserved n) (known n w.0).0 w.2, list_distinct ns (with_listed s n) t known w.2)
+
+  reserving : (ns : List Name) (o : Name) → is_among ns o ≡ true → is_in (map (found_at (names D)) ns) (found_at (names D) o) ≡ true
+  reserving [] o h = cc
+  reserving (n ∷ ns) o h =
+      let number = found_at (names D) in
+      either (same_name o n) (number n == number o) (is_among ns o) (is_in (map number ns) (number o))
+      (λ e. ap (λ y. number n == number y) (same_text o n (sym e)) ∙ same (number n))
+      (reserving ns o) h
+
+  known_after : (s u : Scope) → u.objects ≡ s.objects → u.kinds ≡ s.kinds → Known D s.objects s.kinds → Known D u.objects u.kinds
+  known_after s u e f known =
+      let P : List Name → Type 0 = λ os. Known D os u.kinds in
+      let Q : List Kind → Type 0 = λ ks. Known D s.objects ks in
+      subst P (sym e) (subst Q (sym f) known)
+
+  sound_block : (V : List Name) → length V ≤ 16 → (b : Block) (s t : Scope) → Known D s.objects s.kinds → met s (block_places b) ≡ Ok t → IsSoundBlock D (block_of (names D) (kinds D) V b)
+  sound_block V few b s t known h =
+      let w = split s t separate (listed_places b.reserved ++ places false b.body) h in
+      let s1 = with_block s in
+      let h1 : met s1 (listed_places b.reserved ++ places false b.body) ≡ Ok t = ap (λ u. met u (listed_places b.reserved ++ places false b.body)) (sym w.1.1) ∙ w.2 in
+      let v = parted s1 t (listed_places b.reserved) (places false b.body) h1 in
+      let R = map (found_at (names D)) b.reserved in
+      let P : Scope → Type 0 = λ u. Here D R V few u in
+      let here : P v.0 = subst P (sym (list_kept b.reserved s1 v.0 v.1)) (known, reserving b.reserved) in
+      record {
+        reserved = list_within b.reserved s1 v.0 known v.1;
+        distinct = list_distinct b.reserved s1 v.0 known v.1;
+        body = sound_body D R V few b.body false v.0 t here v.2;
+      }
+
+  sound_blocks : (V : List Name) → length V ≤ 16 → (bs : List Block) (s t : Scope) → Known D s.objects s.kinds → met s (blocks_places bs) ≡ Ok t → AllByRecursion (IsSoundBlock D) (map (block_of (names D) (kinds D) V) bs)
+  sound_blocks V few [] s t known h = tt
+  sound_blocks V few (b ∷ bs) s t known h =
+      let w = parted s t (block_places b) (blocks_places bs) h in
+      let one = (block_stays s w.0 b w.1).1 in
+      (sound_block V few b s w.0 known w.1, sound_blocks V few bs w.0 t (known_after s w.0 one.objects one.kinds known) w.2)
+
+  sound_client : (c : ClientItem) (s t : Scope) → Known D s.objects s.kinds → met s (item_places (Client c)) ≡ Ok t → IsSoundClient D (client_of (names D) (kinds D) c)
+  sound_client c s t known h =
+      let w = (client_stays s t c h).1 in
+      let few = few_variables s t c h in
+      record {
+        variables = few;
+        blocks = rw (length-map c.blocks (block_of (names D) (kinds D) (variables_of c))) (omega (arith, (blocks_stay (with_client s c.name) t c.blocks w).count (omega arith)));
+        each = sound_blocks (variables_of c) few c.blocks (with_client s c.name) t known w;
+      }
+
+  known_of : (os more : List Name) (ks others : List Kind) → names D ≡ os ++ more → kinds D ≡ ks ++ others → length ks ≡ length os → Known D os ks
+  known_of os more ks others e f same_length = λ o h.
+      let P : List Name → Type 0 = λ ns. is_among ns o ≡ true in (
+        subst P (sym e) (is_among-append os more o h),
+        ap (λ K. slice_index_or K (found_at (names D) o) (Account (pos 0))) f
+            ∙ ap (λ ns. slice_index_or (ks ++ others) (found_at ns o) (Account (pos 0))) e
+            ∙ ap (λ i. slice_index_or (ks ++ others) i (Account (pos 0))) (found_append os more o h)
+            ∙ get_or-append ks others (Account (pos 0)) (found_at os o) (omega (arith, found_within os o h, same_length)),
+      )
+
+  sound_items : (items : List Item) (s t : Scope) → names D ≡ s.objects ++ names_of items → kinds D ≡ s.kinds ++ kinds_of items → length s.kinds ≡ length s.objects → met s (script_places items) ≡ Ok t → AllByRecursion (IsSoundClient D) (clients_of (names D) (kinds D) items)
+  sound_items [] s t e f l h = tt
+  sound_items (Object o ∷ rest) s t e f l h =
+      let w = parted s t (item_places (Object o)) (script_places rest) h in
+      let one = (object_stays s w.0 o w.1).1 in
+      sound_items rest w.0 t
+      (e ∙ sym (append_assoc s.objects (o.name ∷ []) (names_of rest)) ∙ ap (λ os. os ++ names_of rest) (sym one.objects))
+      (f ∙ sym (append_assoc s.kinds (kind_of o.kind ∷ []) (kinds_of rest)) ∙ ap (λ ks. ks ++ kinds_of rest) (sym one.kinds))
+      (ap length one.kinds ∙ length-append s.kinds (kind_of o.kind ∷ []) ∙ ap (λ n. n + 1) l ∙ sym (length-append s.objects (o.name ∷ [])) ∙ sym (ap length one.objects))
+      w.2
+  sound_items (Client c ∷ rest) s t e f l h =
+      let w = parted s t (item_places (Client c)) (script_places rest) h in
+      let one = blocks_stay (with_client s c.name) w.0 c.blocks (client_stays s w.0 c w.1).1 in (
+        sound_client c s w.0 (known_of s.objects (names_of (Client c ∷ rest)) s.kinds (kinds_of (Client c ∷ rest)) e f l) w.1,
+        sound_items rest w.0 t
+            (e ∙ ap (λ os. os ++ names_of rest) (sym one.objects))
+            (f ∙ ap (λ ks. ks ++ kinds_of rest) (sym one.kinds))
+            (ap length one.kinds ∙ l ∙ sym (ap length one.objects))
+            w.2,
+      )
+
+length-clients : (os : List Name) (ks : List Kind) (items : List Item) → length (clients_of os ks items) ≡ length (lists_of items)
+length-clients os ks [] = refl
+length-clients os ks (Object o ∷ rest) = length-clients os ks rest
+length-clients os ks (Client c ∷ rest) = ap suc (length-clients os ks rest)
+
+-- the end of a walk over a whole script, but for the variables of the clients that are over
+pub record Walked (items : List Item) (s : Scope) : Type 0 where
+  pub last : Scope
+  pub met_all : met start (script_places items) ≡ Ok last
+  pub objects : s.objects ≡ names_of items
+  pub kinds : s.kinds ≡ kinds_of items
+  pub few_objects : length s.objects ≤ 8
+  pub few_variables : AllByRecursion (λ v. length v ≤ 16) (lists_of items)
+
+over_ok : (m : Met) (s : Scope) → over m ≡ Ok (without_variables s) → (t : Scope) × (m ≡ Ok t) × (without_variables s ≡ without_variables t)
+over_ok (Ok t) s h = (t, refl, ok_same (without_variables t) (without_variables s) h)
+over_ok (Err e) s h = cc
+
+pub walked : (items : List Item) (s : Scope) → over (met start (script_places items)) ≡ Ok (without_variables s) → Walked items s
+walked items s h =
+    let w = over_ok (met start (script_places items)) s h in
+    let all = scripted items start w.0 w.1 in
+    let objects : s.objects ≡ w.0.objects = ap (λ u. u.objects) w.2 in
+    record {
+      last = w.0;
+      met_all = w.1;
+      objects = objects ∙ all.objects;
+      kinds = ap (λ u. u.kinds) w.2 ∙ all.kinds;
+      few_objects = rw (ap length objects) (all.few_objects (omega arith));
+      few_variables = all.few_variables;
+    }
+
+-- a script with no fault in its text, whose load and weight are in their limits
+pub sound : (items : List Item) (t : Scope) → met start (script_places items) ≡ Ok t → whole_load (resolved items) ≤ 100000 → whole_weight (resolved items) ≤ 1000000 → IsSound (resolved items)
+sound items t h load weight =
+    let known = scripted items start t h in
+    let count : length t.objects ≤ 8 = known.few_objects (omega arith) in
+    record {
+      objects = omega (arith, count, ap length known.objects, length-map (objects_of items) (λ (o : Declared). o.name));
+      clients = omega (arith, known.few_clients (omega arith), length-clients (names_of items) (kinds_of items) items);
+      kinds = known.starting;
+      each = sound_items (objects_of items) items start t refl refl refl h;
+      load = load;
+      weight = weight;
+    }
+
+-- no fault in the text, so the walk ends
+walk_ends : (m : Met) → first_fault m None ≡ None → (t : Scope) × (m ≡ Ok t)
+walk_ends (Ok t) h = (t, refl)
+walk_ends (Err e) h = cc
+
+pub sound_text : (items : List Item) (p : ProgramShape) → text_fault items ≡ None → p ≡ resolved items → whole_load p ≤ 100000 → whole_weight p ≤ 1000000 → IsSound p
+sound_text items p h e load weight =
+    let w = walk_ends (met start (script_places items)) h in
+    let P : ProgramShape → Type 0 = λ q. IsSound q in
+    let lighter : whole_load (resolved items) ≤ 100000 = omega (arith, load, ap whole_load e) in
+    let shorter : whole_weight (resolved items) ≤ 1000000 = omega (arith, weight, ap whole_weight e) in
+    subst P (sym e) (sound items w.0 w.1 lighter shorter)

@@ -1,0 +1,154 @@
+-- Why a script with no fault makes a sound program: requests and statements.
+use Rattle.std.proofs.Common.{◌≡◌, ℕ, zero, suc, codes, ◌≤◌, Bool, true, false, List, [], ◌∷◌, ◌++◌, length, map, slice_index_or, Option, Some, None, refl, ap, sym, ◌∙◌, subst, arith, Ok, pos, if◌then◌else◌}
+use Rattle.std.proofs.lemmas.Bool.Decides.{nat_tests}
+use Rattle.std.proofs.lemmas.List.{length-map}
+use Rattle.std.specs.List.{AllByRecursion}
+use Rattle.qs_objects.specs.declared.Op.{Op}
+use Rattle.qs_objects.specs.declared.Op.TheVariants.{Deposit, Withdraw, Balance, Refused, Put, DropFirst, TakeFirst, First, Size, SetCell, AddCell, Fill, GetCell, RowSum}
+use Rattle.qs_objects.specs.declared.object.Kind.{Kind}
+use Rattle.qs_objects.specs.declared.object.Kind.TheVariants.{Account, Buffer, Grid}
+use Rattle.qs_objects.specs.Operations.{is_query, arity, fits}
+use Rattle.qs_script.specs.declared.tree.Atom as text
+use Rattle.qs_script.specs.declared.tree.Atom.TheVariants.{Variable, Number}
+use Rattle.qs_script.specs.declared.tree.Expr as text_expr
+use Rattle.qs_script.specs.declared.tree.Expr.TheVariants.{Plain, Binary}
+use Rattle.qs_script.specs.declared.tree.Test as text_test
+use Rattle.qs_script.specs.declared.tree.Call as text_call
+use Rattle.qs_script.specs.Tree as tree
+use Rattle.qs_check.specs.declared.program.Declared.{Declared}
+use Rattle.qs_check.specs.Numbering.{Name, same_name, is_among, found_at}
+use Rattle.qs_check.specs.Operators.{means, op_of, op_or_refused}
+use Rattle.qs_check.specs.Places.{Scope, Place, number, target, operation, arguments, variable, leaves, met, places, atoms_places, expr_places, test_places, call_places, op_at, is_known, takes}
+use Rattle.qs_check.specs.Program.{no_object}
+use Rattle.qs_check.specs.Resolve.{atom_of, expr_of, test_of, call_of, body_of}
+use Rattle.qs_check.specs.Sound.{IsSoundAtom, IsSoundExpr, IsSoundTest, IsSoundCall, IsSoundBody, is_in}
+use Rattle.qs_check.proofs.Found.{found_small}
+use Rattle.qs_check.proofs.Inner.{Inner, kept, parted, inner_body, inner_call, inner_expr, inner_test}
+use Rattle.qs_check.proofs.Steps.{split}
+
+-- an operation that is known is one of the kind, and a query where one is asked
+abbrev Suits : Bool → Kind → Op → Type 0
+Suits asks kind op = (fits op kind ≡ true) × (is_query op ≡ asks)
+
+by_test : (P : Op → Type 0) (b : Bool) (op : Op) (others : Option Op) → P op → (is_known others ≡ true → P (op_or_refused others)) → is_known (if b then Some op else others) ≡ true → P (op_or_refused (if b then Some op else others))
+by_test P true op others here later h = here
+by_test P false op others here later h = later h
+
+one_of : (P : Op → Type 0) (w word : Name) (op : Op) (others : Option Op) → P op → (is_known others ≡ true → P (op_or_refused others)) → is_known (means w word op others) ≡ true → P (op_or_refused (means w word op others))
+one_of P w word op others = by_test P (same_name w word) op others
+
+none : (P : Op → Type 0) → is_known None ≡ true → P (op_or_refused None)
+none P h = absurd (cc)
+
+suits : (asks : Bool) (kind : Kind) (w : Name) → is_known (op_of asks kind w) ≡ true → Suits asks kind (op_or_refused (op_of asks kind w))
+suits false (Account b) w = let P : Op → Type 0 = Suits false (Account b) in one_of P w (codes "deposit") Deposit (means w (codes "withdraw") Withdraw None) (refl, refl) (one_of P w (codes "withdraw") Withdraw None (refl, refl) (none P))
+suits true (Account b) w = let P : Op → Type 0 = Suits true (Account b) in one_of P w (codes "balance") Balance (means w (codes "refused") Refused None) (refl, refl) (one_of P w (codes "refused") Refused None (refl, refl) (none P))
+suits false (Buffer k) w = let P : Op → Type 0 = Suits false (Buffer k) in one_of P w (codes "put") Put (means w (codes "drop") DropFirst None) (refl, refl) (one_of P w (codes "drop") DropFirst None (refl, refl) (none P))
+suits true (Buffer k) w = let P : Op → Type 0 = Suits true (Buffer k) in one_of P w (codes "take") TakeFirst (means w (codes "front") First (means w (codes "size") Size (means w (codes "refused") Refused None))) (refl, refl) (one_of P w (codes "front") First (means w (codes "size") Size (means w (codes "refused") Refused None)) (refl, refl) (one_of P w (codes "size") Size (means w (codes "refused") Refused None) (refl, refl) (one_of P w (codes "refused") Refused None (refl, refl) (none P))))
+suits false (Grid r c) w = let P : Op → Type 0 = Suits false (Grid r c) in one_of P w (codes "set") SetCell (means w (codes "add") AddCell (means w (codes "fill") Fill None)) (refl, refl) (one_of P w (codes "add") AddCell (means w (codes "fill") Fill None) (refl, refl) (one_of P w (codes "fill") Fill None (refl, refl) (none P)))
+suits true (Grid r c) w = let P : Op → Type 0 = Suits true (Grid r c) in one_of P w (codes "get") GetCell (means w (codes "row") RowSum (means w (codes "refused") Refused None)) (refl, refl) (one_of P w (codes "row") RowSum (means w (codes "refused") Refused None) (refl, refl) (one_of P w (codes "refused") Refused None (refl, refl) (none P)))
+
+taken : (found : Option Op) (n : ℕ) → takes found n ≡ true → n ≡ arity (op_or_refused found)
+taken None n h = absurd (cc)
+taken (Some op) n h = let e : arity op ≡ n = grind (arith, nat_tests) in sym e
+
+pub no_kind : Kind
+no_kind = Account (pos 0)
+
+kind_at : (D : List Declared) (i : ℕ) → (slice_index_or D i no_object).kind ≡ slice_index_or (map (λ (o : Declared). o.kind) D) i (Account (pos 0))
+kind_at [] i = refl
+kind_at (o ∷ D) zero = refl
+kind_at (o ∷ D) (suc i) = kind_at D i
+
+module _ (D : List Declared) where
+  abbrev pub names : List Name
+  names = map (λ (o : Declared). o.name) D
+
+  abbrev pub kinds : List Kind
+  kinds = map (λ (o : Declared). o.kind) D
+
+  -- the objects so far have the same kinds at the end
+  abbrev pub Known : List Name → List Kind → Type 0
+  Known os ks =
+      (o : Name) → is_among os o ≡ true
+      → (is_among names o ≡ true) × (slice_index_or kinds (found_at names o) (Account (pos 0)) ≡ slice_index_or ks (found_at os o) (Account (pos 0)))
+
+  module _ (R : List ℕ) (V : List Name) (few : length V ≤ 16) where
+    abbrev pub Here : Scope → Type 0
+    Here s = Known s.objects s.kinds × ((o : Name) → is_among s.reserved o ≡ true → is_in R (found_at names o) ≡ true)
+
+    here_after : (s u : Scope) (ps : List Place) → Inner ps → met s ps ≡ Ok u → Here s → Here u
+    here_after s u ps i h here = let P : Scope → Type 0 = λ t. Here t in subst P (sym (kept s u ps i h)) here
+
+    sound_atom : (a : text.Atom) → IsSoundAtom (atom_of V a)
+    sound_atom (Variable x) = found_small V x few
+    sound_atom (Number n) = tt
+
+    sound_atoms : (xs : List text.Atom) → AllByRecursion IsSoundAtom (map (atom_of V) xs)
+    sound_atoms [] = tt
+    sound_atoms (a ∷ xs) = (sound_atom a, sound_atoms xs)
+
+    sound_expr : (e : text_expr.Expr) → IsSoundExpr (expr_of V e)
+    sound_expr (Plain a) = sound_atom a
+    sound_expr (Binary a op b) = (sound_atom a, sound_atom b)
+
+    sound_test : (t : text_test.Test) → IsSoundTest (test_of V t)
+    sound_test t = (sound_atom t.left, sound_atom t.right)
+
+    sound_call : (asks : Bool) (c : text_call.Call) (s t : Scope) → Here s → met s (call_places asks c) ≡ Ok t → IsSoundCall D R asks (call_of names kinds V asks c)
+    sound_call asks c s t here h =
+        let o = c.object in
+        let n = length c.args in
+        let a = split s t (target o) (operation asks o c.op ∷ arguments asks o c.op n ∷ atoms_places c.args) h in
+        let b = split a.0 t (operation asks o c.op) (arguments asks o c.op n ∷ atoms_places c.args) a.2 in
+        let d = split b.0 t (arguments asks o c.op n) (atoms_places c.args) b.2 in
+        let known = here.0 o a.1.0 in
+        let op_is : op_at names kinds asks o c.op ≡ op_at s.objects s.kinds asks o c.op = ap (λ k. op_of asks k c.op) known.1 in
+        let at_s : b.0 ≡ s = b.1.1 ∙ a.1.2 in
+        let is_op : is_known (op_at names kinds asks o c.op) ≡ true = ap is_known op_is ∙ ap (λ u. is_known (op_at u.objects u.kinds asks o c.op)) (sym a.1.2) ∙ b.1.0 in
+        let fit : takes (op_at names kinds asks o c.op) n ≡ true = ap (λ x. takes x n) op_is ∙ ap (λ u. takes (op_at u.objects u.kinds asks o c.op) n) (sym at_s) ∙ d.1.0 in
+        let good = suits asks (slice_index_or kinds (found_at names o) (Account (pos 0))) c.op is_op in
+        record {
+          reserves = here.1 o a.1.1;
+          kind = ap (fits (op_or_refused (op_at names kinds asks o c.op))) (kind_at D (found_at names o)) ∙ good.0;
+          query = good.1;
+          arity = length-map c.args (atom_of V) ∙ taken (op_at names kinds asks o c.op) n fit;
+          args = sound_atoms c.args;
+        }
+
+    pub sound_body : (body : tree.Stmts) (inside : Bool) (s t : Scope) → Here s → met s (places inside body) ≡ Ok t → IsSoundBody D R (body_of names kinds V body)
+    sound_body tree.end inside s t here h = tt
+    sound_body (tree.command c rest) inside s t here h =
+        let w = parted s t (call_places false c) (places inside rest) h in
+        (sound_call false c s w.0 here w.1, sound_body rest inside w.0 t (here_after s w.0 (call_places false c) (inner_call false c) w.1 here) w.2)
+    sound_body (tree.query x c rest) inside s t here h =
+        let w = parted s t (variable x ∷ call_places true c) (places inside rest) h in
+        let v = split s w.0 (variable x) (call_places true c) w.1 in
+        let here_v : Here v.0 = let P : Scope → Type 0 = λ u. Here u in subst P (sym v.1.0) here in
+        (found_small V x few, sound_call true c v.0 w.0 here_v v.2, sound_body rest inside w.0 t (here_after s w.0 (variable x ∷ call_places true c) (inner_call true c) w.1 here) w.2)
+    sound_body (tree.assign x e rest) inside s t here h =
+        let w = parted s t (variable x ∷ expr_places e) (places inside rest) h in
+        (found_small V x few, sound_expr e, sound_body rest inside w.0 t (here_after s w.0 (variable x ∷ expr_places e) (inner_expr e) w.1 here) w.2)
+    sound_body (tree.choose q first rest) inside s t here h =
+        let a = parted s t (test_places q) (places inside first ++ places inside rest) h in
+        let b = parted a.0 t (places inside first) (places inside rest) a.2 in
+        let here_a = here_after s a.0 (test_places q) (inner_test q) a.1 here in
+        let here_b = here_after a.0 b.0 (places inside first) (inner_body inside first) b.1 here_a in
+        (sound_test q, sound_body first inside a.0 b.0 here_a b.1, tt, sound_body rest inside b.0 t here_b b.2)
+    sound_body (tree.choose_else q first other rest) inside s t here h =
+        let a = parted s t (test_places q) (places inside first ++ (places inside other ++ places inside rest)) h in
+        let b = parted a.0 t (places inside first) (places inside other ++ places inside rest) a.2 in
+        let d = parted b.0 t (places inside other) (places inside rest) b.2 in
+        let here_a = here_after s a.0 (test_places q) (inner_test q) a.1 here in
+        let here_b = here_after a.0 b.0 (places inside first) (inner_body inside first) b.1 here_a in
+        let here_d = here_after b.0 d.0 (places inside other) (inner_body inside other) d.1 here_b in
+        (sound_test q, sound_body first inside a.0 b.0 here_a b.1, sound_body other inside b.0 d.0 here_b d.1, sound_body rest inside d.0 t here_d d.2)
+    sound_body (tree.again n body rest) inside s t here h =
+        let w = parted s t (number 0 1000 n ∷ places true body) (places inside rest) h in
+        let v = split s w.0 (number 0 1000 n) (places true body) w.1 in
+        let here_v : Here v.0 = let P : Scope → Type 0 = λ u. Here u in subst P (sym v.1.2) here in
+        (v.1.1, sound_body body true v.0 w.0 here_v v.2, sound_body rest inside w.0 t (here_after s w.0 (number 0 1000 n ∷ places true body) (inner_body true body) w.1 here) w.2)
+    sound_body (tree.leave rest) inside s t here h =
+        let v = split s t (leaves inside) (places inside rest) h in
+        let here_v : Here v.0 = let P : Scope → Type 0 = λ u. Here u in subst P (sym v.1) here in
+        sound_body rest inside v.0 t here_v v.2

@@ -1,0 +1,110 @@
+-- What each place has told where it is no fault.
+use Rattle.std.proofs.Common.{◌≡◌, ℕ, ◌<◌, ◌≤◌, Bool, true, false, ◌||◌, nat_lt, List, [], ◌∷◌, ◌++◌, length, refl, ap, ◌∙◌, arith, length-append, Result, Ok, Err, OnOk, if◌then◌else◌}
+use Rattle.std.proofs.lemmas.Bool.Decides.{nat_tests}
+use Rattle.qs_check.specs.declared.fault.CheckFault.{CheckFault}
+use Rattle.qs_check.specs.declared.fault.CheckFault.TheVariants as f
+use Rattle.qs_check.specs.Numbering.{Name, is_among, named}
+use Rattle.qs_check.specs.Places.{Scope, Place, Met, object, number, client, separate, listed, target, operation, arguments, variable, leaves, step, met, then_at, with_object, with_client, with_block, with_listed, with_variable, op_at, is_known, takes, Meets}
+use Rattle.qs_check.specs.Resolve.{variables_at}
+
+-- the scope with other variables
+abbrev pub with_names : Scope → List Name → Scope
+with_names s names = record s { variables = names }
+
+-- what is known before and after a place that is no fault
+abbrev pub Stepped : Scope → Place → Scope → Type 0
+Stepped s (object n k) t = (is_among s.objects n ≡ false) × (length s.objects < 8) × (t ≡ with_object s n k)
+Stepped s (number low high n) t = (low ≤ n) × (n ≤ high) × (t ≡ s)
+Stepped s (client n) t = (length s.clients < 8) × (t ≡ with_client s n)
+Stepped s separate t = (s.blocks < 64) × (t ≡ with_block s)
+Stepped s (listed o) t = (is_among s.objects o ≡ true) × (is_among s.reserved o ≡ false) × (t ≡ with_listed s o)
+Stepped s (target o) t = (is_among s.objects o ≡ true) × (is_among s.reserved o ≡ true) × (t ≡ s)
+Stepped s (operation asks o op) t = (is_known (op_at s.objects s.kinds asks o op) ≡ true) × (t ≡ s)
+Stepped s (arguments asks o op n) t = (takes (op_at s.objects s.kinds asks o op) n ≡ true) × (t ≡ s)
+Stepped s (variable x) t = (t ≡ with_names s (named s.variables x)) × (length s.variables ≤ 16 → length t.variables ≤ 16)
+Stepped s (leaves inside) t = t ≡ s
+
+abbrev pub fine : Scope → Met
+fine s = Ok s
+
+pub ok_same : (s t : Scope) → fine s ≡ Ok t → t ≡ s
+ok_same s t h = cc
+
+then_ok : (b : Bool) (m : Met) (e : CheckFault) (t : Scope) → (if b then m else Err e) ≡ Ok t → (b ≡ true) × (m ≡ Ok t)
+then_ok true m e t h = (refl, h)
+then_ok false m e t h = cc
+
+else_ok : (b : Bool) (m : Met) (e : CheckFault) (t : Scope) → (if b then Err e else m) ≡ Ok t → (b ≡ false) × (m ≡ Ok t)
+else_ok true m e t h = cc
+else_ok false m e t h = (refl, h)
+
+below : (a b : ℕ) → nat_lt a b ≡ true → a < b
+below a b h = grind (arith, nat_tests)
+
+in_range : (low high n : ℕ) → (nat_lt n low || nat_lt high n) ≡ false → (low ≤ n) × (n ≤ high)
+in_range low high n h = (grind (arith, nat_tests), grind (arith, nat_tests))
+
+variable_stepped : (s t : Scope) (x : Name) (b : Bool) → b ≡ is_among s.variables x → (if b then Ok s else (if nat_lt (length s.variables) 16 then Ok (with_variable s x) else Err f.Limit)) ≡ Ok t → (t ≡ with_names s (if b then s.variables else s.variables ++ x ∷ [])) × (length s.variables ≤ 16 → length t.variables ≤ 16)
+variable_stepped s t x true e h = let same = ok_same s t h in (same, λ l. rw (ap (λ u. length u.variables) same) l)
+variable_stepped s t x false e h =
+    let p = then_ok (nat_lt (length s.variables) 16) (Ok (with_variable s x)) f.Limit t h in
+    let same = ok_same (with_variable s x) t p.1 in
+    (same, λ l. rw (ap (λ u. length u.variables) same, length-append) (omega (arith, below _ _ p.0)))
+
+pub stepped : (s t : Scope) (p : Place) → step s p ≡ Ok t → Stepped s p t
+stepped s t (object n k) h =
+    let p = else_ok (is_among s.objects n) (if nat_lt (length s.objects) 8 then Ok (with_object s n k) else Err f.Limit) f.Twice t h in
+    let q = then_ok (nat_lt (length s.objects) 8) (Ok (with_object s n k)) f.Limit t p.1 in
+    (p.0, below _ _ q.0, ok_same _ t q.1)
+stepped s t (number low high n) h =
+    let p = else_ok (nat_lt n low || nat_lt high n) (Ok s) f.Range t h in
+    let r = in_range low high n p.0 in
+    (r.0, r.1, ok_same s t p.1)
+stepped s t (client n) h =
+    let p = else_ok (is_among s.clients n) (if nat_lt (length s.clients) 8 then Ok (with_client s n) else Err f.Limit) f.Twice t h in
+    let q = then_ok (nat_lt (length s.clients) 8) (Ok (with_client s n)) f.Limit t p.1 in
+    (below _ _ q.0, ok_same _ t q.1)
+stepped s t separate h =
+    let q = then_ok (nat_lt s.blocks 64) (Ok (with_block s)) f.Limit t h in (below _ _ q.0, ok_same _ t q.1)
+stepped s t (listed o) h =
+    let p = then_ok (is_among s.objects o) (if is_among s.reserved o then Err f.ReservedTwice else Ok (with_listed s o)) f.UnknownObject t h in
+    let q = else_ok (is_among s.reserved o) (Ok (with_listed s o)) f.ReservedTwice t p.1 in
+    (p.0, q.0, ok_same _ t q.1)
+stepped s t (target o) h =
+    let p = then_ok (is_among s.objects o) (if is_among s.reserved o then Ok s else Err f.NotReserved) f.UnknownObject t h in
+    let q = then_ok (is_among s.reserved o) (Ok s) f.NotReserved t p.1 in
+    (p.0, q.0, ok_same _ t q.1)
+stepped s t (operation asks o op) h =
+    let q = then_ok (is_known (op_at s.objects s.kinds asks o op)) (Ok s) f.UnknownOp t h in (q.0, ok_same s t q.1)
+stepped s t (arguments asks o op n) h =
+    let q = then_ok (takes (op_at s.objects s.kinds asks o op) n) (Ok s) f.Arity t h in (q.0, ok_same s t q.1)
+stepped s t (variable x) h = variable_stepped s t x (is_among s.variables x) refl h
+stepped s t (leaves inside) h = let q = then_ok inside (Ok s) f.LeaveOutside t h in ok_same s t q.1
+
+-- the scope between a place and the others
+pub then_at_ok : (m : Met) (next : Scope → Met) (t : Scope) → then_at m next ≡ Ok t → (u : Scope) × (m ≡ Ok u) × (next u ≡ Ok t)
+then_at_ok (Ok u) next t h = (u, refl, h)
+then_at_ok (Err e) next t h = cc
+
+pub split : (s t : Scope) (p : Place) (ps : List Place) → met s (p ∷ ps) ≡ Ok t → (u : Scope) × Stepped s p u × (met u ps ≡ Ok t)
+split s t p ps h =
+    let w = then_at_ok (step s p) (λ v. met v ps) t h in (w.0, stepped s w.0 p w.1, w.2)
+
+-- the variables that are met are those of the places
+pub variables_met : (s t : Scope) (ps : List Place) → met s ps ≡ Ok t → t.variables ≡ variables_at s.variables ps
+variables_met s t [] h = ap (λ u. u.variables) (ok_same s t h)
+variables_met s t (object n k ∷ ps) h = let w = split s t (object n k) ps h in variables_met w.0 t ps w.2 ∙ ap (λ u. variables_at u.variables ps) w.1.2
+variables_met s t (number low high n ∷ ps) h = let w = split s t (number low high n) ps h in variables_met w.0 t ps w.2 ∙ ap (λ u. variables_at u.variables ps) w.1.2
+variables_met s t (client n ∷ ps) h = let w = split s t (client n) ps h in variables_met w.0 t ps w.2 ∙ ap (λ u. variables_at u.variables ps) w.1.1
+variables_met s t (separate ∷ ps) h = let w = split s t separate ps h in variables_met w.0 t ps w.2 ∙ ap (λ u. variables_at u.variables ps) w.1.1
+variables_met s t (listed o ∷ ps) h = let w = split s t (listed o) ps h in variables_met w.0 t ps w.2 ∙ ap (λ u. variables_at u.variables ps) w.1.2
+variables_met s t (target o ∷ ps) h = let w = split s t (target o) ps h in variables_met w.0 t ps w.2 ∙ ap (λ u. variables_at u.variables ps) w.1.2
+variables_met s t (operation asks o op ∷ ps) h = let w = split s t (operation asks o op) ps h in variables_met w.0 t ps w.2 ∙ ap (λ u. variables_at u.variables ps) w.1.1
+variables_met s t (arguments asks o op n ∷ ps) h = let w = split s t (arguments asks o op n) ps h in variables_met w.0 t ps w.2 ∙ ap (λ u. variables_at u.variables ps) w.1.1
+variables_met s t (variable x ∷ ps) h = let w = split s t (variable x) ps h in variables_met w.0 t ps w.2 ∙ ap (λ u. variables_at u.variables ps) w.1.0
+variables_met s t (leaves inside ∷ ps) h = let w = split s t (leaves inside) ps h in variables_met w.0 t ps w.2 ∙ ap (λ u. variables_at u.variables ps) w.1
+
+-- the same, of a call of the code
+pub variables_meet : {X : Type 0} (r : Result X CheckFault) (s t : Scope) (ps : List Place) → Meets r (met s ps) t → OnOk r (t.variables ≡ variables_at s.variables ps)
+variables_meet (Ok x) s t ps h = variables_met s t ps h
+variables_meet (Err e) s t ps h = tt

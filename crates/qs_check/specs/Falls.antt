@@ -1,0 +1,17 @@
+-- Each inner list has fewer statements than the list that it stands in.
+use Rattle.std.specs.Prelude.{ℕ, ◌≤◌, max, List, [], ◌∷◌}
+use Rattle.std.proofs.Common.{arith}
+use denote.Param.Weighed.{most}
+use Rattle.qs_check.specs.declared.code.Stmt.{Stmt}
+use Rattle.qs_check.specs.declared.code.Stmt.TheVariants.{Command, Query, Assign, If, Repeat, Leave}
+use Rattle.qs_check.specs.declared.code.Body.TheDeep.{deep-Stmt}
+use Rattle.qs_check.specs.Views.{statements_of, size_of}
+
+pub falls : (xs : List Stmt) → max (most deep-Stmt xs) 0 ≤ size_of (statements_of xs)
+falls [] = omega arith
+falls (Command c ∷ xs) = omega (arith, falls xs)
+falls (Query x c ∷ xs) = omega (arith, falls xs)
+falls (Assign x e ∷ xs) = omega (arith, falls xs)
+falls (If t b first other ∷ xs) = omega (arith, falls xs)
+falls (Repeat n body ∷ xs) = omega (arith, falls xs)
+falls (Leave ∷ xs) = omega (arith, falls xs)

@@ -1,0 +1,203 @@
+-- The places of a script where something may be wrong, in text order, and what is wrong at each.
+use Rattle.std.specs.Prelude.{◌≡◌, ◌≢◌, ℕ, ◌+◌, Bool, true, false, ◌||◌, nat_lt, nat_eq, if◌then◌else◌, List, [], ◌∷◌, ◌++◌, length, slice_index_or, Option, Some, None, Result, Ok, Err, pos}
+use Rattle.qs_objects.specs.declared.Op.{Op}
+use Rattle.qs_objects.specs.declared.object.Kind.{Kind}
+use Rattle.qs_objects.specs.declared.object.Kind.TheVariants as k
+use Rattle.qs_objects.specs.Operations.{arity}
+use Rattle.qs_script.specs.declared.tree.Atom.{Atom}
+use Rattle.qs_script.specs.declared.tree.Atom.TheVariants.{Variable, Number}
+use Rattle.qs_script.specs.declared.tree.Expr.{Expr}
+use Rattle.qs_script.specs.declared.tree.Expr.TheVariants.{Plain, Binary}
+use Rattle.qs_script.specs.declared.tree.Test.{Test}
+use Rattle.qs_script.specs.declared.tree.Call.{Call}
+use Rattle.qs_script.specs.declared.tree.Block.{Block}
+use Rattle.qs_script.specs.declared.tree.KindText.{KindText}
+use Rattle.qs_script.specs.declared.tree.KindText.TheVariants.{Account, Buffer, Grid}
+use Rattle.qs_script.specs.declared.tree.Item.{Item}
+use Rattle.qs_script.specs.declared.tree.Item.TheVariants.{Object, Client}
+use Rattle.qs_script.specs.Tree.{Stmts, end, command, query, assign, choose, choose_else, again, leave}
+use Rattle.qs_check.specs.declared.fault.CheckFault.{CheckFault}
+use Rattle.qs_check.specs.declared.fault.CheckFault.TheVariants as f
+use Rattle.qs_check.specs.Numbering.{Name, is_among, found_at}
+use Rattle.qs_check.specs.Operators.{op_of}
+
+-- what is known at a place: the objects declared so far with their kinds, the clients so far,
+-- how many blocks and which variables the current client has so far, and the current block's list so far
+pub record Scope : Type 0 where
+  pub objects : List Name
+  pub kinds : List Kind
+  pub clients : List Name
+  pub blocks : ℕ
+  pub variables : List Name
+  pub reserved : List Name
+
+pub data Place : Type 0 where
+  -- an object's name
+  object : (name : Name) → Kind → Place
+  -- a number with a range: of a kind, or of a repeat
+  number : (low high : ℕ) → (n : ℕ) → Place
+  -- a client's name
+  client : (name : Name) → Place
+  -- the beginning of a block
+  separate : Place
+  -- a name of a block's list
+  listed : (object : Name) → Place
+  -- a request's object, its operation, and the number of its arguments; a query asks, a command does not
+  target : (object : Name) → Place
+  operation : (asks : Bool) → (object op : Name) → Place
+  arguments : (asks : Bool) → (object op : Name) → (count : ℕ) → Place
+  -- a variable, assigned or read
+  variable : (name : Name) → Place
+  -- a leave, inside a repeat or not
+  leaves : (inside : Bool) → Place
+
+abbrev pub Met : Type 0
+Met = Result Scope CheckFault
+
+-- the operation that a declared object has under a word
+abbrev pub op_at : List Name → List Kind → Bool → Name → Name → Option Op
+op_at objects kinds asks o op = op_of asks (slice_index_or kinds (found_at objects o) (k.Account (pos 0))) op
+
+abbrev pub is_known : Option Op → Bool
+is_known None = false
+is_known (Some op) = true
+
+abbrev pub takes : Option Op → ℕ → Bool
+takes None n = false
+takes (Some op) n = nat_eq (arity op) n
+
+-- what is known after each of the places that tell something
+abbrev pub with_object : Scope → Name → Kind → Scope
+with_object s n kind = record s { objects = s.objects ++ n ∷ []; kinds = s.kinds ++ kind ∷ [] }
+
+abbrev pub with_client : Scope → Name → Scope
+with_client s n = record s { clients = s.clients ++ n ∷ []; blocks = 0; variables = []; reserved = [] }
+
+abbrev pub with_block : Scope → Scope
+with_block s = record s { blocks = s.blocks + 1; reserved = [] }
+
+abbrev pub with_listed : Scope → Name → Scope
+with_listed s o = record s { reserved = s.reserved ++ o ∷ [] }
+
+abbrev pub with_variable : Scope → Name → Scope
+with_variable s x = record s { variables = s.variables ++ x ∷ [] }
+
+-- what is known after a client, whose variables are its own
+abbrev pub without_variables : Scope → Scope
+without_variables s = record s { variables = [] }
+
+-- the faults of each place in their order, and else what is known after it: at most 8 objects and 8 clients,
+-- 64 blocks and 16 variables of a client
+abbrev pub step : Scope → Place → Met
+step s (object n kind) =
+    if is_among s.objects n then Err f.Twice
+    else (if nat_lt (length s.objects) 8 then Ok (with_object s n kind) else Err f.Limit)
+step s (number low high n) = if nat_lt n low || nat_lt high n then Err f.Range else Ok s
+step s (client n) =
+    if is_among s.clients n then Err f.Twice
+    else (if nat_lt (length s.clients) 8 then Ok (with_client s n) else Err f.Limit)
+step s separate = if nat_lt s.blocks 64 then Ok (with_block s) else Err f.Limit
+step s (listed o) =
+    if is_among s.objects o then (if is_among s.reserved o then Err f.ReservedTwice else Ok (with_listed s o))
+    else Err f.UnknownObject
+step s (target o) =
+    if is_among s.objects o then (if is_among s.reserved o then Ok s else Err f.NotReserved)
+    else Err f.UnknownObject
+step s (operation asks o op) = if is_known (op_at s.objects s.kinds asks o op) then Ok s else Err f.UnknownOp
+step s (arguments asks o op n) = if takes (op_at s.objects s.kinds asks o op) n then Ok s else Err f.Arity
+step s (variable x) =
+    if is_among s.variables x then Ok s
+    else (if nat_lt (length s.variables) 16 then Ok (with_variable s x) else Err f.Limit)
+step s (leaves inside) = if inside then Ok s else Err f.LeaveOutside
+
+abbrev pub then_at : Met → (Scope → Met) → Met
+then_at (Ok s) next = next s
+then_at (Err e) next = Err e
+
+-- the first fault, or what is known at the end
+abbrev pub met : Scope → List Place → Met
+met s [] = Ok s
+met s (p ∷ ps) = then_at (step s p) (λ t. met t ps)
+
+abbrev pub atom_places : Atom → List Place
+atom_places (Variable x) = variable x ∷ []
+atom_places (Number z) = []
+
+-- the places of each element of a list, one after another
+abbrev pub at_each : {A : Type 0} → (A → List Place) → List A → List Place
+at_each f [] = []
+at_each f (x ∷ xs) = f x ++ at_each f xs
+
+abbrev pub atoms_places : List Atom → List Place
+atoms_places = at_each atom_places
+
+abbrev pub expr_places : Expr → List Place
+expr_places (Plain a) = atom_places a
+expr_places (Binary a op b) = atom_places a ++ atom_places b
+
+abbrev pub test_places : Test → List Place
+test_places t = atom_places t.left ++ atom_places t.right
+
+-- a request's object, its operation and the number of its arguments: a query asks, a command does not
+abbrev pub request_places : Bool → Name → Name → ℕ → List Place
+request_places asks o op n = target o ∷ operation asks o op ∷ arguments asks o op n ∷ []
+
+abbrev pub call_places : Bool → Call → List Place
+call_places asks c = request_places asks c.object c.op (length c.args) ++ atoms_places c.args
+
+-- the places of statements, inside a repeat or not
+abbrev pub places : Bool → Stmts → List Place
+places inside end = []
+places inside (command c rest) = call_places false c ++ places inside rest
+places inside (query x c rest) = variable x ∷ (call_places true c ++ places inside rest)
+places inside (assign x e rest) = variable x ∷ (expr_places e ++ places inside rest)
+places inside (choose t first rest) = test_places t ++ (places inside first ++ places inside rest)
+places inside (choose_else t first other rest) =
+    test_places t ++ (places inside first ++ (places inside other ++ places inside rest))
+places inside (again n body rest) = number 0 1000 n ∷ (places true body ++ places inside rest)
+places inside (leave rest) = leaves inside ∷ places inside rest
+
+abbrev pub listed_places : List Name → List Place
+listed_places = at_each (λ o. listed o ∷ [])
+
+abbrev pub block_places : Block → List Place
+block_places b = separate ∷ (listed_places b.reserved ++ places false b.body)
+
+abbrev pub blocks_places : List Block → List Place
+blocks_places = at_each block_places
+
+-- a kind with its numbers
+abbrev pub kind_of : KindText → Kind
+kind_of (Account n) = k.Account (pos n)
+kind_of (Buffer n) = k.Buffer (pos n)
+kind_of (Grid r c) = k.Grid (pos r) (pos c)
+
+abbrev pub kind_places : KindText → List Place
+kind_places (Account n) = number 0 1000000000000000 n ∷ []
+kind_places (Buffer n) = number 1 1024 n ∷ []
+kind_places (Grid r c) = number 1 16 r ∷ number 1 16 c ∷ []
+
+abbrev pub item_places : Item → List Place
+item_places (Object o) = object o.name (kind_of o.kind) ∷ kind_places o.kind
+item_places (Client c) = client c.name ∷ blocks_places c.blocks
+
+-- the places of a whole script
+abbrev pub script_places : List Item → List Place
+script_places = at_each item_places
+
+-- nothing is known at the start
+abbrev pub start : Scope
+start = record { objects = []; kinds = []; clients = []; blocks = 0; variables = []; reserved = [] }
+
+-- what is met, when the last client is over
+abbrev pub over : Met → Met
+over (Ok s) = Ok (without_variables s)
+over (Err fault) = Err fault
+
+-- what a call of the code says: the first fault, or the scope that it leaves; want of memory says nothing
+abbrev pub Fails : CheckFault → Met → Type 0
+Fails fault m = fault ≢ f.Memory → m ≡ Err fault
+
+abbrev pub Meets : {X : Type 0} → Result X CheckFault → Met → Scope → Type 0
+Meets (Ok x) m s = m ≡ Ok s
+Meets (Err fault) m s = Fails fault m

@@ -1,0 +1,106 @@
+-- Scripts with each name replaced by its number.
+use Rattle.std.specs.Prelude.{Bool, true, false, List, [], ◌∷◌, map}
+use Rattle.qs_objects.specs.declared.object.Kind.{Kind}
+use Rattle.qs_script.specs.Tree as tree
+use Rattle.qs_script.specs.declared.tree.Atom as text
+use Rattle.qs_script.specs.declared.tree.Atom.TheVariants as atoms
+use Rattle.qs_script.specs.declared.tree.Expr as text_expr
+use Rattle.qs_script.specs.declared.tree.Expr.TheVariants as exprs
+use Rattle.qs_script.specs.declared.tree.Test as text_test
+use Rattle.qs_script.specs.declared.tree.Call as text_call
+use Rattle.qs_script.specs.declared.tree.Block as text_block
+use Rattle.qs_script.specs.declared.tree.ClientItem.{ClientItem}
+use Rattle.qs_script.specs.declared.tree.Item.{Item}
+use Rattle.qs_script.specs.declared.tree.Item.TheVariants as items
+use Rattle.qs_check.specs.declared.code.Atom.{Atom}
+use Rattle.qs_check.specs.declared.code.Atom.TheVariants.{Variable, Number}
+use Rattle.qs_check.specs.declared.code.Expr.{Expr}
+use Rattle.qs_check.specs.declared.code.Expr.TheVariants.{Plain, Binary}
+use Rattle.qs_check.specs.declared.code.Test.{Test}
+use Rattle.qs_check.specs.declared.code.Call.{Call}
+use Rattle.qs_check.specs.declared.program.Declared.{Declared}
+use Rattle.qs_check.specs.Numbering.{Name, named, found_at}
+use Rattle.qs_check.specs.Operators.{op_or_refused}
+use Rattle.qs_check.specs.Statements.{Statements, end, command, query, assign, choose, again, leave}
+use Rattle.qs_check.specs.Program.{BlockShape, ClientShape, ProgramShape}
+use Rattle.qs_check.specs.Places.{Place, object, number, client, separate, listed, target, operation, arguments, variable, leaves, op_at, kind_of, blocks_places}
+
+-- variables by the list of the client's
+module _ (variables : List Name) where
+  abbrev pub atom_of : text.Atom → Atom
+  atom_of (atoms.Variable x) = Variable (found_at variables x)
+  atom_of (atoms.Number z) = Number z
+
+  abbrev pub expr_of : text_expr.Expr → Expr
+  expr_of (exprs.Plain a) = Plain (atom_of a)
+  expr_of (exprs.Binary a op b) = Binary (atom_of a) op (atom_of b)
+
+  abbrev pub test_of : text_test.Test → Test
+  test_of t = record { left = atom_of t.left; relation = t.relation; right = atom_of t.right }
+
+-- objects and their kinds by the lists of the program's
+module _ (objects : List Name) (kinds : List Kind) (variables : List Name) where
+  abbrev pub call_of : Bool → text_call.Call → Call
+  call_of asks c = record { object = found_at objects c.object; op = op_or_refused (op_at objects kinds asks c.object c.op); args = map (atom_of variables) c.args }
+
+  abbrev pub body_of : tree.Stmts → Statements
+  body_of tree.end = end
+  body_of (tree.command c rest) = command (call_of false c) (body_of rest)
+  body_of (tree.query x c rest) = query (found_at variables x) (call_of true c) (body_of rest)
+  body_of (tree.assign x e rest) = assign (found_at variables x) (expr_of variables e) (body_of rest)
+  body_of (tree.choose t first rest) = choose (test_of variables t) false (body_of first) end (body_of rest)
+  body_of (tree.choose_else t first other rest) = choose (test_of variables t) true (body_of first) (body_of other) (body_of rest)
+  body_of (tree.again n body rest) = again n (body_of body) (body_of rest)
+  body_of (tree.leave rest) = leave (body_of rest)
+
+  abbrev pub block_of : text_block.Block → BlockShape
+  block_of b = record { reserved = map (found_at objects) b.reserved; body = body_of b.body }
+
+-- the client's variables after these places, in the order of their first appearance; a new client has none yet
+abbrev pub variables_at : List Name → List Place → List Name
+variables_at names [] = names
+variables_at names (object n kind ∷ ps) = variables_at names ps
+variables_at names (number low high n ∷ ps) = variables_at names ps
+variables_at names (client n ∷ ps) = variables_at [] ps
+variables_at names (separate ∷ ps) = variables_at names ps
+variables_at names (listed o ∷ ps) = variables_at names ps
+variables_at names (target o ∷ ps) = variables_at names ps
+variables_at names (operation asks o op ∷ ps) = variables_at names ps
+variables_at names (arguments asks o op n ∷ ps) = variables_at names ps
+variables_at names (variable x ∷ ps) = variables_at (named names x) ps
+variables_at names (leaves inside ∷ ps) = variables_at names ps
+
+abbrev pub variables_of : ClientItem → List Name
+variables_of c = variables_at [] (blocks_places c.blocks)
+
+abbrev pub client_of : List Name → List Kind → ClientItem → ClientShape
+client_of objects kinds c =
+    let variables = variables_of c in
+    record { name = c.name; variables = variables; blocks = map (block_of objects kinds variables) c.blocks }
+
+-- the objects of a script, in text order
+abbrev pub objects_of : List Item → List Declared
+objects_of [] = []
+objects_of (items.Object o ∷ rest) = record { name = o.name; kind = kind_of o.kind } ∷ objects_of rest
+objects_of (items.Client c ∷ rest) = objects_of rest
+
+abbrev pub names_of : List Item → List Name
+names_of is = map (λ o. o.name) (objects_of is)
+
+abbrev pub kinds_of : List Item → List Kind
+kinds_of is = map (λ o. o.kind) (objects_of is)
+
+abbrev pub clients_of : List Name → List Kind → List Item → List ClientShape
+clients_of objects kinds [] = []
+clients_of objects kinds (items.Object o ∷ rest) = clients_of objects kinds rest
+clients_of objects kinds (items.Client c ∷ rest) = client_of objects kinds c ∷ clients_of objects kinds rest
+
+-- each client's variables, in text order
+abbrev pub lists_of : List Item → List (List Name)
+lists_of [] = []
+lists_of (items.Object o ∷ rest) = lists_of rest
+lists_of (items.Client c ∷ rest) = variables_of c ∷ lists_of rest
+
+-- a whole script by number
+abbrev pub resolved : List Item → ProgramShape
+resolved is = record { objects = objects_of is; clients = clients_of (names_of is) (kinds_of is) is }

@@ -1,0 +1,104 @@
+//! Checks of whole scripts.
+
+ghost use Rattle.std.specs.Prelude.{◌≡◌, ◌≢◌, ◌≤◌, [], ◌∷◌, ◌++◌, OnOk, MatchResult};
+ghost use Rattle.qs_check.specs.Checked.{IsCheckOf, text_fault, excess_of, shape_of};
+ghost use Rattle.qs_check.specs.Places.{Meets, met, over, without_variables, script_places};
+ghost use Rattle.qs_check.specs.Resolve.{resolved as resolved_of, lists_of};
+ghost use Rattle.qs_check.specs.Program.{whole_load, whole_weight};
+ghost use Rattle.qs_check.specs.Sound.{IsSound};
+
+use crate::fault::CheckFault;
+use crate::names::Names;
+use crate::program::{Client, Declared, Program};
+use crate::resolve::{resolve_clients, resolve_objects};
+use crate::scope::Scope;
+use crate::totals::{all_load, all_weight};
+use crate::walk::{check_client, check_object};
+use qs_script::{Item, Script};
+use std::alloc::{AllocError, Global};
+use std::collections::VecDeque;
+
+// The objects and clients of a script whose text has no fault.
+#[derive(Drop)]
+struct Resolved {
+    objects: Vec<Declared>,
+    clients: Vec<Client>,
+}
+
+/// Checks a script and replaces each name by its number. `Ok` exactly where the script has no fault; else the first fault
+/// in text order, then `Load`, then `Weight`. `Memory` where a growth was refused, at any place. An error leaves nothing.
+pub fn check(alloc: Global, script: Script) -> Result<Program, CheckFault>
+    ensures check { IsCheckOf script result }
+{
+    let resolved = resolve(alloc, script.as_slice())?;
+    sized(resolved)
+}
+
+// Checks the text of a script and replaces its names.
+fn resolve(alloc: Global, items: &[Item]) -> Result<Resolved, CheckFault>
+    ensures text { MatchResult result
+        (λ r. (text_fault items.now ≡ None) × (shape_of r ≡ resolved_of items.now))
+        (λ fault. fault ≢ CheckFault.Memory → text_fault items.now ≡ Some fault) }
+{
+    let mut scope = Scope::new(alloc);
+    let mut variables = VecDeque::new(alloc);
+    check_items(alloc, &mut scope, &mut variables, items)?;
+    let objects = resolve_objects(alloc, items)?;
+    let clients = resolve_clients(alloc, scope.objects(), scope.kinds(), variables, items)?;
+    Ok(Resolved { objects, clients })
+}
+
+// Tests the load, then the weight.
+fn sized(resolved: Resolved) -> Result<Program, CheckFault>
+    requires sound { whole_load (shape_of resolved) ≤ 100000 → whole_weight (shape_of resolved) ≤ 1000000 → IsSound (shape_of resolved) }
+    ensures size { MatchResult result
+        (λ p. (excess_of (shape_of resolved) ≡ None) × (p ≡ shape_of resolved))
+        (λ fault. excess_of (shape_of resolved) ≡ Some fault) }
+{
+    let load = all_load(resolved.clients.as_slice());
+    if load > 100_000 {
+        return Err(CheckFault::Load);
+    }
+    let weight = all_weight(resolved.clients.as_slice());
+    if weight > 1_000_000 {
+        return Err(CheckFault::Weight);
+    }
+    Ok(Program {
+        objects: resolved.objects,
+        clients: resolved.clients,
+        load,
+        weight,
+    })
+}
+
+// Checks the items of a script, and gathers each client's variables.
+fn check_items(
+    alloc: Global,
+    scope: &mut Scope,
+    variables: &mut VecDeque<Names>,
+    items: &[Item],
+) -> Result<(), CheckFault>
+    ensures meets { Meets result (over (met scope.old (script_places items.now))) (without_variables scope.new) }
+    ensures variables { OnOk result (variables.new.items ≡ variables.old.items ++ lists_of items.now) }
+{
+    for item in items {
+        match item {
+            Item::Object(object) => check_object(scope, object)?,
+            Item::Client(client) => {
+                check_client(alloc, scope, client)?;
+                add_variables(variables, scope.end_client(alloc))?;
+            }
+        }
+    }
+    Ok(())
+}
+
+fn add_variables(all: &mut VecDeque<Names>, variables: Names) -> Result<(), AllocError>
+    ensures added { OnOk result (all.new.items ≡ all.old.items ++ variables ∷ []) }
+{
+    all.push_back(variables)?;
+    Ok(())
+}
+
+#[cfg(test)]
+mod tests;

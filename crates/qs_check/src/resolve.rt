@@ -1,0 +1,262 @@
+//! From names to numbers.
+
+ghost use Rattle.std.specs.Prelude.{◌≡◌, ◌≤◌, ◌<◌, IfOk, length, map};
+ghost use Rattle.std.specs.List.{AllByRecursion};
+ghost use Rattle.qs_script.specs.Views.{single as single_text};
+ghost use Rattle.qs_check.specs.Numbering.{found_at};
+ghost use Rattle.qs_check.specs.Resolve.{atom_of, expr_of, test_of, call_of, body_of, block_of, client_of, clients_of, objects_of, lists_of};
+ghost use Rattle.qs_check.specs.Views.{single};
+
+use crate::code::{Atom, Atoms, Body, Call, Expr, Stmt, Test};
+use crate::names::Names;
+use crate::operators::find_op;
+use crate::program::{Block, Client, Declared};
+use crate::scope::kind_at;
+use crate::walk::kind_value;
+use qs_objects::{Kind, Op};
+use qs_script::{ClientItem, Item, Name};
+use std::alloc::{AllocError, Global};
+use std::collections::VecDeque;
+
+// The objects of a script, in text order.
+pub(crate) fn resolve_objects(alloc: Global, items: &[Item]) -> Result<Vec<Declared>, AllocError>
+    ensures objects { IfOk result (λ v. v.items ≡ objects_of items.now) }
+{
+    let mut objects = Vec::new(alloc);
+    for item in items {
+        if let Item::Object(object) = item {
+            objects.push(Declared {
+                name: object.name.copied(),
+                kind: kind_value(&object.kind),
+            })?;
+        }
+    }
+    Ok(objects)
+}
+
+// The clients of a script in text order, by the names and kinds of all its objects and the lists of its clients' variables.
+pub(crate) fn resolve_clients(
+    alloc: Global,
+    objects: &Names,
+    kinds: &[Kind],
+    mut variables: VecDeque<Names>,
+    items: &[Item],
+) -> Result<Vec<Client>, AllocError>
+    requires objects { length objects.now ≤ 8 }
+    requires variables { variables.items ≡ lists_of items.now }
+    requires limit { AllByRecursion (λ v. length v ≤ 16) variables.items }
+    ensures clients { IfOk result (λ v. v.items ≡ clients_of objects.now kinds.now items.now) }
+{
+    let mut clients = Vec::new(alloc);
+    for item in items {
+        if let Item::Client(client) = item {
+            let Some(names) = variables.pop_front() else {
+                unreachable!()
+            };
+            clients.push(resolve_client(alloc, objects, kinds, names, client)?)?;
+        }
+    }
+    Ok(clients)
+}
+
+fn resolve_client(
+    alloc: Global,
+    objects: &Names,
+    kinds: &[Kind],
+    variables: Names,
+    item: &ClientItem,
+) -> Result<Client, AllocError>
+    requires objects { length objects.now ≤ 8 }
+    requires variables { length variables ≤ 16 }
+    ensures name { IfOk result (λ c. c.name ≡ item.now.name) }
+    ensures variables { IfOk result (λ c. c.variables ≡ variables) }
+    ensures blocks { IfOk result (λ c. c.blocks ≡ map (block_of objects.now kinds.now variables) item.now.blocks) }
+{
+    let blocks = resolve_blocks(alloc, objects, kinds, &variables, item.blocks.as_slice())?;
+    Ok(Client {
+        name: item.name.copied(),
+        variables,
+        blocks,
+    })
+}
+
+fn resolve_blocks(
+    alloc: Global,
+    objects: &Names,
+    kinds: &[Kind],
+    variables: &Names,
+    blocks: &[qs_script::Block],
+) -> Result<Vec<Block>, AllocError>
+    requires objects { length objects.now ≤ 8 }
+    requires variables { length variables.now ≤ 16 }
+    ensures blocks { IfOk result (λ v. v.items ≡ map (block_of objects.now kinds.now variables.now) blocks.now) }
+{
+    let mut all = Vec::new(alloc);
+    for block in blocks {
+        all.push(resolve_block(alloc, objects, kinds, variables, block)?)?;
+    }
+    Ok(all)
+}
+
+fn resolve_block(
+    alloc: Global,
+    objects: &Names,
+    kinds: &[Kind],
+    variables: &Names,
+    block: &qs_script::Block,
+) -> Result<Block, AllocError>
+    requires objects { length objects.now ≤ 8 }
+    requires variables { length variables.now ≤ 16 }
+    ensures block { IfOk result (λ b. b ≡ block_of objects.now kinds.now variables.now block.now) }
+{
+    let reserved = resolve_list(alloc, objects, block.reserved.as_slice())?;
+    let body = resolve_body(alloc, objects, kinds, variables, &block.body)?;
+    Ok(Block { reserved, body })
+}
+
+fn resolve_list(alloc: Global, objects: &Names, names: &[Name]) -> Result<Vec<u8>, AllocError>
+    requires objects { length objects.now ≤ 8 }
+    ensures list { IfOk result (λ v. v.items ≡ map (found_at objects.now) names.now) }
+{
+    let mut reserved = Vec::new(alloc);
+    for name in names {
+        reserved.push(objects.number_of(name) as u8)?;
+    }
+    Ok(reserved)
+}
+
+// The statements with each name replaced by its number.
+#[cycle(resolve)]
+fn resolve_body(
+    alloc: Global,
+    objects: &Names,
+    kinds: &[Kind],
+    variables: &Names,
+    body: &qs_script::Body,
+) -> Result<Body, AllocError>
+    requires objects { length objects.now ≤ 8 }
+    requires variables { length variables.now ≤ 16 }
+    ensures body { IfOk result (λ code. code ≡ body_of objects.now kinds.now variables.now body.now) }
+{
+    let mut code = Body::new(alloc);
+    for stmt in body.as_slice() {
+        code.push(resolve_stmt(alloc, objects, kinds, variables, stmt)?)?;
+    }
+    Ok(code)
+}
+
+#[cycle(resolve)]
+fn resolve_stmt(
+    alloc: Global,
+    objects: &Names,
+    kinds: &[Kind],
+    variables: &Names,
+    stmt: &qs_script::Stmt,
+) -> Result<Stmt, AllocError>
+    requires objects { length objects.now ≤ 8 }
+    requires variables { length variables.now ≤ 16 }
+    ensures stmt { IfOk result (λ code. single code ≡ body_of objects.now kinds.now variables.now (single_text stmt.now)) }
+{
+    match stmt {
+        qs_script::Stmt::Command(call) => Ok(Stmt::Command(resolve_call(
+            alloc, objects, kinds, variables, false, call,
+        )?)),
+        qs_script::Stmt::Query(variable, call) => Ok(Stmt::Query(
+            variables.number_of(variable) as u8,
+            resolve_call(alloc, objects, kinds, variables, true, call)?,
+        )),
+        qs_script::Stmt::Assign(variable, expr) => Ok(Stmt::Assign(
+            variables.number_of(variable) as u8,
+            resolve_expr(variables, expr),
+        )),
+        qs_script::Stmt::If(test, first) => Ok(Stmt::If {
+            test: resolve_test(variables, test),
+            has_else: false,
+            first: resolve_body(alloc, objects, kinds, variables, first)?,
+            other: Body::new(alloc),
+        }),
+        qs_script::Stmt::IfElse(test, first, other) => Ok(Stmt::If {
+            test: resolve_test(variables, test),
+            has_else: true,
+            first: resolve_body(alloc, objects, kinds, variables, first)?,
+            other: resolve_body(alloc, objects, kinds, variables, other)?,
+        }),
+        qs_script::Stmt::Repeat(count, body) => Ok(Stmt::Repeat(
+            count.count(),
+            resolve_body(alloc, objects, kinds, variables, body)?,
+        )),
+        qs_script::Stmt::Leave => Ok(Stmt::Leave),
+    }
+}
+
+fn resolve_call(
+    alloc: Global,
+    objects: &Names,
+    kinds: &[Kind],
+    variables: &Names,
+    asks: bool,
+    call: &qs_script::Call,
+) -> Result<Call, AllocError>
+    requires objects { length objects.now ≤ 8 }
+    requires variables { length variables.now ≤ 16 }
+    ensures call { IfOk result (λ c. c ≡ call_of objects.now kinds.now variables.now asks call.now) }
+{
+    let number = objects.number_of(&call.object);
+    let op = find_op(asks, kind_at(kinds, number), &call.op).unwrap_or(Op::Refused);
+    let args = resolve_atoms(alloc, variables, call.args.as_slice())?;
+    Ok(Call {
+        object: number as u8,
+        op,
+        args,
+    })
+}
+
+fn resolve_atoms(
+    alloc: Global,
+    variables: &Names,
+    atoms: &[qs_script::Atom],
+) -> Result<Atoms, AllocError>
+    requires variables { length variables.now ≤ 16 }
+    ensures atoms { IfOk result (λ v. v ≡ map (atom_of variables.now) atoms.now) }
+{
+    let mut args = Atoms::new(alloc);
+    for atom in atoms {
+        args.push(resolve_atom(variables, atom))?;
+    }
+    Ok(args)
+}
+
+fn resolve_atom(variables: &Names, atom: &qs_script::Atom) -> Atom
+    requires variables { length variables.now ≤ 16 }
+    ensures atom { result ≡ atom_of variables.now atom.now }
+{
+    match atom {
+        qs_script::Atom::Variable(name) => Atom::Variable(variables.number_of(name) as u8),
+        qs_script::Atom::Number(number) => Atom::Number(*number),
+    }
+}
+
+fn resolve_expr(variables: &Names, expr: &qs_script::Expr) -> Expr
+    requires variables { length variables.now ≤ 16 }
+    ensures expr { result ≡ expr_of variables.now expr.now }
+{
+    match expr {
+        qs_script::Expr::Plain(atom) => Expr::Plain(resolve_atom(variables, atom)),
+        qs_script::Expr::Binary(left, operator, right) => Expr::Binary(
+            resolve_atom(variables, left),
+            *operator,
+            resolve_atom(variables, right),
+        ),
+    }
+}
+
+fn resolve_test(variables: &Names, test: &qs_script::Test) -> Test
+    requires variables { length variables.now ≤ 16 }
+    ensures test { result ≡ test_of variables.now test.now }
+{
+    Test {
+        left: resolve_atom(variables, &test.left),
+        relation: test.relation,
+        right: resolve_atom(variables, &test.right),
+    }
+}

@@ -1,0 +1,203 @@
+//! What is known at a place of a script, and the faults of each place.
+
+ghost use Rattle.std.specs.Prelude.{◌≡◌, [], ◌∷◌, ◌++◌, OnOk, slice_index_or, pos};
+ghost use Rattle.qs_check.specs.Numbering.{found_at};
+ghost use Rattle.qs_check.specs.Operators.{op_or_refused};
+ghost use Rattle.qs_check.specs.Places.{Scope as Known, Meets, met, step, start, op_at, object, number, client, separate, listed, request_places, variable, without_variables};
+
+use crate::fault::CheckFault;
+use crate::names::Names;
+use crate::operators::find_op;
+use qs_objects::{Kind, Op};
+use qs_script::{Name, Number};
+use std::alloc::{AllocError, Global};
+use std::marker::Model;
+use std::mem;
+
+/// What is known at a place of a script.
+#[derive(Drop)]
+pub(crate) struct Scope {
+    objects: Names,
+    kinds: Vec<Kind>,
+    clients: Names,
+    blocks: usize,
+    variables: Names,
+    reserved: Names,
+}
+
+impl Model for Scope {
+    ghost use Rattle.qs_check.specs.Places.{Scope as Known};
+
+    ghost Value = { Known };
+
+    ghost view = { λ s. record { objects = s.objects; kinds = s.kinds.items; clients = s.clients; blocks = s.blocks; variables = s.variables; reserved = s.reserved } };
+}
+
+impl Scope {
+    // Nothing is known; takes no memory.
+    pub(crate) fn new(alloc: Global) -> Scope
+        ensures start { result ≡ start }
+    {
+        Scope {
+            objects: Names::new(alloc),
+            kinds: Vec::new(alloc),
+            clients: Names::new(alloc),
+            blocks: 0,
+            variables: Names::new(alloc),
+            reserved: Names::new(alloc),
+        }
+    }
+
+    // An object's name.
+    pub(crate) fn object(&mut self, name: &Name, kind: Kind) -> Result<(), CheckFault>
+        ensures meets { Meets result (step self.old (object name.now kind)) self.new }
+    {
+        if self.objects.contains(name) {
+            return Err(CheckFault::Twice);
+        }
+        if self.objects.len() >= 8 {
+            return Err(CheckFault::Limit);
+        }
+        self.objects.number(name.copied())?;
+        add_kind(&mut self.kinds, kind)?;
+        Ok(())
+    }
+
+    // A client's name.
+    pub(crate) fn client(&mut self, alloc: Global, name: &Name) -> Result<(), CheckFault>
+        ensures meets { Meets result (step self.old (client name.now)) self.new }
+    {
+        if self.clients.contains(name) {
+            return Err(CheckFault::Twice);
+        }
+        if self.clients.len() >= 8 {
+            return Err(CheckFault::Limit);
+        }
+        self.clients.number(name.copied())?;
+        self.blocks = 0;
+        self.variables = Names::new(alloc);
+        self.reserved = Names::new(alloc);
+        Ok(())
+    }
+
+    // A block's beginning.
+    pub(crate) fn separate(&mut self, alloc: Global) -> Result<(), CheckFault>
+        ensures meets { Meets result (step self.old separate) self.new }
+    {
+        if self.blocks >= 64 {
+            return Err(CheckFault::Limit);
+        }
+        self.blocks += 1;
+        self.reserved = Names::new(alloc);
+        Ok(())
+    }
+
+    // A name of a block's list.
+    pub(crate) fn listed(&mut self, name: &Name) -> Result<(), CheckFault>
+        ensures meets { Meets result (step self.old (listed name.now)) self.new }
+    {
+        if !self.objects.contains(name) {
+            return Err(CheckFault::UnknownObject);
+        }
+        if self.reserved.contains(name) {
+            return Err(CheckFault::ReservedTwice);
+        }
+        self.reserved.number(name.copied())?;
+        Ok(())
+    }
+
+    // A request's object, its operation, and the number of its arguments.
+    pub(crate) fn request(
+        &self,
+        asks: bool,
+        name: &Name,
+        word: &Name,
+        count: usize,
+    ) -> Result<(), CheckFault>
+        ensures meets { Meets result (met self.now (request_places asks name.now word.now count)) self.now }
+    {
+        if !self.objects.contains(name) {
+            return Err(CheckFault::UnknownObject);
+        }
+        if !self.reserved.contains(name) {
+            return Err(CheckFault::NotReserved);
+        }
+        let Some(op) = self.op(asks, name, word) else {
+            return Err(CheckFault::UnknownOp);
+        };
+        if op.arity() != count {
+            return Err(CheckFault::Arity);
+        }
+        Ok(())
+    }
+
+    fn op(&self, asks: bool, name: &Name, word: &Name) -> Option<Op>
+        ensures op { result ≡ op_at self.now.objects self.now.kinds asks name.now word.now }
+    {
+        let kind = kind_at(self.kinds.as_slice(), self.objects.number_of(name));
+        find_op(asks, kind, word)
+    }
+
+    // A variable that is assigned or read.
+    pub(crate) fn variable(&mut self, name: &Name) -> Result<(), CheckFault>
+        ensures meets { Meets result (step self.old (variable name.now)) self.new }
+    {
+        if self.variables.contains(name) {
+            return Ok(());
+        }
+        if self.variables.len() >= 16 {
+            return Err(CheckFault::Limit);
+        }
+        self.variables.number(name.copied())?;
+        Ok(())
+    }
+
+    // The variables of the client, which is over.
+    pub(crate) fn end_client(&mut self, alloc: Global) -> Names
+        ensures variables { result ≡ self.old.variables }
+        ensures rest { self.new ≡ without_variables self.old }
+    {
+        mem::replace(&mut self.variables, Names::new(alloc))
+    }
+
+    // The objects' names.
+    pub(crate) fn objects(&self) -> &Names
+        ensures value { result.now ≡ self.now.objects }
+    {
+        &self.objects
+    }
+
+    // The objects' kinds.
+    pub(crate) fn kinds(&self) -> &[Kind]
+        ensures value { result.now ≡ self.now.kinds }
+    {
+        self.kinds.as_slice()
+    }
+}
+
+fn add_kind(kinds: &mut Vec<Kind>, kind: Kind) -> Result<(), AllocError>
+    ensures added { OnOk result (kinds.new.items ≡ kinds.old.items ++ kind ∷ []) }
+{
+    kinds.push(kind)?;
+    Ok(())
+}
+
+// The kind of a number, or an account past the last.
+pub(crate) fn kind_at(kinds: &[Kind], number: usize) -> Kind
+    ensures value { result ≡ slice_index_or kinds.now number (Kind.Account (pos 0)) }
+{
+    match kinds.get(number) {
+        Some(kind) => *kind,
+        None => Kind::Account { balance: 0 },
+    }
+}
+
+// A number with a range.
+pub(crate) fn check_number(low: u64, high: u64, n: Number) -> Result<(), CheckFault>
+    ensures meets { (s : Known) → Meets result (step s (number low high n)) s }
+{
+    if n.count() < low || n.count() > high {
+        return Err(CheckFault::Range);
+    }
+    Ok(())
+}

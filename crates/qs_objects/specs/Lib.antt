@@ -1,0 +1,6 @@
+pub mod Act
+pub mod Objects
+pub mod Operations
+pub mod Journals
+pub mod Laws
+pub mod Examples

@@ -1,0 +1,83 @@
+-- What an object of the code shows, and which objects there are at the start.
+use Rattle.std.specs.Prelude.{◌≡◌, ℕ, ◌≤◌, ◌*◌, ◌&&◌, [], ◌∷◌, replicate, nat_le, if◌then◌else◌, Bool, true, false, Option, Some, None, List, length, Vec, vec_len, vec_capacity}
+use Rattle.std.specs.Prelude.{ℤ, pos, negsuc, ◌≤ℤ◌}
+use Rattle.std.specs.Global.{Global}
+use Rattle.qs_objects.specs.Act.{State, Content, account, buffer, grid, greatest_balance, size_of}
+use Rattle.qs_objects.specs.declared.object.Kind.{Kind}
+use Rattle.qs_objects.specs.declared.object.Kind.TheVariants as kinds
+use Rattle.qs_objects.specs.declared.object.Content as code
+use Rattle.qs_objects.specs.declared.object.Content.TheVariants.{Account, Buffer, Grid}
+
+abbrev pub state_of : code.Content → ℤ → State
+state_of (Account b) n = record { content = account b; refused = n }
+state_of (Buffer k v) n = record { content = buffer k v.items; refused = n }
+state_of (Grid r c v) n = record { content = grid r c v.items; refused = n }
+
+-- a balance in its range
+abbrev pub IsBalance : ℤ → Type 0
+IsBalance b = (pos 0 ≤ℤ b) × (b ≤ℤ greatest_balance)
+
+abbrev pub account_state : ℤ → ℤ → State
+account_state b n = record { content = account b; refused = n }
+
+-- room for all of a buffer, from 1 to 1024 values
+abbrev pub IsRoomy : ℕ → Vec ℤ Global → Type 0
+IsRoomy k v = (vec_len v ≤ k) × (k ≤ vec_capacity v) × (1 ≤ k) × (k ≤ 1024)
+
+abbrev pub buffer_state : ℕ → List ℤ → ℤ → State
+buffer_state k xs n = record { content = buffer k xs; refused = n }
+
+-- all cells of a grid, from 1 to 16 rows and columns
+abbrev pub IsFull : ℕ → ℕ → Vec ℤ Global → Type 0
+IsFull r c v = (vec_len v ≡ r * c) × (1 ≤ r) × (r ≤ 16) × (1 ≤ c) × (c ≤ 16)
+
+abbrev pub grid_state : ℕ → ℕ → List ℤ → ℤ → State
+grid_state r c cells n = record { content = grid r c cells; refused = n }
+
+-- what the code keeps true of what it holds
+abbrev pub IsKept : code.Content → Type 0
+IsKept (Account b) = IsBalance b
+IsKept (Buffer k v) = IsRoomy k v
+IsKept (Grid r c v) = IsFull r c v
+
+-- a number from low to high
+abbrev pub between : ℕ → ℤ → ℕ → Bool
+between low (pos n) high = nat_le low n && nat_le n high
+between low (negsuc n) high = false
+
+abbrev pub fresh : Content → State
+fresh c = record { content = c; refused = pos 0 }
+
+-- a new object, where the numbers of its kind are in range
+abbrev pub starts : Kind → Option State
+starts (kinds.Account b) = if between 0 b 1000000000000000 then Some (fresh (account b)) else None
+starts (kinds.Buffer k) = if between 1 k 1024 then Some (fresh (buffer (size_of k) [])) else None
+starts (kinds.Grid n k) =
+    if between 1 n 16 && between 1 k 16
+    then Some (fresh (grid (size_of n) (size_of k) (replicate (size_of n * size_of k) (pos 0))))
+    else None
+
+-- an account needs no memory of its own
+abbrev pub needs_memory : Kind → Bool
+needs_memory (kinds.Account b) = false
+needs_memory (kinds.Buffer k) = true
+needs_memory (kinds.Grid n k) = true
+
+-- an account's kind has its balance now
+abbrev pub kind_of : Content → Kind
+kind_of (account b) = kinds.Account b
+kind_of (buffer k xs) = kinds.Buffer (pos k)
+kind_of (grid n k cells) = kinds.Grid (pos n) (pos k)
+
+-- an account's balance, a buffer's values from the front, or a grid's cells row by row
+abbrev pub values_of : Content → List ℤ
+values_of (account b) = b ∷ []
+values_of (buffer k xs) = xs
+values_of (grid n k cells) = cells
+
+-- what an object may hold: a balance in its range; at most as many values as the capacity;
+-- a cell for each row and column
+abbrev pub IsInRange : Content → Type 0
+IsInRange (account b) = IsBalance b
+IsInRange (buffer k xs) = (1 ≤ k) × (k ≤ 1024) × (length xs ≤ k)
+IsInRange (grid n k cells) = (1 ≤ n) × (n ≤ 16) × (1 ≤ k) × (k ≤ 16) × (length cells ≡ n * k)

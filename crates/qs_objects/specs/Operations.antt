@@ -1,0 +1,60 @@
+-- The operations: which are queries, how many numbers they take, and which kinds have them.
+use Rattle.std.specs.Prelude.{ℕ, Bool, true, false}
+use Rattle.qs_objects.specs.declared.Op.{Op}
+use Rattle.qs_objects.specs.declared.Op.TheVariants.{Deposit, Withdraw, Balance, Refused, Put, DropFirst, TakeFirst, First, Size, SetCell, AddCell, Fill, GetCell, RowSum}
+use Rattle.qs_objects.specs.declared.object.Kind.{Kind}
+use Rattle.qs_objects.specs.declared.object.Kind.TheVariants as kinds
+
+-- a query answers; every other operation is a command
+abbrev pub is_query : Op → Bool
+is_query Balance = true
+is_query Refused = true
+is_query TakeFirst = true
+is_query First = true
+is_query Size = true
+is_query GetCell = true
+is_query RowSum = true
+is_query _ = false
+
+-- how many numbers an operation takes
+abbrev pub arity : Op → ℕ
+arity Deposit = 1
+arity Withdraw = 1
+arity Put = 1
+arity SetCell = 3
+arity AddCell = 3
+arity Fill = 1
+arity GetCell = 2
+arity RowSum = 1
+arity _ = 0
+
+abbrev pub is_of_account : Op → Bool
+is_of_account Deposit = true
+is_of_account Withdraw = true
+is_of_account Balance = true
+is_of_account Refused = true
+is_of_account _ = false
+
+abbrev pub is_of_buffer : Op → Bool
+is_of_buffer Put = true
+is_of_buffer DropFirst = true
+is_of_buffer TakeFirst = true
+is_of_buffer First = true
+is_of_buffer Size = true
+is_of_buffer Refused = true
+is_of_buffer _ = false
+
+abbrev pub is_of_grid : Op → Bool
+is_of_grid SetCell = true
+is_of_grid AddCell = true
+is_of_grid Fill = true
+is_of_grid GetCell = true
+is_of_grid RowSum = true
+is_of_grid Refused = true
+is_of_grid _ = false
+
+-- whether objects of a kind have the operation, whatever the kind's numbers
+abbrev pub fits : Op → Kind → Bool
+fits op (kinds.Account b) = is_of_account op
+fits op (kinds.Buffer k) = is_of_buffer op
+fits op (kinds.Grid n k) = is_of_grid op

@@ -1,0 +1,63 @@
+// Objects, the requests that they serve, and the journals of what they did.
+#![tactic(auto)]
+
+ghost use Rattle.std.specs.Prelude.{◌≡◌};
+
+mod account;
+mod args;
+mod buffer;
+mod grid;
+mod held;
+pub mod laws;
+mod object;
+mod operation;
+#[cfg(test)]
+mod tests;
+
+pub use args::Args;
+pub use held::{Entry, Event, Held, Journal, Next, Ticket};
+pub use object::{Kind, Object, ObjectFault};
+
+/// What a request asks for: a command, which changes the object and has no reply, or a query, which
+/// has one.
+#[derive(Clone, Copy, Debug, PartialEq, Eq)]
+pub enum Op {
+    Deposit,
+    Withdraw,
+    Balance,
+    Refused,
+    Put,
+    DropFirst,
+    TakeFirst,
+    First,
+    Size,
+    SetCell,
+    AddCell,
+    Fill,
+    GetCell,
+    RowSum,
+}
+
+/// The reply of a query.
+pub type Reply = i64;
+
+/// A request to an object, which it names by its number.
+#[derive(Drop)]
+pub struct Request {
+    pub object: u8,
+    pub op: Op,
+    pub args: Args,
+}
+
+impl Request {
+    /// The same request once more; takes no memory.
+    pub fn copied(&self) -> Request
+        ensures same { result ≡ self.now }
+    {
+        Request {
+            object: self.object,
+            op: self.op,
+            args: self.args.copied(),
+        }
+    }
+}

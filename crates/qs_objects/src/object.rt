@@ -1,0 +1,193 @@
+// Objects: accounts, buffers and grids.
+
+ghost use Rattle.std.specs.Prelude.{◌≡◌, ◌↔◌, ◌≤◌, length, Some, None, IfOk, IsErrOf, IsSome, IsTrue, slice_get, pos, ◌+ℤ◌};
+ghost use Rattle.qs_objects.specs.Objects.{starts, needs_memory, kind_of, values_of};
+ghost use Rattle.qs_objects.specs.Act.{act, clamped};
+
+use crate::{Request, account, buffer, grid};
+use std::alloc::Global;
+use std::marker::Model;
+use thiserror::Error;
+
+/// A kind of object, with its numbers: a balance from 0 to 10^15, a capacity from 1 to 1024, or rows
+/// and columns from 1 to 16.
+#[derive(Clone, Copy, Debug, PartialEq, Eq)]
+pub enum Kind {
+    Account { balance: i64 },
+    Buffer { capacity: i64 },
+    Grid { rows: i64, columns: i64 },
+}
+
+/// Why an object was not made.
+#[derive(Clone, Copy, Debug, PartialEq, Eq, Error)]
+pub enum ObjectFault {
+    /// A number of the kind is out of its range.
+    #[error("a number of the kind is out of its range")]
+    Range,
+    /// A growth was refused.
+    #[error("out of memory")]
+    Memory,
+}
+
+#[derive(Drop)]
+enum Content {
+    Account {
+        balance: i64,
+    },
+    Buffer {
+        capacity: usize,
+        values: Vec<i64>,
+    },
+    Grid {
+        rows: usize,
+        columns: usize,
+        cells: Vec<i64>,
+    },
+}
+
+/// An object: what it holds, and how many commands it refused.
+#[derive(Drop)]
+pub struct Object {
+    content: Content,
+    refused: i64,
+}
+
+impl Model for Object {
+    ghost use Rattle.qs_objects.specs.Act.{State};
+
+    ghost Value = { State };
+
+    ghost use Rattle.qs_objects.specs.Objects.{state_of, IsKept};
+
+    ghost view = { λ o. state_of o.content o.refused };
+
+    ghost invariant = { λ o. IsKept o.content };
+}
+
+pub(crate) const LARGEST_BALANCE: i64 = 1_000_000_000_000_000;
+
+const LARGEST_CAPACITY: i64 = 1024;
+
+const LARGEST_SIDE: i64 = 16;
+
+impl Object {
+    /// A new object, with all the memory that it will need: no later call takes any. `Range` comes
+    /// exactly where a number of the kind is out of range, before any growth; `Memory` where a growth
+    /// was refused, never at an account. After an error nothing is left.
+    pub fn new(alloc: Global, kind: Kind) -> Result<Object, ObjectFault>
+        ensures ok { IfOk result (λ object. starts kind ≡ Some object) }
+        ensures range { IsErrOf result ObjectFault.Range ↔ (starts kind ≡ None) }
+        ensures memory { IsErrOf result ObjectFault.Memory → IsTrue (needs_memory kind) }
+    {
+        let content = match kind {
+            Kind::Account { balance } => {
+                if balance < 0 || balance > LARGEST_BALANCE {
+                    return Err(ObjectFault::Range);
+                }
+                Content::Account { balance }
+            }
+            Kind::Buffer { capacity } => {
+                if capacity < 1 || capacity > LARGEST_CAPACITY {
+                    return Err(ObjectFault::Range);
+                }
+                let capacity = capacity as usize;
+                let values = Vec::with_capacity(alloc, capacity).map_err(|_| ObjectFault::Memory)?;
+                Content::Buffer { capacity, values }
+            }
+            Kind::Grid { rows, columns } => {
+                if rows < 1 || rows > LARGEST_SIDE || columns < 1 || columns > LARGEST_SIDE {
+                    return Err(ObjectFault::Range);
+                }
+                let rows = rows as usize;
+                let columns = columns as usize;
+                let cells = vec![in alloc; 0; rows * columns].map_err(|_| ObjectFault::Memory)?;
+                Content::Grid {
+                    rows,
+                    columns,
+                    cells,
+                }
+            }
+        };
+        Ok(Object {
+            content,
+            refused: 0,
+        })
+    }
+
+    /// How many commands it refused, at most the greatest i64.
+    pub fn refused(&self) -> i64
+        ensures refused { result ≡ self.now.refused }
+    {
+        self.refused
+    }
+
+    /// How many values it has: an account's one is its balance, a grid's are its cells.
+    /// At most 1024.
+    pub fn len(&self) -> usize
+        ensures count { result ≡ length (values_of self.now.content) }
+        ensures at_most_1024 { result ≤ 1024 }
+    {
+        match &self.content {
+            Content::Account { .. } => 1,
+            Content::Buffer { values, .. } => values.len(),
+            Content::Grid { cells, .. } => cells.len(),
+        }
+    }
+
+    /// One of its values: a buffer's from the front, a grid's row by row; None exactly past the last.
+    pub fn value(&self, i: usize) -> Option<i64>
+        ensures value { result ≡ slice_get (values_of self.now.content) i }
+    {
+        match &self.content {
+            Content::Account { balance } => (i == 0).then_some(*balance),
+            Content::Buffer { values, .. } => values.get(i).copied(),
+            Content::Grid { cells, .. } => cells.get(i).copied(),
+        }
+    }
+
+    /// Its kind, an account's with its balance now; its numbers are in range.
+    pub fn kind(&self) -> Kind
+        ensures kind { result ≡ kind_of self.now.content }
+        ensures in_range { IsSome (starts result) }
+    {
+        match &self.content {
+            Content::Account { balance } => Kind::Account { balance: *balance },
+            Content::Buffer { capacity, .. } => Kind::Buffer {
+                capacity: *capacity as i64,
+            },
+            Content::Grid { rows, columns, .. } => Kind::Grid {
+                rows: *rows as i64,
+                columns: *columns as i64,
+            },
+        }
+    }
+
+    /// Serves a request: a query answers, a command that can't be done is counted as refused. An
+    /// operation of another kind, or with a wrong number of arguments, answers None and changes
+    /// nothing. Takes no memory.
+    pub fn apply(&mut self, request: &Request) -> Option<i64>
+        ensures acts { (self.new, result) ≡ act self.old request.now.op request.now.args }
+    {
+        let op = request.op;
+        let args = request.args.as_slice();
+        let refused = &mut self.refused;
+        match &mut self.content {
+            Content::Account { balance } => account::apply(balance, refused, op, args),
+            Content::Buffer { capacity, values } => {
+                buffer::apply(*capacity, values, refused, op, args)
+            }
+            Content::Grid {
+                rows,
+                columns,
+                cells,
+            } => grid::apply(*rows, *columns, cells, refused, op, args),
+        }
+    }
+}
+
+// One more refused command, up to the greatest count.
+pub(crate) fn count_refusal(refused: &mut i64)
+    ensures counts { refused.new ≡ clamped (refused.old +ℤ pos 1) }
+{
+    *refused = refused.saturating_add(1);
+}

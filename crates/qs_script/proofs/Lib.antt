@@ -1,0 +1,10 @@
+pub mod Trees
+pub mod Sizes
+pub mod Powers
+pub mod Lexemes
+pub mod Loops
+pub mod Counts
+pub mod Complete
+pub mod Sound
+pub mod ReadTexts
+pub mod Bytes

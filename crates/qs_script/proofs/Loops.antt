@@ -1,0 +1,123 @@
+-- Lists that are read element by element.
+use Rattle.std.proofs.Common.{◌≡◌, ℕ, zero, suc, ◌<◌, List, [], ◌∷◌, ◌++◌, length, refl, ap, sym, ◌∙◌, arith, append_assoc, append-nil, Option, Some, None}
+use Rattle.qs_script.specs.declared.token.Token.{Token}
+use Rattle.qs_script.specs.declared.fault.Fault.{Fault}
+use Rattle.qs_script.specs.declared.fault.Fault.TheVariants.{Form, Memory}
+use Rattle.qs_script.specs.Reading.{Loop, Read, after, many_at, run, Fails, body_loop, list_loop, one, end_at}
+use Rattle.qs_script.proofs.Trees.{joined_assoc, joined-end}
+
+-- what a list of tokens is read as, in enough steps
+pub record Runs {M : Type 0} (loop : Loop M) (ts : List Token) (read : Read M) : Type 0 where
+  pub runs : (n : ℕ) → length ts < n → many_at loop n ts ≡ read
+
+-- the code has read done from start and tokens, and the tokens from rest on are left
+pub record Continues {M : Type 0} (loop : Loop M) (start : M) (tokens rest : List Token) (done : M) : Type 0 where
+  pub continues : (read : Read M) → Runs loop rest read → after loop start (run loop tokens) ≡ after loop done read
+
+-- one list after another
+pub record IsLawful {M : Type 0} (loop : Loop M) : Type 0 where
+  pub none_before : (x : M) → loop.join loop.none x ≡ x
+  pub none_after : (x : M) → loop.join x loop.none ≡ x
+  pub regroups : (x y z : M) → loop.join (loop.join x y) z ≡ loop.join x (loop.join y z)
+
+pub body_lawful : (levels : ℕ) → IsLawful (body_loop levels)
+body_lawful levels = record { none_before = λ x. refl; none_after = joined-end; regroups = joined_assoc }
+
+pub list_lawful : {A : Type 0} (stop : List Token → Option (List Token)) (element : List Token → Read A) → IsLawful (list_loop stop element)
+list_lawful stop element = record { none_before = λ x. refl; none_after = append-nil; regroups = append_assoc }
+
+pub run_is : {M : Type 0} (loop : Loop M) (ts : List Token) (read : Read M) → Runs loop ts read → run loop ts ≡ read
+unfolding run
+run_is loop ts read r = r.runs (suc (length ts)) (omega arith)
+
+stop_at : {M : Type 0} (loop : Loop M) (n : ℕ) (ts rest : List Token) → length ts < n → loop.stop ts ≡ Some rest → many_at loop n ts ≡ Some (loop.none, rest)
+stop_at loop zero ts rest lt e = absurd (omega arith)
+stop_at loop (suc n) ts rest lt e = rw e refl
+
+pub runs_stop : {M : Type 0} (loop : Loop M) (ts rest : List Token) → loop.stop ts ≡ Some rest → Runs loop ts (Some (loop.none, rest))
+runs_stop loop ts rest e = record { runs = λ n lt. stop_at loop n ts rest lt e }
+
+no_element_at : {M : Type 0} (loop : Loop M) (n : ℕ) (ts : List Token) → length ts < n → loop.stop ts ≡ None → loop.element ts ≡ None → many_at loop n ts ≡ None
+no_element_at loop zero ts lt e s = absurd (omega arith)
+no_element_at loop (suc n) ts lt e s = rw (e, s) refl
+
+pub runs_no_element : {M : Type 0} (loop : Loop M) (ts : List Token) → loop.stop ts ≡ None → loop.element ts ≡ None → Runs loop ts None
+runs_no_element loop ts e s = record { runs = λ n lt. no_element_at loop n ts lt e s }
+
+element_at : {M : Type 0} (loop : Loop M) (n : ℕ) (ts : List Token) (x : M × List Token) (read : Read M) → length ts < n → loop.stop ts ≡ None → loop.element ts ≡ Some x → length x.1 < length ts → Runs loop x.1 read → many_at loop n ts ≡ after loop x.0 read
+element_at loop zero ts x read lt e s less r = absurd (omega arith)
+element_at loop (suc n) ts x read lt e s less r = rw (e, s) (ap (after loop x.0) (r.runs n (omega arith)))
+
+pub runs_element : {M : Type 0} (loop : Loop M) (ts : List Token) (x : M × List Token) (read : Read M) → loop.stop ts ≡ None → loop.element ts ≡ Some x → length x.1 < length ts → Runs loop x.1 read → Runs loop ts (after loop x.0 read)
+runs_element loop ts x read e s less r = record { runs = λ n lt. element_at loop n ts x read lt e s less r }
+
+module _ {M : Type 0} (loop : Loop M) (lawful : IsLawful loop) where
+  after-none : (read : Read M) → after loop loop.none read ≡ read
+  after-none None = refl
+  after-none (Some p) = ap (λ x. Some (x, p.1)) (lawful.none_before p.0)
+
+  after-after : (x y : M) (read : Read M) → after loop x (after loop y read) ≡ after loop (loop.join x y) read
+  after-after x y None = refl
+  after-after x y (Some p) = ap (λ z. Some (z, p.1)) (sym (lawful.regroups x y p.0))
+
+  pub begins : (start : M) (tokens : List Token) → Continues loop start tokens tokens start
+  begins start tokens = record { continues = λ read r. ap (after loop start) (run_is loop tokens read r) }
+
+  pub goes_on : (start : M) (tokens rest : List Token) (done : M) (x : M × List Token) → Continues loop start tokens rest done → loop.stop rest ≡ None → loop.element rest ≡ Some x → length x.1 < length rest → Continues loop start tokens x.1 (loop.join done x.0)
+  goes_on start tokens rest done x h e s less = record {
+    continues = λ read r. h.continues (after loop x.0 read) (runs_element loop rest x read e s less r) ∙ after-after done x.0 read;
+  }
+
+  pub closes : (start : M) (tokens rest left : List Token) (done : M) → Continues loop start tokens rest done → loop.stop rest ≡ Some left → after loop start (run loop tokens) ≡ Some (done, left)
+  closes start tokens rest left done h e =
+      h.continues (Some (loop.none, left)) (runs_stop loop rest left e) ∙ ap (λ x. Some (x, left)) (lawful.none_after done)
+
+  pub fails : (fault : Fault) (start : M) (tokens rest : List Token) (done : M) → Continues loop start tokens rest done → loop.stop rest ≡ None → Fails fault (loop.element rest) → Fails fault (after loop start (run loop tokens))
+  fails (Form left) start tokens rest done h e s = h.continues None (runs_no_element loop rest e s)
+  fails Memory start tokens rest done h e s = tt
+
+  -- from no element on
+  pub whole_closes : (tokens rest left : List Token) (done : M) → Continues loop loop.none tokens rest done → loop.stop rest ≡ Some left → run loop tokens ≡ Some (done, left)
+  whole_closes tokens rest left done h e = sym (after-none (run loop tokens)) ∙ closes loop.none tokens rest left done h e
+
+  pub whole_fails : (fault : Fault) (tokens rest : List Token) (done : M) → Continues loop loop.none tokens rest done → loop.stop rest ≡ None → Fails fault (loop.element rest) → Fails fault (run loop tokens)
+  whole_fails (Form left) tokens rest done h e s =
+      sym (after-none (run loop tokens)) ∙ fails (Form left) loop.none tokens rest done h e s
+  whole_fails Memory tokens rest done h e s = tt
+
+-- lists of what is read one by one
+module _ {A : Type 0} (stop : List Token → Option (List Token)) (element : List Token → Read A) where
+  pub list_begins : (start : List A) (tokens : List Token) → Continues (list_loop stop element) start tokens tokens start
+  list_begins start tokens = begins (list_loop stop element) (list_lawful stop element) start tokens
+
+  pub list_goes_on : (start : List A) (tokens rest : List Token) (done : List A) (x : A × List Token) → Continues (list_loop stop element) start tokens rest done → stop rest ≡ None → element rest ≡ Some x → length x.1 < length rest → Continues (list_loop stop element) start tokens x.1 (done ++ x.0 ∷ [])
+  list_goes_on start tokens rest done x h e s less =
+      goes_on (list_loop stop element) (list_lawful stop element) start tokens rest done (x.0 ∷ [], x.1) h e (ap one s) less
+
+  pub list_closes : (start : List A) (tokens rest left : List Token) (done : List A) → Continues (list_loop stop element) start tokens rest done → stop rest ≡ Some left → after (list_loop stop element) start (run (list_loop stop element) tokens) ≡ Some (done, left)
+  list_closes start tokens rest left done h e =
+      closes (list_loop stop element) (list_lawful stop element) start tokens rest left done h e
+
+  one_fails : (fault : Fault) (read : Read A) → Fails fault read → Fails fault (one read)
+  one_fails (Form left) read h = ap one h
+  one_fails Memory read h = tt
+
+  pub list_fails : (fault : Fault) (start : List A) (tokens rest : List Token) (done : List A) → Continues (list_loop stop element) start tokens rest done → stop rest ≡ None → Fails fault (element rest) → Fails fault (after (list_loop stop element) start (run (list_loop stop element) tokens))
+  list_fails fault start tokens rest done h e s =
+      fails (list_loop stop element) (list_lawful stop element) fault start tokens rest done h e (one_fails fault (element rest) s)
+
+  pub whole_list_closes : (tokens rest left : List Token) (done : List A) → Continues (list_loop stop element) [] tokens rest done → stop rest ≡ Some left → run (list_loop stop element) tokens ≡ Some (done, left)
+  whole_list_closes tokens rest left done h e =
+      whole_closes (list_loop stop element) (list_lawful stop element) tokens rest left done h e
+
+  pub whole_list_fails : (fault : Fault) (tokens rest : List Token) (done : List A) → Continues (list_loop stop element) [] tokens rest done → stop rest ≡ None → Fails fault (element rest) → Fails fault (run (list_loop stop element) tokens)
+  whole_list_fails fault tokens rest done h e s =
+      whole_fails (list_loop stop element) (list_lawful stop element) fault tokens rest done h e (one_fails fault (element rest) s)
+
+pub before_end : (ts : List Token) → 0 < length ts → end_at ts ≡ None
+before_end [] h = absurd (omega arith)
+before_end (x ∷ ts) h = refl
+
+pub at_end : (ts : List Token) → length ts ≡ 0 → end_at ts ≡ Some []
+at_end [] h = refl
+at_end (x ∷ ts) h = absurd (omega arith)

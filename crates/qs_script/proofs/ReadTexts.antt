@@ -1,0 +1,71 @@
+-- What is read of a text.
+use Rattle.std.proofs.Common.{◌≡◌, ℕ, ◌≤◌, List, [], length, refl, sym, subst, arith, Option, Some, None, Result, Ok, Err, true}
+use Rattle.qs_script.specs.declared.token.Token.{Token}
+use Rattle.qs_script.specs.declared.tree.Item.{Item}
+use Rattle.qs_script.specs.declared.fault.ReadFault.{ReadFault}
+use Rattle.qs_script.specs.declared.fault.ReadFault.TheVariants as f
+use Rattle.qs_script.specs.declared.lex.TokenFault.{TokenFault}
+use Rattle.qs_script.specs.declared.lex.TokenFault.TheVariants as e
+use Rattle.std.proofs.Math.Dec.{ltb}
+use Rattle.qs_script.specs.Tokens.{tokens_of}
+use Rattle.qs_script.specs.Reading.{run, items_loop, Read}
+use Rattle.qs_script.specs.Grammar.{IsScript}
+use Rattle.qs_script.specs.Reads.{IsScriptText, IsRefused}
+use Rattle.qs_script.proofs.Sound.{items_sound}
+use Rattle.qs_script.proofs.Complete.{items_complete, one_tree}
+
+not_both_read : {A : Type 0} (r : Option A) (x : A) → r ≡ Some x → r ≡ None → ⊥
+not_both_read None x p q = cc
+not_both_read (Some y) x p q = cc
+
+both_ok : {A E : Type 0} (r : Result A E) (x y : A) → r ≡ Ok x → r ≡ Ok y → x ≡ y
+both_ok (Ok z) x y p q = cc
+both_ok (Err e) x y p q = cc
+
+not_both : {A E : Type 0} (r : Result A E) (x : A) (e : E) → r ≡ Ok x → r ≡ Err e → ⊥
+not_both (Ok z) x e p q = cc
+not_both (Err d) x e p q = cc
+
+pub is_script : (ts : List Token) (script : List Item) → run items_loop ts ≡ Some (script, []) → IsScript script ts
+is_script ts script p = items_sound ts (script, []) p
+
+pub is_no_script : (ts : List Token) → run items_loop ts ≡ None → (script : List Item) → IsScript script ts → ⊥
+is_no_script ts p script h = not_both_read (run items_loop ts) (script, []) (items_complete script ts h) p
+
+-- a text has at most one list of tokens
+same_tokens : (text : List ℕ) (ts us : List Token) → tokens_of text ≡ Ok ts → tokens_of text ≡ Ok us → ts ≡ us
+same_tokens text ts us p q = both_ok (tokens_of text) ts us p q
+
+-- a text is at most one script's
+pub one_script : (text : List ℕ) (s u : List Item) → IsScriptText text s → IsScriptText text u → s ≡ u
+one_script text s u g h =
+    one_tree s u g.tokens g.tree (subst (IsScript u) (sym (same_tokens text g.tokens h.tokens g.cut h.cut)) h.tree)
+
+-- a script's text is refused for want of memory alone
+pub only_memory : (text : List ℕ) (s : List Item) (fault : ReadFault) → IsScriptText text s → IsRefused fault text → fault ≡ f.Memory
+only_memory text s f.Size g h = absurd (omega (arith, g.short))
+only_memory text s (f.Byte line) g (m, q) = absurd (not_both (tokens_of text) g.tokens e.Byte g.cut q)
+only_memory text s (f.Number line) g (m, q) = absurd (not_both (tokens_of text) g.tokens e.Number g.cut q)
+only_memory text s (f.Name line) g (m, q) = absurd (not_both (tokens_of text) g.tokens e.Name g.cut q)
+only_memory text s (f.Form line) g (m, us, q, no_tree) =
+    absurd (no_tree s (subst (IsScript s) (same_tokens text g.tokens us g.cut q) g.tree))
+only_memory text s f.Memory h k = refl
+
+-- worked examples: what the definitions compute to
+abbrev read_of : Result (List Token) TokenFault → Read (List Item)
+read_of (Ok ts) = run items_loop ts
+read_of (Err e) = None
+
+reads_tokens : (text : List ℕ) (s : List Item) (r : Result (List Token) TokenFault) → tokens_of text ≡ r → length text ≤ 65536 → read_of r ≡ Some (s, []) → IsScriptText text s
+reads_tokens text s (Ok ts) p l q = record { short = l; tokens = ts; cut = p; tree = is_script ts s q }
+reads_tokens text s (Err e) p l q = cc
+
+pub reads_to : (text : List ℕ) (s : List Item) → ltb (length text) 65537 ≡ true → read_of (tokens_of text) ≡ Some (s, []) → IsScriptText text s
+reads_to text s l q = reads_tokens text s (tokens_of text) refl (grind arith) q
+
+reads_no_tokens : (text : List ℕ) (s : List Item) (r : Result (List Token) TokenFault) → tokens_of text ≡ r → read_of r ≡ None → IsScriptText text s → ⊥
+reads_no_tokens text s (Ok ts) p q h = is_no_script ts q s (subst (IsScript s) (same_tokens text h.tokens ts h.cut p) h.tree)
+reads_no_tokens text s (Err e) p q h = not_both (tokens_of text) h.tokens e h.cut p
+
+pub reads_nothing : (text : List ℕ) → read_of (tokens_of text) ≡ None → (s : List Item) → IsScriptText text s → ⊥
+reads_nothing text q s h = reads_no_tokens text s (tokens_of text) refl q h

@@ -1,0 +1,13 @@
+use Rattle.std.proofs.Common.{◌≤◌, length, [], ◌∷◌}
+use Rattle.qs_script.specs.Reading.{names_loop}
+use Rattle.qs_script.proofs.Loops.{Continues}
+use Rattle.qs_script.proofs.items.names.Given as goal
+
+abbrev pub invariant-each : goal.invariant-each
+invariant-each l = record {
+  whole : Continues names_loop (l.fn.first ∷ []) l.tokens l.rest l.names;
+  shorter : length l.rest ≤ length l.tokens;
+}
+
+abbrev pub decreases-each : goal.decreases-each
+decreases-each l = length l.rest

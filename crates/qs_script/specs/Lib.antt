@@ -1,0 +1,14 @@
+pub mod Padding
+pub mod Tree
+pub mod TreeCode
+pub mod Views
+pub mod Falls
+pub mod BlockCode
+pub mod ScriptCode
+pub mod Tokens
+pub mod Cutting
+pub mod Grammar
+pub mod Reading
+pub mod Reads
+pub mod Sizes
+pub mod Examples

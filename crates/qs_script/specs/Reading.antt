@@ -1,0 +1,298 @@
+-- What the parser makes of a list of tokens: a tree and the tokens after it, or nothing.
+use Rattle.std.specs.Prelude.{◌≡◌, ℕ, zero, suc, length, List, [], ◌∷◌, ◌++◌, Option, Some, None, option_and_then, Result, Ok, Err, pos}
+use Rattle.std.proofs.Common.{neg_ℤ}
+use Rattle.qs_script.specs.declared.token.Token.{Token}
+use Rattle.qs_script.specs.declared.token.Token.TheVariants as t
+use Rattle.qs_script.specs.declared.tree.Atom.{Atom}
+use Rattle.qs_script.specs.declared.tree.Atom.TheVariants.{Variable, Number}
+use Rattle.qs_script.specs.declared.tree.Operator.{Operator}
+use Rattle.qs_script.specs.declared.tree.Operator.TheVariants as o
+use Rattle.qs_script.specs.declared.tree.Relation.{Relation}
+use Rattle.qs_script.specs.declared.tree.Relation.TheVariants as r
+use Rattle.qs_script.specs.declared.tree.Expr.{Expr}
+use Rattle.qs_script.specs.declared.tree.Expr.TheVariants.{Plain, Binary}
+use Rattle.qs_script.specs.declared.tree.Test.{Test}
+use Rattle.qs_script.specs.declared.tree.Call.{Call}
+use Rattle.qs_script.specs.declared.tree.Block.{Block}
+use Rattle.qs_script.specs.declared.tree.KindText.{KindText}
+use Rattle.qs_script.specs.declared.tree.KindText.TheVariants.{Account, Buffer, Grid}
+use Rattle.qs_script.specs.declared.tree.Item.{Item}
+use Rattle.qs_script.specs.declared.tree.Item.TheVariants.{Object, Client}
+use Rattle.qs_script.specs.declared.fault.Fault.{Fault}
+use Rattle.qs_script.specs.declared.fault.Fault.TheVariants.{Form, Memory}
+use Rattle.qs_script.specs.Tree.{Stmts, end, command, query, assign, choose, choose_else, again, leave, joined}
+
+-- what is read and the tokens after it, or nothing
+abbrev pub Read : Type 0 → Type 0
+Read A = Option (A × List Token)
+
+infixl 10 ◌>>=◌
+abbrev pub ◌>>=◌ : {A B : Type 0} → Option A → (A → Option B) → Option B
+r >>= f = option_and_then f r
+
+-- nothing is read, unless memory ran out
+abbrev pub Fails : {Y : Type 0} → Fault → Option Y → Type 0
+Fails (Form left) read = read ≡ None
+Fails Memory read = Unit {0}
+
+-- the code's result is what is read
+abbrev pub Gives : {X Y : Type 0} → (X → Y) → Result X Fault → Option Y → Type 0
+Gives view (Ok x) read = read ≡ Some (view x)
+Gives view (Err f) read = Fails f read
+
+-- the code finds what is read
+abbrev pub Finds : {X Y : Type 0} → (X → Y) → Option X → Option Y → Type 0
+Finds view (Some x) read = read ≡ Some (view x)
+Finds view None read = read ≡ None
+
+-- how a list is read: what no element is, how two lists make one, what ends it, and its elements as lists
+pub record Loop (M : Type 0) : Type 0 where
+  pub none : M
+  pub join : M → M → M
+  pub stop : List Token → Option (List Token)
+  pub element : List Token → Read M
+
+-- this list before that
+abbrev pub after : {M : Type 0} → Loop M → M → Read M → Read M
+after loop xs None = None
+after loop xs (Some p) = Some (loop.join xs p.0, p.1)
+
+abbrev pub stopped : {M : Type 0} → Loop M → Option (List Token) → Read M → Read M
+stopped loop (Some rest) read = Some (loop.none, rest)
+stopped loop None read = read
+
+abbrev pub then_more : {M : Type 0} → Loop M → Read M → (List Token → Read M) → Read M
+then_more loop None rest = None
+then_more loop (Some x) rest = after loop x.0 (rest x.1)
+
+-- elements up to the end, in at most n steps
+abbrev pub many_at : {M : Type 0} → Loop M → ℕ → List Token → Read M
+many_at loop zero ts = None
+many_at loop (suc n) ts = stopped loop (loop.stop ts) (then_more loop (loop.element ts) (many_at loop n))
+
+-- elements up to the end
+unfoldable pub run : {M : Type 0} → Loop M → List Token → Read M
+run loop ts = many_at loop (suc (length ts)) ts
+
+-- what is read, as a list of one
+abbrev pub one : {A : Type 0} → Read A → Read (List A)
+one None = None
+one (Some x) = Some (x.0 ∷ [], x.1)
+
+abbrev pub list_loop : {A : Type 0} → (List Token → Option (List Token)) → (List Token → Read A) → Loop (List A)
+list_loop stop element = record { none = []; join = ◌++◌; stop = stop; element = λ ts. one (element ts) }
+
+abbrev pub name_at : List Token → Read (List ℕ)
+name_at (t.Name n ∷ ts) = Some (n, ts)
+name_at _ = None
+
+abbrev pub number_at : List Token → Read ℕ
+number_at (t.Number n ∷ ts) = Some (n, ts)
+number_at _ = None
+
+abbrev pub open_brace_at : List Token → Option (List Token)
+open_brace_at (t.OpenBrace ∷ ts) = Some ts
+open_brace_at _ = None
+
+abbrev pub close_brace_at : List Token → Option (List Token)
+close_brace_at (t.CloseBrace ∷ ts) = Some ts
+close_brace_at _ = None
+
+abbrev pub open_paren_at : List Token → Option (List Token)
+open_paren_at (t.OpenParen ∷ ts) = Some ts
+open_paren_at _ = None
+
+abbrev pub close_paren_at : List Token → Option (List Token)
+close_paren_at (t.CloseParen ∷ ts) = Some ts
+close_paren_at _ = None
+
+abbrev pub comma_at : List Token → Option (List Token)
+comma_at (t.Comma ∷ ts) = Some ts
+comma_at _ = None
+
+abbrev pub semicolon_at : List Token → Option (List Token)
+semicolon_at (t.Semicolon ∷ ts) = Some ts
+semicolon_at _ = None
+
+abbrev pub negative_at : Read ℕ → Read Atom
+negative_at None = None
+negative_at (Some n) = Some (Number (neg_ℤ (pos n.0)), n.1)
+
+abbrev pub atom_at : List Token → Read Atom
+atom_at (t.Name n ∷ ts) = Some (Variable n, ts)
+atom_at (t.Number n ∷ ts) = Some (Number (pos n), ts)
+atom_at (t.Minus ∷ ts) = negative_at (number_at ts)
+atom_at _ = None
+
+-- a further argument
+abbrev pub further_at : List Token → Read Atom
+further_at ts = comma_at ts >>= λ x. atom_at x
+
+-- the arguments after the first, and the bracket that closes them
+abbrev pub more_loop : Loop (List Atom)
+more_loop = list_loop close_paren_at further_at
+
+abbrev pub first_arg : List Token → Read (List Atom)
+first_arg ts = atom_at ts >>= λ a. after more_loop (a.0 ∷ []) (run more_loop a.1)
+
+-- the arguments, and the bracket that closes them
+abbrev pub args_at : List Token → Read (List Atom)
+args_at ts = stopped more_loop (close_paren_at ts) (first_arg ts)
+
+abbrev pub call_of : List ℕ → List ℕ → List Atom → Call
+call_of object op args = record { object = object; op = op; args = args }
+
+-- a request on the object, after its dot
+abbrev pub call_at : List ℕ → List Token → Read Call
+call_at object ts =
+    name_at ts >>= λ op. open_paren_at op.1 >>= λ x. args_at x >>= λ as'. Some (call_of object op.0 as'.0, as'.1)
+
+abbrev pub operator_at : List Token → Read Operator
+operator_at (t.Plus ∷ ts) = Some (o.Plus, ts)
+operator_at (t.Minus ∷ ts) = Some (o.Minus, ts)
+operator_at (t.Times ∷ ts) = Some (o.Times, ts)
+operator_at _ = None
+
+abbrev pub relation_at : List Token → Read Relation
+relation_at (t.Equal ∷ ts) = Some (r.Equal, ts)
+relation_at (t.Unequal ∷ ts) = Some (r.Unequal, ts)
+relation_at (t.Less ∷ ts) = Some (r.Less, ts)
+relation_at (t.AtMost ∷ ts) = Some (r.AtMost, ts)
+relation_at (t.Greater ∷ ts) = Some (r.Greater, ts)
+relation_at (t.AtLeast ∷ ts) = Some (r.AtLeast, ts)
+relation_at _ = None
+
+-- the rest of an expression that begins with a value
+abbrev pub expr_with : Atom → List Token → Read Operator → Read Expr
+expr_with a ts None = Some (Plain a, ts)
+expr_with a ts (Some op) = atom_at op.1 >>= λ b. Some (Binary a op.0 b.0, b.1)
+
+abbrev pub expr_at : List Token → Read Expr
+expr_at ts = atom_at ts >>= λ a. expr_with a.0 a.1 (operator_at a.1)
+
+abbrev pub test_of : Atom → Relation → Atom → Test
+test_of left relation right = record { left = left; relation = relation; right = right }
+
+abbrev pub test_at : List Token → Read Test
+test_at ts = atom_at ts >>= λ a. relation_at a.1 >>= λ r. atom_at r.1 >>= λ b. Some (test_of a.0 r.0 b.0, b.1)
+
+-- what a variable gets, after the =: a query where a name and a dot stand, else an expression
+abbrev pub query_at : List ℕ → List ℕ → List Token → Read Stmts
+query_at v object ts = call_at object ts >>= λ c. semicolon_at c.1 >>= λ x. Some (query v c.0 end, x)
+
+abbrev pub assign_at : List ℕ → List Token → Read Stmts
+assign_at v ts = expr_at ts >>= λ e. semicolon_at e.1 >>= λ x. Some (assign v e.0 end, x)
+
+abbrev pub assigned_at : List ℕ → List Token → Read Stmts
+assigned_at v (t.Name object ∷ t.Dot ∷ ts) = query_at v object ts
+assigned_at v ts = assign_at v ts
+
+abbrev pub command_at : List ℕ → List Token → Read Stmts
+command_at object ts = call_at object ts >>= λ c. semicolon_at c.1 >>= λ x. Some (command c.0 end, x)
+
+-- a statement that begins with a name
+abbrev pub named_at : List ℕ → List Token → Read Stmts
+named_at n (t.Dot ∷ ts) = command_at n ts
+named_at n (t.Assign ∷ ts) = assigned_at n ts
+named_at n _ = None
+
+-- a body in braces
+abbrev pub braced_at : (List Token → Read Stmts) → List Token → Read Stmts
+braced_at inner ts = open_brace_at ts >>= λ x. inner x
+
+-- the second body of an if, where there is one
+abbrev pub other_at : (List Token → Read Stmts) → List Token → Read (Option Stmts)
+other_at inner (t.Else ∷ ts) = braced_at inner ts >>= λ b. Some (Some b.0, b.1)
+other_at inner ts = Some (None, ts)
+
+abbrev pub choice_of : Test → Stmts → Option Stmts → Stmts
+choice_of c first None = choose c first end
+choice_of c first (Some other) = choose_else c first other end
+
+-- an if, after that word
+abbrev pub choice_at : (List Token → Read Stmts) → List Token → Read Stmts
+choice_at inner ts =
+    test_at ts >>= λ c. braced_at inner c.1 >>= λ b. other_at inner b.1 >>= λ e. Some (choice_of c.0 b.0 e.0, e.1)
+
+-- a repeat, after that word
+abbrev pub repeat_at : (List Token → Read Stmts) → List Token → Read Stmts
+repeat_at inner ts = number_at ts >>= λ n. braced_at inner n.1 >>= λ b. Some (again n.0 b.0 end, b.1)
+
+-- a statement, as a list of one; its bodies are read by inner
+abbrev pub stmt_at : (List Token → Read Stmts) → List Token → Read Stmts
+stmt_at inner (t.Leave ∷ ts) = semicolon_at ts >>= λ x. Some (leave end, x)
+stmt_at inner (t.If ∷ ts) = choice_at inner ts
+stmt_at inner (t.Repeat ∷ ts) = repeat_at inner ts
+stmt_at inner (t.Name n ∷ ts) = named_at n ts
+stmt_at inner _ = None
+
+abbrev pub stmts_loop : (List Token → Read Stmts) → Loop Stmts
+stmts_loop element = record { none = end; join = joined; stop = close_brace_at; element = element }
+
+-- a statement as a list of one, where at most `levels` statements stand one inside another
+abbrev pub stmt_in : ℕ → List Token → Read Stmts
+stmt_in zero ts = None
+stmt_in (suc n) ts = stmt_at (run (stmts_loop (stmt_in n))) ts
+
+-- statements and the brace that closes them, at most `levels` one inside another
+abbrev pub body_loop : ℕ → Loop Stmts
+body_loop levels = stmts_loop (stmt_in levels)
+
+-- names and the brace that opens after them
+abbrev pub names_loop : Loop (List (List ℕ))
+names_loop = list_loop open_brace_at name_at
+
+abbrev pub block_of : List (List ℕ) → Stmts → Block
+block_of reserved body = record { reserved = reserved; body = body }
+
+-- a block, after the word separate
+abbrev pub block_at : List Token → Read Block
+block_at ts =
+    name_at ts >>= λ n. after names_loop (n.0 ∷ []) (run names_loop n.1) >>= λ ns. run (body_loop 9) ns.1 >>= λ b.
+    Some (block_of ns.0 b.0, b.1)
+
+-- a block with that word
+abbrev pub separate_at : List Token → Read Block
+separate_at (t.Separate ∷ ts) = block_at ts
+separate_at _ = None
+
+-- blocks and the brace that closes them
+abbrev pub blocks_loop : Loop (List Block)
+blocks_loop = list_loop close_brace_at separate_at
+
+abbrev pub kind_at : List Token → Read KindText
+kind_at (t.Account ∷ ts) = number_at ts >>= λ n. Some (Account n.0, n.1)
+kind_at (t.Buffer ∷ ts) = number_at ts >>= λ n. Some (Buffer n.0, n.1)
+kind_at (t.Grid ∷ ts) = number_at ts >>= λ n. number_at n.1 >>= λ m. Some (Grid n.0 m.0, m.1)
+kind_at _ = None
+
+abbrev pub object_of : List ℕ → KindText → Item
+object_of name kind = Object (record { name = name; kind = kind })
+
+abbrev pub client_of : List ℕ → List Block → Item
+client_of name blocks = Client (record { name = name; blocks = blocks })
+
+-- the object of that name, from its kind on
+abbrev pub object_called_at : List ℕ → List Token → Read Item
+object_called_at name ts = kind_at ts >>= λ k. Some (object_of name k.0, k.1)
+
+abbrev pub object_at : List Token → Read Item
+object_at ts = name_at ts >>= λ n. object_called_at n.0 n.1
+
+abbrev pub client_at : List Token → Read Item
+client_at ts =
+    name_at ts >>= λ n. open_brace_at n.1 >>= λ x. run blocks_loop x >>= λ bs. Some (client_of n.0 bs.0, bs.1)
+
+abbrev pub item_at : List Token → Read Item
+item_at (t.Object ∷ ts) = object_at ts
+item_at (t.Client ∷ ts) = client_at ts
+item_at _ = None
+
+-- nothing, at the end
+abbrev pub end_at : List Token → Option (List Token)
+end_at [] = Some []
+end_at (x ∷ ts) = None
+
+-- items up to the end
+abbrev pub items_loop : Loop (List Item)
+items_loop = list_loop end_at item_at

@@ -1,0 +1,29 @@
+-- Lists of statements without places in memory.
+use Rattle.std.specs.Prelude.{ℕ, List}
+use Rattle.qs_script.specs.declared.tree.Call.{Call}
+use Rattle.qs_script.specs.declared.tree.Expr.{Expr}
+use Rattle.qs_script.specs.declared.tree.Test.{Test}
+
+-- a list of statements: each with the ones after it
+pub data Stmts : Type 0 where
+  end : Stmts
+  command : Call → (rest : Stmts) → Stmts
+  query : (variable : List ℕ) → Call → (rest : Stmts) → Stmts
+  assign : (variable : List ℕ) → Expr → (rest : Stmts) → Stmts
+  -- an if without else
+  choose : Test → (first : Stmts) → (rest : Stmts) → Stmts
+  -- an if with else
+  choose_else : Test → (first : Stmts) → (other : Stmts) → (rest : Stmts) → Stmts
+  again : (count : ℕ) → (body : Stmts) → (rest : Stmts) → Stmts
+  leave : (rest : Stmts) → Stmts
+
+-- one list of statements after another
+abbrev pub joined : Stmts → Stmts → Stmts
+joined end ys = ys
+joined (command c xs) ys = command c (joined xs ys)
+joined (query v c xs) ys = query v c (joined xs ys)
+joined (assign v e xs) ys = assign v e (joined xs ys)
+joined (choose t first xs) ys = choose t first (joined xs ys)
+joined (choose_else t first other xs) ys = choose_else t first other (joined xs ys)
+joined (again n body xs) ys = again n body (joined xs ys)
+joined (leave xs) ys = leave (joined xs ys)

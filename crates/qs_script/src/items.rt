@@ -1,0 +1,141 @@
+// Items: objects, and clients with their blocks.
+
+ghost use Rattle.std.specs.Prelude.{◌≡◌, ◌<◌, ◌≤◌, [], ◌∷◌, length, IfOk, IfSome};
+ghost use Rattle.qs_script.specs.Reading.{Gives, Finds, after, run, names_loop, block_at, separate_at, blocks_loop, object_at, object_called_at, client_at, item_at, items_loop};
+
+use crate::expect::{name, number, open_brace, past_close_brace, past_open_brace};
+use crate::fault::Fault;
+use crate::name::Name;
+use crate::number::Number;
+use crate::statements::body;
+use crate::token::Token;
+use crate::tree::{Block, Blocks, ClientItem, Item, KindText, NameList, ObjectItem, Script};
+use std::alloc::Global;
+
+// The names after the first, and the brace that opens after them.
+fn names(alloc: Global, first: Name, tokens: &[Token]) -> Result<(NameList, &[Token]), Fault>
+    ensures exact { Gives (λ x. (x.0, x.1.now)) result (after names_loop (first ∷ []) (run names_loop tokens.now)) }
+    ensures shorter { IfOk result (λ x. length x.1.now < length tokens.now) }
+{
+    let mut names = NameList::new(alloc);
+    names.push(first)?;
+    let mut rest = tokens;
+    'each: loop {
+        if let Some(after) = past_open_brace(rest) {
+            return Ok((names, after));
+        }
+        let (name, after) = name(rest)?;
+        names.push(name)?;
+        rest = after;
+    }
+}
+
+// A block, after the word separate.
+fn block(alloc: Global, tokens: &[Token]) -> Result<(Block, &[Token]), Fault>
+    ensures exact { Gives (λ x. (x.0, x.1.now)) result (block_at tokens.now) }
+    ensures shorter { IfOk result (λ x. length x.1.now < length tokens.now) }
+{
+    let (first, rest) = name(tokens)?;
+    let (reserved, rest) = names(alloc, first, rest)?;
+    let (body, rest) = body(alloc, 9, rest)?;
+    Ok((Block { reserved, body }, rest))
+}
+
+// A block with that word.
+fn separate(alloc: Global, tokens: &[Token]) -> Result<(Block, &[Token]), Fault>
+    ensures exact { Gives (λ x. (x.0, x.1.now)) result (separate_at tokens.now) }
+    ensures shorter { IfOk result (λ x. length x.1.now < length tokens.now) }
+{
+    match tokens {
+        [Token::Separate, rest @ ..] => block(alloc, rest),
+        _ => Err(Fault::Form(tokens.len())),
+    }
+}
+
+// Blocks and the brace that closes them.
+fn blocks(alloc: Global, tokens: &[Token]) -> Result<(Blocks, &[Token]), Fault>
+    ensures exact { Gives (λ x. (x.0, x.1.now)) result (run blocks_loop tokens.now) }
+    ensures shorter { IfOk result (λ x. length x.1.now < length tokens.now) }
+{
+    let mut all = Blocks::new(alloc);
+    let mut rest = tokens;
+    'each: loop {
+        if let Some(after) = past_close_brace(rest) {
+            return Ok((all, after));
+        }
+        let (block, after) = separate(alloc, rest)?;
+        all.push(block)?;
+        rest = after;
+    }
+}
+
+// An object, after that word.
+fn object(tokens: &[Token]) -> Result<(Item, &[Token]), Fault>
+    ensures exact { Gives (λ x. (x.0, x.1.now)) result (object_at tokens.now) }
+    ensures shorter { IfOk result (λ x. length x.1.now < length tokens.now) }
+{
+    let (name, rest) = name(tokens)?;
+    object_called(name, rest)
+}
+
+// The object of that name, from its kind on.
+fn object_called(name: Name, tokens: &[Token]) -> Result<(Item, &[Token]), Fault>
+    ensures exact { Gives (λ x. (x.0, x.1.now)) result (object_called_at name tokens.now) }
+    ensures shorter { IfOk result (λ x. length x.1.now < length tokens.now) }
+{
+    let (kind, rest) = match tokens {
+        [Token::Account, rest @ ..] => {
+            let (balance, rest) = number(rest)?;
+            (KindText::Account(Number::new(balance)), rest)
+        }
+        [Token::Buffer, rest @ ..] => {
+            let (capacity, rest) = number(rest)?;
+            (KindText::Buffer(Number::new(capacity)), rest)
+        }
+        [Token::Grid, rest @ ..] => {
+            let (rows, rest) = number(rest)?;
+            let (columns, rest) = number(rest)?;
+            (
+                KindText::Grid(Number::new(rows), Number::new(columns)),
+                rest,
+            )
+        }
+        _ => return Err(Fault::Form(tokens.len())),
+    };
+    Ok((Item::Object(ObjectItem { name, kind }), rest))
+}
+
+// A client, after that word.
+fn client(alloc: Global, tokens: &[Token]) -> Result<(Item, &[Token]), Fault>
+    ensures exact { Gives (λ x. (x.0, x.1.now)) result (client_at tokens.now) }
+    ensures shorter { IfOk result (λ x. length x.1.now < length tokens.now) }
+{
+    let (name, rest) = name(tokens)?;
+    let (blocks, rest) = blocks(alloc, open_brace(rest)?)?;
+    Ok((Item::Client(ClientItem { name, blocks }), rest))
+}
+
+fn item(alloc: Global, tokens: &[Token]) -> Result<(Item, &[Token]), Fault>
+    ensures exact { Gives (λ x. (x.0, x.1.now)) result (item_at tokens.now) }
+    ensures shorter { IfOk result (λ x. length x.1.now < length tokens.now) }
+{
+    match tokens {
+        [Token::Object, rest @ ..] => object(rest),
+        [Token::Client, rest @ ..] => client(alloc, rest),
+        _ => Err(Fault::Form(tokens.len())),
+    }
+}
+
+// The script that all the tokens make.
+pub(crate) fn script(alloc: Global, tokens: &[Token]) -> Result<Script, Fault>
+    ensures exact { Gives (λ x. (x, [])) result (run items_loop tokens.now) }
+{
+    let mut script = Script::new(alloc);
+    let mut rest = tokens;
+    'each: while !rest.is_empty() {
+        let (item, after) = item(alloc, rest)?;
+        script.push(item)?;
+        rest = after;
+    }
+    Ok(script)
+}

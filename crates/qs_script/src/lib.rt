@@ -1,0 +1,26 @@
+// Scripts: tokens, the grammar and its trees.
+#![tactic(auto)]
+
+mod expect;
+mod fault;
+mod items;
+pub mod laws;
+mod lex;
+mod name;
+mod number;
+mod reader;
+mod statements;
+mod token;
+mod tree;
+mod values;
+
+pub use fault::ReadFault;
+pub use lex::TokenFault;
+pub use name::Name;
+pub use number::Number;
+pub use reader::read;
+pub use token::Token;
+pub use tree::{
+    Args, Atom, Block, Blocks, Body, Call, ClientItem, Expr, Item, KindText, NameList, ObjectItem,
+    Operator, Relation, Script, Stmt, Test,
+};

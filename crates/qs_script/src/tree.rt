@@ -1,0 +1,336 @@
+// Syntax trees.
+
+ghost use Rattle.std.specs.Prelude.{◌≡◌, [], ◌∷◌, ◌++◌, OnOk, OnErr};
+ghost use Rattle.qs_script.specs.Tree.{end, joined};
+ghost use Rattle.qs_script.specs.Views.{single, stmts_of};
+
+use crate::name::Name;
+use crate::number::Number;
+use std::alloc::{AllocError, Global};
+use std::marker::Model;
+
+/// What stands where a value is wanted: a variable's name, or a number with its sign.
+#[derive(Drop)]
+pub enum Atom {
+    Variable(Name),
+    Number(i64),
+}
+
+/// How two values make one.
+#[derive(Clone, Copy, Debug)]
+pub enum Operator {
+    Plus,
+    Minus,
+    Times,
+}
+
+/// How two values are compared.
+#[derive(Clone, Copy, Debug)]
+pub enum Relation {
+    Equal,
+    Unequal,
+    Less,
+    AtMost,
+    Greater,
+    AtLeast,
+}
+
+/// What an assignment computes.
+#[derive(Drop)]
+pub enum Expr {
+    Plain(Atom),
+    Binary(Atom, Operator, Atom),
+}
+
+/// What an `if` asks.
+#[derive(Drop)]
+pub struct Test {
+    pub left: Atom,
+    pub relation: Relation,
+    pub right: Atom,
+}
+
+/// The arguments of a request, as they are written. Contracts see them as a list.
+#[derive(Drop)]
+pub struct Args {
+    atoms: Vec<Atom>,
+}
+
+impl Model for Args {
+    ghost use Rattle.std.specs.Prelude.{List};
+    ghost use Rattle.qs_script.specs.declared.tree.Atom.{Atom};
+
+    ghost Value = { List Atom };
+
+    ghost view = { λ a. a.atoms.items };
+}
+
+impl Args {
+    /// No arguments. It takes no memory yet.
+    pub fn new(alloc: Global) -> Args
+        ensures empty { result ≡ [] }
+    {
+        Args {
+            atoms: Vec::new(alloc),
+        }
+    }
+
+    /// Adds an argument at the end. An error is want of memory, and leaves the arguments as they were.
+    pub fn push(&mut self, atom: Atom) -> Result<(), AllocError>
+        ensures added { OnOk result (self.new ≡ self.old ++ atom ∷ []) }
+        ensures kept { OnErr result (self.new ≡ self.old) }
+    {
+        self.atoms.push(atom)?;
+        Ok(())
+    }
+
+    /// The arguments in order.
+    pub fn as_slice(&self) -> &[Atom]
+        ensures same { result.now ≡ self.now }
+    {
+        self.atoms.as_slice()
+    }
+}
+
+/// A request as it is written: an object, one of its operations, and the arguments.
+#[derive(Drop)]
+pub struct Call {
+    pub object: Name,
+    pub op: Name,
+    pub args: Args,
+}
+
+/// A statement. An `if` without `else` and one with an empty `else` are different statements.
+#[cycle(tree)]
+#[derive(Drop)]
+pub enum Stmt {
+    Command(Call),
+    Query(Name, Call),
+    Assign(Name, Expr),
+    If(Test, Body),
+    IfElse(Test, Body, Body),
+    Repeat(Number, Body),
+    Leave,
+}
+
+/// A list of statements. Contracts see it as a tree without places in memory.
+#[cycle(tree)]
+#[derive(Drop)]
+pub struct Body {
+    stmts: Vec<Stmt>,
+}
+
+impl Model for Body {
+    ghost use Rattle.qs_script.specs.Tree.{Stmts};
+    ghost use Rattle.qs_script.specs.TreeCode.{stmts_code};
+
+    ghost Value = { Stmts };
+
+    ghost coded = { stmts_code };
+
+    ghost use Rattle.qs_script.specs.Views.{stmts_of, size_of};
+
+    ghost view = { λ b. stmts_of b.stmts.items };
+
+    ghost size = { size_of };
+
+    ghost use Rattle.qs_script.specs.Falls.{falls};
+
+    ghost size_decreases = { λ b h. falls b.stmts.items };
+}
+
+impl Body {
+    /// No statements. It takes no memory yet.
+    pub fn new(alloc: Global) -> Body
+        ensures empty { result ≡ end }
+    {
+        Body {
+            stmts: Vec::new(alloc),
+        }
+    }
+
+    /// Adds a statement at the end. An error is want of memory, and leaves the list as it was.
+    pub fn push(&mut self, stmt: Stmt) -> Result<(), AllocError>
+        ensures added { OnOk result (self.new ≡ joined self.old (single stmt)) }
+        ensures kept { OnErr result (self.new ≡ self.old) }
+    {
+        self.stmts.push(stmt)?;
+        Ok(())
+    }
+
+    /// The statements in order.
+    pub fn as_slice(&self) -> &[Stmt]
+        ensures same { self.now ≡ stmts_of result.now }
+    {
+        self.stmts.as_slice()
+    }
+}
+
+/// Names in the order in which they are written.
+#[derive(Drop)]
+pub struct NameList {
+    names: Vec<Name>,
+}
+
+impl Model for NameList {
+    ghost use Rattle.std.specs.Prelude.{List, ℕ};
+
+    ghost Value = { List (List ℕ) };
+
+    ghost view = { λ n. n.names.items };
+}
+
+impl NameList {
+    /// No names. It takes no memory yet.
+    pub fn new(alloc: Global) -> NameList
+        ensures empty { result ≡ [] }
+    {
+        NameList {
+            names: Vec::new(alloc),
+        }
+    }
+
+    /// Adds a name at the end. An error is want of memory, and leaves the list as it was.
+    pub fn push(&mut self, name: Name) -> Result<(), AllocError>
+        ensures added { OnOk result (self.new ≡ self.old ++ name ∷ []) }
+        ensures kept { OnErr result (self.new ≡ self.old) }
+    {
+        self.names.push(name)?;
+        Ok(())
+    }
+
+    /// The names in order.
+    pub fn as_slice(&self) -> &[Name]
+        ensures same { result.now ≡ self.now }
+    {
+        self.names.as_slice()
+    }
+}
+
+/// A separate block: the objects that it reserves together, and its statements.
+#[derive(Drop)]
+pub struct Block {
+    pub reserved: NameList,
+    pub body: Body,
+}
+
+/// A client's blocks in the order in which they are written.
+#[derive(Drop)]
+pub struct Blocks {
+    blocks: Vec<Block>,
+}
+
+impl Model for Blocks {
+    ghost use Rattle.std.specs.Prelude.{List};
+    ghost use Rattle.qs_script.specs.declared.tree.Block.{Block};
+
+    ghost Value = { List Block };
+
+    ghost use Rattle.qs_script.specs.BlockCode.{blocks_code};
+
+    ghost coded = { blocks_code };
+
+    ghost view = { λ b. b.blocks.items };
+}
+
+impl Blocks {
+    /// No blocks. It takes no memory yet.
+    pub fn new(alloc: Global) -> Blocks
+        ensures empty { result ≡ [] }
+    {
+        Blocks {
+            blocks: Vec::new(alloc),
+        }
+    }
+
+    /// Adds a block at the end. An error is want of memory, and leaves the list as it was.
+    pub fn push(&mut self, block: Block) -> Result<(), AllocError>
+        ensures added { OnOk result (self.new ≡ self.old ++ block ∷ []) }
+        ensures kept { OnErr result (self.new ≡ self.old) }
+    {
+        self.blocks.push(block)?;
+        Ok(())
+    }
+
+    /// The blocks in order.
+    pub fn as_slice(&self) -> &[Block]
+        ensures same { result.now ≡ self.now }
+    {
+        self.blocks.as_slice()
+    }
+}
+
+/// An object's kind with its numbers: a balance; a capacity; rows and columns.
+#[derive(Drop)]
+pub enum KindText {
+    Account(Number),
+    Buffer(Number),
+    Grid(Number, Number),
+}
+
+/// The declaration of an object.
+#[derive(Drop)]
+pub struct ObjectItem {
+    pub name: Name,
+    pub kind: KindText,
+}
+
+/// A client with its blocks.
+#[derive(Drop)]
+pub struct ClientItem {
+    pub name: Name,
+    pub blocks: Blocks,
+}
+
+/// What a script consists of.
+#[derive(Drop)]
+pub enum Item {
+    Object(ObjectItem),
+    Client(ClientItem),
+}
+
+/// A script. Contracts see it as the list of its items.
+#[derive(Drop)]
+pub struct Script {
+    items: Vec<Item>,
+}
+
+impl Model for Script {
+    ghost use Rattle.std.specs.Prelude.{List};
+    ghost use Rattle.qs_script.specs.declared.tree.Item.{Item};
+
+    ghost Value = { List Item };
+
+    ghost use Rattle.qs_script.specs.ScriptCode.{script_code};
+
+    ghost coded = { script_code };
+
+    ghost view = { λ s. s.items.items };
+}
+
+impl Script {
+    /// No items. It takes no memory yet.
+    pub fn new(alloc: Global) -> Script
+        ensures empty { result ≡ [] }
+    {
+        Script {
+            items: Vec::new(alloc),
+        }
+    }
+
+    /// Adds an item at the end. An error is want of memory, and leaves the list as it was.
+    pub fn push(&mut self, item: Item) -> Result<(), AllocError>
+        ensures added { OnOk result (self.new ≡ self.old ++ item ∷ []) }
+        ensures kept { OnErr result (self.new ≡ self.old) }
+    {
+        self.items.push(item)?;
+        Ok(())
+    }
+
+    /// The items in order.
+    pub fn as_slice(&self) -> &[Item]
+        ensures same { result.now ≡ self.now }
+    {
+        self.items.as_slice()
+    }
+}
