@@ -1,12 +1,12 @@
 -- Bounds that a sound program keeps.
-use Rattle.std.proofs.Common.{◌≡◌, ℕ, zero, suc, ◌+◌, ◌*◌, ◌<◌, ◌≤◌, max, Bool, true, false, ◌||◌, ◌==◌, if◌then◌else◌, List, [], ◌∷◌, length, get_or, take, refl, ap, sym, arith, sum_by}
+use Rattle.std.proofs.Common.{◌≡◌, ℕ, zero, suc, ◌+◌, ◌*◌, ◌<◌, ◌≤◌, Bool, true, false, ◌||◌, ◌==◌, List, [], ◌∷◌, length, get_or, take, refl, arith, sum_by}
 use Rattle.std.specs.List.{AllByRecursion, list_any}
 use Rattle.std.proofs.lemmas.List.Sums.{sum_by-cons}
 use Rattle.qs_check.specs.declared.program.Declared.{Declared}
 use Rattle.qs_check.specs.Statements.{Statements, end, command, query, assign, choose, again, leave}
 use Rattle.qs_check.specs.Loads.{load_of}
 use Rattle.qs_check.specs.Program.{BlockShape, ClientShape, ProgramShape, block_load, whole_load, no_block, no_client, block_at, client_at, blocks_of}
-use Rattle.qs_check.specs.Sound.{IsSound, IsSoundBlock, IsSoundBody, IsSoundCall, IsSoundClient, is_in}
+use Rattle.qs_check.specs.Sound.{IsSound, IsSoundBlock, IsSoundBody, IsSoundClient, is_in}
 
 -- a number of a list is at most the sum
 pub get_or-sum_by : {X : Type 0} (f : X → ℕ) (xs : List X) (i : ℕ) (d : X) → i < length xs → f (get_or xs i d) ≤ sum_by f xs
@@ -74,9 +74,12 @@ pub load_of-whole : (p : ProgramShape) (c k h : ℕ) → IsSound p → c < lengt
 load_of-whole p c k h sound client block =
     let its_client : IsSoundClient p.objects (client_at p c) = AllByRecursion-get_or (IsSoundClient p.objects) p.clients c no_client sound.each client in
     let its_block : IsSoundBlock p.objects (block_at p c k) = AllByRecursion-get_or (IsSoundBlock p.objects) (client_at p c).blocks k no_block its_client.each block in
-    omega (arith, load_of-in_block p.objects (block_at p c k) h its_block,
-    get_or-sum_by block_load (client_at p c).blocks k no_block block,
-    get_or-sum_by (λ (d : ClientShape). sum_by block_load d.blocks) p.clients c no_client client)
+    omega (
+      arith,
+      load_of-in_block p.objects (block_at p c k) h its_block,
+      get_or-sum_by block_load (client_at p c).blocks k no_block block,
+      get_or-sum_by (λ (d : ClientShape). sum_by block_load d.blocks) p.clients c no_client client,
+    )
 
 -- a block of a sound program is sound
 pub sound_block : (p : ProgramShape) (c k : ℕ) → IsSound p → c < length p.clients → k < blocks_of p c → IsSoundBlock p.objects (block_at p c k)
@@ -87,5 +90,8 @@ sound_block p c k sound client block =
 -- a block's load is at most the whole load
 pub block_load-whole : (p : ProgramShape) (c k : ℕ) → c < length p.clients → k < blocks_of p c → block_load (block_at p c k) ≤ whole_load p
 block_load-whole p c k client block =
-    omega (arith, get_or-sum_by block_load (client_at p c).blocks k no_block block,
-    get_or-sum_by (λ (d : ClientShape). sum_by block_load d.blocks) p.clients c no_client client)
+    omega (
+      arith,
+      get_or-sum_by block_load (client_at p c).blocks k no_block block,
+      get_or-sum_by (λ (d : ClientShape). sum_by block_load d.blocks) p.clients c no_client client,
+    )

@@ -12,3 +12,4 @@ pub mod Scripts
 pub mod Soundness
 pub mod RequestPaths
 pub mod Bounds
+pub mod Trees

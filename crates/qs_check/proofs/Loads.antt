@@ -1,5 +1,5 @@
 -- Loads and weights, statement by statement.
-use Rattle.std.proofs.Common.{◌≡◌, ℕ, zero, suc, ◌+◌, ◌*◌, ◌<◌, min, List, [], ◌∷◌, length, get_or, drop, arith, add-one}
+use Rattle.std.proofs.Common.{◌≡◌, ℕ, zero, suc, ◌+◌, ◌*◌, ◌<◌, min, List, ◌∷◌, length, get_or, drop, arith, add-one}
 use Rattle.std.proofs.Math.Seq.{drop-cons}
 use Rattle.qs_check.specs.declared.code.Stmt.{Stmt}
 use Rattle.qs_check.specs.declared.code.Stmt.TheVariants.{Command, Query, Assign, If, Repeat, Leave}

@@ -2,7 +2,7 @@
 use Rattle.std.proofs.Common.{◌≡◌, ◌≤◌, ◌<◌, ℕ, zero, suc, List, [], ◌∷◌, ◌++◌, length, get_or, refl, ap, arith}
 use Rattle.qs_check.specs.declared.code.Stmt.{Stmt}
 use Rattle.qs_check.specs.declared.code.Stmt.TheVariants.{Command, Query, Assign, If, Repeat, Leave}
-use Rattle.qs_check.specs.Statements.{Statements, end, command, query, assign, choose, again, leave, joined}
+use Rattle.qs_check.specs.Statements.{command, query, assign, choose, again, leave, joined}
 use Rattle.qs_check.specs.Views.{statements_of, single, size_of}
 
 pub statements_of-append : (xs : List Stmt) (s : Stmt) → statements_of (xs ++ s ∷ []) ≡ joined (statements_of xs) (single s)

@@ -1,5 +1,5 @@
 -- Each inner list has fewer statements than the list that it stands in.
-use Rattle.std.specs.Prelude.{ℕ, ◌≤◌, max, List, [], ◌∷◌}
+use Rattle.std.specs.Prelude.{◌≤◌, max, List, [], ◌∷◌}
 use Rattle.std.proofs.Common.{arith}
 use denote.Param.Weighed.{most}
 use Rattle.qs_check.specs.declared.code.Stmt.{Stmt}

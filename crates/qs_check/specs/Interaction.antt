@@ -1,5 +1,5 @@
 -- A block as an interaction tree: what it asks next, and for each reply what it asks then.
-use Rattle.std.specs.Prelude.{◌≡◌, ℕ, zero, suc, ℤ, if◌then◌else◌, List, [], ◌∷◌, Option, None, slice_set}
+use Rattle.std.specs.Prelude.{◌≡◌, ℕ, zero, suc, ℤ, if◌then◌else◌, [], ◌∷◌, None, slice_set}
 use Rattle.qs_objects.specs.declared.Request.{Request}
 use Rattle.qs_objects.specs.declared.held.Event.{Event}
 use Rattle.qs_check.specs.Statements.{Statements, end, command, query, assign, choose, again, leave}

@@ -17,3 +17,4 @@ pub mod Resolve
 pub mod Checked
 pub mod Paths
 pub mod CheckExamples
+pub mod MeaningExamples

@@ -1,5 +1,5 @@
 -- How many requests a list of statements can make on an object, and how many steps it can take.
-use Rattle.std.specs.Prelude.{ℕ, ◌+◌, ◌*◌, max, min, ◌==◌, if◌then◌else◌}
+use Rattle.std.specs.Prelude.{ℕ, ◌+◌, ◌*◌, max, ◌==◌, if◌then◌else◌}
 use Rattle.qs_check.specs.Statements.{Statements, end, command, query, assign, choose, again, leave}
 
 abbrev pub load_of : Statements → ℕ → ℕ
@@ -10,7 +10,6 @@ load_of (assign x e rest) h = load_of rest h
 load_of (choose t has_else first other rest) h = max (load_of first h) (load_of other h) + load_of rest h
 load_of (again n body rest) h = n * load_of body h + load_of rest h
 load_of (leave rest) h = load_of rest h
-
 
 -- a repeat's empty body weighs 1, and no other list that has a statement weighs less
 abbrev pub weight_of : Statements → ℕ

@@ -1,6 +1,5 @@
 -- Checked programs, as callers see them: everything by its number.
 use Rattle.std.specs.Prelude.{ℕ, List, [], slice_index_or, length, pos, sum_by}
-use Rattle.qs_objects.specs.declared.object.Kind.{Kind}
 use Rattle.qs_objects.specs.declared.object.Kind.TheVariants.{Account}
 use Rattle.qs_objects.specs.declared.held.Ticket.{Ticket}
 use Rattle.qs_check.specs.declared.program.Declared.{Declared}

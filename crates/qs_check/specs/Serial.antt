@@ -1,11 +1,11 @@
 -- Legal orders of reservations, and the serial run: the blocks of an order one after another.
-use Rattle.std.specs.Prelude.{◌≡◌, ◌≤◌, ◌<◌, ℕ, suc, List, [], ◌∷◌, Option, Some, None, replicate, pos}
-use Rattle.qs_objects.specs.Act.{State, Content, account}
+use Rattle.std.specs.Prelude.{◌≡◌, ◌<◌, ℕ, suc, List, [], ◌∷◌, Option, Some, None, replicate, pos}
+use Rattle.qs_objects.specs.Act.{State, account}
 use Rattle.qs_objects.specs.Objects.{starts}
 use Rattle.qs_objects.specs.declared.held.Event.{Event}
 use Rattle.qs_objects.specs.declared.held.Ticket.{Ticket}
 use Rattle.qs_check.specs.Values.{Locals}
-use Rattle.qs_check.specs.Solo.{States, Outcome, put, solo}
+use Rattle.qs_check.specs.Solo.{States, put, solo}
 use Rattle.qs_check.specs.Program.{ProgramShape, object_at, text_of, blocks_of}
 
 -- the tickets of each client come as 0, 1, 2, .. and each names a block of the program; from these counts of begun blocks on

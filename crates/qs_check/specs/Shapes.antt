@@ -5,7 +5,7 @@ use Rattle.qs_check.specs.Statements.{Statements}
 use Rattle.qs_check.specs.StatementsCode.{statements_code}
 use Rattle.qs_check.specs.declared.program.Declared.{Declared}
 use Rattle.qs_check.specs.Numbering.{Name}
-use Rattle.qs_check.specs.Program.{ BlockShape, ClientShape, ProgramShape}
+use Rattle.qs_check.specs.Program.{BlockShape, ClientShape, ProgramShape}
 
 abbrev pub name_code : Coded Name
 name_code = coded_list coded_ℕ

@@ -1,5 +1,5 @@
 -- How a proof tells two lists of statements apart.
-use Rattle.std.specs.Prelude.{◌≡◌, refl, Bool}
+use Rattle.std.specs.Prelude.{◌≡◌, refl}
 use Rattle.std.specs.Coded.{Coded, codes, coded_bool}
 use Rattle.std.proofs.Common.{ap}
 use base.Stored.{Gv, gnil, gnum, gcons}

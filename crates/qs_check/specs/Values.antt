@@ -1,5 +1,5 @@
 -- What expressions, tests and requests are worth, by the client's variables.
-use Rattle.std.specs.Prelude.{ℕ, Bool, not, ◌||◌, List, map, slice_index_or, ℤ, pos, ◌+ℤ◌, ◌-ℤ◌, ◌*ℤ◌, int_lt}
+use Rattle.std.specs.Prelude.{Bool, not, ◌||◌, List, map, slice_index_or, ℤ, pos, ◌+ℤ◌, ◌-ℤ◌, ◌*ℤ◌, int_lt}
 use Rattle.qs_objects.specs.Act.{clamped}
 use Rattle.qs_objects.specs.declared.Request.{Request}
 use Rattle.qs_script.specs.declared.tree.Operator.{Operator}

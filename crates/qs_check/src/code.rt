@@ -192,7 +192,9 @@ impl Stmt {
         ensures capped { result ≡ min (weight_of (single self.now)) 1000001 }
     {
         match self {
-            Stmt::If { first, other, .. } => (first.weight().max(other.weight()) + 1).min(1_000_001),
+            Stmt::If { first, other, .. } => (first.weight().max(other.weight()) + 1).min(
+                1_000_001,
+            ),
             Stmt::Repeat(count, body) => {
                 (body.weight().max(1).saturating_mul(*count).min(1_000_001) + 1).min(1_000_001)
             }

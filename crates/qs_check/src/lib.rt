@@ -1,10 +1,10 @@
 //! Checked programs: names by number, limits, loads, and what a program means.
 #![tactic(auto)]
 
-mod check_laws;
 mod checker;
 mod code;
 mod fault;
+pub mod laws;
 mod names;
 mod operators;
 mod program;
@@ -14,7 +14,6 @@ mod totals;
 mod values;
 mod walk;
 
-pub use check_laws::{check_examples, requests_within_load};
 pub use checker::check;
 pub use code::{Atom, Atoms, Body, Call, Expr, Stmt, Test};
 pub use fault::CheckFault;

@@ -53,7 +53,11 @@ impl Test {
     pub fn is_met(&self, locals: &Locals) -> bool
         ensures value { result ≡ test_value locals.now self.now }
     {
-        relates(self.relation, self.left.value(locals), self.right.value(locals))
+        relates(
+            self.relation,
+            self.left.value(locals),
+            self.right.value(locals),
+        )
     }
 }
 

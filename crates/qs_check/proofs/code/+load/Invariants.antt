@@ -1,4 +1,4 @@
-use Rattle.std.proofs.Common.{◌≡◌, ℕ, ◌+◌, ◌≤◌, min, drop}
+use Rattle.std.proofs.Common.{◌≡◌, ◌+◌, ◌≤◌, min, drop}
 use Rattle.qs_check.specs.Loads.{load_of}
 use Rattle.qs_check.specs.Views.{statements_of}
 use Rattle.qs_check.proofs.code.+load.Given as goal

@@ -1,4 +1,4 @@
-use Rattle.std.proofs.Common.{◌≡◌, ◌≤◌, ◌*◌, ◌+◌, sum_by, take, length}
+use Rattle.std.proofs.Common.{◌≡◌, sum_by, take, length}
 use Rattle.qs_check.proofs.program.Program.blocks.Given as goal
 
 abbrev pub invariant-loop-client : goal.invariant-loop-client

@@ -1,6 +1,6 @@
-use Rattle.std.proofs.Common.{◌≡◌, ◌≤◌, ℕ, min, arith, ap, subst, ◌∙◌}
+use Rattle.std.proofs.Common.{arith, ap, subst, ◌∙◌}
 use Rattle.qs_check.specs.Loads.{load_of}
-use Rattle.qs_check.specs.Program.{block_at, whole_load, BlockShape}
+use Rattle.qs_check.specs.Program.{BlockShape}
 use Rattle.qs_check.specs.Sound.{IsSound}
 use Rattle.qs_check.proofs.Bounds.{load_of-whole}
 use Rattle.qs_check.proofs.program.Program.load_of.Goals as goal
@@ -8,11 +8,21 @@ use Rattle.qs_check.proofs.program.Program.load_of.Goals as goal
 pub returns-clause-value : goal.returns-clause-value
 returns-clause-value c =
     let sound : IsSound c.args.self.now = subst IsSound c.self.view_is c.self.invariant.0 in
-    omega (arith, load_of-whole c.args.self.now c.args.client c.args.block c.args.object sound c.requires.client c.requires.block, sound.load,
-    c.load.ensures.capped, ap (λ (b : BlockShape). load_of b.body c.args.object) (c.behind-self.view_is ∙ c.block.ensures.value))
+    omega (
+      arith,
+      load_of-whole c.args.self.now c.args.client c.args.block c.args.object sound c.requires.client c.requires.block,
+      sound.load,
+      c.load.ensures.capped,
+      ap (λ (b : BlockShape). load_of b.body c.args.object) (c.behind-self.view_is ∙ c.block.ensures.value),
+    )
 
 pub returns-clause-limit : goal.returns-clause-limit
 returns-clause-limit c =
     let sound : IsSound c.args.self.now = subst IsSound c.self.view_is c.self.invariant.0 in
-    omega (arith, load_of-whole c.args.self.now c.args.client c.args.block c.args.object sound c.requires.client c.requires.block, sound.load,
-    c.load.ensures.capped, ap (λ (b : BlockShape). load_of b.body c.args.object) (c.behind-self.view_is ∙ c.block.ensures.value))
+    omega (
+      arith,
+      load_of-whole c.args.self.now c.args.client c.args.block c.args.object sound c.requires.client c.requires.block,
+      sound.load,
+      c.load.ensures.capped,
+      ap (λ (b : BlockShape). load_of b.body c.args.object) (c.behind-self.view_is ∙ c.block.ensures.value),
+    )

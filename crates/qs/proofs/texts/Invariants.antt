@@ -1,0 +1,6 @@
+-- The texts of the words before this one are there.
+use Rattle.std.proofs.Common.{◌≡◌, map, string_bytes, take}
+use Rattle.qs.proofs.texts.Given as goal
+
+abbrev pub invariant-loop-word : goal.invariant-loop-word
+invariant-loop-word l = map (λ text. text.now) l.texts.items ≡ map string_bytes (take l.word-index l.word-items)

@@ -1,0 +1,4 @@
+pub mod Reading
+pub mod Words
+pub mod Due
+pub mod Input

@@ -1,0 +1,63 @@
+//! The program: a script on standard input, a text on standard output.
+#![tactic(auto)]
+
+ghost use Rattle.std.specs.Prelude.{◌≡◌, map, string_bytes, IfOk};
+ghost use Rattle.qs_report.specs.declared.faults.Fault.TheVariants as fault;
+ghost use Rattle.qs_report.specs.Faults.{fault_text};
+ghost use Rattle.qs_report.specs.Texts.{AppendsFront};
+
+mod due;
+mod input;
+mod output;
+mod serving;
+#[cfg(test)]
+mod tests;
+mod words;
+
+use due::Due;
+use output::finish;
+use qs_report::{Fault, Watch};
+use serving::serve;
+use std::alloc::{AllocError, Global};
+use std::io::Write;
+use std::process::ExitCode;
+use std::rt::Env;
+use std::{env, io};
+
+// The process's arguments, the program's name first.
+fn arguments<R: Env + Alloc<A = Global>>(rt: &R) -> io::Result<Vec<String>> {
+    let words = env::args(rt)?.collect(rt.alloc())?;
+    Ok(words)
+}
+
+// The texts of the words.
+fn texts(alloc: Global, words: &Vec<String>) -> Result<Vec<&str>, AllocError>
+    ensures texts { IfOk result (λ texts. map (λ text. text.now) texts.items ≡ map string_bytes words.now.items) }
+{
+    let mut texts = Vec::new(alloc);
+    for word in words {
+        texts.push(word.as_str())?;
+    }
+    Ok(texts)
+}
+
+// Ends for want of memory.
+fn give_up<W: Write>(out: &mut W) -> ExitCode
+    ensures front { AppendsFront (W.contents out.old) (W.contents out.new) (fault_text fault.Memory) }
+{
+    let mut watch = Watch::new();
+    let due = Due::Refused(Fault::Memory);
+    ExitCode::from(finish(out, &mut watch, &due))
+}
+
+fn main(rt: HostRuntime) -> ExitCode {
+    let mut input = rt.reader();
+    let mut out = io::writer(&rt);
+    let Ok(words) = arguments(&rt) else {
+        return give_up(&mut out);
+    };
+    let Ok(texts) = texts(rt.alloc(), &words) else {
+        return give_up(&mut out);
+    };
+    ExitCode::from(serve(rt.alloc(), texts.as_slice(), &mut input, &mut out))
+}

@@ -1,0 +1,350 @@
+// Readers and writers that fail in mid-stream.
+
+use crate::serving::serve;
+use std::alloc::Global;
+use std::io;
+use std::io::{Read, Write};
+use std::process::Abort;
+use std::test::Fail;
+
+const SCRIPT: &[u8] =
+    b"object a account 100 client ann { separate a { a.deposit(5); x = a.balance(); } }";
+
+// The report of its run.
+const DUE: &[u8] =
+    b"order 1\nticket ann 0 done\na.deposit(5)\na.balance() = 105\nstates\na account 105 refused 0\nsyncs 1\nfinished\n";
+
+const STATUS: u8 = 0;
+
+// Gives one byte a read, and fails at its read `fails_at`, from 1.
+#[derive(Drop)]
+struct Halting<'a> {
+    text: &'a [u8],
+    reads: usize,
+    fails_at: usize,
+}
+
+impl Read for Halting<'_> {
+    fn read(&mut self, buf: &mut [u8]) -> io::Result<usize> {
+        self.reads = self.reads.saturating_add(1);
+        if self.reads == self.fails_at {
+            return Err(io::Error::from(io::ErrorKind::BrokenPipe));
+        }
+        match (self.text.split_first(), buf.first_mut()) {
+            (Some((byte, rest)), Some(place)) => {
+                *place = *byte;
+                self.text = rest;
+                Ok(1)
+            }
+            _ => Ok(0),
+        }
+    }
+}
+
+fn make_halting(text: &[u8], fails_at: usize) -> Halting<'_> {
+    Halting {
+        text,
+        reads: 0,
+        fails_at,
+    }
+}
+
+// Takes one byte a write. At its write `fails_at`, from 1, it fails or takes no byte. Counts its flushes, which it may refuse.
+#[derive(Drop)]
+struct Choppy {
+    got: Vec<u8>,
+    writes: usize,
+    fails_at: usize,
+    takes_none: bool,
+    flushes: usize,
+    refuses_flush: bool,
+}
+
+impl Write for Choppy {
+    fn write(&mut self, buf: &[u8]) -> io::Result<usize> {
+        self.writes = self.writes.saturating_add(1);
+        if self.writes == self.fails_at {
+            return if self.takes_none {
+                Ok(0)
+            } else {
+                Err(io::Error::from(io::ErrorKind::Interrupted))
+            };
+        }
+        match buf.first() {
+            Some(byte) => {
+                self.got.push(*byte)?;
+                Ok(1)
+            }
+            None => Ok(0),
+        }
+    }
+
+    fn flush(&mut self) -> io::Result<()> {
+        self.flushes = self.flushes.saturating_add(1);
+        if self.refuses_flush {
+            return Err(io::Error::from(io::ErrorKind::BrokenPipe));
+        }
+        Ok(())
+    }
+}
+
+fn make_choppy(alloc: Global, fails_at: usize) -> Choppy {
+    Choppy {
+        got: Vec::new(alloc),
+        writes: 0,
+        fails_at,
+        takes_none: false,
+        flushes: 0,
+        refuses_flush: false,
+    }
+}
+
+fn is_served(rt: &impl Abort, alloc: Global, input: &mut Halting<'_>, text: &[u8], status: u8) {
+    let mut out = Vec::new(alloc);
+    let answer = serve(alloc, &["qs", "rules"], input, &mut out);
+    assert_eq!(rt; answer, status, "after {} reads", input.reads);
+    assert_eq!(rt; out.as_slice(), text, "after {} reads", input.reads);
+}
+
+fn is_refused_unread(rt: &impl Abort, alloc: Global, words: &[&str]) {
+    let mut input = make_halting(SCRIPT, 1);
+    let mut out = Vec::new(alloc);
+    assert_eq!(rt; serve(alloc, words, &mut input, &mut out), 2);
+    assert_eq!(rt; out.as_slice(), b"refused: command line\n".as_slice());
+    assert_eq!(rt; input.reads, 0);
+}
+
+#[test]
+fn other_lines_are_refused_unread(rt: HostRuntime) {
+    is_refused_unread(&rt, rt.alloc(), &[]);
+    is_refused_unread(&rt, rt.alloc(), &["qs"]);
+    is_refused_unread(&rt, rt.alloc(), &["rules"]);
+    is_refused_unread(&rt, rt.alloc(), &["qs", "rules", "rules"]);
+    for word in ["", "rule", "rules ", "Rules", "play", "--help"] {
+        is_refused_unread(&rt, rt.alloc(), &["qs", word]);
+    }
+}
+
+#[test]
+fn a_read_that_fails(rt: HostRuntime) {
+    for fails_at in 1..=82 {
+        is_served(
+            &rt,
+            rt.alloc(),
+            &mut make_halting(SCRIPT, fails_at),
+            b"refused: input\n",
+            4,
+        );
+    }
+    is_served(&rt, rt.alloc(), &mut make_halting(SCRIPT, 83), DUE, STATUS);
+}
+
+#[test]
+fn a_write_that_fails(rt: HostRuntime) {
+    for takes_none in [false, true] {
+        for fails_at in 1..=DUE.len() {
+            let mut out = make_choppy(rt.alloc(), fails_at);
+            out.takes_none = takes_none;
+            let mut input = SCRIPT;
+            let status = serve(rt.alloc(), &["qs", "rules"], &mut input, &mut out);
+            assert_eq!(rt; status, 4);
+            assert_eq!(rt; Some(out.got.as_slice()), DUE.get(..fails_at - 1));
+            assert_eq!(rt; (out.writes, out.flushes), (fails_at, 0));
+        }
+    }
+}
+
+#[test]
+fn one_flush_is_asked(rt: HostRuntime) {
+    for (refuses_flush, status) in [(false, STATUS), (true, 4)] {
+        let mut out = make_choppy(rt.alloc(), 0);
+        out.refuses_flush = refuses_flush;
+        let mut input = SCRIPT;
+        assert_eq!(rt;
+            serve(rt.alloc(), &["qs", "rules"], &mut input, &mut out),
+            status
+        );
+        assert_eq!(rt; out.got.as_slice(), DUE);
+        assert_eq!(rt; (out.writes, out.flushes), (DUE.len(), 1));
+    }
+}
+
+#[test]
+fn no_more_than_the_longest_text_is_read(rt: HostRuntime) -> Result<(), Fail> {
+    let text = vec![in rt.alloc(); b' '; 70_000]?;
+    let mut input = make_halting(text.as_slice(), 65_538);
+    is_served(&rt, rt.alloc(), &mut input, b"refused: read 1 Size\n", 2);
+    assert_eq!(rt; input.reads, 65_537);
+    Ok(())
+}
+
+#[test]
+fn check_is_a_word(rt: HostRuntime) {
+    let mut input = make_halting(b"", 1);
+    let mut out = Vec::new(rt.alloc());
+    assert_eq!(rt;
+        serve(rt.alloc(), &["qs", "check"], &mut input, &mut out),
+        4
+    );
+    assert_eq!(rt; out.as_slice(), b"refused: input\n".as_slice());
+}
+
+// Keeps what is written in place, and takes no memory.
+#[derive(Drop)]
+struct Fixed {
+    bytes: [u8; 256],
+    len: usize,
+}
+
+impl Write for Fixed {
+    fn write(&mut self, buf: &[u8]) -> io::Result<usize> {
+        match (buf.first(), self.bytes.get_mut(self.len)) {
+            (Some(byte), Some(place)) => {
+                *place = *byte;
+                self.len = self.len.saturating_add(1);
+                Ok(1)
+            }
+            _ => Ok(0),
+        }
+    }
+
+    fn flush(&mut self) -> io::Result<()> {
+        Ok(())
+    }
+}
+
+// The answer, or want of memory; also where an allocation is refused.
+#[test]
+fn each_allocation(rt: HostRuntime) {
+    let mut out = Fixed {
+        bytes: [0; 256],
+        len: 0,
+    };
+    let mut input = SCRIPT;
+    let status = serve(rt.alloc(), &["qs", "rules"], &mut input, &mut out);
+    let written = out.bytes.get(..out.len);
+    if status == 3 {
+        let is_read = written == Some(b"refused: read 6 Memory\n".as_slice());
+        let is_check = written == Some(b"refused: check 12 Memory\n".as_slice());
+        let is_play = written == Some(b"refused: play 1 Memory\n".as_slice());
+        let is_elsewhere = written == Some(b"refused: memory\n".as_slice());
+        assert!(rt; is_read || is_check || is_play || is_elsewhere);
+    } else {
+        assert_eq!(rt; status, STATUS);
+        assert_eq!(rt; written, Some(DUE));
+    }
+}
+
+fn gives(rt: &impl Abort, alloc: Global, word: &str, script: &[u8], text: &[u8], status: u8) {
+    let mut out = Vec::new(alloc);
+    let mut input = script;
+    let answer = serve(alloc, &["qs", word], &mut input, &mut out);
+    assert_eq!(rt; out.as_slice(), text);
+    assert_eq!(rt; answer, status);
+}
+
+#[test]
+fn refusals_of_the_text(rt: HostRuntime) {
+    let alloc = rt.alloc();
+    gives(
+        &rt,
+        alloc,
+        "rules",
+        b"client { $ }",
+        b"refused: read 2 Byte line 1\n",
+        2,
+    );
+    gives(
+        &rt,
+        alloc,
+        "rules",
+        b"object a account\n1000000000000000000",
+        b"refused: read 3 Number line 2\n",
+        2,
+    );
+    gives(
+        &rt,
+        alloc,
+        "rules",
+        b"object abcdefghijklmnopq account 1",
+        b"refused: read 4 Name line 1\n",
+        2,
+    );
+    gives(
+        &rt,
+        alloc,
+        "rules",
+        b"object acc account 1 client c { separate acc {",
+        b"refused: read 5 Form line 1\n",
+        2,
+    );
+}
+
+#[test]
+fn refusals_of_the_script(rt: HostRuntime) {
+    let alloc = rt.alloc();
+    gives(
+        &rt,
+        alloc,
+        "check",
+        b"object a account 0 object a buffer 9999",
+        b"refused: check 1 Twice\n",
+        2,
+    );
+    gives(
+        &rt,
+        alloc,
+        "rules",
+        b"client c { separate a { } }",
+        b"refused: check 2 UnknownObject\n",
+        2,
+    );
+    gives(
+        &rt,
+        alloc,
+        "rules",
+        b"object a account 1 client c { separate a { a.put(1); } }",
+        b"refused: check 5 UnknownOp\n",
+        2,
+    );
+    gives(
+        &rt,
+        alloc,
+        "rules",
+        b"object a account 1 client c { separate a { a.deposit(); } }",
+        b"refused: check 6 Arity\n",
+        2,
+    );
+    gives(
+        &rt,
+        alloc,
+        "rules",
+        b"object a account 1000000000000001",
+        b"refused: check 9 Range\n",
+        2,
+    );
+}
+
+#[test]
+fn counts(rt: HostRuntime) {
+    gives(
+        &rt,
+        rt.alloc(),
+        "check",
+        b"object a account 0 client c { separate a { repeat 1000 { repeat 100 { a.deposit(0); } } } }",
+        b"objects 1\nclients 1\nblocks 1\nload 100000\nweight 101001\n",
+        0,
+    );
+}
+
+#[test]
+fn two_clients_transfer(rt: HostRuntime) {
+    gives(
+        &rt,
+        rt.alloc(),
+        "rules",
+        b"object a account 100 object b account 100 client ann { separate a b { a.withdraw(30); b.deposit(30); x = a.balance(); y = b.balance(); } } client bob { separate a { a.deposit(1); } separate b { b.deposit(1); y = b.balance(); } }",
+        b"order 3\nticket ann 0 done\na.withdraw(30)\nb.deposit(30)\na.balance() = 70\nb.balance() = 130\nticket bob 0 done\na.deposit(1)\nticket bob 1 done\nb.deposit(1)\nb.balance() = 131\nstates\na account 71 refused 0\nb account 131 refused 0\nsyncs 3\nfinished\n",
+        0,
+    );
+}

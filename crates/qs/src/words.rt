@@ -1,0 +1,35 @@
+// The command line.
+
+ghost use Rattle.std.specs.Prelude.{◌≡◌, map};
+ghost use Rattle.qs.specs.Words.{command_in, command_of_word};
+
+/// What is to be done with a script.
+#[derive(Clone, Copy, Debug, PartialEq, Eq)]
+pub enum Command {
+    /// Check it, and play it by the plain rules to the end.
+    Rules,
+    /// Check it, and count.
+    Check,
+}
+
+fn command_of(word: &str) -> Option<Command>
+    ensures command { result ≡ command_of_word word.now }
+{
+    if word == "rules" {
+        Some(Command::Rules)
+    } else if word == "check" {
+        Some(Command::Check)
+    } else {
+        None
+    }
+}
+
+/// The command of a whole line, the program's name first; None where it is no line of the program.
+pub fn command_of_line(words: &[&str]) -> Option<Command>
+    ensures command { result ≡ command_in (map (λ word. word.now) words.now) }
+{
+    match words {
+        [_, word] => command_of(word),
+        _ => None,
+    }
+}

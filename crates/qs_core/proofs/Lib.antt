@@ -1,0 +1,16 @@
+pub mod Moves
+pub mod Mapping
+pub mod ClientKept
+pub mod Lists
+pub mod HallSteps
+pub mod RulesSteps
+pub mod HallKept
+pub mod RulesKept
+pub mod RulesBegin
+pub mod Views
+pub mod RulesGo
+pub mod RulesServe
+pub mod RulesFresh
+pub mod Playing
+pub mod ReadingOff
+pub mod Ordering

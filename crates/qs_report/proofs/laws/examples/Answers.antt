@@ -1,0 +1,15 @@
+-- The digits of each number are computed.
+use Rattle.std.proofs.Common.{refl, rules}
+use Rattle.std.specs.Fmt.{digits}
+use Rattle.qs_report.proofs.laws.examples.Goals as goal
+
+pub returns : goal.returns
+unfolding digits
+returns c = record {
+  examples = record {
+    runs = record { deposit = refl; no_step = refl; one_step = refl; several = refl };
+    states = record { nothing = refl; two = refl; cells = refl };
+    counts = record { one = refl; several = refl };
+    faults = search rules;
+  };
+}

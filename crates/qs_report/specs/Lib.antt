@@ -1,0 +1,5 @@
+pub mod Texts
+pub mod Watched
+pub mod Report
+pub mod Faults
+pub mod Examples

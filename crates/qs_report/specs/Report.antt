@@ -1,0 +1,109 @@
+-- The report of a run, and the counts of a program, as bytes.
+use Rattle.std.specs.Prelude.{ℕ, ℤ, pos, List, [], ◌++◌, codes, decimal, length, flat_map, sum_by, Option, Some, None, slice_index_or, Bool, false, if◌then◌else◌}
+use Rattle.std.specs.Fmt.{signed_decimal}
+use Rattle.std.specs.List.{join_by}
+use Rattle.qs_objects.specs.Act.{State, account}
+use Rattle.qs_objects.specs.Objects.{kind_of, values_of}
+use Rattle.qs_objects.specs.declared.Op.{Op}
+use Rattle.qs_objects.specs.declared.Op.TheVariants.{Deposit, Withdraw, Balance, Refused, Put, DropFirst, TakeFirst, First, Size, SetCell, AddCell, Fill, GetCell, RowSum}
+use Rattle.qs_objects.specs.declared.Request.{Request}
+use Rattle.qs_objects.specs.declared.held.Ticket.{Ticket}
+use Rattle.qs_objects.specs.declared.held.Event.{Event}
+use Rattle.qs_objects.specs.declared.object.Kind.{Kind}
+use Rattle.qs_objects.specs.declared.object.Kind.TheVariants as kinds
+use Rattle.qs_check.specs.Program.{ProgramShape, object_at, client_at, whole_load, whole_weight}
+use Rattle.qs_core.specs.declared.played.Played.{Played}
+use Rattle.qs_report.specs.Texts.{count_line, texts_up_to}
+
+-- the script's word of an operation
+abbrev pub op_text : Op → List ℕ
+op_text Deposit = codes "deposit"
+op_text Withdraw = codes "withdraw"
+op_text Balance = codes "balance"
+op_text Refused = codes "refused"
+op_text Put = codes "put"
+op_text DropFirst = codes "drop"
+op_text TakeFirst = codes "take"
+op_text First = codes "front"
+op_text Size = codes "size"
+op_text SetCell = codes "set"
+op_text AddCell = codes "add"
+op_text Fill = codes "fill"
+op_text GetCell = codes "get"
+op_text RowSum = codes "row"
+
+abbrev pub args_text : List ℤ → List ℕ
+args_text args = join_by signed_decimal (codes ",") args
+
+-- a request on an object of the program; a number past its objects has no name
+abbrev pub request_text : ProgramShape → Request → List ℕ
+request_text p r = (object_at p r.object).name ++ codes "." ++ op_text r.op ++ codes "(" ++ args_text r.args ++ codes ")"
+
+-- a query's reply; a command has none
+abbrev pub reply_text : Option ℤ → List ℕ
+reply_text None = []
+reply_text (Some reply) = codes " = " ++ signed_decimal reply
+
+abbrev pub event_line : ProgramShape → Event → List ℕ
+event_line p e = request_text p e.request ++ reply_text e.reply ++ codes "\n"
+
+abbrev pub ended_text : Bool → List ℕ
+ended_text ended = if ended then codes "done" else codes "open"
+
+-- a ticket, and whether its block has ended
+abbrev pub ticket_line : ProgramShape → Ticket → Bool → List ℕ
+ticket_line p t ended = codes "ticket " ++ (client_at p t.client).name ++ codes " " ++ decimal t.index ++ codes " " ++ ended_text ended ++ codes "\n"
+
+abbrev pub first_ticket : Ticket
+first_ticket = record { client = 0; index = 0 }
+
+-- the ticket at a place of the order, with the lines of its trace
+abbrev pub ticket_text : ProgramShape → Played → ℕ → List ℕ
+ticket_text p run i =
+    ticket_line p (slice_index_or run.order i first_ticket) (slice_index_or run.ended i false)
+    ++ flat_map (event_line p) (slice_index_or run.traces i [])
+
+abbrev pub order_text : ProgramShape → Played → List ℕ
+order_text p run = count_line (codes "order") (length run.order) ++ texts_up_to (length run.order) (ticket_text p run)
+
+-- values between brackets
+abbrev pub values_text : List ℤ → List ℕ
+values_text values = codes "[" ++ join_by signed_decimal (codes " ") values ++ codes "]"
+
+-- a kind with its numbers, and the values of an object that has some
+abbrev pub content_text : Kind → List ℤ → List ℕ
+content_text (kinds.Account balance) values = codes " account " ++ signed_decimal balance
+content_text (kinds.Buffer capacity) values = codes " buffer " ++ signed_decimal capacity ++ codes " " ++ values_text values
+content_text (kinds.Grid rows columns) values =
+    codes " grid " ++ signed_decimal rows ++ codes " " ++ signed_decimal columns ++ codes " " ++ values_text values
+
+abbrev pub state_line : List ℕ → State → List ℕ
+state_line name s =
+    name ++ content_text (kind_of s.content) (values_of s.content) ++ codes " refused " ++ signed_decimal s.refused ++ codes "\n"
+
+abbrev pub no_state : State
+no_state = record { content = account (pos 0); refused = pos 0 }
+
+-- the object of a number
+abbrev pub object_text : ProgramShape → Played → ℕ → List ℕ
+object_text p run h = state_line (object_at p h).name (slice_index_or run.states h no_state)
+
+abbrev pub states_text : ProgramShape → Played → List ℕ
+states_text p run = codes "states\n" ++ texts_up_to (length run.states) (object_text p run)
+
+abbrev pub finished_text : Bool → List ℕ
+finished_text finished = if finished then codes "finished\n" else codes "unfinished\n"
+
+-- the order with its traces, the objects' states, the number of syncs, and whether the run is finished
+abbrev pub report_text : ProgramShape → Played → List ℕ
+report_text p run =
+    order_text p run ++ states_text p run ++ count_line (codes "syncs") run.syncs ++ finished_text run.finished
+
+-- five lines of counts
+abbrev pub counts_text : ProgramShape → List ℕ
+counts_text p =
+    count_line (codes "objects") (length p.objects)
+    ++ count_line (codes "clients") (length p.clients)
+    ++ count_line (codes "blocks") (sum_by (λ c. length c.blocks) p.clients)
+    ++ count_line (codes "load") (whole_load p)
+    ++ count_line (codes "weight") (whole_weight p)

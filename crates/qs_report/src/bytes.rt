@@ -1,0 +1,42 @@
+// Texts and numbers, put at the end of bytes.
+
+ghost use Rattle.std.specs.Prelude.{◌≡◌, ◌++◌, OnOk, decimal, flat_map};
+ghost use Rattle.std.specs.Fmt.{signed_decimal};
+ghost use Rattle.qs_report.specs.Texts.{count_line};
+
+use itoa::Buffer;
+use std::alloc::AllocError;
+
+// Puts a text at the end.
+pub(crate) fn put(out: &mut Vec<u8>, text: &[u8]) -> Result<(), AllocError>
+    ensures ok { OnOk result (out.new.items ≡ out.old.items ++ text.now) }
+{
+    out.extend_from_slice(text)
+}
+
+// Puts texts at the end, one after another.
+pub(crate) fn put_all(out: &mut Vec<u8>, texts: &[&[u8]]) -> Result<(), AllocError>
+    ensures ok { OnOk result (out.new.items
+        ≡ out.old.items ++ flat_map (λ text. text.now) texts.now) }
+{
+    for text in texts {
+        put(out, text)?;
+    }
+    Ok(())
+}
+
+// Puts a number at the end, with a sign where it is negative.
+pub(crate) fn put_number(out: &mut Vec<u8>, number: i64) -> Result<(), AllocError>
+    ensures ok { OnOk result (out.new.items ≡ out.old.items ++ signed_decimal number) }
+{
+    let mut buffer = Buffer::new();
+    put(out, buffer.format(number).as_bytes())
+}
+
+// Puts a line at the end: a word, a space and a count.
+pub(crate) fn put_count(out: &mut Vec<u8>, word: &[u8], count: u64) -> Result<(), AllocError>
+    ensures ok { OnOk result (out.new.items ≡ out.old.items ++ count_line word.now count) }
+{
+    let mut buffer = Buffer::new();
+    put_all(out, &[word, b" ", buffer.format(count).as_bytes(), b"\n"])
+}

@@ -1,0 +1,19 @@
+//! The texts of results and faults, byte for byte.
+#![tactic(auto)]
+
+mod bytes;
+mod counts;
+mod faults;
+pub mod laws;
+mod names;
+mod runs;
+mod states;
+#[cfg(test)]
+mod tests;
+mod tickets;
+mod watching;
+
+pub use counts::check_text;
+pub use faults::{Fault, fault_line, fault_line_watched, status};
+pub use runs::report;
+pub use watching::{Watch, write_text};

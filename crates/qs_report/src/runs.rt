@@ -1,0 +1,34 @@
+// The report of a run.
+
+ghost use Rattle.std.specs.Prelude.{◌≡◌, IfOk};
+ghost use Rattle.qs_report.specs.Report.{report_text, finished_text};
+
+use crate::bytes::{put, put_count};
+use crate::states::put_states;
+use crate::tickets::put_order;
+use qs_check::Program;
+use qs_core::Played;
+use std::alloc::{AllocError, Global};
+
+fn finished_line(finished: bool) -> &'static [u8]
+    ensures word { result.now ≡ finished_text finished }
+{
+    if finished {
+        b"finished\n"
+    } else {
+        b"unfinished\n"
+    }
+}
+
+/// The text of a run: the order of its tickets, each with its trace; the objects' states; the number of syncs; and whether it is
+/// finished. A number past the program's objects or clients has no name. An error says that a growth was refused, and nothing is left.
+pub fn report(alloc: Global, program: &Program, played: &Played) -> Result<Vec<u8>, AllocError>
+    ensures text { IfOk result (λ bytes. bytes.items ≡ report_text program.now played.now) }
+{
+    let mut out = Vec::new(alloc);
+    put_order(&mut out, program, played)?;
+    put_states(&mut out, program, played)?;
+    put_count(&mut out, b"syncs", played.syncs)?;
+    put(&mut out, finished_line(played.finished))?;
+    Ok(out)
+}

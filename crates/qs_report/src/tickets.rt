@@ -1,0 +1,159 @@
+// The order of a run: its tickets with their traces.
+
+ghost use Rattle.std.specs.Prelude.{◌≡◌, ◌<◌, ◌++◌, length, flat_map, OnOk, codes};
+ghost use Rattle.std.specs.Fmt.{signed_decimal};
+ghost use Rattle.qs_report.specs.Report.{op_text, args_text, request_text, reply_text, event_line, ended_text, ticket_line, ticket_text, order_text};
+
+use crate::bytes::{put, put_all, put_count, put_number};
+use crate::names::{client_name, object_name};
+use itoa::Buffer;
+use qs_check::Program;
+use qs_core::Played;
+use qs_objects::{Event, Op, Request, Ticket};
+use std::alloc::AllocError;
+
+// The script's word of an operation.
+fn op_word(op: Op) -> &'static [u8]
+    ensures word { result.now ≡ op_text op }
+{
+    match op {
+        Op::Deposit => b"deposit",
+        Op::Withdraw => b"withdraw",
+        Op::Balance => b"balance",
+        Op::Refused => b"refused",
+        Op::Put => b"put",
+        Op::DropFirst => b"drop",
+        Op::TakeFirst => b"take",
+        Op::First => b"front",
+        Op::Size => b"size",
+        Op::SetCell => b"set",
+        Op::AddCell => b"add",
+        Op::Fill => b"fill",
+        Op::GetCell => b"get",
+        Op::RowSum => b"row",
+    }
+}
+
+// Further arguments, each after a comma.
+fn put_others(out: &mut Vec<u8>, args: &[i64]) -> Result<(), AllocError>
+    ensures ok { OnOk result (out.new.items
+        ≡ out.old.items ++ flat_map (λ arg. codes "," ++ signed_decimal arg) args.now) }
+{
+    for arg in args {
+        put(out, b",")?;
+        put_number(out, *arg)?;
+    }
+    Ok(())
+}
+
+// The arguments, joined by commas.
+pub(crate) fn put_args(out: &mut Vec<u8>, args: &[i64]) -> Result<(), AllocError>
+    ensures ok { OnOk result (out.new.items ≡ out.old.items ++ args_text args.now) }
+{
+    match args {
+        [] => Ok(()),
+        [first, others @ ..] => {
+            put_number(out, *first)?;
+            put_others(out, others)
+        }
+    }
+}
+
+fn put_request(out: &mut Vec<u8>, program: &Program, request: &Request) -> Result<(), AllocError>
+    ensures ok { OnOk result (out.new.items ≡ out.old.items ++ request_text program.now request.now) }
+{
+    let word = op_word(request.op);
+    put(out, object_name(program, usize::from(request.object)))?;
+    put_all(out, &[b".", word, b"("])?;
+    put_args(out, request.args.as_slice())?;
+    put(out, b")")
+}
+
+// A query's reply.
+pub(crate) fn put_reply(out: &mut Vec<u8>, reply: Option<i64>) -> Result<(), AllocError>
+    ensures ok { OnOk result (out.new.items ≡ out.old.items ++ reply_text reply) }
+{
+    match reply {
+        None => Ok(()),
+        Some(value) => {
+            put(out, b" = ")?;
+            put_number(out, value)
+        }
+    }
+}
+
+fn put_event(out: &mut Vec<u8>, program: &Program, event: &Event) -> Result<(), AllocError>
+    ensures ok { OnOk result (out.new.items ≡ out.old.items ++ event_line program.now event.now) }
+{
+    put_request(out, program, &event.request)?;
+    put_reply(out, event.reply)?;
+    put(out, b"\n")
+}
+
+fn ended_word(ended: bool) -> &'static [u8]
+    ensures word { result.now ≡ ended_text ended }
+{
+    if ended { b"done" } else { b"open" }
+}
+
+fn put_ticket_line(
+    out: &mut Vec<u8>,
+    program: &Program,
+    ticket: Ticket,
+    ended: bool,
+) -> Result<(), AllocError>
+    ensures ok { OnOk result (out.new.items ≡ out.old.items ++ ticket_line program.now ticket ended) }
+{
+    let mut buffer = Buffer::new();
+    let index = buffer.format(ticket.index).as_bytes();
+    let word = ended_word(ended);
+    put(out, b"ticket ")?;
+    put(out, client_name(program, ticket.client))?;
+    put_all(out, &[b" ", index, b" ", word, b"\n"])
+}
+
+// The lines of a trace.
+fn put_trace(out: &mut Vec<u8>, program: &Program, trace: &[Event]) -> Result<(), AllocError>
+    ensures ok { OnOk result (out.new.items ≡ out.old.items ++ flat_map (event_line program.now) trace.now) }
+{
+    for event in trace {
+        put_event(out, program, event)?;
+    }
+    Ok(())
+}
+
+// The ticket at a place of the order.
+fn put_ticket(
+    out: &mut Vec<u8>,
+    program: &Program,
+    played: &Played,
+    place: usize,
+) -> Result<(), AllocError>
+    requires { place < length played.now.order }
+    ensures ok { OnOk result (out.new.items ≡ out.old.items ++ ticket_text program.now played.now place) }
+{
+    let ticket = played.order.as_slice()[place];
+    let ended = played.ended.as_slice().get(place).copied().unwrap_or(false);
+    put_ticket_line(out, program, ticket, ended)?;
+    if place < played.traces.len() {
+        put_trace(out, program, played.traces.of(place))
+    } else {
+        Ok(())
+    }
+}
+
+// The number of tickets, and each ticket with its trace.
+pub(crate) fn put_order(
+    out: &mut Vec<u8>,
+    program: &Program,
+    played: &Played,
+) -> Result<(), AllocError>
+    ensures ok { OnOk result (out.new.items ≡ out.old.items ++ order_text program.now played.now) }
+{
+    let count = played.order.len();
+    put_count(out, b"order", count as u64)?;
+    for place in 0..count {
+        put_ticket(out, program, played, place)?;
+    }
+    Ok(())
+}
