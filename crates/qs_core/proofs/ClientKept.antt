@@ -1,7 +1,6 @@
 -- A client stays one through its moves.
-use Rattle.std.proofs.Common.{◌≡◌, ◌<◌, ◌≤◌, ℕ, zero, suc, ◌+◌, ◌-◌, ◌==◌, if◌then◌else◌, Bool, true, false, ◌||◌, List, [], ◌∷◌, ◌++◌, length, get_or, map, sum_by, refl, ap, sym, subst, ◌∙◌, arith, ℤ, length-set, get_or-set_same, add-zero}
-use Rattle.std.specs.List.{AllByRecursion, list_any}
-use Rattle.std.proofs.Math.ListN.{set}
+use Rattle.std.proofs.Common.{◌≡◌, ◌<◌, ◌≤◌, ℕ, suc, ◌+◌, ◌-◌, ◌==◌, if◌then◌else◌, Bool, true, false, ◌||◌, List, [], ◌∷◌, ◌++◌, length, get_or, sum_by, refl, ap, sym, subst, ◌∙◌, arith, ℤ, length-set, get_or-set_same, add-zero}
+use Rattle.std.specs.List.{list_any}
 use Rattle.std.proofs.lemmas.List.Sums.{sum_by-cons}
 use Rattle.qs_objects.specs.Operations.{arity}
 use Rattle.qs_objects.specs.declared.Op.{Op}
@@ -16,10 +15,9 @@ use Rattle.qs_check.proofs.Bounds.{sound_block}
 use Rattle.qs_core.specs.Asking.{AreSound}
 use Rattle.qs_core.specs.Clients.{ClientState, IsClient, IsStaged, IsWithin, IsReady, current_block, current_trace, block_of}
 use Rattle.qs_core.specs.Ready.{PreparedState}
-use Rattle.qs_core.specs.ClientMoves.{begun_with}
 use Rattle.qs_core.specs.Frames.{Frame, rest, load_left}
 use Rattle.qs_core.specs.Moves.{noted_in, last_of, no_trace}
-use Rattle.qs_core.specs.Traces.{TraceState, trace_state}
+use Rattle.qs_core.specs.Traces.{TraceState}
 use Rattle.qs_core.specs.declared.stage.Stage.{Stage}
 use Rattle.qs_core.specs.declared.stage.Stage.TheVariants as stage
 

@@ -1,13 +1,11 @@
 -- What is read off the code is what the plain rules show.
-use Rattle.std.proofs.Common.{◌≡◌, ◌<◌, ℕ, zero, suc, ◌+◌, ◌&&◌, Bool, true, false, List, [], ◌∷◌, map, drop, length, get_or, sum_by, refl, ap, sym, ◌∙◌, arith, add-one}
+use Rattle.std.proofs.Common.{◌≡◌, ◌<◌, ℕ, zero, suc, ◌+◌, ◌&&◌, List, [], ◌∷◌, map, drop, length, get_or, sum_by, refl, ap, sym, ◌∙◌, add-one}
 use Rattle.std.proofs.Math.Seq.{drop-cons}
 use Rattle.std.proofs.lemmas.List.Sums.{sum_by-cons}
-use Rattle.qs_objects.specs.Act.{State}
-use Rattle.qs_objects.specs.declared.held.Entry.{Entry}
 use Rattle.qs_check.specs.Program.{ProgramShape}
 use Rattle.qs_core.specs.Clients.{ClientState, client_of}
-use Rattle.qs_core.specs.Plain.{Client, Handler, no_client}
-use Rattle.qs_core.specs.Rules.{client_at, absent}
+use Rattle.qs_core.specs.Plain.{Handler, no_client}
+use Rattle.qs_core.specs.Rules.{client_at}
 use Rattle.qs_core.specs.Schedule.{all_done, is_done, syncs_of}
 use Rattle.qs_core.specs.Served.{HandlerState, handler_of}
 

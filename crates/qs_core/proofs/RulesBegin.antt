@@ -1,15 +1,15 @@
 -- What the code keeps as a block begins.
-use Rattle.std.proofs.Common.{◌≡◌, ◌≢◌, ◌<◌, ◌≤◌, ℕ, ◌+◌, ◌-◌, ◌==◌, ◌&&◌, Bool, true, false, ◌⊎◌, inl, inr, List, [], ◌∷◌, ◌++◌, map, length, get_or, sum_by, refl, ap, sym, subst, ◌∙◌, arith, length-set, add-zero, Some, nat_lt}
+use Rattle.std.proofs.Common.{◌≡◌, ◌<◌, ◌≤◌, ℕ, ◌+◌, ◌-◌, ◌==◌, ◌&&◌, Bool, true, false, ◌⊎◌, inl, inr, List, [], ◌∷◌, ◌++◌, map, length, get_or, ap, sym, subst, ◌∙◌, arith, length-set, add-zero, Some, nat_lt}
 use Rattle.std.specs.List.{AllByRecursion, IsDistinct}
 use Rattle.std.proofs.Math.ListN.{set}
 use Rattle.std.proofs.lemmas.List.{length-append, length-map, map-append, map-set}
-use Rattle.std.proofs.lemmas.List.Sums.{sum_by-set, sum_by-take-le}
+use Rattle.std.proofs.lemmas.List.Sums.{sum_by-set}
 use Rattle.qs_objects.specs.declared.held.Ticket.{Ticket}
 use Rattle.qs_check.specs.Loads.{load_of}
-use Rattle.qs_check.specs.Program.{ProgramShape, BlockShape, block_at, blocks_of}
+use Rattle.qs_check.specs.Program.{BlockShape, block_at, blocks_of}
 use Rattle.qs_check.specs.Sound.{IsSound, IsSoundBlock}
-use Rattle.qs_check.proofs.Bounds.{sound_block, get_or-sum_by}
-use Rattle.qs_core.specs.ClientMoves.{Begins, begun_with}
+use Rattle.qs_check.proofs.Bounds.{sound_block}
+use Rattle.qs_core.specs.ClientMoves.{Begins}
 use Rattle.qs_core.specs.Clients.{ClientState, IsClient, IsStaged, IsReady, block_of, client_of, stage_of}
 use Rattle.qs_core.specs.Frames.{rest, next_of, load_left}
 use Rattle.qs_core.specs.Hall.{handler_at, entered, entered_all, CanEnter, CanEnterAll}
@@ -19,9 +19,9 @@ use Rattle.qs_core.specs.Plain.{Client, same, ticket, step, client_step, at_each
 use Rattle.qs_core.specs.Traces.{TraceState}
 use Rattle.qs_core.specs.declared.actor.Actor.TheVariants as actor
 use Rattle.qs_core.specs.Queues.{QueueState}
-use Rattle.qs_core.specs.Ready.{PreparedState, IsReadyQueue}
+use Rattle.qs_core.specs.Ready.{IsReadyQueue}
 use Rattle.qs_core.specs.Rules.{RulesState, IsRules, IsOpen, absent, client_at, to_come, is_in_block, plain_of}
-use Rattle.qs_core.specs.Served.{HandlerState, handler_of}
+use Rattle.qs_core.specs.Served.{handler_of}
 use Rattle.qs_core.specs.declared.stage.Stage.TheVariants as stage
 use Rattle.qs_core.proofs.HallKept.{entered_each, length-entered_all}
 use Rattle.qs_core.proofs.Moves.{AllByRecursion-push}

@@ -1,18 +1,16 @@
 -- Before the first step.
-use Rattle.std.proofs.Common.{◌≡◌, ◌<◌, ◌≤◌, ℕ, zero, suc, ◌+◌, List, [], ◌∷◌, map, length, get_or, sum_by, refl, ap, sym, subst, ◌∙◌, arith}
-use Rattle.std.specs.List.{AllByRecursion, range_with_len}
+use Rattle.std.proofs.Common.{◌≡◌, ◌<◌, ℕ, suc, ◌+◌, List, [], ◌∷◌, map, length, get_or, sum_by, refl, ap, ◌∙◌, arith}
+use Rattle.std.specs.List.{range_with_len}
 use Rattle.std.proofs.lemmas.List.Sums.{sum_by-cons}
 use Rattle.qs_objects.specs.declared.held.Ticket.{Ticket}
-use Rattle.qs_check.specs.Program.{ProgramShape, ClientShape, blocks_of, no_client}
-use Rattle.qs_core.specs.Beginning.{AreFresh, AreIdle, idle}
+use Rattle.qs_check.specs.Program.{ProgramShape, ClientShape, no_client}
+use Rattle.qs_core.specs.Beginning.{AreFresh, AreIdle}
 use Rattle.qs_core.specs.Clients.{ClientState, IsFresh, client_of, stage_of}
-use Rattle.qs_core.specs.Hall.{handler_at, nobody}
+use Rattle.qs_core.specs.Hall.{nobody}
 use Rattle.qs_core.specs.Plain.{Client, begin, fresh_client, fresh_handler}
 use Rattle.qs_core.specs.Plain as plain
-use Rattle.qs_core.specs.Rules.{RulesState, IsRules, IsOpen, absent, client_at, plain_of, to_come}
+use Rattle.qs_core.specs.Rules.{RulesState, IsRules, absent, client_at, plain_of, to_come}
 use Rattle.qs_core.specs.Served.{HandlerState, handler_of}
-use Rattle.qs_core.specs.declared.stage.Stage.TheVariants as stage
-use Rattle.qs_core.proofs.HallSteps.{get_or-any}
 
 -- a list whose elements are given by their numbers
 listed : {X Y : Type 0} (f : X → Y) (g : ℕ → Y) (xs : List X) (d : X) (a : ℕ) → ((i : ℕ) → i < length xs → f (get_or xs i d) ≡ g (a + i)) → map f xs ≡ map g (range_with_len a (length xs))

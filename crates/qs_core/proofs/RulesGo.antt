@@ -1,6 +1,6 @@
 -- A client goes on in its block.
-use Rattle.std.proofs.Common.{◌≡◌, ◌≢◌, ◌<◌, ◌≤◌, ℕ, ◌+◌, ◌-◌, ◌==◌, if◌then◌else◌, Bool, true, false, ◌||◌, ◌⊎◌, inl, inr, ⊎_elim, List, [], ◌∷◌, ◌++◌, map, length, get_or, refl, ap, sym, subst, ◌∙◌, arith, Some, None, nat_lt, ℤ, get_or-set_other, get_or-set_same, length-set}
-use Rattle.std.specs.List.{AllByRecursion, IsDistinct, list_any}
+use Rattle.std.proofs.Common.{◌≡◌, ◌≢◌, ◌<◌, ◌≤◌, ℕ, ◌+◌, ◌-◌, ◌==◌, if◌then◌else◌, Bool, true, false, ◌||◌, ◌⊎◌, inl, inr, List, [], ◌∷◌, ◌++◌, map, length, get_or, refl, ap, sym, subst, ◌∙◌, arith, Some, None, nat_lt, ℤ, get_or-set_other, get_or-set_same, length-set}
+use Rattle.std.specs.List.{AllByRecursion, list_any}
 use Rattle.std.proofs.Math.ListN.{set, get_or-map}
 use Rattle.std.proofs.lemmas.List.{length-map, map-set}
 use Rattle.std.proofs.lemmas.List.Sums.{sum_by-set}
@@ -8,24 +8,20 @@ use Rattle.qs_objects.specs.declared.held.Event.{Event}
 use Rattle.qs_objects.specs.declared.held.Ticket.{Ticket}
 use Rattle.qs_objects.specs.declared.Request.{Request}
 use Rattle.qs_check.specs.Interaction.{Interaction, Done, Call, Query}
-use Rattle.qs_check.specs.Program.{ProgramShape, BlockShape, block_at, blocks_of}
+use Rattle.qs_check.specs.Program.{BlockShape, block_at, blocks_of}
 use Rattle.qs_check.specs.Solo.{event}
 use Rattle.qs_check.specs.Sound.{IsSound, IsSoundBlock, is_in}
 use Rattle.qs_check.proofs.Bounds.{sound_block, AllByRecursion-get_or}
-use Rattle.qs_core.specs.ClientMoves.{Goes, moved, requested_of, IsReserved}
-use Rattle.qs_core.specs.Clients.{ClientState, IsClient, IsWithin, current_block, block_of, client_of, stage_of}
+use Rattle.qs_core.specs.ClientMoves.{moved}
+use Rattle.qs_core.specs.Clients.{ClientState, IsClient, IsWithin, current_block, client_of, stage_of}
 use Rattle.qs_core.specs.Frames.{Frame, next_of, load_left}
 use Rattle.qs_core.specs.Hall.{handler_at, nobody, logged, logged_at, logged_all, CanLog, CanLogAll}
 use Rattle.qs_core.specs.Moves.{noted_in, last_of, no_trace}
 use Rattle.qs_core.specs.Plain as plain
 use Rattle.qs_core.specs.Plain.{Client, same, ticket, step, client_step, goes_on, at_each, at_handler, log_in}
-use Rattle.qs_core.specs.Queues.{QueueState}
 use Rattle.qs_core.specs.Rules.{RulesState, IsRules, IsOpen, absent, client_at, to_come, is_in_block, plain_of}
-use Rattle.qs_core.specs.Served.{HandlerState, handler_of, IsLoggable}
 use Rattle.qs_core.specs.Traces.{TraceState, trace_state}
 use Rattle.qs_core.specs.declared.actor.Actor.TheVariants as actor
-use Rattle.qs_core.specs.declared.client.Asked.{Asked}
-use Rattle.qs_core.specs.declared.client.Asked.TheVariants as asked
 use Rattle.qs_core.specs.declared.private.Item.{Item}
 use Rattle.qs_core.specs.declared.private.Item.TheVariants as item
 use Rattle.qs_core.specs.declared.stage.Stage.{Stage}

@@ -9,16 +9,16 @@ use Rattle.qs_objects.specs.declared.held.Ticket.{Ticket}
 use Rattle.qs_objects.specs.declared.Request.{Request}
 use Rattle.qs_check.specs.Program.{blocks_of}
 use Rattle.qs_check.specs.Solo.{event, value_of}
-use Rattle.qs_core.specs.ClientMoves.{Replies, RepliesAt, moved}
+use Rattle.qs_core.specs.ClientMoves.{Replies, RepliesAt}
 use Rattle.qs_core.specs.Clients.{ClientState, IsClient, client_of, stage_of}
-use Rattle.qs_core.specs.Frames.{next_of, load_left}
-use Rattle.qs_core.specs.Hall.{handler_at, nobody}
+use Rattle.qs_core.specs.Frames.{next_of}
+use Rattle.qs_core.specs.Hall.{handler_at}
 use Rattle.qs_core.specs.Moves.{noted_in, last_of, no_trace}
 use Rattle.qs_core.specs.Plain as plain
 use Rattle.qs_core.specs.Plain.{Plain, Client, step, client_step, handler_step, queue_step, item_step, replied, reply_to}
 use Rattle.qs_core.specs.Queues.{QueueState}
-use Rattle.qs_core.specs.Rules.{RulesState, IsRules, IsOpen, absent, client_at, is_in_block, plain_of, to_come}
-use Rattle.qs_core.specs.Served.{HandlerState, handler_of, ServesFirst, ServesItem, shorter, with_queues}
+use Rattle.qs_core.specs.Rules.{RulesState, IsRules, IsOpen, client_at, plain_of, to_come}
+use Rattle.qs_core.specs.Served.{HandlerState, handler_of, ServesFirst, ServesItem}
 use Rattle.qs_core.specs.Traces.{TraceState, trace_state}
 use Rattle.qs_core.specs.declared.actor.Actor.TheVariants as actor
 use Rattle.qs_core.specs.declared.handler.Served.{Served}

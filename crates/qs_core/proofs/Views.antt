@@ -1,12 +1,12 @@
 -- From the fields of the code to what the lemmas speak of.
-use Rattle.std.proofs.Common.{◌≡◌, ◌<◌, ◌≤◌, ℕ, ◌+◌, List, [], ◌∷◌, ◌++◌, Some, length, get_or, ap, ◌∙◌, sym, subst, arith}
+use Rattle.std.proofs.Common.{◌≡◌, ◌<◌, ℕ, List, [], ◌∷◌, ◌++◌, Some, length, get_or, ap, ◌∙◌, sym, subst}
 use Rattle.std.proofs.Math.ListN.{set}
 use Rattle.qs_objects.specs.declared.held.Ticket.{Ticket}
 use Rattle.qs_core.specs.Clients.{ClientState}
 use Rattle.qs_core.specs.declared.private.Item.{Item}
 use Rattle.qs_core.specs.Hall.{CanLogAll, logged_all, handler_at, nobody}
 use Rattle.qs_core.specs.Plain.{step, ticket}
-use Rattle.qs_core.specs.Rules.{RulesState, IsRules, absent, client_at, plain_of, to_come}
+use Rattle.qs_core.specs.Rules.{RulesState, IsRules, absent, client_at, plain_of}
 use Rattle.qs_core.specs.Served.{HandlerState}
 use Rattle.qs_core.specs.declared.actor.Actor.{Actor}
 use Rattle.qs_core.specs.declared.stage.Stage.{Stage}

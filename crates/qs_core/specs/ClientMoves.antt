@@ -1,16 +1,15 @@
 -- What a client's moves do to it.
-use Rattle.std.specs.Prelude.{◌≡◌, ◌≤◌, ℕ, ◌+◌, ◌-◌, ◌==◌, if◌then◌else◌, Bool, true, false, List, [], ◌∷◌, ◌++◌, length, slice_index_or, slice_set, ℤ, Option, None, map}
+use Rattle.std.specs.Prelude.{◌≡◌, ℕ, ◌==◌, if◌then◌else◌, true, List, [], ◌∷◌, ◌++◌, length, slice_set, ℤ, Option, None}
 use Rattle.qs_objects.specs.declared.Request.{Request}
-use Rattle.qs_objects.specs.declared.held.Event.{Event}
 use Rattle.qs_check.specs.Interaction.{Done, Call, Query}
 use Rattle.qs_check.specs.Solo.{event, value_of}
 use Rattle.qs_check.specs.Sound.{is_in}
 use Rattle.qs_core.specs.Clients.{ClientState, block_of}
 use Rattle.qs_core.specs.Ready.{PreparedState}
 use Rattle.qs_core.specs.Moves.{noted_in}
-use Rattle.qs_core.specs.Frames.{Frame, rest, next_of, load_left}
+use Rattle.qs_core.specs.Frames.{Frame, rest, next_of}
 use Rattle.qs_core.specs.Queues.{QueueState}
-use Rattle.qs_core.specs.Traces.{TraceState, trace_state}
+use Rattle.qs_core.specs.Traces.{TraceState}
 use Rattle.qs_core.specs.declared.client.Asked.{Asked}
 use Rattle.qs_core.specs.declared.client.Asked.TheVariants as asked
 use Rattle.qs_core.specs.declared.stage.Stage.{Stage}

@@ -1,14 +1,9 @@
 -- A client of the code: its stage, what is left of its block, what it has shown, and what is prepared for its later blocks.
-use Rattle.std.specs.Prelude.{◌≡◌, ◌<◌, ◌≤◌, ℕ, ◌+◌, ◌-◌, true, List, [], map, length, slice_index_or, slice_set, ℤ, sum_by, refl}
-use Rattle.std.specs.List.{AllByRecursion}
+use Rattle.std.specs.Prelude.{◌≡◌, ◌<◌, ◌≤◌, ℕ, ◌+◌, ◌-◌, List, [], map, length, slice_index_or, slice_set, ℤ, sum_by, refl}
 use Rattle.std.specs.Coded.{Coded, codes, code_by, coded×, coded_list, coded_ℕ, coded_ℤ}
-use Rattle.qs_objects.specs.declared.Request.{Request}
-use Rattle.qs_objects.specs.declared.held.Event.{Event}
-use Rattle.qs_check.specs.Loads.{load_of}
-use Rattle.qs_check.specs.Program.{ProgramShape, BlockShape, block_at, block_load, blocks_of}
+use Rattle.qs_check.specs.Program.{ProgramShape, BlockShape, block_at, blocks_of}
 use Rattle.qs_check.specs.Serial.{zeros}
 use Rattle.qs_check.specs.Shapes.{program_code}
-use Rattle.qs_check.specs.Sound.{is_in}
 use Rattle.qs_core.specs.Asking.{AreSound}
 use Rattle.qs_core.specs.Frames.{Frame, rest, next_of, load_left, places_of}
 use Rattle.qs_core.specs.FrameViews.{frame_code}
@@ -16,7 +11,7 @@ use Rattle.qs_core.specs.Plain.{Client, Private, out, within, waiting, ticket}
 use Rattle.qs_core.specs.Plain as plain
 use Rattle.qs_core.specs.Moves.{no_trace}
 use Rattle.qs_core.specs.Ready.{PreparedState, IsStocked}
-use Rattle.qs_core.specs.Traces.{TraceState, trace_state}
+use Rattle.qs_core.specs.Traces.{TraceState}
 use Rattle.qs_core.specs.declared.stage.Stage.{Stage}
 use Rattle.qs_core.specs.declared.stage.Stage.TheVariants as stage
 

@@ -17,3 +17,4 @@ pub mod Hearing
 pub mod Beginning
 pub mod Schedule
 pub mod Begun
+pub mod PlayExamples

@@ -1,5 +1,5 @@
 -- The plain rules: for each handler a queue of queues, in which each reservation has a private queue of single requests.
-use Rattle.std.specs.Prelude.{◌≡◌, ℕ, ◌-◌, ◌+◌, Bool, true, false, ◌&&◌, ◌==◌, nat_lt, if◌then◌else◌, List, [], ◌∷◌, ◌++◌, map, length, slice_index_or, slice_set, slice_get, Option, Some, None, ℤ, sum_by}
+use Rattle.std.specs.Prelude.{ℕ, ◌-◌, Bool, ◌&&◌, ◌==◌, nat_lt, if◌then◌else◌, List, [], ◌∷◌, ◌++◌, map, length, slice_index_or, slice_set, Option, Some, None, ℤ, sum_by}
 use Rattle.std.specs.List.{range_with_len}
 use Rattle.qs_objects.specs.Journals.{HeldState, ran}
 use Rattle.qs_objects.specs.declared.held.Event.{Event}

@@ -1,6 +1,5 @@
 -- A private queue of the code: its ticket and items, and how many more can be logged.
-use Rattle.std.specs.Prelude.{ℕ, List, refl}
-use Rattle.std.specs.Coded.{Coded, codes, code_by, coded×, coded_list, coded_ℕ}
+use Rattle.std.specs.Prelude.{ℕ, List}
 use Rattle.qs_objects.specs.declared.held.Ticket.{Ticket}
 use Rattle.qs_core.specs.declared.private.Item.{Item}
 use Rattle.qs_core.specs.Plain.{Private}

@@ -1,5 +1,5 @@
 -- The code of the plain rules: what it holds, which state of the plain rules that is, and what it keeps.
-use Rattle.std.specs.Prelude.{◌≡◌, ◌<◌, ◌≤◌, ℕ, ◌+◌, ◌-◌, Bool, true, false, List, [], map, length, slice_index_or, sum_by, Some, None, refl}
+use Rattle.std.specs.Prelude.{◌≡◌, ◌<◌, ◌≤◌, ℕ, ◌+◌, ◌-◌, Bool, true, false, List, [], map, length, slice_index_or, sum_by, Some, refl}
 use Rattle.std.specs.List.{AllByRecursion}
 use Rattle.std.specs.Coded.{Coded, codes, code_by, coded×, coded_list}
 use Rattle.qs_objects.specs.declared.held.Ticket.{Ticket}

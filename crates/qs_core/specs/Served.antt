@@ -1,14 +1,12 @@
 -- A handler of the code, and what its step does.
-use Rattle.std.specs.Prelude.{◌≡◌, ◌<◌, ◌≤◌, ℕ, ◌-◌, Bool, true, false, if◌then◌else◌, List, [], ◌∷◌, ◌++◌, map, length, Option, None, Some, ℤ, refl, slice_index_or}
-use Rattle.std.specs.Coded.{Coded, codes, code_by, coded×, coded_list, coded_ℕ}
+use Rattle.std.specs.Prelude.{◌≡◌, ◌<◌, ℕ, ◌-◌, true, if◌then◌else◌, List, [], ◌∷◌, map, length, slice_index_or}
 use Rattle.qs_objects.specs.Journals.{HeldState, ran}
 use Rattle.qs_objects.specs.declared.held.Ticket.{Ticket}
-use Rattle.qs_objects.specs.declared.Request.{Request}
 use Rattle.qs_core.specs.declared.private.Item.{Item}
 use Rattle.qs_core.specs.declared.private.Item.TheVariants as item
 use Rattle.qs_core.specs.declared.handler.Served.{Served}
 use Rattle.qs_core.specs.declared.handler.Served.TheVariants.{Nothing, Done, Replied}
-use Rattle.qs_core.specs.Plain.{Private, Handler, put_item, same}
+use Rattle.qs_core.specs.Plain.{Handler, put_item, same}
 use Rattle.qs_core.specs.Queues.{QueueState, queue_state}
 
 -- its private queues, how many more may come, and its object with the journal

@@ -7,12 +7,15 @@ mod fault;
 mod frames;
 mod hall;
 mod handler;
+pub mod laws;
 mod play;
 mod played;
 mod private;
 mod rules;
 mod showing;
 mod stage;
+#[cfg(test)]
+mod tests;
 mod trace;
 
 pub use actor::Actor;

@@ -1,4 +1,4 @@
-use Rattle.std.proofs.Common.{◌≡◌, ◌≤◌, ℕ, ◌+◌, ◌-◌, ◌*◌, max, vec_len, vec_capacity, drop}
+use Rattle.std.proofs.Common.{◌≡◌, ◌≤◌, ◌+◌, ◌-◌, ◌*◌, max, vec_len, vec_capacity, drop}
 use Rattle.qs_check.specs.Views.{single, size_of, statements_of}
 use Rattle.qs_core.specs.Frames.{above}
 use Rattle.qs_core.proofs.frames.+grow.Given as goal

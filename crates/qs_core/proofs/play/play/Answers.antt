@@ -1,16 +1,15 @@
-use Rattle.std.proofs.Common.{◌≡◌, ◌∙◌, ◌++◌, ap, sym, subst, length, ◌<◌, get_or, arith, add-one}
+use Rattle.std.proofs.Common.{◌≡◌, ◌∙◌, ap, sym, subst, ◌<◌, get_or, arith}
 use Rattle.std.proofs.lemmas.List.{length-map}
 use Rattle.qs_check.specs.Program.{ProgramShape}
 use Rattle.qs_core.specs.Clients.{client_of}
-use Rattle.qs_core.specs.Plain.{Plain, begin, begun, no_client}
-use Rattle.qs_core.specs.Rules.{plain_of, client_at}
-use Rattle.qs_core.specs.Schedule.{actors_of, played_of, plays, repeated, schedule}
+use Rattle.qs_core.specs.Plain.{begin, begun}
+use Rattle.qs_core.specs.Rules.{plain_of}
+use Rattle.qs_core.specs.Schedule.{actors_of, played_of, plays, schedule}
 use Rattle.qs_check.specs.Serial.{IsLegal}
-use Rattle.qs_core.specs.declared.actor.Actor.{Actor}
 use Rattle.qs_core.specs.declared.played.Played.{Played}
 use Rattle.std.specs.Prelude.{Result, Ok, Err, IfOk}
 use Rattle.qs_core.proofs.Ordering.{IsOrdered, ordered_begin, ordered_plays, tickets_begun}
-use Rattle.qs_core.proofs.Playing.{plays-append, plays-round}
+use Rattle.qs_core.proofs.Playing.{plays-round}
 use Rattle.qs_core.proofs.ReadingOff.{at_client}
 use Rattle.qs_core.proofs.play.play.Goals as goal
 

@@ -1,5 +1,4 @@
-use Rattle.std.proofs.Common.{◌≡◌, ◌&&◌, ◌∙◌, ap, sym, map, drop, ℕ, ◌+◌, get_or}
-use Rattle.qs_check.specs.Program.{ProgramShape}
+use Rattle.std.proofs.Common.{◌≡◌, ◌&&◌, ◌∙◌, ap, sym, map, drop, ◌+◌, get_or}
 use Rattle.qs_core.specs.Clients.{ClientState, client_of}
 use Rattle.qs_core.specs.Rules.{absent}
 use Rattle.qs_core.proofs.HallSteps.{get_or-any}

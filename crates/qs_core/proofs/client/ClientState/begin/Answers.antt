@@ -1,4 +1,4 @@
-use Rattle.std.proofs.Common.{◌≡◌, ℕ, [], ◌∷◌, ◌++◌, length, ap, ◌∙◌, arith}
+use Rattle.std.proofs.Common.{◌≡◌, [], ◌∷◌, ◌++◌, length, ap, ◌∙◌, arith}
 use Rattle.qs_check.specs.Program.{BlockShape, block_at}
 use Rattle.qs_core.specs.Clients.{ClientState}
 use Rattle.qs_core.specs.Ready.{PreparedState}

@@ -1,4 +1,4 @@
-use Rattle.std.proofs.Common.{ℕ, ◌≤◌, ap, ◌∙◌, subst, arith, below_more, rules, length, vec_capacity}
+use Rattle.std.proofs.Common.{◌≤◌, ap, ◌∙◌, subst, arith, below_more, vec_capacity}
 use Rattle.std.proofs.lemmas.List.{length-append}
 use Rattle.qs_check.specs.Program.{BlockShape, block_at}
 use Rattle.qs_check.specs.Statements.{Statements}

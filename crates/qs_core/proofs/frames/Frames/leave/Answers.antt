@@ -1,4 +1,4 @@
-use Rattle.std.proofs.Common.{ℕ, arith, ap, sym, ◌∙◌}
+use Rattle.std.proofs.Common.{arith, ap, sym, ◌∙◌}
 use Rattle.qs_core.specs.Frames.{Ahead}
 use Rattle.qs_core.specs.FrameViews.{frame_of}
 use Rattle.qs_core.proofs.Moves.{popped_ahead, popped_work, popped_load, popped_sound}

@@ -1,6 +1,5 @@
-use Rattle.std.proofs.Common.{◌≡◌, ◌∙◌, ◌<◌, ap, sym, length, get_or, subst, map}
+use Rattle.std.proofs.Common.{◌≡◌, ◌∙◌, ◌<◌, ap, length, get_or, subst, map}
 use Rattle.std.proofs.lemmas.List.{with_items_is}
-use Rattle.qs_core.specs.Queues.{QueueState}
 use Rattle.qs_core.specs.Served.{HandlerState, after_put}
 use Rattle.qs_core.proofs.Mapping.{get_or-mapped, set-mapped, all-mapped}
 use Rattle.qs_core.proofs.handler.HandlerState.log.Goals as goal

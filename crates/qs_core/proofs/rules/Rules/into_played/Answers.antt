@@ -2,7 +2,6 @@ use Rattle.std.proofs.Common.{◌≡◌, ◌∙◌, ◌&&◌, ap, sym, subst, ma
 use Rattle.qs_objects.specs.declared.held.Ticket.{Ticket}
 use Rattle.qs_core.specs.Begun.{AreOwn}
 use Rattle.qs_core.specs.Clients.{ClientState, client_of}
-use Rattle.qs_core.specs.Plain.{Client}
 use Rattle.qs_core.specs.Rules.{RulesState, IsRules, client_at}
 use Rattle.qs_core.specs.Schedule.{all_done, all_idle, has_ended, syncs_of}
 use Rattle.qs_core.specs.Served.{HandlerState, handler_of}

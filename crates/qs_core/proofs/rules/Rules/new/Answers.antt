@@ -1,7 +1,7 @@
-use Rattle.std.proofs.Common.{◌≡◌, List, refl, ap, ◌∙◌, arith}
+use Rattle.std.proofs.Common.{List, refl, ap, ◌∙◌, arith}
 use Rattle.qs_objects.specs.declared.held.Ticket.{Ticket}
 use Rattle.qs_core.specs.Plain.{Plain}
-use Rattle.qs_core.specs.Rules.{RulesState, plain_of}
+use Rattle.qs_core.specs.Rules.{plain_of}
 use Rattle.qs_core.proofs.RulesFresh.{empty_of, fresh_to_come, fresh_kept, fresh_plain}
 use Rattle.qs_core.proofs.rules.Rules.new.Goals as goal
 

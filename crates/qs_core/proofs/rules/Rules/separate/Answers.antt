@@ -1,4 +1,4 @@
-use Rattle.std.proofs.Common.{◌≡◌, ℕ, length, ap, subst, arith}
+use Rattle.std.proofs.Common.{length, ap, subst, arith}
 use Rattle.std.proofs.Math.ListN.{set}
 use Rattle.qs_core.specs.ClientMoves.{Begins}
 use Rattle.qs_core.specs.Clients.{ClientState, IsClient}

@@ -1,9 +1,8 @@
-use Rattle.std.proofs.Common.{◌≡◌, None, ap, sym, subst, ◌∙◌, arith, length, ℕ}
+use Rattle.std.proofs.Common.{◌≡◌, None, ap, sym, subst, ◌∙◌, arith, length}
 use Rattle.qs_core.specs.Clients.{ClientState, IsClient}
 use Rattle.qs_core.specs.Plain.{step}
-use Rattle.qs_core.specs.Rules.{RulesState, client_at, plain_of}
+use Rattle.qs_core.specs.Rules.{RulesState, plain_of}
 use Rattle.qs_core.specs.declared.actor.Actor.TheVariants as actor
-use Rattle.qs_core.specs.declared.stage.Stage.TheVariants as stage
 use Rattle.qs_core.proofs.RulesServe.{none_out}
 use Rattle.qs_core.proofs.Views.{within_of, here_of}
 use Rattle.qs_core.proofs.rules.Rules.step_client.Goals as goal

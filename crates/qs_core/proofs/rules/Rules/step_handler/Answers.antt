@@ -1,6 +1,6 @@
-use Rattle.std.proofs.Common.{◌≡◌, ◌<◌, ap, subst, ◌∙◌, arith, length}
+use Rattle.std.proofs.Common.{ap, subst, arith}
 use Rattle.qs_core.specs.Rules.{RulesState}
-use Rattle.qs_core.specs.Served.{HandlerState, ServesFirst}
+use Rattle.qs_core.specs.Served.{ServesFirst}
 use Rattle.qs_core.specs.declared.actor.Actor.TheVariants as actor
 use Rattle.qs_core.specs.declared.handler.Served.TheVariants as served
 use Rattle.qs_core.proofs.RulesServe.{done_steps, served_rules, replied_rules, replied_to_come, reply_steps}
