@@ -326,6 +326,59 @@ fn refusals_of_the_script(rt: HostRuntime) {
 }
 
 #[test]
+fn refusals_of_the_whole_script(rt: HostRuntime) {
+    let alloc = rt.alloc();
+    gives(
+        &rt,
+        alloc,
+        "rules",
+        b"object a account 1 client c { separate a a { } }",
+        b"refused: check 3 ReservedTwice\n",
+        2,
+    );
+    gives(
+        &rt,
+        alloc,
+        "rules",
+        b"object a account 1 object b account 1 client c { separate a { b.deposit(1); } }",
+        b"refused: check 4 NotReserved\n",
+        2,
+    );
+    gives(
+        &rt,
+        alloc,
+        "rules",
+        b"object a account 1 client c { separate a { leave; } }",
+        b"refused: check 7 LeaveOutside\n",
+        2,
+    );
+    gives(
+        &rt,
+        alloc,
+        "check",
+        b"object a account 1 object b account 1 object c account 1 object d account 1 object e account 1 object f account 1 object g account 1 object h account 1 object i account 1",
+        b"refused: check 8 Limit\n",
+        2,
+    );
+    gives(
+        &rt,
+        alloc,
+        "rules",
+        b"object a account 1 client c { separate a { repeat 1000 { repeat 100 { a.deposit(0); } } a.deposit(0); } }",
+        b"refused: check 10 Load\n",
+        2,
+    );
+    gives(
+        &rt,
+        alloc,
+        "rules",
+        b"object a account 1 client c { separate a { repeat 1000 { repeat 1000 { x = 1; } } } }",
+        b"refused: check 11 Weight\n",
+        2,
+    );
+}
+
+#[test]
 fn counts(rt: HostRuntime) {
     gives(
         &rt,
