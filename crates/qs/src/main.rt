@@ -1,7 +1,8 @@
 //! The program: a script on standard input, a text on standard output.
 #![tactic(auto)]
 
-ghost use Rattle.std.specs.Prelude.{◌≡◌, map, string_bytes, IfOk};
+ghost use Rattle.std.specs.Prelude.{◌≡◌, false, map, string_bytes, IfOk, MatchBool};
+ghost use Rattle.qs.specs.Due.{IsDone};
 ghost use Rattle.qs_report.specs.declared.faults.Fault.TheVariants as fault;
 ghost use Rattle.qs_report.specs.Faults.{fault_text};
 ghost use Rattle.qs_report.specs.Texts.{AppendsFront};
@@ -41,23 +42,24 @@ fn texts(alloc: Global, words: &Vec<String>) -> Result<Vec<&str>, AllocError>
     Ok(texts)
 }
 
-// Ends for want of memory.
-fn give_up<W: Write>(out: &mut W) -> ExitCode
+// Tells want of memory, and answers the status.
+fn give_up<W: Write>(out: &mut W, watch: &mut Watch<W>) -> u8
+    requires fine { watch.old.has_failed ≡ false }
     ensures front { AppendsFront (W.contents out.old) (W.contents out.new) (fault_text fault.Memory) }
+    ensures status { MatchBool watch.new.has_failed (result ≡ 4) (IsDone (W.contents out.old) (W.contents out.new) (Due.Refused fault.Memory) result) }
 {
-    let mut watch = Watch::new();
     let due = Due::Refused(Fault::Memory);
-    ExitCode::from(finish(out, &mut watch, &due))
+    finish(out, watch, &due)
 }
 
 fn main(rt: HostRuntime) -> ExitCode {
     let mut input = rt.reader();
     let mut out = io::writer(&rt);
     let Ok(words) = arguments(&rt) else {
-        return give_up(&mut out);
+        return ExitCode::from(give_up(&mut out, &mut Watch::new()));
     };
     let Ok(texts) = texts(rt.alloc(), &words) else {
-        return give_up(&mut out);
+        return ExitCode::from(give_up(&mut out, &mut Watch::new()));
     };
     ExitCode::from(serve(rt.alloc(), texts.as_slice(), &mut input, &mut out))
 }
