@@ -79,14 +79,8 @@ IsDue (Some command) known false due =
 abbrev pub IsDone : Option (List ℕ) → Option (List ℕ) → Due → ℕ → Type 0
 IsDone old new due status = Appends old new (due_text due) × (status ≡ due_status due)
 
--- a front of the due text was written, and unless the status is 4 all of it, with its status
-abbrev pub Serves : List (List ℕ) → Option (List ℕ) → Option (List ℕ) → Option (List ℕ) → ℕ → Type 0
-Serves words known old new status =
-    (due : Due) × (failed : Bool) × IsDue (command_in words) known failed due
-    × AppendsFront old new (due_text due) × (status ≢ 4 → IsDone old new due status)
-
 -- a front of the due text was written; all of it, with its status, exactly where no write and no flush has failed
-abbrev pub ServesWatched : List (List ℕ) → Option (List ℕ) → Bool → Option (List ℕ) → Option (List ℕ) → Bool → ℕ → Type 0
-ServesWatched words known read_failed old new write_failed status =
+abbrev pub Serves : List (List ℕ) → Option (List ℕ) → Bool → Option (List ℕ) → Option (List ℕ) → Bool → ℕ → Type 0
+Serves words known read_failed old new write_failed status =
     (due : Due) × IsDue (command_in words) known read_failed due
     × AppendsFront old new (due_text due) × MatchBool write_failed (status ≡ 4) (IsDone old new due status)

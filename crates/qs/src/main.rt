@@ -16,6 +16,7 @@ mod tests;
 mod words;
 
 use due::Due;
+use input::Counted;
 use output::finish;
 use qs_report::{Fault, Watch};
 use serving::serve;
@@ -53,7 +54,7 @@ fn give_up<W: Write>(out: &mut W, watch: &mut Watch<W>) -> u8
 }
 
 fn main(rt: HostRuntime) -> ExitCode {
-    let mut input = rt.reader();
+    let mut input = Counted::new(rt.reader());
     let mut out = io::writer(&rt);
     let Ok(words) = arguments(&rt) else {
         return ExitCode::from(give_up(&mut out, &mut Watch::new()));
@@ -61,5 +62,11 @@ fn main(rt: HostRuntime) -> ExitCode {
     let Ok(texts) = texts(rt.alloc(), &words) else {
         return ExitCode::from(give_up(&mut out, &mut Watch::new()));
     };
-    ExitCode::from(serve(rt.alloc(), texts.as_slice(), &mut input, &mut out))
+    ExitCode::from(serve(
+        rt.alloc(),
+        texts.as_slice(),
+        &mut input,
+        &mut out,
+        &mut Watch::new(),
+    ))
 }

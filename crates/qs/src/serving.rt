@@ -2,7 +2,7 @@
 
 ghost use Rattle.std.specs.Prelude.{◌≡◌, ◌+◌, ◌≤◌, ◌⊎◌, false, None, map, IsTrue};
 ghost use Rattle.qs.specs.Words.{command_in};
-ghost use Rattle.qs.specs.Due.{Serves, ServesWatched, longest};
+ghost use Rattle.qs.specs.Due.{Serves, longest};
 
 use crate::due::due_of;
 use crate::input::Counted;
@@ -11,9 +11,9 @@ use qs_report::Watch;
 use std::alloc::Global;
 use std::io::{Read, Write};
 
-/// The whole program, over a reader whose reads are counted and a writer whose failures are watched. The status is 4 exactly where a
-/// read, a write or the flush fails.
-pub fn serve_watched<R: Read, W: Write>(
+/// The whole program, over a reader whose reads are counted and a writer whose failures are watched; its status is the answer. The words
+/// are all the process's arguments, the program's name first. The status is 4 exactly where a read, a write or the flush fails.
+pub fn serve<R: Read, W: Write>(
     alloc: Global,
     words: &[&str],
     input: &mut Counted<R>,
@@ -22,7 +22,7 @@ pub fn serve_watched<R: Read, W: Write>(
 ) -> u8
     requires readable { input.old.has_failed ≡ false }
     requires writable { watch.old.has_failed ≡ false }
-    ensures serves { ServesWatched (map (λ word. word.now) words.now)
+    ensures serves { Serves (map (λ word. word.now) words.now)
         input.old.remaining input.new.has_failed
         (W.contents out.old) (W.contents out.new) watch.new.has_failed result }
     ensures gives_up { result ≡ 4 → IsTrue input.new.has_failed ⊎ IsTrue watch.new.has_failed }
@@ -32,13 +32,4 @@ pub fn serve_watched<R: Read, W: Write>(
 {
     let due = due_of(alloc, words, input);
     finish(out, watch, &due)
-}
-
-/// The whole program; its status is the answer. The words are all the process's arguments, the program's name first.
-pub fn serve<R: Read, W: Write>(alloc: Global, words: &[&str], input: &mut R, out: &mut W) -> u8
-    ensures serves { Serves (map (λ word. word.now) words.now) (R.remaining input.old) (W.contents out.old) (W.contents out.new) result }
-{
-    let mut counted = Counted::new(input);
-    let mut watch = Watch::new();
-    serve_watched(alloc, words, &mut counted, out, &mut watch)
 }

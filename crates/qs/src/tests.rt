@@ -1,6 +1,8 @@
 // Readers and writers that fail in mid-stream.
 
-use crate::serving::serve;
+use crate::input::Counted;
+use crate::serving;
+use qs_report::Watch;
 use std::alloc::Global;
 use std::io;
 use std::io::{Read, Write};
@@ -39,6 +41,12 @@ impl Read for Halting<'_> {
             _ => Ok(0),
         }
     }
+}
+
+// Serves by a reader that is counted and a writer that is watched.
+fn serve<R: Read, W: Write>(alloc: Global, words: &[&str], input: &mut R, out: &mut W) -> u8 {
+    let mut counted = Counted::new(input);
+    serving::serve(alloc, words, &mut counted, out, &mut Watch::new())
 }
 
 fn make_halting(text: &[u8], fails_at: usize) -> Halting<'_> {
