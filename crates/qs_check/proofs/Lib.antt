@@ -13,3 +13,8 @@ pub mod Soundness
 pub mod RequestPaths
 pub mod Bounds
 pub mod Trees
+pub mod TreeWalks
+pub mod SoundTrees
+pub mod Each
+pub mod Histories
+pub mod SerialRuns

@@ -5,6 +5,7 @@ pub mod Falls
 pub mod Values
 pub mod Solo
 pub mod Interaction
+pub mod Following
 pub mod Loads
 pub mod Numbering
 pub mod Program

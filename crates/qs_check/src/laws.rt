@@ -1,6 +1,7 @@
 //! What the definitions of faults, loads and blocks promise; and worked examples of them.
 
 ghost use Rattle.qs_check.specs.CheckExamples.{CheckExamples};
+ghost use Rattle.qs_check.specs.Following.{BlocksAskOnly, HonestTracesRun};
 ghost use Rattle.qs_check.specs.Interaction.{TreesAgree};
 ghost use Rattle.qs_check.specs.MeaningExamples.{MeaningExamples};
 ghost use Rattle.qs_check.specs.Paths.{RequestsWithinLoad};
@@ -25,4 +26,16 @@ pub fn check_examples()
 /// Programs with the replies and the states of their serial runs, computed by the definitions; it does nothing.
 pub fn meaning_examples()
     ensures examples { MeaningExamples }
+{}
+
+/// A trace along a block's interaction tree, whose replies on each object are the object's own, is what the block does alone, as
+/// far as the trace goes. It does nothing.
+pub fn honest_traces_run()
+    ensures run { HonestTracesRun }
+{}
+
+/// A block of a checked program makes requests on the objects of its list alone; what it calls are commands, and what it asks are
+/// queries. It does nothing.
+pub fn blocks_ask_only()
+    ensures only { BlocksAskOnly }
 {}

@@ -14,3 +14,14 @@ pub mod RulesFresh
 pub mod Playing
 pub mod ReadingOff
 pub mod Ordering
+pub mod Placing
+pub mod Courses
+pub mod Services
+pub mod CourseMoves
+pub mod Sights
+pub mod Sims
+pub mod Rooms
+pub mod PlainKept
+pub mod ServiceFlows
+pub mod Isolating
+pub mod Reaching

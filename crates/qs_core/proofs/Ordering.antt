@@ -29,12 +29,12 @@ pub record IsOrdered (p : ProgramShape) (s : Plain) : Type 0 where
   pub legal : IsLegal p s.order
   pub counts : (c : ℕ) → counts_after (λ _. 0) s.order c ≡ get_or (map begun s.clients) c 0
 
-legal-more : (p : ProgramShape) (b : ℕ → ℕ) (ts : List Ticket) (t : Ticket) → LegalFrom p b ts → t.index ≡ counts_after b ts t.client → t.index < blocks_of p t.client
+pub legal-more : (p : ProgramShape) (b : ℕ → ℕ) (ts : List Ticket) (t : Ticket) → LegalFrom p b ts → t.index ≡ counts_after b ts t.client → t.index < blocks_of p t.client
     → LegalFrom p b (ts ++ t ∷ [])
 legal-more p b [] t legal next some = (next, some, tt)
 legal-more p b (u ∷ ts) t legal next some = (legal.0, legal.1, legal-more p (put b u.client (suc u.index)) ts t legal.2 next some)
 
-counts-more : (b : ℕ → ℕ) (ts : List Ticket) (t : Ticket) → counts_after b (ts ++ t ∷ []) ≡ put (counts_after b ts) t.client (suc t.index)
+pub counts-more : (b : ℕ → ℕ) (ts : List Ticket) (t : Ticket) → counts_after b (ts ++ t ∷ []) ≡ put (counts_after b ts) t.client (suc t.index)
 counts-more b [] t = refl
 counts-more b (u ∷ ts) t = counts-more (put b u.client (suc u.index)) ts t
 

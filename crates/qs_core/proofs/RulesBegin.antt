@@ -15,7 +15,8 @@ use Rattle.qs_core.specs.Frames.{rest, next_of, load_left}
 use Rattle.qs_core.specs.Hall.{handler_at, entered, entered_all, CanEnter, CanEnterAll}
 use Rattle.qs_check.specs.Interaction.{tree_of}
 use Rattle.qs_core.specs.Plain as plain
-use Rattle.qs_core.specs.Plain.{Client, same, ticket, step, client_step, at_each, enter}
+use Rattle.qs_objects.specs.Parts.{same}
+use Rattle.qs_core.specs.Plain.{Client, ticket, step, client_step, at_each, enter}
 use Rattle.qs_core.specs.Traces.{TraceState}
 use Rattle.qs_core.specs.declared.actor.Actor.TheVariants as actor
 use Rattle.qs_core.specs.Queues.{QueueState}

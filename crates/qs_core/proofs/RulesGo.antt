@@ -18,7 +18,7 @@ use Rattle.qs_core.specs.Frames.{Frame, next_of, load_left}
 use Rattle.qs_core.specs.Hall.{handler_at, nobody, logged, logged_at, logged_all, CanLog, CanLogAll}
 use Rattle.qs_core.specs.Moves.{noted_in, last_of, no_trace}
 use Rattle.qs_core.specs.Plain as plain
-use Rattle.qs_core.specs.Plain.{Client, same, ticket, step, client_step, goes_on, at_each, at_handler, log_in}
+use Rattle.qs_core.specs.Plain.{Client, ticket, step, client_step, goes_on, at_each, at_handler, log_in}
 use Rattle.qs_core.specs.Rules.{RulesState, IsRules, IsOpen, absent, client_at, to_come, is_in_block, plain_of}
 use Rattle.qs_core.specs.Traces.{TraceState, trace_state}
 use Rattle.qs_core.specs.declared.actor.Actor.TheVariants as actor

@@ -8,7 +8,8 @@ use Rattle.qs_core.specs.declared.private.Item.{Item}
 use Rattle.qs_core.specs.Clients.{ClientState}
 use Rattle.qs_core.specs.Frames.{load_left}
 use Rattle.qs_core.specs.Hall.{handler_at, nobody, logged}
-use Rattle.qs_core.specs.Plain.{same, ticket}
+use Rattle.qs_objects.specs.Parts.{same}
+use Rattle.qs_core.specs.Plain.{ticket}
 use Rattle.qs_core.specs.Queues.{QueueState}
 use Rattle.qs_core.specs.Rules.{RulesState, IsRules, IsOpen, absent, client_at, to_come, is_in_block}
 use Rattle.qs_core.specs.Served.{HandlerState, after_put}

@@ -16,5 +16,7 @@ pub mod Rules
 pub mod Hearing
 pub mod Beginning
 pub mod Schedule
+pub mod Isolation
 pub mod Begun
 pub mod PlayExamples
+pub mod IsolationExamples

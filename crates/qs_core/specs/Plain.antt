@@ -1,7 +1,8 @@
 -- The plain rules: for each handler a queue of queues, in which each reservation has a private queue of single requests.
-use Rattle.std.specs.Prelude.{ℕ, ◌-◌, Bool, ◌&&◌, ◌==◌, nat_lt, if◌then◌else◌, List, [], ◌∷◌, ◌++◌, map, length, slice_index_or, slice_set, Option, Some, None, ℤ, sum_by}
+use Rattle.std.specs.Prelude.{ℕ, ◌-◌, nat_lt, if◌then◌else◌, List, [], ◌∷◌, ◌++◌, map, length, slice_index_or, slice_set, Option, Some, None, ℤ, sum_by}
 use Rattle.std.specs.List.{range_with_len}
 use Rattle.qs_objects.specs.Journals.{HeldState, ran}
+use Rattle.qs_objects.specs.Parts.{same}
 use Rattle.qs_objects.specs.declared.held.Event.{Event}
 use Rattle.qs_objects.specs.declared.held.Ticket.{Ticket}
 use Rattle.qs_objects.specs.declared.Request.{Request}
@@ -62,9 +63,6 @@ ticket c k = record { client = c; index = k }
 -- the ticket of the block that a client is in
 abbrev pub current : ℕ → Client → Ticket
 current c it = ticket c (begun it - 1)
-
-abbrev pub same : Ticket → Ticket → Bool
-same t u = (t.client == u.client) && (t.index == u.index)
 
 -- an item at the end of the ticket's private queue
 abbrev pub put_item : Ticket → Item → Private → Private

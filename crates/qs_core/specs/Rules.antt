@@ -8,8 +8,11 @@ use Rattle.qs_check.specs.Shapes.{program_code}
 use Rattle.qs_core.specs.Clients.{ClientState, client_of, client_code}
 use Rattle.qs_core.specs.Frames.{load_left}
 use Rattle.qs_core.specs.Hall.{handler_at}
-use Rattle.qs_core.specs.Plain.{Plain, same, step, ticket}
+use Rattle.qs_objects.specs.Parts.{same}
+use Rattle.qs_core.specs.Isolation.{IsIsolated, queued}
+use Rattle.qs_core.specs.Plain.{Plain, begin, step, ticket}
 use Rattle.qs_core.specs.Queues.{QueueState}
+use Rattle.qs_core.specs.Schedule.{played_of, plays}
 use Rattle.qs_core.specs.Served.{HandlerState, handler_of}
 use Rattle.qs_core.specs.declared.actor.Actor.{Actor}
 use Rattle.qs_core.specs.declared.stage.Stage.{Stage}
@@ -28,6 +31,14 @@ plain_of r = record { order = r.order; clients = map client_of r.clients; handle
 -- one step of the actor under the plain rules of the same program
 abbrev pub Steps : RulesState → Actor → RulesState → Type 0
 Steps old actor new = (step old.program (plain_of old) actor ≡ Some (plain_of new)) × (new.program ≡ old.program)
+
+-- a list of actors leads to it
+abbrev pub IsReached : RulesState → Type 0
+IsReached r = (actors : List Actor) × (plain_of r ≡ plays r.program actors (begin r.program))
+
+-- what it has shown is isolated, with the commands that lie in private queues on their way
+abbrev pub AreIsolated : RulesState → Type 0
+AreIsolated r = IsIsolated r.program (played_of r.program (plain_of r)) (queued (plain_of r))
 
 -- no client
 abbrev pub absent : ClientState

@@ -6,7 +6,8 @@ use Rattle.qs_core.specs.declared.private.Item.{Item}
 use Rattle.qs_core.specs.declared.private.Item.TheVariants as item
 use Rattle.qs_core.specs.declared.handler.Served.{Served}
 use Rattle.qs_core.specs.declared.handler.Served.TheVariants.{Nothing, Done, Replied}
-use Rattle.qs_core.specs.Plain.{Handler, put_item, same}
+use Rattle.qs_objects.specs.Parts.{same}
+use Rattle.qs_core.specs.Plain.{Handler, put_item}
 use Rattle.qs_core.specs.Queues.{QueueState, queue_state}
 
 -- its private queues, how many more may come, and its object with the journal

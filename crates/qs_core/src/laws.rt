@@ -1,8 +1,22 @@
 //! What the definitions say, for callers' proofs and for readers.
 
+ghost use Rattle.qs_core.specs.Isolation.{PlainRunsAreIsolated};
+ghost use Rattle.qs_core.specs.IsolationExamples.{IsolationExamples};
 ghost use Rattle.qs_core.specs.PlayExamples.{PlayExamples};
 
 /// Runs under the plain rules, with their orders, replies, states and syncs, computed by the definitions; it does nothing.
 pub fn play_examples()
     ensures examples { PlayExamples }
+{}
+
+/// Two clients that meet on one object, in both orders, with the states that each finds there and its commands on their way, computed
+/// by the definitions; it does nothing.
+pub fn isolation_examples()
+    ensures examples { IsolationExamples }
+{}
+
+/// Under the plain rules, for every checked program and every list of actors, at every moment: each reservation has done what its
+/// block does alone, at its place in the order of reservations. It does nothing.
+pub fn plain_runs_are_isolated()
+    ensures isolated { PlainRunsAreIsolated }
 {}

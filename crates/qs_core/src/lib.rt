@@ -8,6 +8,7 @@ mod frames;
 mod hall;
 mod handler;
 pub mod laws;
+mod machine;
 mod play;
 mod played;
 mod private;

@@ -1,7 +1,8 @@
 //! Private queues.
 
 ghost use Rattle.std.specs.Prelude.{◌≡◌, ◌+◌, ◌-◌, ◌<◌, [], ◌∷◌, ◌++◌, IfOk, IfNone, IfSome, MatchOption, if◌then◌else◌, true, false};
-ghost use Rattle.qs_core.specs.Plain.{Private, put_item, same as same_ticket, ticket as the_ticket};
+ghost use Rattle.qs_objects.specs.Parts.{same as same_ticket};
+ghost use Rattle.qs_core.specs.Plain.{Private, put_item, ticket as the_ticket};
 ghost use Rattle.qs_core.specs.Queues.{queue_state};
 
 use qs_objects::{Request, Ticket};

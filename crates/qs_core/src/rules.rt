@@ -1,210 +1,61 @@
 //! The plain rules.
 
-ghost use Rattle.std.specs.Prelude.{◌≡◌, ◌<◌, None, false, length, IfOk};
+ghost use Rattle.std.specs.Prelude.{◌≡◌, None, false, IfOk};
 ghost use Rattle.std.specs.Bool.{OnTrue};
 ghost use Rattle.qs_core.specs.Plain.{begin, step as the_step};
-ghost use Rattle.qs_core.specs.declared.actor.Actor.TheVariants as actors;
-ghost use Rattle.qs_core.specs.declared.stage.Stage.TheVariants as stages;
+ghost use Rattle.qs_core.specs.Rules.{AreIsolated, Steps, plain_of};
 
 use crate::actor::Actor;
-use crate::client::{Asked, ClientState, answer, fresh_clients};
-use crate::hall::{enter_all, fresh_handlers, log_all, log_once};
-use crate::handler::{HandlerState, Served};
-use crate::played::{Played, Row};
-use crate::private::Item;
-use crate::showing;
-use crate::stage::Stage;
+use crate::machine::Machine;
 use qs_check::Program;
-use qs_objects::Ticket;
 use std::alloc::{AllocError, Global};
 use std::marker::Model;
 
-/// A program on its way under the plain rules: each handler has a queue of queues, and each reservation a private queue of single
-/// requests. It takes memory in `new` alone.
+/// A program on its way under the plain rules, from its beginning on: each handler has a queue of queues, and each reservation a
+/// private queue of single requests. It takes memory in `new` alone.
 #[derive(Drop)]
 pub struct Rules<'p> {
-    program: &'p Program,
-    alloc: Global,
-    order: Vec<Ticket>,
-    clients: Vec<ClientState<'p>>,
-    handlers: Vec<HandlerState>,
+    machine: Machine<'p>,
 }
 
 impl<'p> Model for Rules<'p> {
-    ghost use Rattle.std.specs.Prelude.{◌≤◌, ◌+◌, vec_len, vec_capacity};
-    ghost use Rattle.qs_core.specs.Rules.{RulesState, rules_code, IsRules, to_come};
+    ghost use Rattle.qs_core.specs.Rules.{RulesState, rules_code, IsReached};
 
     ghost Value = { RulesState };
 
     ghost coded = { rules_code };
 
-    ghost view = { λ r. record { program = r.program.now; order = r.order.items; clients = r.clients.items; handlers = r.handlers.items } };
+    ghost view = { λ r. r.machine };
 
-    ghost invariant = { λ r.
-        IsRules (record { program = r.program.now; order = r.order.items; clients = r.clients.items; handlers = r.handlers.items })
-        × (vec_len r.order + to_come r.clients.items ≤ vec_capacity r.order) };
+    ghost invariant = { λ r. IsReached r.machine };
 }
 
 impl<'p> Rules<'p> {
-    ghost use Rattle.qs_core.specs.Rules.{Steps, client_at, plain_of};
-    ghost use Rattle.qs_core.specs.Schedule.{actors_of, played_of, plays};
-    ghost use Rattle.qs_core.specs.Begun.{AreBegun};
-
     /// A program before its first step. It takes all the memory that the run will need, by the loads; a refused growth leaves nothing.
     pub fn new(alloc: Global, program: &'p Program) -> Result<Rules<'p>, AllocError>
         ensures fresh { IfOk result (λ r. (r.program ≡ program.now) × (plain_of r ≡ begin program.now)) }
     {
-        program.is_sound();
-        let blocks = program.blocks();
-        let clients = fresh_clients(alloc, program)?;
-        let handlers = fresh_handlers(alloc, program, blocks)?;
-        let order = Vec::with_capacity(alloc, blocks)?;
-        Ok(Rules {
-            program,
-            alloc,
-            order,
-            clients,
-            handlers,
-        })
+        let machine = Machine::new(alloc, program)?;
+        Ok(Rules { machine })
     }
 
-    /// One step of an actor: true where it has one, and else false, with nothing changed; also where there is no such actor.
+    /// One step of an actor: true where it has one, and else false, with nothing changed; also where there is no such actor. What has
+    /// run stays isolated.
     pub fn step(&mut self, actor: Actor) -> bool
         ensures steps { OnTrue result (Steps self.old actor self.new) }
         ensures none { result ≡ false → the_step self.old.program (plain_of self.old) actor ≡ None }
         ensures unchanged { result ≡ false → self.new ≡ self.old }
+        ensures isolated { AreIsolated self.new }
     {
-        match actor {
-            Actor::Client(client) => {
-                usize::from(client) < self.clients.len() && self.step_client(client)
-            }
-            Actor::Handler(handler) => {
-                usize::from(handler) < self.handlers.len() && self.step_handler(handler)
-            }
-        }
+        let stepped = self.machine.step(actor);
+        self.machine.program().is_sound();
+        stepped
     }
 
-    fn step_client(&mut self, number: u8) -> bool
-        requires { number < length self.old.clients }
-        ensures steps { OnTrue result (Steps self.old (actors.Client number) self.new) }
-        ensures none { result ≡ false → the_step self.old.program (plain_of self.old) (actors.Client number) ≡ None }
-        ensures unchanged { result ≡ false → self.new ≡ self.old }
+    /// At every moment each reservation has done what its block does alone, as far as it has come; it does nothing.
+    pub fn is_isolated(&self)
+        ensures isolated { AreIsolated self.now }
     {
-        let client = &self.clients[usize::from(number)];
-        match client.stage() {
-            Stage::Out => {
-                if !client.has_more() {
-                    return false;
-                }
-                self.separate(number);
-                true
-            }
-            Stage::Within => {
-                self.go_on(number);
-                true
-            }
-            Stage::Waiting(_) => false,
-        }
-    }
-
-    /// A client reserves the objects of its next block.
-    fn separate(&mut self, number: u8)
-        requires number { number < length self.old.clients }
-        requires out { (client_at self.old.clients number).stage ≡ stages.Out }
-        requires more { 0 < length (client_at self.old.clients number).prepared }
-        ensures steps { Steps self.old (actors.Client number) self.new }
-    {
-        self.program.is_sound();
-        let client = &mut self.clients[usize::from(number)];
-        let ticket = Ticket {
-            client: number,
-            index: client.begun() as u8,
-        };
-        let queues = client.begin();
-        self.order.push_reserved(ticket);
-        enter_all(&mut self.handlers, queues);
-    }
-
-    /// A client in a block goes on up to its next request, which is logged, or to the block's end.
-    fn go_on(&mut self, number: u8)
-        requires number { number < length self.old.clients }
-        requires within { (client_at self.old.clients number).stage ≡ stages.Within }
-        ensures steps { Steps self.old (actors.Client number) self.new }
-    {
-        self.program.is_sound();
-        let client = &mut self.clients[usize::from(number)];
-        let ticket = Ticket {
-            client: number,
-            index: (client.begun() - 1) as u8,
-        };
-        match client.ask(self.alloc) {
-            Asked::Command(request) => {
-                let object = request.object;
-                log_once(&mut self.handlers, object, ticket, Item::Command(request));
-            }
-            Asked::Query(request) => {
-                let object = request.object;
-                log_once(&mut self.handlers, object, ticket, Item::Query(request));
-            }
-            Asked::End => {
-                let block = self.program.block(ticket.client, ticket.index);
-                log_all(&mut self.handlers, block.reserved(), ticket, &Item::EndMark);
-            }
-        }
-    }
-
-    fn step_handler(&mut self, number: u8) -> bool
-        requires { number < length self.old.handlers }
-        ensures steps { OnTrue result (Steps self.old (actors.Handler number) self.new) }
-        ensures none { result ≡ false → the_step self.old.program (plain_of self.old) (actors.Handler number) ≡ None }
-        ensures unchanged { result ≡ false → self.new ≡ self.old }
-    {
-        let handler = &mut self.handlers[usize::from(number)];
-        match handler.serve() {
-            Served::Nothing => false,
-            Served::Done => true,
-            Served::Replied(ticket, request, reply) => {
-                answer(&mut self.clients, ticket, request, reply);
-                true
-            }
-        }
-    }
-
-    /// One step of each client and then of each handler, in text order.
-    pub(crate) fn round(&mut self)
-        ensures round { plain_of self.new ≡ plays self.old.program (actors_of self.old.program) (plain_of self.old) }
-        ensures program { self.new.program ≡ self.old.program }
-    {
-        self.program.is_sound();
-        for client in 0..self.program.clients() as u8 {
-            let _stepped = self.step(Actor::Client(client));
-        }
-        for handler in 0..self.program.objects() as u8 {
-            let _stepped = self.step(Actor::Handler(handler));
-        }
-    }
-
-    /// What the run has shown.
-    pub(crate) fn into_played(self, alloc: Global) -> Result<Played, AllocError>
-        requires { AreBegun self.clients self.order }
-        ensures shown { IfOk result (λ played. played ≡ played_of self.entry.program (plain_of self.entry)) }
-    {
-        self.program.is_sound();
-        let ended = showing::endings(alloc, &self.clients, &self.order)?;
-        let entries = showing::entries(alloc, &self.clients, &self.order)?;
-        let traces = showing::traces(alloc, &self.clients, &self.order)?;
-        let syncs = showing::syncs(&self.clients);
-        let finished = showing::are_done(&self.clients) && showing::are_idle(&self.handlers);
-        let (journals, states) = showing::parts(alloc, self.handlers)?;
-        Ok(Played {
-            order: Row::from_vec(self.order),
-            ended,
-            entries,
-            traces,
-            journals,
-            states,
-            syncs,
-            finished,
-        })
+        self.machine.program().is_sound();
     }
 }

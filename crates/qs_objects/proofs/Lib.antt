@@ -1,3 +1,4 @@
+pub mod Choices
 pub mod Sums
 pub mod ObjectLaws
 pub mod Replays

@@ -1,0 +1,64 @@
+-- A walk with each request done at once does what the block alone does.
+use Rattle.std.proofs.Common.{◌≡◌, ℕ, zero, suc, Bool, true, false, if◌then◌else◌, List, slice_set, refl, sym, ap, ◌∙◌, None}
+use Rattle.std.proofs.Math.Path.{fun_ext}
+use Rattle.qs_objects.specs.Journals.{answer}
+use Rattle.qs_check.specs.Statements.{Statements, end, command, query, assign, choose, again, leave}
+use Rattle.qs_check.specs.Values.{Locals, test_value, request_of}
+use Rattle.qs_check.specs.Solo.{States, Outcome, changed, value_of, event, solo}
+use Rattle.qs_check.specs.Interaction.{Interaction, noted, run, tree_of}
+use Rattle.qs_check.specs.Interaction as tree
+use Rattle.qs_check.proofs.Trees.{trees_agree}
+use Rattle.qs_graph.specs.Nodes.{Place}
+use Rattle.qs_graph.specs.Synced.{Synced, Done, Next, turns, meaning, synced_of, erased}
+use Rattle.qs_graph.specs.Walk.{Spot, Move, Ends, Goes, Calls, Syncs, Queries, move, said, walk}
+use Rattle.qs_graph.specs.WalkAlone.{done, walk_alone}
+use Rattle.qs_graph.specs.WalkLaws.{SyncsErased}
+
+-- what a tree with its synchronisations does, is what it does without them
+abbrev Erases : Next → tree.Next → Type 0
+Erases f k = (l : Locals) → erased (f l) ≡ k l
+
+erases_if : (b : Bool) (p q : Synced) (u v : Interaction) → erased p ≡ u → erased q ≡ v → erased (if b then p else q) ≡ (if b then u else v)
+erases_if true p q u v h w = h
+erases_if false p q u v h w = w
+
+erases_turns : (n : ℕ) (f : Next → Next) (k : tree.Next → tree.Next) (next : Next) (plain : tree.Next)
+    → ((a : Next) (b : tree.Next) → Erases a b → Erases (f a) (k b)) → Erases next plain → Erases (turns n f next) (tree.turns n k plain)
+erases_turns zero f k next plain h w = w
+erases_turns (suc n) f k next plain h w = h (turns n f next) (tree.turns n k plain) (erases_turns n f k next plain h w)
+
+erases : (b : Statements) (next leaves : Next) (plain out : tree.Next) → Erases next plain → Erases leaves out
+    → Erases (meaning b next leaves) (tree.meaning b plain out)
+erases end next leaves plain out h w l = h l
+erases (command c rest) next leaves plain out h w l = ap (tree.Call (request_of l c)) (erases rest next leaves plain out h w l)
+erases (query x c rest) next leaves plain out h w l =
+    ap (tree.Query (request_of l c)) (fun_ext (λ v. erases rest next leaves plain out h w (slice_set l x v)))
+erases (assign x e rest) next leaves plain out h w l = erases rest next leaves plain out h w _
+erases (choose t b first other rest) next leaves plain out h w l =
+    let later = erases rest next leaves plain out h w in
+    erases_if (test_value l t) _ _ _ _ (erases first _ leaves _ out later w l) (erases other _ leaves _ out later w l)
+erases (again n body rest) next leaves plain out h w l =
+    let later = erases rest next leaves plain out h w in
+    erases_turns n _ _ _ _ (λ a b e. erases body a _ b _ e later) later l
+erases (leave rest) next leaves plain out h w l = w l
+
+pub syncs_erased : SyncsErased
+syncs_erased b l = erases b Done Done tree.Done tree.Done (λ l. refl) (λ l. refl) l
+
+done_is_run : (go : Spot → States → Outcome) (say : Spot → Synced) → ((s : Spot) (st : States) → go s st ≡ run (erased (say s)) st)
+    → (l : Locals) (st : States) (m : Move) → done go l st m ≡ run (erased (said say l m)) st
+done_is_run go say h l st Ends = refl
+done_is_run go say h l st (Goes s) = h s st
+done_is_run go say h l st (Calls r s) = ap (noted (event r None)) (h s (changed st r))
+done_is_run go say h l st (Syncs o s) = h s st
+done_is_run go say h l st (Queries r s) = let v = answer (st r.object) r in ap (noted (event r v)) (h (s (value_of v)) (changed st r))
+
+pub alone_is_run : (g : List Place) (n : ℕ) (s : Spot) (st : States) → walk_alone g n s st ≡ run (erased (walk g n s)) st
+alone_is_run g zero s st = refl
+alone_is_run g (suc n) s st = done_is_run (walk_alone g n) (walk g n) (alone_is_run g n) s.locals st (move g s)
+
+-- a walk that says a block's tree does what the block alone does
+pub alone_is_solo : (g : List Place) (n : ℕ) (s : Spot) (st : States) (b : Statements) (l : Locals) → walk g n s ≡ synced_of b l
+    → walk_alone g n s st ≡ solo b l st
+alone_is_solo g n s st b l says =
+    alone_is_run g n s st ∙ ap (λ p. run (erased p) st) says ∙ ap (λ p. run p st) (syncs_erased b l) ∙ sym (trees_agree b l st)

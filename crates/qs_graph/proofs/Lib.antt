@@ -1,0 +1,12 @@
+pub mod Standing
+pub mod Saying
+pub mod Following
+pub mod Counting
+pub mod Silence
+pub mod Weights
+pub mod Alone
+pub mod Ranges
+pub mod Along
+pub mod Limits
+pub mod Inside
+pub mod Removing

@@ -1,0 +1,202 @@
+-- The places of a sound program's block are a graph.
+use Rattle.std.proofs.Common.{◌≡◌, ℕ, zero, suc, ◌+◌, ◌<◌, ◌≤◌, Bool, true, false, ◌||◌, ◌==◌, List, [], ◌∷◌, ◌++◌, length, get_or, refl, arith, subst, length-append}
+use Rattle.std.specs.List.{AllByRecursion}
+use Rattle.qs_objects.specs.declared.Op.{Op}
+use Rattle.qs_objects.specs.declared.Op.TheVariants.{Deposit, Withdraw, Balance, Refused, Put, DropFirst, TakeFirst, First, Size, SetCell, AddCell, Fill, GetCell, RowSum}
+use Rattle.qs_objects.specs.Operations.{arity}
+use Rattle.qs_check.specs.declared.code.Call as calls
+use Rattle.qs_check.specs.declared.program.Declared.{Declared}
+use Rattle.qs_check.specs.Statements.{Statements, end, command, query, assign, choose, again, leave}
+use Rattle.qs_check.specs.Program.{BlockShape, ClientShape, ProgramShape, no_block, no_client, block_at}
+use Rattle.qs_check.specs.Sound.{IsSound, IsSoundBlock, IsSoundBody, IsSoundCall, IsSoundClient, is_in}
+use Rattle.qs_graph.specs.declared.node.Node.{Node}
+use Rattle.qs_graph.specs.declared.node.Node.TheVariants.{Entry, Local, Branch, Sync, Query, Call, Exit}
+use Rattle.qs_graph.specs.declared.node.Action.TheVariants.{Assign, SetCount, Nothing}
+use Rattle.qs_graph.specs.Nodes.{Place, exit}
+use Rattle.qs_graph.specs.Graphs.{node_count, first_node, places_of, block_graph}
+use Rattle.qs_graph.specs.WellFormed.{edge_count, IsCallInRange, IsInRange, IsPlace}
+use Rattle.qs_graph.specs.SoundNodes.{IsSoundNode}
+use Rattle.qs_graph.specs.WalkLaws.{BlocksHaveGraphs}
+use Rattle.qs_graph.proofs.Standing.{length_places}
+
+pub all_append : {X : Type 0} (P : X → Type 0) (xs ys : List X) → AllByRecursion P xs → AllByRecursion P ys → AllByRecursion P (xs ++ ys)
+all_append P [] ys h w = w
+all_append P (x ∷ xs) ys h w = (h.0, all_append P xs ys h.1 w)
+
+-- what holds of each element, and of the one past the last, holds at each place
+pub all_at : {X : Type 0} (P Q : X → Type 0) (xs : List X) (i : ℕ) (d : X)
+    → AllByRecursion P xs → ((x : X) → P x → Q x) → Q d → Q (get_or xs i d)
+all_at P Q [] i d each h past = past
+all_at P Q (x ∷ xs) zero d each h past = h x each.0
+all_at P Q (x ∷ xs) (suc i) d each h past = all_at P Q xs i d each.1 h past
+
+is_in-all : (P : ℕ → Type 0) (xs : List ℕ) (x : ℕ) → is_in xs x ≡ true → AllByRecursion P xs → P x
+is_in-all P [] x member each = cc
+is_in-all P (y ∷ ys) x member each = by_test (y == x) (λ e. e) member (λ later. is_in-all P ys x later each.1)
+  where
+    by_test : (b : Bool) → (b ≡ true → (y == x) ≡ true) → (b || is_in ys x) ≡ true → (is_in ys x ≡ true → P x) → P x
+    by_test true same member later = let e : y ≡ x = grind (arith, same refl) in subst P e each.0
+    by_test false same member later = later member
+
+arity_small : (op : Op) → arity op ≤ 3
+arity_small Deposit = omega arith
+arity_small Withdraw = omega arith
+arity_small Balance = omega arith
+arity_small Refused = omega arith
+arity_small Put = omega arith
+arity_small DropFirst = omega arith
+arity_small TakeFirst = omega arith
+arity_small First = omega arith
+arity_small Size = omega arith
+arity_small SetCell = omega arith
+arity_small AddCell = omega arith
+arity_small Fill = omega arith
+arity_small GetCell = omega arith
+arity_small RowSum = omega arith
+
+first_below : (at next n : ℕ) (b : Statements) → at + node_count b ≤ n → next < n → first_node at next b < n
+first_below at next n end h w = w
+first_below at next n (command c rest) h w = omega arith
+first_below at next n (query x c rest) h w = omega arith
+first_below at next n (assign x e rest) h w = omega arith
+first_below at next n (choose t b first other rest) h w = omega arith
+first_below at next n (again k body rest) h w = omega arith
+first_below at next n (leave rest) h w = omega arith
+
+pub all_map : {X : Type 0} (P Q : X → Type 0) (xs : List X) → ((x : X) → P x → Q x) → AllByRecursion P xs → AllByRecursion Q xs
+all_map P Q [] h each = tt
+all_map P Q (x ∷ xs) h each = (h x each.0, all_map P Q xs h each.1)
+
+-- a place among n nodes, sound by a block's list
+pub record IsSoundPlace (objects : List Declared) (reserved : List ℕ) (n : ℕ) (p : Place) : Type 0 where
+  pub edges : AllByRecursion (λ m. m < n) p.edges
+  pub count : length p.edges ≡ edge_count p.node
+  pub sound : IsSoundNode objects reserved p.node
+
+-- the places of a sound body, where its nodes, what comes next and what a `leave` leads to are among n nodes
+module _ (objects : List Declared) (reserved : List ℕ) (n : ℕ) where
+  abbrev Fine : List Place → Type 0
+  Fine ps = AllByRecursion (IsSoundPlace objects reserved n) ps
+
+  places_fine : (b : Statements) (at next out : ℕ) → IsSoundBody objects reserved b → at + node_count b ≤ n → next < n → out < n
+      → Fine (places_of at next out b)
+  places_fine end at next out sound h w u = tt
+  places_fine (command c rest) at next out sound h w u = (
+    record { edges = (first_below (at + 1) next n rest (omega arith) w, tt); count = refl; sound = sound.0 },
+    places_fine rest (at + 1) next out sound.1 (omega arith) w u,
+  )
+  places_fine (query x c rest) at next out sound h w u = (
+    record { edges = (omega arith, tt); count = refl; sound = sound.1.reserves },
+    (
+      record { edges = (first_below (at + 2) next n rest (omega arith) w, tt); count = refl; sound = (sound.0, sound.1) },
+      places_fine rest (at + 2) next out sound.2 (omega arith) w u,
+    ),
+  )
+  places_fine (assign x e rest) at next out sound h w u = (
+    record { edges = (first_below (at + 1) next n rest (omega arith) w, tt); count = refl; sound = (sound.0, sound.1) },
+    places_fine rest (at + 1) next out sound.2 (omega arith) w u,
+  )
+  places_fine (choose t b first other rest) at next out sound h w u =
+      let at_other = at + 1 + node_count first in
+      let at_rest = at_other + node_count other in
+      let after = first_node at_rest next rest in
+      let later : after < n = first_below at_rest next n rest (omega arith) w in
+      let one = first_below (at + 1) after n first (omega arith) later in
+      let two = first_below at_other after n other (omega arith) later in
+      let ys = places_of at_other after out other in
+      let zs = places_of at_rest next out rest in (
+        record { edges = (one, (two, tt)); count = refl; sound = sound.0 },
+        all_append (IsSoundPlace objects reserved n) (places_of (at + 1) after out first) (ys ++ zs)
+            (places_fine first (at + 1) after out sound.1 (omega arith) later u)
+            (all_append (IsSoundPlace objects reserved n) ys zs
+            (places_fine other at_other after out sound.2 (omega arith) later u)
+            (places_fine rest at_rest next out sound.3 (omega arith) w u)),
+      )
+  places_fine (again k body rest) at next out sound h w u =
+      let at_rest = at + 2 + node_count body in
+      let after = first_node at_rest next rest in
+      let later : after < n = first_below at_rest next n rest (omega arith) w in
+      let one = first_below (at + 2) (at + 1) n body (omega arith) (omega arith) in (
+        record { edges = (omega arith, tt); count = refl; sound = tt },
+        (
+          record { edges = (one, (later, tt)); count = refl; sound = tt },
+          all_append (IsSoundPlace objects reserved n) (places_of (at + 2) (at + 1) after body) (places_of at_rest next out rest)
+              (places_fine body (at + 2) (at + 1) after sound.1 (omega arith) (omega arith) later)
+              (places_fine rest at_rest next out sound.2 (omega arith) w u),
+        ),
+      )
+  places_fine (leave rest) at next out sound h w u =
+      (record { edges = (u, tt); count = refl; sound = tt }, places_fine rest (at + 1) next out sound (omega arith) w u)
+
+-- the numbers of sound nodes are in range
+module _ (objects : List Declared) (few : length objects ≤ 8) (reserved : List ℕ)
+    (known : AllByRecursion (λ h. h < length objects) reserved) where
+  handler_ok : (h : ℕ) → is_in reserved h ≡ true → h < 8
+  handler_ok h member =
+      let below : h < length objects = is_in-all (λ o. o < length objects) reserved h member known in
+      omega arith
+
+  call_ok : (asks : Bool) (c : calls.Call) → IsSoundCall objects reserved asks c → IsCallInRange c
+  call_ok asks c sound = (handler_ok c.object sound.reserves, omega (arith, arity_small c.op, sound.arity))
+
+  node_ok : (v : Node) → IsSoundNode objects reserved v → IsInRange v
+  node_ok Entry sound = tt
+  node_ok (Local (Assign x e)) sound = sound.0
+  node_ok (Local (SetCount k)) sound = tt
+  node_ok (Local Nothing) sound = tt
+  node_ok (Branch c) sound = tt
+  node_ok (Sync h) sound = handler_ok h sound
+  node_ok (Query x c) sound = (sound.0, call_ok true c sound.1)
+  node_ok (Call c) sound = call_ok false c sound
+  node_ok Exit sound = tt
+
+pub length_graph : (b : Statements) → length (block_graph b) ≡ 2 + node_count b
+length_graph b =
+    let last = 1 + node_count b in
+    omega (arith, length-append (places_of 1 last last b) (exit ∷ []), length_places 1 last last b)
+
+-- a block's list names objects of the program, and its statements are sound
+pub record IsSoundText (objects : List Declared) (b : BlockShape) : Type 0 where
+  pub known : AllByRecursion (λ h. h < length objects) b.reserved
+  pub body : IsSoundBody objects b.reserved b.body
+
+block_fine : (objects : List Declared) (b : BlockShape) → IsSoundText objects b
+    → AllByRecursion (IsSoundPlace objects b.reserved (length (block_graph b.body))) (block_graph b.body)
+block_fine objects b sound =
+    let n = length (block_graph b.body) in
+    let last = 1 + node_count b.body in
+    let long : n ≡ 2 + node_count b.body = length_graph b.body in
+    let below : last < n = omega arith in (
+      record { edges = (first_below 1 last n b.body (omega arith) below, tt); count = refl; sound = tt },
+      all_append (IsSoundPlace objects b.reserved n) (places_of 1 last last b.body) (exit ∷ [])
+          (places_fine objects b.reserved n b.body 1 last last sound.body (omega arith) below below)
+          (record { edges = tt; count = refl; sound = tt }, tt),
+    )
+
+sound_text : (p : ProgramShape) (c k : ℕ) → IsSound p → IsSoundText p.objects (block_at p c k)
+sound_text p c k sound =
+    all_at (IsSoundClient p.objects) (λ (d : ClientShape). IsSoundText p.objects (get_or d.blocks k no_block))
+    p.clients c no_client sound.each
+    (λ d w. all_at (IsSoundBlock p.objects) (IsSoundText p.objects) d.blocks k no_block w.each
+    (λ b v. record { known = v.reserved; body = v.body }) (record { known = tt; body = tt }))
+    (record { known = tt; body = tt })
+
+pub blocks_have_graphs : BlocksHaveGraphs
+blocks_have_graphs p c k sound =
+    let b = block_at p c k in
+    let g = block_graph b.body in
+    let text = sound_text p c k sound in
+    let fine = block_fine p.objects b text in
+    record {
+      graph = record {
+        entry = refl;
+        places = all_map (IsSoundPlace p.objects b.reserved (length g)) (IsPlace (length g)) g
+            (λ q w. record {
+              edges = w.edges;
+              count = w.count;
+              in_range = node_ok p.objects sound.objects b.reserved text.known q.node w.sound;
+            }) fine;
+      };
+      sound = all_map (IsSoundPlace p.objects b.reserved (length g)) (λ (q : Place). IsSoundNode p.objects b.reserved q.node) g
+          (λ q w. w.sound) fine;
+    }

@@ -1,0 +1,12 @@
+use Rattle.std.proofs.Common.{sym, subst, ◌∙◌, ap}
+use Rattle.qs_check.specs.Program.{BlockShape}
+use Rattle.qs_graph.specs.WellFormed.{IsGraph}
+use Rattle.qs_graph.specs.Graphs.{block_graph}
+use Rattle.qs_graph.proofs.Ranges.{blocks_have_graphs}
+use Rattle.qs_graph.proofs.build.graph.Goals as goal
+
+pub of-requires : goal.of-requires
+of-requires c =
+    let program = c.args.program.now in
+    let same = c.in_ok-places.ensures.ok ∙ ap block_graph (c.body.ensures.value ∙ ap (λ (b : BlockShape). b.body) c.block.ensures.value) in
+    record { graph = subst IsGraph (sym same) (blocks_have_graphs program c.args.client c.args.block c.is_sound.ensures.sound).graph }

@@ -1,0 +1,14 @@
+pub mod Nodes
+pub mod Shapes
+pub mod Graphs
+pub mod Paths
+pub mod WellFormed
+pub mod SoundNodes
+pub mod Synced
+pub mod Walk
+pub mod WalkAlone
+pub mod Steps
+pub mod WalkLaws
+pub mod Removal
+pub mod GraphExamples
+pub mod SyncedExamples

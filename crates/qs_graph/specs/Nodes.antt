@@ -1,0 +1,40 @@
+-- The places of a control-flow graph: nodes by number, each with its edges.
+use Rattle.std.specs.Prelude.{ℕ, List, [], ◌∷◌, slice_index_or}
+use Rattle.qs_graph.specs.declared.node.Node.{Node}
+use Rattle.qs_graph.specs.declared.node.Node.TheVariants.{Local, Sync, Exit}
+use Rattle.qs_graph.specs.declared.node.Action.TheVariants.{Nothing}
+
+-- a node, and the numbers of the nodes that it leads to
+pub record Place : Type 0 where
+  pub node : Node
+  pub edges : List ℕ
+
+-- a node with one edge
+abbrev pub to : Node → ℕ → Place
+to v n = record { node = v; edges = n ∷ [] }
+
+-- a node with two edges, in this order
+abbrev pub to_either : Node → ℕ → ℕ → Place
+to_either v n m = record { node = v; edges = n ∷ m ∷ [] }
+
+abbrev pub exit : Place
+exit = record { node = Exit; edges = [] }
+
+-- the place of a number; past the last, one that leads nowhere
+abbrev pub place_at : List Place → ℕ → Place
+place_at g n = slice_index_or g n exit
+
+-- the first and the second edge, 0 where there is none
+abbrev pub first_target : Place → ℕ
+first_target p = slice_index_or p.edges 0 0
+
+abbrev pub second_target : Place → ℕ
+second_target p = slice_index_or p.edges 1 0
+
+abbrev pub IsSync : Node → Type 0
+IsSync (Sync h) = Unit {0}
+IsSync _ = ⊥
+
+-- the place once its synchronisation is removed
+abbrev pub made_local : Place → Place
+made_local p = record { node = Local Nothing; edges = p.edges }

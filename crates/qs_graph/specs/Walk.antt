@@ -1,0 +1,105 @@
+-- Walks through a graph: from node to node, each branch by the variables and the counts.
+use Rattle.std.specs.Prelude.{◌<◌, ℕ, zero, suc, ℤ, if◌then◌else◌, List, length, slice_index_or, slice_set}
+use Rattle.qs_objects.specs.declared.Request.{Request}
+use Rattle.qs_check.specs.Values.{Locals, expr_value, test_value, request_of}
+use Rattle.qs_graph.specs.declared.node.Node.{Node}
+use Rattle.qs_graph.specs.declared.node.Node.TheVariants as node
+use Rattle.qs_graph.specs.declared.node.Action.{Action}
+use Rattle.qs_graph.specs.declared.node.Action.TheVariants.{Assign, SetCount, Nothing}
+use Rattle.qs_graph.specs.declared.node.Choice.{Choice}
+use Rattle.qs_graph.specs.declared.node.Choice.TheVariants.{If, Repeat}
+use Rattle.qs_graph.specs.Nodes.{Place, place_at, first_target, second_target}
+use Rattle.qs_graph.specs.Synced.{Synced, Done, Call, Sync, Query}
+
+-- where a walk stands: its node, the client's variables, and for each node the count of the repeat whose branch it is
+pub record Spot : Type 0 where
+  pub node : ℕ
+  pub locals : Locals
+  pub counts : List ℕ
+
+-- the block's beginning
+abbrev pub entry : Locals → List ℕ → Spot
+entry l counts = record { node = 0; locals = l; counts = counts }
+
+abbrev pub at_node : Spot → ℕ → Spot
+at_node s n = record { node = n; locals = s.locals; counts = s.counts }
+
+abbrev pub with_value : Spot → ℕ → ℤ → Spot
+with_value s x v = record { node = s.node; locals = slice_set s.locals x v; counts = s.counts }
+
+abbrev pub with_count : Spot → ℕ → ℕ → Spot
+with_count s branch n = record { node = s.node; locals = s.locals; counts = slice_set s.counts branch n }
+
+-- what a walk does at its node: it is over, goes on silently, calls, synchronises, or queries and goes on by the reply
+pub data Move : Type 0 where
+  Ends : Move
+  Goes : (to : Spot) → Move
+  Calls : (request : Request) → (to : Spot) → Move
+  Syncs : (handler : ℕ) → (to : Spot) → Move
+  Queries : (request : Request) → (to : ℤ → Spot) → Move
+
+-- after a local node that leads to n; a count is kept at the branch that comes next
+abbrev pub acted : Action → Spot → ℕ → Spot
+acted (Assign x e) s n = at_node (with_value s x (expr_value s.locals e)) n
+acted (SetCount k) s n = at_node (with_count s n k) n
+acted Nothing s n = at_node s n
+
+-- after a repeat's branch with this count: once more to the body, or on
+abbrev pub turned : ℕ → Spot → (first second : ℕ) → Spot
+turned zero s first second = at_node s second
+turned (suc k) s first second = at_node (with_count s s.node k) first
+
+-- after a branch
+abbrev pub chosen : Choice → Spot → (first second : ℕ) → Spot
+chosen (If t) s first second = at_node s (if test_value s.locals t then first else second)
+chosen Repeat s first second = turned (slice_index_or s.counts s.node 0) s first second
+
+abbrev pub move_by : Node → Spot → (first second : ℕ) → Move
+move_by node.Entry s first second = Goes (at_node s first)
+move_by (node.Local a) s first second = Goes (acted a s first)
+move_by (node.Branch c) s first second = Goes (chosen c s first second)
+move_by (node.Sync h) s first second = Syncs h (at_node s first)
+move_by (node.Query x c) s first second = Queries (request_of s.locals c) (λ v. at_node (with_value s x v) first)
+move_by (node.Call c) s first second = Calls (request_of s.locals c) (at_node s first)
+move_by node.Exit s first second = Ends
+
+abbrev pub move_at : Place → Spot → Move
+move_at p s = move_by p.node s (first_target p) (second_target p)
+
+unfoldable pub move : List Place → Spot → Move
+move g s = move_at (place_at g s.node) s
+
+-- what is said from here, where `go` tells it of the spots that follow
+abbrev pub said : (Spot → Synced) → Locals → Move → Synced
+said go l Ends = Done l
+said go l (Goes s) = go s
+said go l (Calls r s) = Call r (go s)
+said go l (Syncs h s) = Sync h (go s)
+said go l (Queries r s) = Query r (λ v. go (s v))
+
+-- all that a walk of at most n nodes says
+abbrev pub walk : List Place → ℕ → Spot → Synced
+walk g zero s = Done s.locals
+walk g (suc n) s = said (walk g n) s.locals (move g s)
+
+-- a property of the spots that a move leads to
+abbrev pub EachNext : (Spot → Type 0) → Move → Type 0
+EachNext P Ends = Unit {0}
+EachNext P (Goes s) = P s
+EachNext P (Calls r s) = P s
+EachNext P (Syncs h s) = P s
+EachNext P (Queries r s) = (v : ℤ) → P (s v)
+
+-- each walk from here, whatever the replies, stays in the graph and is at Exit within n nodes
+abbrev pub Within : List Place → ℕ → Spot → Type 0
+Within g zero s = ⊥
+Within g (suc n) s = (s.node < length g) × EachNext (Within g n) (move g s)
+
+-- how many silent moves there are before the next call, synchronisation, query or end, within n nodes
+abbrev pub silent_by : (Spot → ℕ) → Move → ℕ
+silent_by go (Goes s) = suc (go s)
+silent_by go _ = 0
+
+abbrev pub silent : List Place → ℕ → Spot → ℕ
+silent g zero s = 0
+silent g (suc n) s = silent_by (silent g n) (move g s)

@@ -1,0 +1,119 @@
+//! The graph of a block, made in one pass: where a statement leads is known from how many nodes there are before it.
+
+ghost use Rattle.std.specs.Prelude.{◌≡◌, ◌<◌, ◌≤◌, ◌+◌, ◌++◌, length, vec_capacity, IfOk, OnOk};
+ghost use Rattle.qs_check.specs.Program.{block_at, blocks_of};
+ghost use Rattle.qs_check.specs.Views.{single};
+ghost use Rattle.qs_graph.specs.Graphs.{node_count, first_node as first_of, places_of, block_graph};
+
+use crate::copies::copied;
+use crate::counts::{nodes_of, nodes_of_stmt};
+use crate::flow::{Graph, Place};
+use crate::node::{Action, Choice, Node};
+use qs_check::{Body, Program, Stmt};
+use std::alloc::{AllocError, Global};
+
+/// The control-flow graph of a block.
+pub fn graph(alloc: Global, program: &Program, client: u8, block: u8) -> Result<Graph, AllocError>
+    requires client { client < length program.now.clients }
+    requires block { block < blocks_of program.now client }
+    ensures graph_of { IfOk result (λ graph. graph ≡ block_graph (block_at program.now client block).body) }
+{
+    program.is_sound();
+    let places = block_places(alloc, program.block(client, block).body())?;
+    Ok(Graph::of(places))
+}
+
+// All room is taken at once; where it was given, there are fewer nodes than the greatest number.
+fn block_places(alloc: Global, body: &Body) -> Result<Vec<Place>, AllocError>
+    ensures ok { IfOk result (λ places. places.items ≡ block_graph body.now) }
+{
+    let count = nodes_of(body);
+    let mut places = Vec::with_capacity(alloc, count.saturating_add(2))?;
+    let last = count + 1;
+    places.push_reserved(Place::to(Node::Entry, first_node(body, 1, last)));
+    add_body(alloc, &mut places, body, last, last)?;
+    places.push_reserved(Place::exit());
+    Ok(places)
+}
+
+// The first node of statements that are numbered from `at`, where `next` comes after them.
+fn first_node(body: &Body, at: usize, next: usize) -> usize
+    ensures value { result ≡ first_of at next body.now }
+{
+    if body.as_slice().is_empty() { next } else { at }
+}
+
+// Adds the places of statements, where `next` comes after them and a `leave` goes to `out`.
+#[cycle(add)]
+fn add_body(
+    alloc: Global,
+    places: &mut Vec<Place>,
+    body: &Body,
+    next: usize,
+    out: usize,
+) -> Result<(), AllocError>
+    requires room { length places.old.items + node_count body.now ≤ vec_capacity places.old }
+    ensures added { OnOk result (places.new.items ≡ places.old.items ++ places_of (length places.old.items) next out body.now) }
+    ensures room { OnOk result (vec_capacity places.new ≡ vec_capacity places.old) }
+{
+    let stmts = body.as_slice();
+    for (i, stmt) in stmts.iter().enumerate() {
+        let after = if i + 1 < stmts.len() {
+            places.len() + nodes_of_stmt(stmt)
+        } else {
+            next
+        };
+        add_stmt(alloc, places, stmt, after, out)?;
+    }
+    Ok(())
+}
+
+#[cycle(add)]
+fn add_stmt(
+    alloc: Global,
+    places: &mut Vec<Place>,
+    stmt: &Stmt,
+    next: usize,
+    out: usize,
+) -> Result<(), AllocError>
+    requires room { length places.old.items + node_count (single stmt.now) ≤ vec_capacity places.old }
+    ensures added { OnOk result (places.new.items ≡ places.old.items ++ places_of (length places.old.items) next out (single stmt.now)) }
+    ensures room { OnOk result (vec_capacity places.new ≡ vec_capacity places.old) }
+{
+    let at = places.len();
+    match stmt {
+        Stmt::Assign(variable, expr) => {
+            places.push_reserved(Place::to(Node::Local(Action::Assign(*variable, *expr)), next));
+        }
+        Stmt::Command(call) => {
+            places.push_reserved(Place::to(Node::Call(copied(alloc, call)?), next));
+        }
+        Stmt::Query(variable, call) => {
+            places.push_reserved(Place::to(Node::Sync(call.object), at + 1));
+            places.push_reserved(Place::to(Node::Query(*variable, copied(alloc, call)?), next));
+        }
+        Stmt::If {
+            test,
+            first,
+            other,
+            ..
+        } => {
+            let inside = first_node(first, at + 1, next);
+            let otherwise = first_node(other, at + 1 + nodes_of(first), next);
+            let branch = Node::Branch(Choice::If(*test));
+            places.push_reserved(Place::to_either(branch, inside, otherwise));
+            add_body(alloc, places, first, next, out)?;
+            add_body(alloc, places, other, next, out)?;
+        }
+        Stmt::Repeat(count, body) => {
+            let inside = first_node(body, at + 2, at + 1);
+            places.push_reserved(Place::to(Node::Local(Action::SetCount(*count)), at + 1));
+            places.push_reserved(Place::to_either(Node::Branch(Choice::Repeat), inside, next));
+            add_body(alloc, places, body, at + 1, next)?;
+        }
+        Stmt::Leave => {
+            places.push_reserved(Place::to(Node::Local(Action::Nothing), out));
+        }
+    }
+    Ok(())
+}

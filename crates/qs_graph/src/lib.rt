@@ -1,0 +1,15 @@
+//! The control-flow graph of a block, and what a walk through it does.
+#![tactic(auto)]
+
+mod build;
+mod copies;
+mod counts;
+mod flow;
+pub mod laws;
+mod node;
+#[cfg(test)]
+mod tests;
+
+pub use build::graph;
+pub use flow::Graph;
+pub use node::{Action, Choice, Node};

@@ -1,0 +1,38 @@
+-- Parts of traces and of journals: what is on one object, and what is of one ticket.
+use Rattle.std.specs.Prelude.{◌≡◌, ℕ, ◌==◌, Bool, ◌&&◌, if◌then◌else◌, List, [], ◌∷◌, ◌++◌, filter, ◌⊎◌, None}
+use Rattle.qs_objects.specs.declared.held.Entry.{Entry}
+use Rattle.qs_objects.specs.declared.held.Event.{Event}
+use Rattle.qs_objects.specs.declared.held.Ticket.{Ticket}
+use Rattle.qs_objects.specs.declared.Request.{Request}
+
+-- one list is a beginning of another
+abbrev pub IsFront : {X : Type 0} → List X → List X → Type 0
+IsFront {X} xs ys = (rest : List X) × (xs ++ rest ≡ ys)
+
+abbrev pub same : Ticket → Ticket → Bool
+same t u = (t.client == u.client) && (t.index == u.index)
+
+-- a command as it enters a trace
+abbrev pub logged : Request → Event
+logged r = record { request = r; reply = None }
+
+-- an event as an entry of a ticket
+abbrev pub stamp : Ticket → Event → Entry
+stamp t e = record { ticket = t; request = e.request; reply = e.reply }
+
+-- the part of a trace on an object
+abbrev pub part : ℕ → List Event → List Event
+part h es = filter (λ (e : Event). e.request.object == h) es
+
+-- a ticket's entries in a journal
+abbrev pub entries_of : Ticket → List Entry → List Entry
+entries_of t j = filter (λ (x : Entry). same t x.ticket) j
+
+abbrev pub HasEntry : Ticket → List Entry → Type 0
+HasEntry t [] = ⊥
+HasEntry t (x ∷ xs) = (t ≡ x.ticket) ⊎ HasEntry t xs
+
+-- what stands in a journal before a ticket's first entry
+abbrev pub before : Ticket → List Entry → List Entry
+before t [] = []
+before t (x ∷ xs) = if same t x.ticket then [] else x ∷ before t xs
