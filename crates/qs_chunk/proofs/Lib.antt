@@ -1,0 +1,2 @@
+pub mod LaneFronts
+pub mod LaneMatch

@@ -1,0 +1,13 @@
+//! Requests travel from a client to a handler in chunks, and chunks, objects and marks in lanes: the values, and the form of a lane.
+#![tactic(auto)]
+
+mod chunk;
+pub mod laws;
+mod parcel;
+mod size;
+#[cfg(test)]
+mod tests;
+
+pub use chunk::Chunk;
+pub use parcel::Parcel;
+pub use size::ChunkSize;

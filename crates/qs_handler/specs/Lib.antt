@@ -1,0 +1,4 @@
+pub mod Handler
+pub mod Stages
+pub mod HandlerLaws
+pub mod HandlerExamples

@@ -1,0 +1,9 @@
+//! What a handler does next: a pure value, which the machine of lists and the handler's thread both ask.
+#![tactic(auto)]
+
+pub mod laws;
+mod mind;
+#[cfg(test)]
+mod tests;
+
+pub use mind::{Act, Mind};

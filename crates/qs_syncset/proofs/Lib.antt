@@ -1,0 +1,9 @@
+pub mod Paths
+pub mod Passing
+pub mod Removing
+pub mod Moves
+pub mod SoundTrees
+pub mod CoalescedWalks
+pub mod CodeWalks
+pub mod Tables
+pub mod WorkedGraphs

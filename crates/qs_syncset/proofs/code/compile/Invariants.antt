@@ -1,0 +1,14 @@
+use Rattle.std.proofs.Common.{◌≡◌, ℕ, ◌<◌, ◌≤◌, length, slice_index_or}
+use Rattle.std.specs.Prelude.{vec_capacity}
+use Rattle.qs_check.specs.Program.{block_at}
+use Rattle.qs_syncset.specs.Codes.{IsBlockCode, no_code}
+use Rattle.qs_syncset.specs.Modes.{is_static}
+use Rattle.qs_syncset.proofs.code.compile.Given as goal
+
+abbrev pub invariant-loop-block : goal.invariant-loop-block
+invariant-loop-block l = record {
+  count : length l.blocks.items ≡ l.block;
+  room : l.count ≤ vec_capacity l.blocks;
+  done : (k : ℕ) → k < l.block
+      → IsBlockCode (is_static l.mode) (block_at l.program l.client k) (slice_index_or l.blocks.items k no_code);
+}

@@ -1,0 +1,51 @@
+use Rattle.std.proofs.Common.{◌≡◌, ℕ, ◌+◌, ◌<◌, true, false, arith, sym, ap, ◌∙◌, length, subst, List}
+use Rattle.std.specs.Prelude.{◌↔◌}
+use Rattle.qs_graph.specs.declared.node.Node.TheVariants.{Sync}
+use Rattle.qs_graph.specs.Nodes.{Place, place_at}
+use Rattle.qs_graph.specs.WellFormed.{IsInRange, IsPlace}
+use Rattle.qs_graph.specs.Nodes.{exit}
+use Rattle.qs_check.proofs.Bounds.{AllByRecursion-get_or}
+use Rattle.qs_syncset.specs.Held.{IsHeld}
+use Rattle.qs_syncset.specs.Table.{has}
+use Rattle.qs_syncset.proofs.Removing.{IsDone, done_kept, done_set, removed, not_held, no_sync}
+use Rattle.qs_syncset.proofs.removal.coalesce.Goals as goal
+use Rattle.qs_syncset.proofs.removal.coalesce.Goals.{in-Sync+then-holds, in-Sync+else-holds, in_default}
+
+inside : (c : goal.Joined-node) → c.loop-n.n < length c.args.graph
+inside c = omega (arith, c.loop-n-test.true, c.len-n-end.ensures.value)
+
+handler_known : (c : goal.Joined-node) (h : ℕ) → (place_at c.args.graph c.loop-n.n).node ≡ Sync h → h < 8
+handler_known c h e =
+    let here : IsPlace (length c.args.graph) (place_at c.args.graph c.loop-n.n) =
+    AllByRecursion-get_or (IsPlace (length c.args.graph)) c.args.graph c.loop-n.n exit c.is_graph.ensures.graph.places (inside c) in
+    subst IsInRange e here.in_range
+
+exact : (c : goal.Joined-node) (h : ℕ) → (place_at c.args.graph c.loop-n.n).node ≡ Sync h
+    → (has c.args.sets.now c.loop-n.n h ≡ true) ↔ IsHeld c.args.graph c.loop-n.n h
+exact c h e = c.requires.sets.exact c.loop-n.n h (inside c) (handler_known c h e)
+
+pub loop-n-preserved : goal.loop-n-preserved
+loop-n-preserved c =
+    let g = c.args.graph in
+    let n = c.loop-n.n in
+    let node_same : (place_at g n).node ≡ c.node.result.now =
+    ap (λ (p : Place). p.node) (sym (c.loop-n.invariant.rest n (omega arith))) ∙ sym c.node.ensures.value in
+    elim c.match-node.branch [
+      | in-Sync+then-holds w ↦
+          let is : (place_at g n).node ≡ Sync w.in-Sync.handler = node_same ∙ w.in-Sync.is in
+          let held : IsHeld g n w.in-Sync.handler = (exact c w.in-Sync.handler is).0 (sym w.holds.ensures.value ∙ w.if-holds.true) in
+          subst (λ (now : List Place). IsDone g now (n + 1)) (sym (w.graph-is ∙ w.make_local.ensures.change))
+          (done_set g c.loop-n.graph n (omega (arith, inside c, c.loop-n.invariant.count)) c.loop-n.invariant
+          (removed (IsHeld g n) w.in-Sync.handler (place_at g n) is held))
+      | in-Sync+else-holds w ↦
+          let is : (place_at g n).node ≡ Sync w.in-Sync.handler = node_same ∙ w.in-Sync.is in
+          let missing : has c.args.sets.now n w.in-Sync.handler ≡ false = sym w.holds.ensures.value ∙ w.if-holds.false in
+          subst (λ (now : List Place). IsDone g now (n + 1)) (sym w.graph-is)
+          (done_kept g c.loop-n.graph n c.loop-n.invariant
+          (not_held (IsHeld g n) w.in-Sync.handler (place_at g n) is (λ held.
+          let never : true ≡ false = sym ((exact c w.in-Sync.handler is).1 held) ∙ missing in cc)))
+      | in_default w ↦
+          subst (λ (now : List Place). IsDone g now (n + 1)) (sym w.graph-is)
+          (done_kept g c.loop-n.graph n c.loop-n.invariant
+          (no_sync (IsHeld g n) (place_at g n) (λ h e. w.in_default.not-Sync h (sym node_same ∙ e))))
+    ]

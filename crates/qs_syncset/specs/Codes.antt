@@ -1,0 +1,55 @@
+-- What a client runs: its blocks' lists, graphs and loads.
+use Rattle.std.specs.Prelude.{◌≡◌, ℕ, ◌<◌, Bool, true, false, List, [], length, slice_index_or}
+use Rattle.qs_check.specs.Loads.{load_of}
+use Rattle.qs_check.specs.Program.{BlockShape, ProgramShape, block_at, blocks_of}
+use Rattle.qs_check.specs.Sound.{IsSound}
+use Rattle.qs_check.specs.Statements.{Statements}
+use Rattle.qs_graph.specs.Graphs.{block_graph}
+use Rattle.qs_graph.specs.Nodes.{Place}
+use Rattle.qs_syncset.specs.declared.mode.Mode.{Mode}
+use Rattle.qs_syncset.specs.Coalesced.{IsCoalesced}
+use Rattle.qs_syncset.specs.Modes.{is_static, is_dynamic}
+
+-- the handlers that a block reserves, in the order of its list, its graph, and for each of 8 handlers its load
+pub record BlockCode : Type 0 where
+  pub reserved : List ℕ
+  pub graph : List Place
+  pub loads : List ℕ
+
+-- whether the client tests what it holds, and its blocks
+pub record ClientCode : Type 0 where
+  pub dynamic : Bool
+  pub blocks : List BlockCode
+
+abbrev pub no_code : BlockCode
+no_code = record { reserved = []; graph = []; loads = [] }
+
+abbrev pub code_at : ClientCode → ℕ → BlockCode
+code_at code k = slice_index_or code.blocks k no_code
+
+abbrev pub load_at : BlockCode → ℕ → ℕ
+load_at b h = slice_index_or b.loads h 0
+
+-- the graph of a block as it is built, or coalesced
+abbrev pub IsGraphOf : (static : Bool) → Statements → List Place → Type 0
+IsGraphOf false body g = g ≡ block_graph body
+IsGraphOf true body g = IsCoalesced (block_graph body) g
+
+pub record IsBlockCode (static : Bool) (b : BlockShape) (code : BlockCode) : Type 0 where
+  pub reserved : code.reserved ≡ b.reserved
+  pub graph : IsGraphOf static b.body code.graph
+  pub loads : (h : ℕ) → h < 8 → load_at code h ≡ load_of b.body h
+
+-- the code of a program's client: its blocks in their order, coalesced in the static modes alone, tested in the dynamic ones alone
+pub record IsCodeOf (p : ProgramShape) (mode : Mode) (client : ℕ) (code : ClientCode) : Type 0 where
+  pub dynamic : code.dynamic ≡ is_dynamic mode
+  pub count : length code.blocks ≡ blocks_of p client
+  pub blocks : (k : ℕ) → k < blocks_of p client → IsBlockCode (is_static mode) (block_at p client k) (code_at code k)
+
+-- the code of some client of some checked program
+pub record IsCode (code : ClientCode) : Type 0 where
+  pub program : ProgramShape
+  pub mode : Mode
+  pub client : ℕ
+  pub sound : IsSound program
+  pub of : IsCodeOf program mode client code

@@ -1,0 +1,57 @@
+-- How what is held goes along paths, and from node to node.
+use Rattle.std.specs.Prelude.{◌≡◌, ℕ, ◌<◌, Bool, true, false, List, [], ◌∷◌}
+use Rattle.qs_check.specs.Solo.{put}
+use Rattle.qs_graph.specs.declared.node.Node.{Node}
+use Rattle.qs_graph.specs.declared.node.Node.TheVariants.{Sync, Call}
+use Rattle.qs_graph.specs.Nodes.{Place, place_at}
+use Rattle.qs_graph.specs.Paths.{HasEdge, IsPath}
+
+-- for each handler whether it is held
+abbrev pub Holding : Type 0
+Holding = ℕ → Bool
+
+abbrev pub nothing : Holding
+nothing h = false
+
+-- what is held after a node, from what is held before it
+abbrev pub held_after : Node → Holding → Holding
+held_after (Sync h) held = put held h true
+held_after (Call c) held = put held c.object false
+held_after _ held = held
+
+-- what is held at the end of a path, whose nodes before the last are these, the latest first
+abbrev pub held_along : List Place → List ℕ → Holding
+held_along g [] = nothing
+held_along g (m ∷ before) = held_after (place_at g m).node (held_along g before)
+
+pub record IsReached (g : List Place) (n : ℕ) : Type 0 where
+  pub before : List ℕ
+  pub path : IsPath g before n
+
+-- a path to n, at whose end h is not held
+pub record IsMissed (g : List Place) (n h : ℕ) : Type 0 where
+  pub before : List ℕ
+  pub path : IsPath g before n
+  pub missed : held_along g before h ≡ false
+
+-- `reached` and `held` are what is known of each node
+module _ (g : List Place) (reached : ℕ → Bool) (held : ℕ → Holding) where
+  -- each node that is reached has a path, and each handler that is not held a path that shows it
+  pub record AreWitnessed : Type 0 where
+    pub reach : (n : ℕ) → reached n ≡ true → IsReached g n
+    pub miss : (n h : ℕ) → h < 8 → held n h ≡ false → IsMissed g n h
+
+-- Entry is reached, and nothing is held there
+pub record IsAtEntry (reached : ℕ → Bool) (held : ℕ → Holding) : Type 0 where
+  pub reach : reached 0 ≡ true
+  pub none : (h : ℕ) → h < 8 → held 0 h ≡ false
+
+-- what goes out of a node has come to n
+pub record HasArrived (reached : ℕ → Bool) (held : ℕ → Holding) (n : ℕ) (out : Holding) : Type 0 where
+  pub reach : reached n ≡ true
+  pub below : (h : ℕ) → h < 8 → held n h ≡ true → out h ≡ true
+
+-- what goes out of m has come to each node that m leads to
+abbrev pub IsPassedOn : List Place → (ℕ → Bool) → (ℕ → Holding) → ℕ → Type 0
+IsPassedOn g reached held m =
+    (n : ℕ) → HasEdge g m n → HasArrived reached held n (held_after (place_at g m).node (held m))

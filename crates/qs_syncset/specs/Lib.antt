@@ -1,0 +1,11 @@
+pub mod Held
+pub mod Flow
+pub mod Table
+pub mod RowsOf
+pub mod Coalesced
+pub mod Modes
+pub mod Codes
+pub mod Shapes
+pub mod SoundSynced
+pub mod CodeLaws
+pub mod HeldExamples

@@ -1,0 +1,13 @@
+-- The held sets of a graph, as a caller sees them: for each node a truth value for each of 8 handlers.
+use Rattle.std.specs.Prelude.{◌≡◌, ℕ, ◌<◌, ◌↔◌, Bool, true, List, [], length, slice_index_or}
+use Rattle.qs_graph.specs.Nodes.{Place}
+use Rattle.qs_syncset.specs.Held.{IsHeld}
+
+-- whether a node's set has a handler
+abbrev pub has : List (List Bool) → ℕ → ℕ → Bool
+has sets n h = slice_index_or (slice_index_or sets n []) h true
+
+-- a handler is in a node's set exactly where it is held
+pub record AreSetsOf (g : List Place) (sets : List (List Bool)) : Type 0 where
+  pub nodes : length sets ≡ length g
+  pub exact : (n h : ℕ) → n < length g → h < 8 → (has sets n h ≡ true) ↔ IsHeld g n h

@@ -1,0 +1,214 @@
+//! What a client runs.
+
+ghost use Rattle.std.specs.Prelude.{◌≡◌, ◌<◌, ◌≤◌, ℕ, length, slice_index_or, IfOk};
+ghost use Rattle.qs_check.specs.Program.{block_at, blocks_of};
+ghost use Rattle.qs_check.specs.Loads.{load_of};
+ghost use Rattle.qs_syncset.specs.Codes.{IsCode, IsCodeOf, IsBlockCode, IsGraphOf, code_at, load_at};
+ghost use Rattle.qs_syncset.specs.Modes.{is_static};
+
+use crate::mode::Mode;
+use crate::removal::coalesce;
+use crate::rows::held_sets;
+use qs_check::Program;
+use qs_graph::{Graph, graph};
+use std::alloc::{AllocError, Global};
+use std::marker::Model;
+
+/// A block as a client runs it.
+#[derive(Drop)]
+pub(crate) struct BlockCode {
+    reserved: Vec<u8>,
+    graph: Graph,
+    loads: [u64; 8],
+}
+
+impl Model for BlockCode {
+    ghost use Rattle.std.specs.Prelude.{ℕ, ◌≤◌, slice_index_or};
+    ghost use Rattle.qs_syncset.specs.Codes as codes;
+    ghost use Rattle.qs_syncset.specs.Shapes.{coded_block};
+
+    ghost Value = { codes.BlockCode };
+
+    ghost coded = { coded_block };
+
+    ghost view = { λ b. record { reserved = b.reserved.items; graph = b.graph; loads = b.loads } };
+
+    ghost invariant = { λ b. (h : ℕ) → slice_index_or b.loads h 0 ≤ 100000 };
+}
+
+impl BlockCode {
+    fn reserved(&self) -> &[u8]
+        ensures value { result.now ≡ self.now.reserved }
+    {
+        self.reserved.as_slice()
+    }
+
+    fn graph(&self) -> &Graph
+        ensures value { result.now ≡ self.now.graph }
+    {
+        &self.graph
+    }
+
+    fn load(&self, handler: u8) -> u64
+        requires in_range { handler < 8 }
+        ensures value { result ≡ load_at self.now handler }
+        ensures limit { result ≤ 100000 }
+    {
+        self.loads[usize::from(handler)]
+    }
+}
+
+/// The code of a client: for each of its blocks the reserved handlers, the graph and the loads, and whether it tests what it holds.
+#[derive(Drop)]
+pub struct Code {
+    dynamic: bool,
+    blocks: Vec<BlockCode>,
+}
+
+impl Model for Code {
+    ghost use Rattle.qs_syncset.specs.Codes.{ClientCode, IsCode};
+    ghost use Rattle.qs_syncset.specs.Shapes.{coded_client};
+
+    ghost Value = { ClientCode };
+
+    ghost coded = { coded_client };
+
+    ghost view = { λ c. record { dynamic = c.dynamic; blocks = c.blocks.items } };
+
+    ghost invariant = { λ c. IsCode (record { dynamic = c.dynamic; blocks = c.blocks.items }) };
+}
+
+impl Code {
+    /// What holds of every code: it was compiled for a client of a checked program. It does nothing, and no call of a code
+    /// takes memory.
+    pub fn is_code(&self)
+        ensures code { IsCode self.now }
+    {
+        let _ = &self.blocks;
+    }
+
+    /// Whether a client that comes to a synchronisation tests whether it holds the handler.
+    pub fn is_dynamic(&self) -> bool
+        ensures value { result ≡ self.now.dynamic }
+    {
+        self.dynamic
+    }
+
+    /// How many blocks the client has.
+    pub fn blocks(&self) -> usize
+        ensures value { result ≡ length self.now.blocks }
+    {
+        self.blocks.len()
+    }
+
+    fn block(&self, block: usize) -> &BlockCode
+        requires block { block < length self.now.blocks }
+        ensures value { result.now ≡ code_at self.now block }
+    {
+        &self.blocks[block]
+    }
+
+    /// The handlers that a block reserves, in the order of its list.
+    pub fn reserved(&self, block: usize) -> &[u8]
+        requires block { block < length self.now.blocks }
+        ensures value { result.now ≡ (code_at self.now block).reserved }
+    {
+        self.block(block).reserved()
+    }
+
+    /// The graph that the client walks through in a block.
+    pub fn graph(&self, block: usize) -> &Graph
+        requires block { block < length self.now.blocks }
+        ensures value { result.now ≡ (code_at self.now block).graph }
+    {
+        self.block(block).graph()
+    }
+
+    /// How many requests a block can make on a handler's object; at most 100,000.
+    pub fn load(&self, block: usize, handler: u8) -> u64
+        requires block { block < length self.now.blocks }
+        requires handler { handler < 8 }
+        ensures value { result ≡ load_at (code_at self.now block) handler }
+        ensures limit { result ≤ 100000 }
+    {
+        self.block(block).load(handler)
+    }
+}
+
+// The graph of a block, coalesced in the static modes.
+fn block_graph_in(
+    alloc: Global,
+    program: &Program,
+    mode: Mode,
+    client: u8,
+    block: u8,
+) -> Result<Graph, AllocError>
+    requires client { client < length program.now.clients }
+    requires block { block < blocks_of program.now client }
+    ensures graph { IfOk result (λ g. IsGraphOf (is_static mode) (block_at program.now client block).body g) }
+{
+    let built = graph(alloc, program, client, block)?;
+    if !mode.is_static() {
+        return Ok(built);
+    }
+    let sets = held_sets(alloc, &built)?;
+    Ok(coalesce(built, &sets))
+}
+
+// How many requests a block can make on each of 8 handlers' objects.
+fn loads_of(program: &Program, client: u8, block: u8) -> [u64; 8]
+    requires client { client < length program.now.clients }
+    requires block { block < blocks_of program.now client }
+    ensures value { (h : ℕ) → h < 8 → slice_index_or result h 0 ≡ load_of (block_at program.now client block).body h }
+    ensures limit { (h : ℕ) → slice_index_or result h 0 ≤ 100000 }
+{
+    let mut loads = [0; 8];
+    for handler in 0..8u8 {
+        loads[usize::from(handler)] = program.load_of(client, block, handler);
+    }
+    loads
+}
+
+// A copy of a block's list.
+fn copied(alloc: Global, handlers: &[u8]) -> Result<Vec<u8>, AllocError>
+    ensures same { IfOk result (λ copy. copy.items ≡ handlers.now) }
+{
+    let mut copy = Vec::with_capacity(alloc, handlers.len())?;
+    copy.extend_from_slice(handlers)?;
+    Ok(copy)
+}
+
+fn block_code(
+    alloc: Global,
+    program: &Program,
+    mode: Mode,
+    client: u8,
+    block: u8,
+) -> Result<BlockCode, AllocError>
+    requires client { client < length program.now.clients }
+    requires block { block < blocks_of program.now client }
+    ensures code { IfOk result (λ code. IsBlockCode (is_static mode) (block_at program.now client block) code) }
+{
+    Ok(BlockCode {
+        reserved: copied(alloc, program.block(client, block).reserved())?,
+        graph: block_graph_in(alloc, program, mode, client, block)?,
+        loads: loads_of(program, client, block),
+    })
+}
+
+/// The code of a client, coalesced in the static modes alone, and with the test of what is held in the dynamic modes alone.
+pub fn compile(alloc: Global, program: &Program, mode: Mode, client: u8) -> Result<Code, AllocError>
+    requires client { client < length program.now.clients }
+    ensures code { IfOk result (λ code. IsCodeOf program.now mode client code) }
+{
+    program.is_sound();
+    let count = program.blocks_of(client);
+    let mut blocks = Vec::with_capacity(alloc, count)?;
+    for block in 0..count {
+        blocks.push_reserved(block_code(alloc, program, mode, client, block as u8)?);
+    }
+    Ok(Code {
+        dynamic: mode.is_dynamic(),
+        blocks,
+    })
+}

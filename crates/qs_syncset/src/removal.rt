@@ -1,0 +1,24 @@
+//! Static coalescing of synchronisations.
+
+ghost use Rattle.std.specs.Prelude.{◌≡◌, length};
+ghost use Rattle.qs_syncset.specs.Coalesced.{IsCoalesced};
+ghost use Rattle.qs_syncset.specs.Table.{AreSetsOf};
+
+use crate::rows::Sets;
+use qs_graph::{Graph, Node};
+
+/// Removes each synchronisation whose own handler is held as it is reached; takes no memory.
+pub fn coalesce(mut graph: Graph, sets: &Sets) -> Graph
+    requires sets { AreSetsOf graph sets.now }
+    ensures coalesced { IsCoalesced graph result }
+{
+    graph.is_graph();
+    for n in 0..graph.len() {
+        if let Node::Sync(handler) = graph.node(n) {
+            if sets.holds(n, *handler) {
+                graph.make_local(n);
+            }
+        }
+    }
+    graph
+}
