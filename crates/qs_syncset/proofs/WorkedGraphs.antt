@@ -1,5 +1,5 @@
 -- What is held in worked graphs.
-use Rattle.std.proofs.Common.{inl, inr, true, false, [], ◌∷◌, Some, None, refl}
+use Rattle.std.proofs.Common.{◌≡◌, inl, inr, true, false, [], ◌∷◌, Some, None, refl}
 use Rattle.qs_graph.specs.Graphs.{block_graph}
 use Rattle.qs_graph.specs.GraphExamples.{query_in_repeat, leave_first, two_bodies}
 use Rattle.qs_syncset.specs.Held.{IsHeld}
@@ -66,4 +66,8 @@ held_examples = record {
       (refl, (refl, (refl, (inr (other_body, refl), (refl, (inr (where_bodies_meet, refl), (refl, (refl, tt))))))));
   kept_in_repeat = coalesced_one_by_one (block_graph call_in_repeat) (block_graph call_in_repeat)
       (refl, (inr (at_first_call, refl), (refl, (refl, (refl, (inr (after_call, refl), (refl, (refl, (refl, tt)))))))));
+  asked_twice = (refl, λ v. (refl, λ w. tt));
+  without_any = λ w. let never : false ≡ true = w.0 in cc;
+  past_a_call = λ w. let never : false ≡ true = w.0 in cc;
+  with_another = λ w. let never : false ≡ true = w.0 in cc;
 }

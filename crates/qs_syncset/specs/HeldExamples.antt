@@ -7,9 +7,12 @@ use Rattle.qs_graph.specs.declared.node.Choice.TheVariants.{Repeat}
 use Rattle.qs_graph.specs.Nodes.{Place, to, to_either, exit}
 use Rattle.qs_graph.specs.Graphs.{block_graph}
 use Rattle.qs_graph.specs.GraphExamples.{balance, deposit, query_in_repeat, leave_first, two_bodies}
+use Rattle.qs_graph.specs.Synced as tree
+use Rattle.qs_graph.specs.SyncedExamples.{balance_of_a, deposit_1}
 use Rattle.qs_syncset.specs.Coalesced.{IsCoalesced}
-use Rattle.qs_syncset.specs.Flow.{held_along}
+use Rattle.qs_syncset.specs.Flow.{nothing, held_along}
 use Rattle.qs_syncset.specs.Held.{IsHeld}
+use Rattle.qs_syncset.specs.SoundSynced.{IsSoundSynced}
 
 -- x = a.balance(); repeat 2 { x = a.balance(); a.deposit(1); }
 abbrev pub call_in_repeat : Statements
@@ -26,6 +29,10 @@ abbrev pub without_last : List Place
 without_last =
     to Entry 1 ∷ to (Sync 0) 2 ∷ to (Query 0 balance) 3 ∷ to (Local (SetCount 2)) 4 ∷ to_either (Branch Repeat) 5 7
     ∷ to (Local Nothing) 7 ∷ to (Call deposit) 4 ∷ to (Local Nothing) 8 ∷ to (Query 1 balance) 9 ∷ exit ∷ []
+
+-- a query on a, and no more
+abbrev pub asked_alone : tree.Synced
+asked_alone = tree.Query balance_of_a (λ v. tree.Done [])
 
 pub record HeldExamples : Type 0 where
   -- at the end of a path, whose nodes before the last stand with the latest first
@@ -44,3 +51,8 @@ pub record HeldExamples : Type 0 where
   pub last_removed : IsCoalesced (block_graph leave_first) without_last
   pub both_kept : IsCoalesced (block_graph two_bodies) (block_graph two_bodies)
   pub kept_in_repeat : IsCoalesced (block_graph call_in_repeat) (block_graph call_in_repeat)
+  -- as a client may go on from a block's beginning, and as it may not
+  pub asked_twice : IsSoundSynced nothing (tree.Sync 0 (tree.Query balance_of_a (λ v. asked_alone)))
+  pub without_any : IsSoundSynced nothing asked_alone → ⊥
+  pub past_a_call : IsSoundSynced nothing (tree.Sync 0 (tree.Call deposit_1 asked_alone)) → ⊥
+  pub with_another : IsSoundSynced nothing (tree.Sync 1 asked_alone) → ⊥
