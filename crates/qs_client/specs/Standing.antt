@@ -1,0 +1,100 @@
+-- A client in a block between two acts, and once what it handed out was sent.
+use Rattle.std.specs.Prelude.{◌≡◌, ◌<◌, ◌≤◌, ◌+◌, ℕ, nat_lt, if◌then◌else◌, true, List, length, None, is_some}
+use Rattle.qs_objects.specs.declared.held.Ticket.{Ticket}
+use Rattle.qs_check.specs.Solo.{put}
+use Rattle.qs_chunk.specs.declared.parcel.Parcel.TheVariants as parcels
+use Rattle.qs_graph.specs.Nodes.{Place as GraphPlace}
+use Rattle.qs_graph.specs.Steps.{limit}
+use Rattle.qs_graph.specs.Walk.{Move, Syncs, move, walk, Within}
+use Rattle.qs_syncset.specs.Codes.{BlockCode}
+use Rattle.qs_syncset.specs.SoundSynced.{IsSoundSynced}
+use Rattle.qs_client.specs.Client.{Client, Settings, Settled, Place, settle, stays, holds, fills, sent_sync, sent_end, runs, full}
+use Rattle.qs_client.specs.Hand.{held_at, chunk_at}
+use Rattle.qs_client.specs.Trail.{trace_at}
+use Rattle.qs_client.specs.Minds.{client_of, outcome, reached}
+use Rattle.qs_client.specs.Running.{IsOpen, IsOver, IsStopped, Fits, KeepsRows}
+use Rattle.qs_client.specs.declared.act.Act.{Act}
+use Rattle.qs_client.specs.declared.act.Act.TheVariants as acts
+use Rattle.qs_client.specs.declared.run.Run.{Run}
+use Rattle.qs_client.specs.declared.stage.Handed.{Handed}
+use Rattle.qs_client.specs.declared.stage.Handed.TheVariants as handeds
+use Rattle.qs_client.specs.declared.stage.Stage.{Stage}
+use Rattle.qs_client.specs.declared.stage.Stage.TheVariants as stages
+
+-- what a parcel leaves to be done once it was sent
+abbrev pub handed_of : Act → Handed
+handed_of (acts.Send h (parcels.Home x)) = handeds.Value
+handed_of (acts.Send h (parcels.Work c)) = handeds.Value
+handed_of (acts.Send h parcels.Sync) = handeds.Sync
+handed_of (acts.Send h parcels.End) = handeds.End
+handed_of act = handeds.Nothing
+
+-- without what an act carries
+abbrev pub gave : Client → Act → Client
+gave m (acts.Send h (parcels.Home x)) = holds m h None
+gave m (acts.Send h (parcels.Work c)) = fills m h None
+gave m act = m
+
+module _ (settings : Settings) (ticket : Ticket) (reserved : List ℕ) where
+  -- without the object or the chunk that it waited to send, a client goes on
+  abbrev pub resumed : Client → Place → Settled
+  resumed m (runs rest) = settle settings ticket reserved rest m
+  resumed m (full h rest) = settle settings ticket reserved rest m
+  resumed m p = stays m p
+
+  -- once what it handed out was sent
+  abbrev pub after_send : Handed → Client → Settled
+  after_send handeds.Nothing m = stays m m.place
+  after_send handeds.Value m = resumed m m.place
+  after_send handeds.Sync m = sent_sync settings ticket reserved m m.place
+  after_send handeds.End m = sent_end settings ticket reserved m m.place
+
+-- after a Sync was sent the object is awaited
+abbrev pub synced_by : Move → Run → Run
+synced_by (Syncs h t) s = record { way = t; hands = s.hands; traces = s.traces; stage = stages.Awaits h }
+synced_by m s = s
+
+abbrev pub synced_on : List GraphPlace → Run → Run
+synced_on g s = synced_by (move g s.way) s
+
+-- after an End was sent the next handler of so many is left, or the block has ended
+abbrev pub left_by : ℕ → Stage → Stage
+left_by handlers (stages.Leaves i) = if nat_lt (i + 1) handlers then stages.Leaves (i + 1) else stages.Between
+left_by handlers stage = stage
+
+abbrev pub left_on : ℕ → Run → Run
+left_on handlers s = record { way = s.way; hands = s.hands; traces = s.traces; stage = left_by handlers s.stage }
+
+-- what holds of a client that waits for an object, within n nodes of its block's end
+pub record IsAwaiting (g : List GraphPlace) (size k n h : ℕ) (s : Run) : Type 0 where
+  pub few : n ≤ limit
+  pub within : Within g n s.way
+  pub counted : length g ≤ length s.way.counts
+  pub sound : IsSoundSynced (put (λ j. is_some (held_at s.hands j)) h true) (walk g n s.way)
+  pub fits : Fits (trace_at s.traces k).room (walk g n s.way)
+  pub row : k < length s.traces
+  pub held : length s.hands.held ≡ 8
+  pub chunks : length s.hands.chunks ≡ 8
+  pub handler : h < 8
+  pub opened : (j : ℕ) → IsOpen size (chunk_at s.hands j)
+
+-- what holds between two acts of a client in a block of this code
+abbrev pub IsStanding : BlockCode → ℕ → ℕ → Run → Stage → Type 0
+IsStanding b size k s (stages.Awaits h) = (n : ℕ) × IsAwaiting b.graph size k n h s
+IsStanding b size k s (stages.Leaves i) = IsOver b.graph size s × (i < length b.reserved)
+IsStanding b size k s stages.Between = IsOver b.graph size s
+IsStanding b size k s stages.Runs = IsStopped b.graph b.reserved size k limit s stages.Runs
+IsStanding b size k s (stages.Full h) = IsStopped b.graph b.reserved size k limit s (stages.Full h)
+
+-- a full chunk that was handed out is gone
+abbrev pub IsGone : Handed → Run → Stage → Type 0
+IsGone handeds.Value s (stages.Full h) = chunk_at s.hands h ≡ None
+IsGone handed s stage = Unit {0}
+
+-- the client once what it handed out was sent, up to its next act
+pub record HasSent (b : BlockCode) (settings : Settings) (ticket : Ticket) (begun : ℕ) (handed : Handed) (old new : Run) : Type 0 where
+  pub standing : IsStanding b settings.size ticket.index new new.stage
+  pub rows : KeepsRows ticket.index old.traces new.traces
+  pub counts : length old.way.counts ≤ length new.way.counts
+  pub same : outcome (trace_at old.traces ticket.index).events (after_send settings ticket b.reserved handed (client_of b.graph b.reserved begun old))
+      ≡ reached b.graph b.reserved begun ticket.index new
