@@ -8,6 +8,7 @@ use Rattle.qs_report.specs.declared.faults.Fault.{Fault}
 use Rattle.qs_report.specs.declared.faults.Fault.TheVariants as fault
 use Rattle.qs_report.specs.Faults.{fault_text, fault_status}
 use Rattle.qs_report.specs.Report.{report_text, counts_text}
+use Rattle.qs_report.specs.GraphText.{IsGraphText}
 use Rattle.qs_report.specs.Texts.{AppendsFront}
 use Rattle.qs_script.specs.Reads.{IsRefused, IsScriptText}
 use Rattle.qs_script.specs.declared.tree.Item.{Item}
@@ -18,7 +19,7 @@ use Rattle.qs_core.specs.Schedule.{played_of, scheduled}
 use Rattle.qs.specs.declared.due.Due.{Due}
 use Rattle.qs.specs.declared.due.Due.TheVariants.{Text, Refused}
 use Rattle.qs.specs.declared.words.Command.{Command}
-use Rattle.qs.specs.declared.words.Command.TheVariants.{Rules, Check}
+use Rattle.qs.specs.declared.words.Command.TheVariants.{Rules, Check, Graph}
 use Rattle.qs.specs.Words.{command_in}
 
 abbrev pub due_text : Due → List ℕ
@@ -46,19 +47,20 @@ IsWantOfMemory _ = ⊥
 abbrev pub rounds : ℕ
 rounds = 1000000
 
--- what a command makes of a program: the report of its run under the plain rules, without picks, or its counts
-abbrev pub text_by : Command → ProgramShape → List ℕ
-text_by Rules p = report_text p (played_of p (scheduled p [] rounds))
-text_by Check p = counts_text p
+-- what a command makes of a program: the report of its run under the plain rules, without picks, its counts, or its graphs
+abbrev pub IsTextBy : Command → ProgramShape → List ℕ → Type 0
+IsTextBy Rules p text = text ≡ report_text p (played_of p (scheduled p [] rounds))
+IsTextBy Check p text = text ≡ counts_text p
+IsTextBy Graph p text = IsGraphText p text
 
 abbrev pub IsDueOfProgram : Command → ProgramShape → Due → Type 0
-IsDueOfProgram command p (Text bytes) = bytes.items ≡ text_by command p
+IsDueOfProgram command p (Text bytes) = IsTextBy command p bytes.items
 IsDueOfProgram command p (Refused f) = ⊥
 
 -- what a command makes of a text: the result of its program, or the fault of the text or of its script
 abbrev pub IsDueOfText : Command → List ℕ → Due → Type 0
 IsDueOfText command text (Text bytes) =
-    (s : List Item) × IsScriptText text s × (fault_of s ≡ None) × (bytes.items ≡ text_by command (resolved s))
+    (s : List Item) × IsScriptText text s × (fault_of s ≡ None) × IsTextBy command (resolved s) bytes.items
 IsDueOfText command text (Refused (fault.Read f)) = IsRefused f text
 IsDueOfText command text (Refused (fault.Check f)) = (s : List Item) × IsScriptText text s × (fault_of s ≡ Some f)
 IsDueOfText command text (Refused _) = ⊥

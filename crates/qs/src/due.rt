@@ -9,7 +9,7 @@ use crate::input::{Counted, InputFault, gather};
 use crate::words::{Command, command_of_line};
 use qs_check::{Program, check};
 use qs_core::play_plain;
-use qs_report::{Fault, check_text, report, status};
+use qs_report::{Fault, check_text, graph_text, report, status};
 use qs_script::read;
 use std::alloc::Global;
 use std::io::Read;
@@ -39,7 +39,7 @@ impl Due {
 
 const ROUNDS: u32 = 1_000_000;
 
-// What a command makes of a program: a run of so many rounds, or the counts.
+// What a command makes of a program: a run of so many rounds, the counts, or the graphs.
 fn due_of_program(alloc: Global, command: Command, program: &Program) -> Due
     ensures not_input { ¬ IsRefusedBy fault.Input result }
     ensures due { IsWantOfMemory result ⊎ IsDueOfProgram command program.now result }
@@ -50,6 +50,7 @@ fn due_of_program(alloc: Global, command: Command, program: &Program) -> Due
             Err(fault) => return Due::Refused(Fault::Play(fault)),
         },
         Command::Check => check_text(alloc, program),
+        Command::Graph => graph_text(alloc, program),
     };
     match text {
         Ok(bytes) => Due::Text(bytes),

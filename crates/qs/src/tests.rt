@@ -222,25 +222,39 @@ impl Write for Fixed {
 }
 
 // The answer, or want of memory; also where an allocation is refused.
-#[test]
-fn each_allocation(rt: HostRuntime) {
+fn answers_or_wants_memory(rt: &impl Abort, alloc: Global, word: &str, due: &[u8]) {
     let mut out = Fixed {
         bytes: [0; 256],
         len: 0,
     };
     let mut input = SCRIPT;
-    let status = serve(rt.alloc(), &["qs", "rules"], &mut input, &mut out);
+    let status = serve(alloc, &["qs", word], &mut input, &mut out);
     let written = out.bytes.get(..out.len);
     if status == 3 {
         let is_read = written == Some(b"refused: read 6 Memory\n".as_slice());
         let is_check = written == Some(b"refused: check 12 Memory\n".as_slice());
         let is_play = written == Some(b"refused: play 1 Memory\n".as_slice());
         let is_elsewhere = written == Some(b"refused: memory\n".as_slice());
-        assert!(rt; is_read || is_check || is_play || is_elsewhere);
+        assert!(rt; is_read || is_check || (is_play && word == "rules") || is_elsewhere);
     } else {
         assert_eq!(rt; status, STATUS);
-        assert_eq!(rt; written, Some(DUE));
+        assert_eq!(rt; written, Some(due));
     }
+}
+
+#[test]
+fn each_allocation(rt: HostRuntime) {
+    answers_or_wants_memory(&rt, rt.alloc(), "rules", DUE);
+}
+
+#[test]
+fn each_allocation_for_graphs(rt: HostRuntime) {
+    answers_or_wants_memory(
+        &rt,
+        rt.alloc(),
+        "graph",
+        b"block ann 0\n0 entry -> 1 held -\n1 call a -> 2 held -\n2 sync a kept -> 3 held -\n3 query a -> 4 held a\n4 exit -> - held a\n",
+    );
 }
 
 fn gives(rt: &impl Abort, alloc: Global, word: &str, script: &[u8], text: &[u8], status: u8) {
@@ -407,5 +421,74 @@ fn two_clients_transfer(rt: HostRuntime) {
         b"object a account 100 object b account 100 client ann { separate a b { a.withdraw(30); b.deposit(30); x = a.balance(); y = b.balance(); } } client bob { separate a { a.deposit(1); } separate b { b.deposit(1); y = b.balance(); } }",
         b"order 3\nticket ann 0 done\na.withdraw(30)\nb.deposit(30)\na.balance() = 70\nb.balance() = 130\nticket bob 0 done\na.deposit(1)\nticket bob 1 done\nb.deposit(1)\nb.balance() = 131\nstates\na account 71 refused 0\nb account 131 refused 0\nsyncs 3\nfinished\n",
         0,
+    );
+}
+
+// The graphs of one block on the account a.
+fn shows(rt: &impl Abort, alloc: Global, block: &str, graph: &str) -> Result<(), Fail> {
+    let script = format!(in alloc;
+        "object a account 100 client ann {{ separate a {{ {block} }} }}"
+    )?;
+    gives(rt, alloc, "graph", script.as_bytes(), graph.as_bytes(), 0);
+    Ok(())
+}
+
+#[test]
+fn graphs(rt: HostRuntime) -> Result<(), Fail> {
+    let alloc = rt.alloc();
+    shows(
+        &rt,
+        alloc,
+        "",
+        "block ann 0\n0 entry -> 1 held -\n1 exit -> - held -\n",
+    )?;
+    shows(
+        &rt,
+        alloc,
+        "x = a.balance(); repeat 3 { x = a.balance(); }",
+        "block ann 0\n0 entry -> 1 held -\n1 sync a kept -> 2 held -\n2 query a -> 3 held a\n3 local -> 4 held a\n\
+4 branch -> 5 7 held a\n5 sync a removed -> 6 held a\n6 query a -> 4 held a\n7 exit -> - held a\n",
+    )?;
+    shows(
+        &rt,
+        alloc,
+        "x = a.balance(); repeat 2 { leave; a.deposit(1); } y = a.balance();",
+        "block ann 0\n0 entry -> 1 held -\n1 sync a kept -> 2 held -\n2 query a -> 3 held a\n3 local -> 4 held a\n\
+4 branch -> 5 7 held a\n5 local -> 7 held a\n6 call a -> 4 held a\n7 sync a removed -> 8 held a\n8 query a -> 9 held a\n\
+9 exit -> - held a\n",
+    )?;
+    shows(
+        &rt,
+        alloc,
+        "if x != 0 { a.deposit(1); } else { x = a.balance(); } y = a.balance();",
+        "block ann 0\n0 entry -> 1 held -\n1 branch -> 2 3 held -\n2 call a -> 5 held -\n3 sync a kept -> 4 held -\n\
+4 query a -> 5 held a\n5 sync a kept -> 6 held -\n6 query a -> 7 held a\n7 exit -> - held a\n",
+    )?;
+    shows(
+        &rt,
+        alloc,
+        "repeat 2 { } if x < 1 { }",
+        "block ann 0\n0 entry -> 1 held -\n1 local -> 2 held -\n2 branch -> 2 3 held -\n3 branch -> 4 4 held -\n4 exit -> - held -\n",
+    )
+}
+
+#[test]
+fn graphs_of_no_program(rt: HostRuntime) {
+    gives(&rt, rt.alloc(), "graph", b"", b"", 0);
+    gives(
+        &rt,
+        rt.alloc(),
+        "graph",
+        b"object acc account 1 client c { separate acc {",
+        b"refused: read 5 Form line 1\n",
+        2,
+    );
+    gives(
+        &rt,
+        rt.alloc(),
+        "graph",
+        b"object a account 1 object b account 1 client c { separate a { b.deposit(1); } }",
+        b"refused: check 4 NotReserved\n",
+        2,
     );
 }

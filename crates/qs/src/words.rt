@@ -10,6 +10,8 @@ pub enum Command {
     Rules,
     /// Check it, and count.
     Check,
+    /// Check it, and show the graphs of its blocks.
+    Graph,
 }
 
 fn command_of(word: &str) -> Option<Command>
@@ -19,6 +21,8 @@ fn command_of(word: &str) -> Option<Command>
         Some(Command::Rules)
     } else if word == "check" {
         Some(Command::Check)
+    } else if word == "graph" {
+        Some(Command::Graph)
     } else {
         None
     }

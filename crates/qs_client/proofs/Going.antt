@@ -43,7 +43,7 @@ IsAmongEight (Syncs h t) = h < 8
 IsAmongEight (Queries r t) = r.object < 8
 IsAmongEight m = Unit {0}
 
-sized_of : (size : ℕ) (c : Option (Batch Request)) → IsOpen size c → IsSized size c
+pub sized_of : (size : ℕ) (c : Option (Batch Request)) → IsOpen size c → IsSized size c
 sized_of size None h = tt
 sized_of size (Some b) h = h.0
 
@@ -71,25 +71,33 @@ among_eight g s ok inside =
     let here : IsPlace (length g) (place_at g s.node) = AllByRecursion-get_or (IsPlace (length g)) g s.node exit ok.places inside in
     eight_by (place_at g s.node).node s (first_target (place_at g s.node)) (second_target (place_at g s.node)) here.in_range
 
-turned_counts : (m k : ℕ) (s : Spot) (a b : ℕ) → m ≤ length s.counts → m ≤ length (turned k s a b).counts
-turned_counts m zero s a b h = h
-turned_counts m (suc k) s a b h = omega (arith, h, length-set s.counts s.node k)
+turned_counts : (k : ℕ) (s : Spot) (a b : ℕ) → length (turned k s a b).counts ≡ length s.counts
+turned_counts zero s a b = refl
+turned_counts (suc k) s a b = length-set s.counts s.node k
 
-counts_by : (m : ℕ) (v : Node) (s : Spot) (a b : ℕ) → m ≤ length s.counts → EachNext (λ t. m ≤ length t.counts) (move_by v s a b)
-counts_by m nodes.Entry s a b h = h
-counts_by m (nodes.Local (Assign x e)) s a b h = h
-counts_by m (nodes.Local (SetCount k)) s a b h = omega (arith, h, length-set s.counts a k)
-counts_by m (nodes.Local Nothing) s a b h = h
-counts_by m (nodes.Branch (If t)) s a b h = h
-counts_by m (nodes.Branch Repeat) s a b h = turned_counts m (get_or s.counts s.node 0) s a b h
-counts_by m (nodes.Sync o) s a b h = h
-counts_by m (nodes.Query x c) s a b h = λ v. h
-counts_by m (nodes.Call c) s a b h = h
-counts_by m nodes.Exit s a b h = tt
+counts_by : (v : Node) (s : Spot) (a b : ℕ) → EachNext (λ t. length t.counts ≡ length s.counts) (move_by v s a b)
+counts_by nodes.Entry s a b = refl
+counts_by (nodes.Local (Assign x e)) s a b = refl
+counts_by (nodes.Local (SetCount k)) s a b = length-set s.counts a k
+counts_by (nodes.Local Nothing) s a b = refl
+counts_by (nodes.Branch (If t)) s a b = refl
+counts_by (nodes.Branch Repeat) s a b = turned_counts (get_or s.counts s.node 0) s a b
+counts_by (nodes.Sync o) s a b = refl
+counts_by (nodes.Query x c) s a b = λ v. refl
+counts_by (nodes.Call c) s a b = refl
+counts_by nodes.Exit s a b = tt
 
-pub counts_kept : (g : List Place) (m : ℕ) (s : Spot) → m ≤ length s.counts → EachNext (λ t. m ≤ length t.counts) (move g s)
+-- a move leaves as many counts
+pub counts_kept : (g : List Place) (s : Spot) → EachNext (λ t. length t.counts ≡ length s.counts) (move g s)
 unfolding move
-counts_kept g m s h = counts_by m (place_at g s.node).node s (first_target (place_at g s.node)) (second_target (place_at g s.node)) h
+counts_kept g s = counts_by (place_at g s.node).node s (first_target (place_at g s.node)) (second_target (place_at g s.node))
+
+enough_counts : (m k : ℕ) (x : Move) → m ≤ k → EachNext (λ t. length t.counts ≡ k) x → EachNext (λ t. m ≤ length t.counts) x
+enough_counts m k Ends h w = tt
+enough_counts m k (Goes t) h w = omega (arith, h, w)
+enough_counts m k (Calls r t) h w = omega (arith, h, w)
+enough_counts m k (Syncs o t) h w = omega (arith, h, w)
+enough_counts m k (Queries r t) h w = λ v. omega (arith, h, w v)
 
 pub keeps_rows : (k : ℕ) (ts : List TraceState) → KeepsRows k ts ts
 keeps_rows k ts = record { count = refl; others = λ j other. refl }
@@ -116,33 +124,32 @@ synced_rows : (k : ℕ) (b : Bool) (s : Run) (t : Spot) → KeepsRows k s.traces
 synced_rows k true s t = keeps_rows k s.traces
 synced_rows k false s t = keeps_rows k s.traces
 
-called_counts : (m k : ℕ) (r : Request) (t : Spot) (s : Run) (x : Option HeldState) (b : Option (Batch Request)) → m ≤ length s.way.counts → m ≤ length t.counts
-    → m ≤ length (called_by k r t s x b).0.way.counts
+called_counts : (m k : ℕ) (r : Request) (t : Spot) (s : Run) (x : Option HeldState) (b : Option (Batch Request)) → length s.way.counts ≡ m → length t.counts ≡ m
+    → length (called_by k r t s x b).0.way.counts ≡ m
 called_counts m k r t s (Some x) b h w = h
 called_counts m k r t s None None h w = h
 called_counts m k r t s None (Some b) h w = w
 
-asked_counts : (m : ℕ) (u : Ticket) (r : Request) (t : ℤ → Spot) (s : Run) (x : Option HeldState) → m ≤ length s.way.counts → ((v : ℤ) → m ≤ length (t v).counts)
-    → m ≤ length (asked_by u r t s x).0.way.counts
+asked_counts : (m : ℕ) (u : Ticket) (r : Request) (t : ℤ → Spot) (s : Run) (x : Option HeldState) → length s.way.counts ≡ m → ((v : ℤ) → length (t v).counts ≡ m)
+    → length (asked_by u r t s x).0.way.counts ≡ m
 asked_counts m u r t s None h w = h
 asked_counts m u r t s (Some x) h w = w (value_of (ran x u r).1)
 
-synced_counts : (m : ℕ) (b : Bool) (s : Run) (t : Spot) → m ≤ length s.way.counts → m ≤ length t.counts
-    → m ≤ length (let z : Run × Bool = if b then (goes_to s t, true) else (s, false) in z).0.way.counts
+synced_counts : (m : ℕ) (b : Bool) (s : Run) (t : Spot) → length s.way.counts ≡ m → length t.counts ≡ m
+    → length (let z : Run × Bool = if b then (goes_to s t, true) else (s, false) in z).0.way.counts ≡ m
 synced_counts m true s t h w = w
 synced_counts m false s t h w = h
 
-moved_counts : (terms : Terms) (reserved : List ℕ) (m : ℕ) (x : Move) (s : Run) → m ≤ length s.way.counts → EachNext (λ t. m ≤ length t.counts) x
-    → m ≤ length (moved_by terms reserved x s).0.way.counts
+moved_counts : (terms : Terms) (reserved : List ℕ) (m : ℕ) (x : Move) (s : Run) → length s.way.counts ≡ m → EachNext (λ t. length t.counts ≡ m) x
+    → length (moved_by terms reserved x s).0.way.counts ≡ m
 moved_counts terms reserved m Ends s h w = h
 moved_counts terms reserved m (Goes t) s h w = w
 moved_counts terms reserved m (Calls r t) s h w = called_counts m terms.ticket.index r t s (held_at s.hands r.object) (chunk_at s.hands r.object) h w
 moved_counts terms reserved m (Syncs o t) s h w = synced_counts m (terms.dynamic && is_some (held_at s.hands o)) s t h w
 moved_counts terms reserved m (Queries r t) s h w = asked_counts m terms.ticket r t s (held_at s.hands r.object) h w
 
-all_counts : (g : List Place) (terms : Terms) (reserved : List ℕ) (s : Run) → length s.way.counts ≤ length (moved g terms reserved s).0.way.counts
-all_counts g terms reserved s =
-    moved_counts terms reserved (length s.way.counts) (move g s.way) s (omega arith) (counts_kept g (length s.way.counts) s.way (omega arith))
+all_counts : (g : List Place) (terms : Terms) (reserved : List ℕ) (s : Run) → length (moved g terms reserved s).0.way.counts ≡ length s.way.counts
+all_counts g terms reserved s = moved_counts terms reserved (length s.way.counts) (move g s.way) s refl (counts_kept g s.way)
 
 rows_by : (terms : Terms) (reserved : List ℕ) (m : Move) (s : Run) → KeepsRows terms.ticket.index s.traces (moved_by terms reserved m s).0.traces
 rows_by terms reserved Ends s = keeps_rows terms.ticket.index s.traces
@@ -421,7 +428,7 @@ module _ (g : List Place) (settings : Settings) (terms : Terms) (reserved : List
     next = w.within.1;
     sound = w.sound;
     fits = w.fits;
-    counted = counts_kept g (length g) s.way w.counted;
+    counted = enough_counts (length g) (length s.way.counts) (move g s.way) w.counted (counts_kept g s.way);
     eight = among_eight g s.way ok w.within.0;
     stands = stands;
     tree = walk_up g (suc n) limit s.way w.few w.within;
@@ -447,7 +454,7 @@ module _ (g : List Place) (settings : Settings) (terms : Terms) (reserved : List
     pub few : left + turn ≤ limit
     pub fewer : left ≤ m
     pub rows : KeepsRows terms.ticket.index s.traces t.traces
-    pub counts : length s.way.counts ≤ length t.way.counts
+    pub counts : length t.way.counts ≡ length s.way.counts
     pub running : IsRunning g settings.size terms.ticket.index left t
     pub same : coming settings terms.ticket reserved begun p (walk g m s.way) s ≡ coming settings terms.ticket reserved begun p (walk g left t.way) t
 
@@ -466,12 +473,13 @@ module _ (g : List Place) (settings : Settings) (terms : Terms) (reserved : List
       subst (HasSettled g settings terms.ticket reserved begun p (suc m) s) (sym new) (record { stopped = done.0; rows = rows_kept g terms reserved s; counts = all_counts g terms reserved s; same = done.1 })
 
 -- where it stopped it may stand until its next act
-pub standing_of : (b : BlockCode) (size k most : ℕ) (s : Run) (stage : Stage) → most ≤ limit → IsStopped b.graph b.reserved size k most s stage → IsStanding b size k s stage
-standing_of b size k most s stages.Runs h w = stopped_up b.graph b.reserved size k most limit s stages.Runs h w
-standing_of b size k most s (stages.Full x) h w = stopped_up b.graph b.reserved size k most limit s (stages.Full x) h w
-standing_of b size k most s (stages.Awaits x) h w = absurd w
-standing_of b size k most s (stages.Leaves i) h w = w
-standing_of b size k most s stages.Between h w = w
+pub standing_of : (b : BlockCode) (size k less most : ℕ) (s : Run) (stage : Stage) → less ≤ most → IsStopped b.graph b.reserved size k less s stage
+    → IsStanding b size k most s stage
+standing_of b size k less most s stages.Runs h w = stopped_up b.graph b.reserved size k less most s stages.Runs h w
+standing_of b size k less most s (stages.Full x) h w = stopped_up b.graph b.reserved size k less most s (stages.Full x) h w
+standing_of b size k less most s (stages.Awaits x) h w = absurd w
+standing_of b size k less most s (stages.Leaves i) h w = w
+standing_of b size k less most s stages.Between h w = w
 
 room_again : (size h j : ℕ) (c : Option (Batch Request)) → ((h == j) ≡ false → IsOpen size c) → (h ≡ j → c ≡ None) → IsOpen size c
 room_again size h j c others gone =
@@ -492,12 +500,12 @@ full_running g size k n h s gone w = record {
 }
 
 -- a client that goes on from here, with a stage that lets it
-pub resumes : (b : BlockCode) (settings : Settings) (ticket : Ticket) (begun n : ℕ) (old new : Run) (stage : Stage) → old.stage ≡ stage
+pub resumes : (b : BlockCode) (settings : Settings) (ticket : Ticket) (begun n most : ℕ) (old new : Run) (stage : Stage) → old.stage ≡ stage → n ≤ most
     → ((m : Client) (rest : Synced) → resumed settings ticket b.reserved m (place_by stage b.reserved rest old.way.locals) ≡ settle settings ticket b.reserved rest m)
     → IsRunning b.graph settings.size ticket.index n old
-    → HasSettled b.graph settings ticket b.reserved begun (place_of b.graph b.reserved old) n old new → HasSent b settings ticket begun handeds.Value old new
-resumes b settings ticket begun n old new stage at on w done = record {
-  standing = standing_of b settings.size ticket.index n new new.stage w.few done.stopped;
+    → HasSettled b.graph settings ticket b.reserved begun (place_of b.graph b.reserved old) n old new → HasSent b settings ticket begun most handeds.Value old new
+resumes b settings ticket begun n most old new stage at few on w done = record {
+  standing = standing_of b settings.size ticket.index n most new new.stage few done.stopped;
   rows = done.rows;
   counts = done.counts;
   same =

@@ -14,14 +14,14 @@ use Rattle.qs_client.specs.Client as clients
 use Rattle.qs_client.specs.Hand.{HandsState}
 use Rattle.qs_client.specs.Trail.{TraceState, trace_at}
 use Rattle.qs_client.specs.Minds.{client_with, client_of, place_by, outcome}
-use Rattle.qs_client.specs.Running.{IsLoud, IsOver, IsRunning}
-use Rattle.qs_client.specs.Standing.{IsStanding, HasSent, synced_by, synced_on, left_by, left_on}
+use Rattle.qs_client.specs.Running.{IsOver, IsRunning}
+use Rattle.qs_client.specs.Standing.{IsStanding, IsSyncing, HasSent, synced_by, synced_on, left_by, left_on}
 use Rattle.qs_client.specs.declared.run.Run.{Run}
 use Rattle.qs_client.specs.declared.run.Terms.{Terms}
 use Rattle.qs_client.specs.declared.stage.Handed.TheVariants as handeds
 use Rattle.qs_client.specs.declared.stage.Stage.{Stage}
 use Rattle.qs_client.specs.declared.stage.Stage.TheVariants as stages
-use Rattle.qs_client.proofs.Going.{Ready, ready, stays_here, keeps_rows, standing_of, counts_kept}
+use Rattle.qs_client.proofs.Going.{Ready, ready, keeps_rows, counts_kept}
 
 module _ (b : BlockCode) (settings : Settings) (ticket : Ticket) (begun : ℕ) where
   abbrev terms : Terms
@@ -30,33 +30,16 @@ module _ (b : BlockCode) (settings : Settings) (ticket : Ticket) (begun : ℕ) w
   abbrev tr : Run → List Event
   tr s = (trace_at s.traces ticket.index).events
 
-  -- it stays where it stands
-  stays_put : (n : ℕ) (s : Run) (m : Move) → Ready b.graph settings terms b.reserved begun (between []) n s m → IsLoud m
-      → ((c : Client) → sent_sync settings ticket b.reserved c (clients.runs (walk b.graph limit s.way)) ≡ clients.stays c (clients.runs (walk b.graph limit s.way)))
-      → HasSent b settings ticket begun handeds.Sync s s
-  stays_put n s m w loud same =
-      let here = stays_here b.graph settings terms b.reserved begun (between []) n s m w loud in
-      let c = client_of b.graph b.reserved begun s in
-      record {
-        standing = standing_of b settings.size ticket.index (suc n) s s.stage w.whole.few here.0;
-        rows = keeps_rows ticket.index s.traces;
-        counts = omega arith;
-        same =
-            (λ i. outcome (tr s) (sent_sync settings ticket b.reserved c (place_by (w.stands i) b.reserved (walk b.graph limit s.way) s.way.locals)))
-            ∙ ap (outcome (tr s)) (same c)
-            ∙ ap (λ p. outcome (tr s) (clients.stays c (clients.runs p))) w.tree
-            ∙ here.1;
-      }
-
-  awaits_by : (n : ℕ) (s : Run) (m : Move) → Ready b.graph settings terms b.reserved begun (between []) n s m → IsLoud m
-      → HasSent b settings ticket begun handeds.Sync s (synced_by m s)
-  awaits_by n s (Goes t) w loud = absurd loud
-  awaits_by n s Ends w loud = stays_put n s Ends w loud (λ c. ap (λ p. sent_sync settings ticket b.reserved c (clients.runs p)) w.tree ∙ ap (λ p. clients.stays c (clients.runs p)) (sym w.tree))
-  awaits_by n s (Calls r t) w loud = stays_put n s (Calls r t) w loud (λ c. ap (λ p. sent_sync settings ticket b.reserved c (clients.runs p)) w.tree ∙ ap (λ p. clients.stays c (clients.runs p)) (sym w.tree))
-  awaits_by n s (Queries r t) w loud = stays_put n s (Queries r t) w loud (λ c. ap (λ p. sent_sync settings ticket b.reserved c (clients.runs p)) w.tree ∙ ap (λ p. clients.stays c (clients.runs p)) (sym w.tree))
-  awaits_by n s (Syncs h t) w loud = record {
+  awaits_by : (n most : ℕ) (s : Run) (m : Move) → suc n ≤ most → Ready b.graph settings terms b.reserved begun (between []) n s m → IsSyncing m
+      → HasSent b settings ticket begun most handeds.Sync s (synced_by m s)
+  awaits_by n most s (Goes t) few w loud = absurd loud
+  awaits_by n most s Ends few w loud = absurd loud
+  awaits_by n most s (Calls r t) few w loud = absurd loud
+  awaits_by n most s (Queries r t) few w loud = absurd loud
+  awaits_by n most s (Syncs h t) few w loud = record {
     standing = (
       n,
+      omega (arith, few),
       record {
         few = omega (arith, w.whole.few);
         within = w.next;
@@ -71,7 +54,7 @@ module _ (b : BlockCode) (settings : Settings) (ticket : Ticket) (begun : ℕ) w
       },
     );
     rows = keeps_rows ticket.index s.traces;
-    counts = subst (EachNext (λ (u : Spot). length s.way.counts ≤ length u.counts)) w.is (counts_kept b.graph (length s.way.counts) s.way (omega arith));
+    counts = subst (EachNext (λ (u : Spot). length u.counts ≡ length s.way.counts)) w.is (counts_kept b.graph s.way);
     same =
         let m = client_of b.graph b.reserved begun s in
         (λ i. outcome (tr s) (sent_sync settings ticket b.reserved m (place_by (w.stands i) b.reserved (w.tree i) s.way.locals)))
@@ -81,40 +64,41 @@ module _ (b : BlockCode) (settings : Settings) (ticket : Ticket) (begun : ℕ) w
         });
   }
 
-  pub awaits_sent : (n : ℕ) (s : Run) → IsGraph b.graph → s.stage ≡ stages.Runs → IsRunning b.graph settings.size ticket.index n s → IsLoud (move b.graph s.way)
-      → HasSent b settings ticket begun handeds.Sync s (synced_on b.graph s)
-  awaits_sent zero s ok stands w loud = absurd w.within
-  awaits_sent (suc n) s ok stands w loud = awaits_by n s (move b.graph s.way) (ready b.graph settings terms b.reserved begun (between []) n s ok refl stands w) loud
+  pub awaits_sent : (n most : ℕ) (s : Run) → n ≤ most → IsGraph b.graph → s.stage ≡ stages.Runs → IsRunning b.graph settings.size ticket.index n s
+      → IsSyncing (move b.graph s.way) → HasSent b settings ticket begun most handeds.Sync s (synced_on b.graph s)
+  awaits_sent zero most s few ok stands w loud = absurd w.within
+  awaits_sent (suc n) most s few ok stands w loud =
+      awaits_by n most s (move b.graph s.way) few (ready b.graph settings terms b.reserved begun (between []) n s ok refl stands w) loud
 
   -- a client that stands here
   abbrev at : Spot → HandsState → List TraceState → Stage → Run
   at way hands traces stage = record { way = way; hands = hands; traces = traces; stage = stage }
 
-  left_stays : (way : Spot) (hands : HandsState) (traces : List TraceState) (stage : Stage) (p : clients.Place)
+  left_stays : (most : ℕ) (way : Spot) (hands : HandsState) (traces : List TraceState) (stage : Stage) (p : clients.Place)
       → place_by stage b.reserved (walk b.graph limit way) way.locals ≡ p
       → ((c : Client) → sent_end settings ticket b.reserved c p ≡ clients.stays c p)
       → left_by (length b.reserved) stage ≡ stage
-      → IsStanding b settings.size ticket.index (at way hands traces stage) stage
-      → HasSent b settings ticket begun handeds.End (at way hands traces stage) (at way hands traces (left_by (length b.reserved) stage))
-  left_stays way hands traces stage p e same on w =
+      → IsStanding b settings.size ticket.index most (at way hands traces stage) stage
+      → HasSent b settings ticket begun most handeds.End (at way hands traces stage) (at way hands traces (left_by (length b.reserved) stage))
+  left_stays most way hands traces stage p e same on w =
       let s = at way hands traces stage in
       let c = client_of b.graph b.reserved begun s in
-      subst (λ x. HasSent b settings ticket begun handeds.End s (at way hands traces x)) (sym on)
+      subst (λ x. HasSent b settings ticket begun most handeds.End s (at way hands traces x)) (sym on)
       (record {
         standing = w;
         rows = keeps_rows ticket.index traces;
-        counts = omega arith;
+        counts = refl;
         same =
             ap (λ x. outcome (tr s) (sent_end settings ticket b.reserved c x)) e
             ∙ ap (outcome (tr s)) (same c)
             ∙ (λ i. record { client = client_with begun (sym e i) hands; trace = append-nil (tr s) i });
       })
 
-  leaves_on : (way : Spot) (hands : HandsState) (traces : List TraceState) (i : ℕ) → IsOver b.graph settings.size (at way hands traces (stages.Leaves i))
+  leaves_on : (most : ℕ) (way : Spot) (hands : HandsState) (traces : List TraceState) (i : ℕ) → IsOver b.graph settings.size (at way hands traces (stages.Leaves i))
       → (more : Bool) → nat_lt (i + 1) (length b.reserved) ≡ more
-      → HasSent b settings ticket begun handeds.End (at way hands traces (stages.Leaves i))
+      → HasSent b settings ticket begun most handeds.End (at way hands traces (stages.Leaves i))
       (at way hands traces (if more then stages.Leaves (i + 1) else stages.Between))
-  leaves_on way hands traces i over true e =
+  leaves_on most way hands traces i over true e =
       let inside : i + 1 < length b.reserved = ltb-true (i + 1) (length b.reserved) e in
       let s = at way hands traces (stages.Leaves i) in
       let c = client_of b.graph b.reserved begun s in
@@ -123,7 +107,7 @@ module _ (b : BlockCode) (settings : Settings) (ticket : Ticket) (begun : ℕ) w
       record {
         standing = (record { held = over.held; chunks = over.chunks; opened = over.opened }, inside);
         rows = keeps_rows ticket.index traces;
-        counts = omega arith;
+        counts = refl;
         same =
             ap (λ hs. outcome (tr s) (leaving settings ticket b.reserved c hs way.locals)) next
             ∙ (λ j. record {
@@ -131,7 +115,7 @@ module _ (b : BlockCode) (settings : Settings) (ticket : Ticket) (begun : ℕ) w
               trace = append-nil (tr s) j;
             });
       }
-  leaves_on way hands traces i over false e =
+  leaves_on most way hands traces i over false e =
       let past : length b.reserved ≤ i + 1 = ltb-false (i + 1) (length b.reserved) e in
       let s = at way hands traces (stages.Leaves i) in
       let c = client_of b.graph b.reserved begun s in
@@ -139,19 +123,19 @@ module _ (b : BlockCode) (settings : Settings) (ticket : Ticket) (begun : ℕ) w
       record {
         standing = record { held = over.held; chunks = over.chunks; opened = over.opened };
         rows = keeps_rows ticket.index traces;
-        counts = omega arith;
+        counts = refl;
         same =
             ap (λ hs. outcome (tr s) (leaving settings ticket b.reserved c hs way.locals)) none
             ∙ (λ j. record { client = client_with begun (between way.locals) hands; trace = append-nil (tr s) j });
       }
 
-  left_by_stage : (way : Spot) (hands : HandsState) (traces : List TraceState) (stage : Stage) → IsStanding b settings.size ticket.index (at way hands traces stage) stage
-      → HasSent b settings ticket begun handeds.End (at way hands traces stage) (at way hands traces (left_by (length b.reserved) stage))
-  left_by_stage way hands traces stages.Between w = left_stays way hands traces stages.Between (between way.locals) refl (λ c. refl) refl w
-  left_by_stage way hands traces stages.Runs w = left_stays way hands traces stages.Runs (clients.runs (walk b.graph limit way)) refl (λ c. refl) refl w
-  left_by_stage way hands traces (stages.Full h) w = left_stays way hands traces (stages.Full h) (clients.full h (walk b.graph limit way)) refl (λ c. refl) refl w
-  left_by_stage way hands traces (stages.Awaits h) w = left_stays way hands traces (stages.Awaits h) (awaits h (walk b.graph limit way)) refl (λ c. refl) refl w
-  left_by_stage way hands traces (stages.Leaves i) w = leaves_on way hands traces i w.0 (nat_lt (i + 1) (length b.reserved)) refl
+  left_by_stage : (most : ℕ) (way : Spot) (hands : HandsState) (traces : List TraceState) (stage : Stage) → IsStanding b settings.size ticket.index most (at way hands traces stage) stage
+      → HasSent b settings ticket begun most handeds.End (at way hands traces stage) (at way hands traces (left_by (length b.reserved) stage))
+  left_by_stage most way hands traces stages.Between w = left_stays most way hands traces stages.Between (between way.locals) refl (λ c. refl) refl w
+  left_by_stage most way hands traces stages.Runs w = left_stays most way hands traces stages.Runs (clients.runs (walk b.graph limit way)) refl (λ c. refl) refl w
+  left_by_stage most way hands traces (stages.Full h) w = left_stays most way hands traces (stages.Full h) (clients.full h (walk b.graph limit way)) refl (λ c. refl) refl w
+  left_by_stage most way hands traces (stages.Awaits h) w = left_stays most way hands traces (stages.Awaits h) (awaits h (walk b.graph limit way)) refl (λ c. refl) refl w
+  left_by_stage most way hands traces (stages.Leaves i) w = leaves_on most way hands traces i w.0 (nat_lt (i + 1) (length b.reserved)) refl
 
-  pub end_sent : (s : Run) → IsStanding b settings.size ticket.index s s.stage → HasSent b settings ticket begun handeds.End s (left_on (length b.reserved) s)
-  end_sent s w = left_by_stage s.way s.hands s.traces s.stage w
+  pub end_sent : (most : ℕ) (s : Run) → IsStanding b settings.size ticket.index most s s.stage → HasSent b settings ticket begun most handeds.End s (left_on (length b.reserved) s)
+  end_sent most s w = left_by_stage most s.way s.hands s.traces s.stage w

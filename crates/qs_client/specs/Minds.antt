@@ -1,5 +1,5 @@
 -- A client as contracts see it, and as what it does next is defined.
-use Rattle.std.specs.Prelude.{◌≡◌, ◌≤◌, ℕ, suc, List, ◌++◌, length, drop, Option, Some, None, slice_index_or}
+use Rattle.std.specs.Prelude.{◌≡◌, ℕ, suc, List, ◌++◌, length, drop, Option, Some, None, slice_index_or}
 use Rattle.qs_objects.specs.declared.held.Event.{Event}
 use Rattle.qs_objects.specs.declared.held.Ticket.{Ticket}
 use Rattle.qs_objects.specs.declared.Request.{Request}
@@ -60,5 +60,5 @@ reached g reserved begun k s = record { client = client_of g reserved begun s; t
 pub record HasSettled (g : List GraphPlace) (settings : Settings) (ticket : Ticket) (reserved : List ℕ) (begun : ℕ) (p : Place) (n : ℕ) (old new : Run) : Type 0 where
   pub stopped : IsStopped g reserved settings.size ticket.index n new new.stage
   pub rows : KeepsRows ticket.index old.traces new.traces
-  pub counts : length old.way.counts ≤ length new.way.counts
+  pub counts : length new.way.counts ≡ length old.way.counts
   pub same : coming settings ticket reserved begun p (walk g n old.way) old ≡ reached g reserved begun ticket.index new

@@ -115,10 +115,11 @@ abbrev pub HasRoom : Stage → ℕ → ℕ → Option (Batch Request) → Type 0
 HasRoom (stages.Full h) size j c = (h == j) ≡ false → IsOpen size c
 HasRoom stage size j c = IsOpen size c
 
--- a move that is not silent
+-- a move at which a client may have to send or to wait
 abbrev pub IsLoud : Move → Type 0
-IsLoud (Goes t) = ⊥
-IsLoud m = Unit {0}
+IsLoud (Calls r t) = Unit {0}
+IsLoud (Syncs h t) = Unit {0}
+IsLoud m = ⊥
 
 -- what holds of a client with a full chunk, within n nodes of its block's end
 pub record IsFull (g : List Place) (size k n h : ℕ) (s : Run) : Type 0 where

@@ -1,5 +1,6 @@
 -- A client in a block between two acts, and once what it handed out was sent.
-use Rattle.std.specs.Prelude.{◌≡◌, ◌<◌, ◌≤◌, ◌+◌, ℕ, nat_lt, if◌then◌else◌, true, List, length, None, is_some}
+use Rattle.std.specs.Prelude.{◌≡◌, ◌<◌, ◌≤◌, ◌+◌, ◌-◌, ℕ, nat_lt, if◌then◌else◌, true, List, length, None, is_some}
+use Rattle.qs_objects.specs.Journals.{HeldState}
 use Rattle.qs_objects.specs.declared.held.Ticket.{Ticket}
 use Rattle.qs_check.specs.Solo.{put}
 use Rattle.qs_chunk.specs.declared.parcel.Parcel.TheVariants as parcels
@@ -8,10 +9,10 @@ use Rattle.qs_graph.specs.Steps.{limit}
 use Rattle.qs_graph.specs.Walk.{Move, Syncs, move, walk, Within}
 use Rattle.qs_syncset.specs.Codes.{BlockCode}
 use Rattle.qs_syncset.specs.SoundSynced.{IsSoundSynced}
-use Rattle.qs_client.specs.Client.{Client, Settings, Settled, Place, settle, stays, holds, fills, sent_sync, sent_end, runs, full}
+use Rattle.qs_client.specs.Client.{Client, Settings, Settled, Place, settle, stays, holds, fills, got, took_chunk, sent_sync, sent_end, runs, full}
 use Rattle.qs_client.specs.Hand.{held_at, chunk_at}
 use Rattle.qs_client.specs.Trail.{trace_at}
-use Rattle.qs_client.specs.Minds.{client_of, outcome, reached}
+use Rattle.qs_client.specs.Minds.{client_of, place_of, outcome, reached}
 use Rattle.qs_client.specs.Running.{IsOpen, IsOver, IsStopped, Fits, KeepsRows}
 use Rattle.qs_client.specs.declared.act.Act.{Act}
 use Rattle.qs_client.specs.declared.act.Act.TheVariants as acts
@@ -78,23 +79,49 @@ pub record IsAwaiting (g : List GraphPlace) (size k n h : ℕ) (s : Run) : Type 
   pub handler : h < 8
   pub opened : (j : ℕ) → IsOpen size (chunk_at s.hands j)
 
--- what holds between two acts of a client in a block of this code
-abbrev pub IsStanding : BlockCode → ℕ → ℕ → Run → Stage → Type 0
-IsStanding b size k s (stages.Awaits h) = (n : ℕ) × IsAwaiting b.graph size k n h s
-IsStanding b size k s (stages.Leaves i) = IsOver b.graph size s × (i < length b.reserved)
-IsStanding b size k s stages.Between = IsOver b.graph size s
-IsStanding b size k s stages.Runs = IsStopped b.graph b.reserved size k limit s stages.Runs
-IsStanding b size k s (stages.Full h) = IsStopped b.graph b.reserved size k limit s (stages.Full h)
+-- what holds between two acts of a client in a block of this code, within at most `most` nodes of its end
+abbrev pub IsStanding : BlockCode → ℕ → ℕ → ℕ → Run → Stage → Type 0
+IsStanding b size k most s (stages.Awaits h) = (n : ℕ) × (n ≤ most) × IsAwaiting b.graph size k n h s
+IsStanding b size k most s (stages.Leaves i) = IsOver b.graph size s × (i < length b.reserved)
+IsStanding b size k most s stages.Between = IsOver b.graph size s
+IsStanding b size k most s stages.Runs = IsStopped b.graph b.reserved size k most s stages.Runs
+IsStanding b size k most s (stages.Full h) = IsStopped b.graph b.reserved size k most s (stages.Full h)
 
--- a full chunk that was handed out is gone
-abbrev pub IsGone : Handed → Run → Stage → Type 0
-IsGone handeds.Value s (stages.Full h) = chunk_at s.hands h ≡ None
-IsGone handed s stage = Unit {0}
+-- at a synchronisation
+abbrev pub IsSyncing : Move → Type 0
+IsSyncing (Syncs h t) = Unit {0}
+IsSyncing m = ⊥
+
+-- a full chunk that was handed out is gone, and a Sync was sent at a synchronisation
+abbrev pub IsGone : List GraphPlace → Handed → Run → Stage → Type 0
+IsGone g handeds.Value s (stages.Full h) = chunk_at s.hands h ≡ None
+IsGone g handeds.Sync s stages.Runs = IsSyncing (move g s.way)
+IsGone g handeds.Sync s stage = ⊥
+IsGone g handed s stage = Unit {0}
+
+-- a client that has come to its next act, within at most `most` nodes of its block's end, by all that this says
+pub record HasCome (b : BlockCode) (settings : Settings) (ticket : Ticket) (begun most : ℕ) (by : Settled) (old new : Run) : Type 0 where
+  pub standing : IsStanding b settings.size ticket.index most new new.stage
+  pub rows : KeepsRows ticket.index old.traces new.traces
+  pub counts : length new.way.counts ≡ length old.way.counts
+  pub same : outcome (trace_at old.traces ticket.index).events by ≡ reached b.graph b.reserved begun ticket.index new
+
+-- a Sync that was sent took one of so many nodes
+abbrev pub left_after : Handed → ℕ → ℕ
+left_after handeds.Sync most = most - 1
+left_after handed most = most
 
 -- the client once what it handed out was sent, up to its next act
-pub record HasSent (b : BlockCode) (settings : Settings) (ticket : Ticket) (begun : ℕ) (handed : Handed) (old new : Run) : Type 0 where
-  pub standing : IsStanding b settings.size ticket.index new new.stage
-  pub rows : KeepsRows ticket.index old.traces new.traces
-  pub counts : length old.way.counts ≤ length new.way.counts
-  pub same : outcome (trace_at old.traces ticket.index).events (after_send settings ticket b.reserved handed (client_of b.graph b.reserved begun old))
-      ≡ reached b.graph b.reserved begun ticket.index new
+abbrev pub HasSent : BlockCode → Settings → Ticket → ℕ → ℕ → Handed → Run → Run → Type 0
+HasSent b settings ticket begun most handed old new =
+    HasCome b settings ticket begun (left_after handed most) (after_send settings ticket b.reserved handed (client_of b.graph b.reserved begun old)) old new
+
+-- once the object came that it waited for
+abbrev pub HasGot : BlockCode → Settings → Ticket → ℕ → ℕ → HeldState → Run → Run → Type 0
+HasGot b settings ticket begun most x old new =
+    HasCome b settings ticket begun most (got settings ticket b.reserved (client_of b.graph b.reserved begun old) x (place_of b.graph b.reserved old)) old new
+
+-- once an empty chunk for handler h came
+abbrev pub HasTaken : BlockCode → Settings → Ticket → ℕ → ℕ → ℕ → Run → Run → Type 0
+HasTaken b settings ticket begun most h old new =
+    HasCome b settings ticket begun most (took_chunk settings ticket b.reserved (client_of b.graph b.reserved begun old) h (place_of b.graph b.reserved old)) old new

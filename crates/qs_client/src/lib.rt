@@ -2,8 +2,11 @@
 #![tactic(auto)]
 
 mod act;
+mod acts;
+mod begin;
 mod hands;
 pub mod laws;
+mod mind;
 mod run;
 mod stage;
 #[cfg(test)]
@@ -13,4 +16,5 @@ mod turn;
 mod way;
 
 pub use act::Act;
+pub use mind::Mind;
 pub use traces::Traces;

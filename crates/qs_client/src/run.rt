@@ -38,6 +38,19 @@ pub(crate) struct Terms {
 }
 
 impl Run {
+    /// The traces of all blocks, by move.
+    pub(crate) fn into_traces(self) -> Traces
+        ensures value { result ≡ self.traces }
+    {
+        let Run {
+            way: _,
+            hands: _,
+            traces,
+            stage: _,
+        } = self;
+        traces
+    }
+
     // A command: into the open chunk, where the object is not held.
     fn call(&mut self, block: usize, call: &Call, next: usize) -> bool
         requires object { call.now.object < 8 }

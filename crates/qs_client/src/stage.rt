@@ -1,5 +1,8 @@
 //! Where a client stands.
 
+ghost use Rattle.std.specs.Prelude.{◌≡◌};
+ghost use Rattle.qs_client.specs.Mind.{count_sync};
+
 /// Between blocks; in a block; there with a full chunk for a handler; waiting for an object; or at the block's end, leaving the handler
 /// at this place of the block's list.
 #[derive(Clone, Copy)]
@@ -18,4 +21,16 @@ pub(crate) enum Handed {
     Value,
     Sync,
     End,
+}
+
+impl Handed {
+    /// How many Syncs were sent.
+    pub(crate) fn syncs(self) -> u64
+        ensures value { result ≡ count_sync self }
+    {
+        match self {
+            Handed::Sync => 1,
+            Handed::Nothing | Handed::Value | Handed::End => 0,
+        }
+    }
 }

@@ -60,11 +60,12 @@ impl Run {
     /// Once what was handed out last was sent.
     pub(crate) fn sent(&mut self, code: &Code, ticket: Ticket, handed: Handed)
         requires block { ticket.index < length code.now.blocks }
-        requires standing { (size : ℕ) × IsStanding (code_at code.now ticket.index) size ticket.index self.old self.old.stage }
-        requires gone { IsGone handed self.old self.old.stage }
-        ensures sent { (settings : Settings) (begun : ℕ) → settings.dynamic ≡ code.now.dynamic
-            → IsStanding (code_at code.now ticket.index) settings.size ticket.index self.old self.old.stage
-            → HasSent (code_at code.now ticket.index) settings ticket begun handed self.old self.new }
+        requires standing { (size : ℕ) × (most : ℕ)
+            × IsStanding (code_at code.now ticket.index) size ticket.index most self.old self.old.stage }
+        requires gone { IsGone (code_at code.now ticket.index).graph handed self.old self.old.stage }
+        ensures sent { (settings : Settings) (begun most : ℕ) → settings.dynamic ≡ code.now.dynamic
+            → IsStanding (code_at code.now ticket.index) settings.size ticket.index most self.old self.old.stage
+            → HasSent (code_at code.now ticket.index) settings ticket begun most handed self.old self.new }
     {
         let block = usize::from(ticket.index);
         let graph = code.graph(block);

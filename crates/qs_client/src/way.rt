@@ -3,6 +3,7 @@
 ghost use Rattle.std.specs.Prelude.{◌≡◌, ◌<◌, ◌≤◌, length};
 ghost use Rattle.qs_check.specs.Values.{request_of};
 ghost use Rattle.qs_graph.specs.Walk.{acted, at_node, chosen, with_value};
+ghost use Rattle.qs_client.specs.Restart.{restarted};
 
 use qs_check::{Call, Locals};
 use qs_graph::{Action, Choice};
@@ -57,6 +58,14 @@ impl Way {
         ensures value { result ≡ request_of self.now.locals call.now }
     {
         call.request(*self.counts.allocator(), &self.locals)
+    }
+
+    /// To the first node, with all counts 0.
+    pub(crate) fn restart(&mut self)
+        ensures value { self.new ≡ restarted self.old }
+    {
+        self.node = 0;
+        self.counts.fill(0);
     }
 
     /// To another node.

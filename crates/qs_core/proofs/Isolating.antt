@@ -36,7 +36,7 @@ use Rattle.qs_core.proofs.ServiceFlows.{commands_private, flow, found, found_eac
 use Rattle.qs_core.proofs.Sights.{Sight, Stance, Stands, Runs, Awaits, stage_of}
 use Rattle.qs_core.proofs.Sims.{Sim, StandsAt, legal_among, private, queue_may}
 
-apart_kept : (f : Ticket → Bool) (ts : List Ticket) → Apart ts → Apart (filter f ts)
+pub apart_kept : (f : Ticket → Bool) (ts : List Ticket) → Apart ts → Apart (filter f ts)
 apart_kept f [] a = tt
 apart_kept f (t ∷ ts) a = by_case (f t) (each_kept (λ u. t ≢ u) f ts a.0) (apart_kept f ts a.1)
   where
@@ -44,7 +44,7 @@ apart_kept f (t ∷ ts) a = by_case (f t) (each_kept (λ u. t ≢ u) f ts a.0) (
     by_case true n k = (n, k)
     by_case false n k = k
 
-apart_both : (xs ys : List Ticket) → Apart (xs ++ ys) → AllByRecursion (λ t. AllByRecursion (λ u. same t u ≡ false) ys) xs
+pub apart_both : (xs ys : List Ticket) → Apart (xs ++ ys) → AllByRecursion (λ t. AllByRecursion (λ u. same t u ≡ false) ys) xs
 apart_both [] ys a = tt
 apart_both (x ∷ xs) ys a = (back xs a.0, apart_both xs ys a.1)
   where
@@ -53,7 +53,7 @@ apart_both (x ∷ xs) ys a = (back xs a.0, apart_both xs ys a.1)
     back (z ∷ zs) n = back zs n.1
 
 -- a ticket of an order that has none twice is there once
-among_once : (t : Ticket) (ts : List Ticket) → Apart ts → Among t ts → length (filter (same t) ts) ≡ 1
+pub among_once : (t : Ticket) (ts : List Ticket) → Apart ts → Among t ts → length (filter (same t) ts) ≡ 1
 among_once t [] a i = absurd i
 among_once t (u ∷ us) a (inl is) =
     let here : same t u ≡ true = subst (λ v. same t v ≡ true) is (same_self t) in
@@ -64,7 +64,7 @@ among_once t (u ∷ us) a (inl is) =
     none (w ∷ ws) n = rw (not_same t w n.0) (none ws n.1)
 among_once t (u ∷ us) a (inr i) = rw (not_same t u (λ is. among_apart u t us a.0 i (sym is))) (among_once t us a.1 i)
 
-turns_at : (x : Line) (j : List Entry) (ts : List Ticket) (i k : ℕ) (d : Ticket) → InTurn x j ts → i < k → k < length ts → HasEntry (get_or ts k d) j → Through x (get_or ts i d)
+pub turns_at : (x : Line) (j : List Entry) (ts : List Ticket) (i k : ℕ) (d : Ticket) → InTurn x j ts → i < k → k < length ts → HasEntry (get_or ts k d) j → Through x (get_or ts i d)
 turns_at x j [] i k d turns less inside h = absurd (omega (arith, inside))
 turns_at x j (t ∷ ts) i zero d turns less inside h = absurd (omega (arith, less))
 turns_at x j (t ∷ ts) zero (suc k) d turns less inside h = turns.0 (get_or ts k d) (among_at ts k (omega (arith, inside))) h
@@ -93,7 +93,7 @@ idle_at (x ∷ hs) zero all = none x.queues (and_cases (nat_eq (length x.queues)
     none (x ∷ xs) e = absurd (let n : length (x ∷ xs) ≡ 0 = grind (arith, e) in omega (arith, n))
 idle_at (x ∷ hs) (suc h) all = idle_at hs h (and_cases (nat_eq (length x.queues) 0) (all_idle hs) all).1
 
-commands_have_no_reply : (ws : List Request) → AllByRecursion NoQuery ws → queries_of (map logged ws) ≡ []
+pub commands_have_no_reply : (ws : List Request) → AllByRecursion NoQuery ws → queries_of (map logged ws) ≡ []
 commands_have_no_reply [] n = refl
 commands_have_no_reply (r ∷ ws) n = rw n.0 (commands_have_no_reply ws n.1)
 

@@ -26,7 +26,7 @@ abbrev pub total : (Ticket → ℕ) → List Ticket → ℕ
 total f [] = 0
 total f (t ∷ ts) = f t + total f ts
 
-total_less : (f g : Ticket → ℕ) (ts : List Ticket) → AllByRecursion (λ t. f t ≤ g t) ts → total f ts ≤ total g ts
+pub total_less : (f g : Ticket → ℕ) (ts : List Ticket) → AllByRecursion (λ t. f t ≤ g t) ts → total f ts ≤ total g ts
 total_less f g [] h = omega arith
 total_less f g (t ∷ ts) h = omega (arith, h.0, total_less f g ts h.1)
 
@@ -50,7 +50,7 @@ part_counts h e es = by_case (e.request.object == h)
     by_case false = omega arith
 
 -- a trace along a tree has at most as many requests on an object as any path
-leads_within : (h : ℕ) (t : Interaction) (es : List Event) (rest : Interaction) (n : ℕ) → Leads t es rest → Within h t n → length (part h es) ≤ n
+pub leads_within : (h : ℕ) (t : Interaction) (es : List Event) (rest : Interaction) (n : ℕ) → Leads t es rest → Within h t n → length (part h es) ≤ n
 leads_within h t [] rest n p w = omega arith
 leads_within h (Done l) (e ∷ es) rest n p w = absurd p
 leads_within h (Call r next) (e ∷ es) rest n p w =
@@ -78,14 +78,14 @@ no_block_beyond p c some = by_case (nat_lt c (length p.clients)) refl
         absurd (omega (arith, none, some))
 
 -- sums over clients, of which one number changes
-sum_same : (f g : ℕ → ℕ) (a n : ℕ) → ((c : ℕ) → a ≤ c → f c ≡ g c) → sum_by f (range_with_len a n) ≡ sum_by g (range_with_len a n)
+pub sum_same : (f g : ℕ → ℕ) (a n : ℕ) → ((c : ℕ) → a ≤ c → f c ≡ g c) → sum_by f (range_with_len a n) ≡ sum_by g (range_with_len a n)
 sum_same f g a zero e = refl
 sum_same f g a (suc n) e =
     let here : f a ≡ g a = e a (omega arith) in
     let ih = sum_same f g (a + 1) n (λ c le. e c (omega (arith, le))) in
     rw (sum_by-cons f a (range_with_len (a + 1) n), sum_by-cons g a (range_with_len (a + 1) n)) (omega (arith, here, ih))
 
-sum_changed : (f g : ℕ → ℕ) (m : ℕ) (a n : ℕ) → ((c : ℕ) → (m == c) ≡ false → f c ≡ g c) → a ≤ m → m < a + n
+pub sum_changed : (f g : ℕ → ℕ) (m : ℕ) (a n : ℕ) → ((c : ℕ) → (m == c) ≡ false → f c ≡ g c) → a ≤ m → m < a + n
     → sum_by f (range_with_len a n) + g m ≡ sum_by g (range_with_len a n) + f m
 sum_changed f g m a zero e low high = absurd (omega (arith, low, high))
 sum_changed f g m a (suc n) e low high =
@@ -104,7 +104,7 @@ sum_changed f g m a (suc n) e low high =
     apart_from c le is = eqb_apart m c (λ same. omega (arith, le, is, same))
 
 module _ (p : ProgramShape) (h : ℕ) where
-  abbrev cost : Ticket → ℕ
+  abbrev pub cost : Ticket → ℕ
   cost t = load_of (text_of p t).body h
 
   -- the loads of a client's blocks from the k-th on
@@ -120,11 +120,11 @@ module _ (p : ProgramShape) (h : ℕ) where
       ∙ ap (λ m. load_of (block_at p c k).body h + sum_by (λ j. load_of (block_at p c j).body h) (range_with_len m (blocks_of p c - suc k))) one)
 
   -- the loads of all blocks that are to come
-  abbrev left_after : (ℕ → ℕ) → ℕ
+  abbrev pub left_after : (ℕ → ℕ) → ℕ
   left_after b = sum_by (λ c. left_of c (b c)) (range_with_len 0 (length p.clients))
 
   -- a legal order has no more than what is to come
-  order_fits : (b : ℕ → ℕ) (ts : List Ticket) → LegalFrom p b ts → total cost ts ≤ left_after b
+  pub order_fits : (b : ℕ → ℕ) (ts : List Ticket) → LegalFrom p b ts → total cost ts ≤ left_after b
   order_fits b [] legal = omega arith
   order_fits b (t ∷ ts) legal =
       let c = t.client in
@@ -140,7 +140,7 @@ module _ (p : ProgramShape) (h : ℕ) where
       let own : load_of (block_at p c (b c)).body h ≡ cost t = ap (λ k. load_of (block_at p c k).body h) (sym at) in
       omega (arith, ih, all, changed_one, step, own)
 
-  all_left : left_after (λ _. 0) ≡ room_of p h
+  pub all_left : left_after (λ _. 0) ≡ room_of p h
   all_left = sum_same (λ c. left_of c 0) (λ c. room_in p c h) 0 (length p.clients)
       (λ c le. ap (λ m. sum_by (λ j. load_of (block_at p c j).body h) (range_with_len 0 m)) (let z : blocks_of p c - 0 ≡ blocks_of p c = omega arith in z))
 

@@ -20,3 +20,7 @@ pub mod Isolation
 pub mod Begun
 pub mod PlayExamples
 pub mod IsolationExamples
+pub mod Core
+pub mod CoreSchedule
+pub mod CoreReached
+pub mod CoreExamples

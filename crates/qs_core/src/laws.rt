@@ -1,5 +1,7 @@
 //! What the definitions say, for callers' proofs and for readers.
 
+ghost use Rattle.qs_core.specs.CoreExamples.{CoreExamples};
+ghost use Rattle.qs_core.specs.CoreSchedule.{CoreRunsAreIsolated};
 ghost use Rattle.qs_core.specs.Isolation.{PlainRunsAreIsolated};
 ghost use Rattle.qs_core.specs.IsolationExamples.{IsolationExamples};
 ghost use Rattle.qs_core.specs.PlayExamples.{PlayExamples};
@@ -19,4 +21,16 @@ pub fn isolation_examples()
 /// block does alone, at its place in the order of reservations. It does nothing.
 pub fn plain_runs_are_isolated()
     ensures isolated { PlainRunsAreIsolated }
+{}
+
+/// In the optimised machine, for every checked program, mode, chunk size and list of actors, at every moment: each reservation has done
+/// what its block does alone, at its place in the order of reservations. It does nothing.
+pub fn core_runs_are_isolated()
+    ensures isolated { CoreRunsAreIsolated }
+{}
+
+/// Runs of the optimised machine with all synchronisations in the graphs, tested or not, with their orders, replies, states and syncs,
+/// computed by the definitions; it does nothing.
+pub fn core_examples()
+    ensures examples { CoreExamples }
 {}

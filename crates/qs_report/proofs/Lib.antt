@@ -1,2 +1,6 @@
 pub mod Fronts
 pub mod Joined
+pub mod Added
+pub mod UniqueTexts
+pub mod CheckedSets
+pub mod WorkedTexts

@@ -1,5 +1,7 @@
 pub mod Texts
 pub mod Watched
 pub mod Report
+pub mod GraphText
 pub mod Faults
 pub mod Examples
+pub mod GraphTextExamples

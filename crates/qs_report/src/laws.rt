@@ -1,8 +1,20 @@
-//! Worked examples of the texts.
+//! Worked examples of the texts, and what holds of the texts of graphs.
 
 ghost use Rattle.qs_report.specs.Examples.{Examples};
+ghost use Rattle.qs_report.specs.GraphText.{GraphTextsAreUnique};
+ghost use Rattle.qs_report.specs.GraphTextExamples.{GraphTextExamples};
 
 /// The texts of a few runs, programs and faults, worked out by hand.
 pub fn examples()
     ensures examples { Examples }
+{}
+
+/// The texts of the graphs of a few programs, worked out by hand; it does nothing.
+pub fn graph_text_examples()
+    ensures examples { GraphTextExamples }
+{}
+
+/// A sound program has one text of its graphs; it does nothing.
+pub fn graph_texts_are_unique()
+    ensures unique { GraphTextsAreUnique }
 {}

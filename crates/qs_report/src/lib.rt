@@ -4,6 +4,7 @@
 mod bytes;
 mod counts;
 mod faults;
+mod graphs;
 pub mod laws;
 mod names;
 mod runs;
@@ -15,5 +16,6 @@ mod watching;
 
 pub use counts::check_text;
 pub use faults::{Fault, fault_line, fault_line_watched, status};
+pub use graphs::graph_text;
 pub use runs::report;
 pub use watching::{Watch, write_text};

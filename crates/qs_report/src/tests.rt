@@ -1,5 +1,7 @@
 // The lines of states, requests and faults, and writers that fail.
 
+mod graphs;
+
 use crate::states::put_state;
 use crate::tickets::{put_args, put_reply};
 use crate::{Fault, Watch, fault_line, fault_line_watched, laws, status, write_text};

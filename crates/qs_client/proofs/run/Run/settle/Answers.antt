@@ -9,7 +9,7 @@ use Rattle.qs_client.proofs.run.Run.settle.Goals as goal
 pub loop-turn-init : goal.loop-turn-init
 loop-turn-init c = record {
   stands = c.requires.stands;
-  on = λ settings begun p n dynamic w. record { stands = c.requires.stands; left = n; few = omega (arith, w.few); fewer = omega arith; rows = keeps_rows c.args.terms.ticket.index c.args.self.now.traces; counts = omega arith; running = w; same = refl };
+  on = λ settings begun p n dynamic w. record { stands = c.requires.stands; left = n; few = omega (arith, w.few); fewer = omega arith; rows = keeps_rows c.args.terms.ticket.index c.args.self.now.traces; counts = refl; running = w; same = refl };
 }
 
 pub step-requires : goal.step-requires
@@ -31,7 +31,7 @@ loop-turn-preserved c =
       on = λ settings begun p n dynamic w.
           let on = c.loop-turn.invariant.on settings begun p n dynamic w in
           let more = next settings begun p n dynamic on in
-          record { stands = more.stands; left = more.left; few = more.few; fewer = omega (arith, on.fewer, more.fewer); rows = keeps_both c.args.terms.ticket.index _ _ _ on.rows more.rows; counts = omega (arith, on.counts, more.counts); running = more.running; same = on.same ∙ more.same };
+          record { stands = more.stands; left = more.left; few = more.few; fewer = omega (arith, on.fewer, more.fewer); rows = keeps_both c.args.terms.ticket.index _ _ _ on.rows more.rows; counts = more.counts ∙ on.counts; running = more.running; same = on.same ∙ more.same };
     }
 
 pub returns-then-not-step : goal.returns-then-not-step
@@ -39,7 +39,7 @@ returns-then-not-step c = record {
   settled = λ settings begun p n dynamic w.
       let on = c.loop-turn.invariant.on settings begun p n dynamic w in
       let end = stops c.args.graph.now settings c.args.terms c.args.reserved.now begun p on.left c.loop-turn.self c.step.new.self c.is_graph.ensures.graph dynamic on.stands on.running c.step.ensures.new (sym c.step.ensures.on ∙ c.if-not-step.true) in
-      record { stopped = stopped_up c.args.graph.now c.args.reserved.now settings.size c.args.terms.ticket.index on.left n c.step.new.self c.step.new.self.stage on.fewer end.stopped; rows = keeps_both c.args.terms.ticket.index _ _ _ on.rows end.rows; counts = omega (arith, on.counts, end.counts); same = on.same ∙ end.same };
+      record { stopped = stopped_up c.args.graph.now c.args.reserved.now settings.size c.args.terms.ticket.index on.left n c.step.new.self c.step.new.self.stage on.fewer end.stopped; rows = keeps_both c.args.terms.ticket.index _ _ _ on.rows end.rows; counts = end.counts ∙ on.counts; same = on.same ∙ end.same };
 }
 
 spent : (g : List places.Place) (n turn : ℕ) (s : Spot) → n + turn ≤ limit → 3000002 ≤ turn → Within g n s → ⊥

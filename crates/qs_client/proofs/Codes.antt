@@ -1,0 +1,54 @@
+-- What a client relies on in its code: few blocks, handlers among 8, and room for all requests.
+use Rattle.std.proofs.Common.{◌≡◌, inl, inr, ℕ, ◌<◌, ◌≤◌, true, false, ◌==◌, ◌||◌, List, [], ◌∷◌, length, get_or, sym, ap, ◌∙◌, subst, arith, ⊎_elim}
+use Rattle.std.proofs.lemmas.Bool.{cases_lt}
+use Rattle.std.proofs.lemmas.List.{get_or_past}
+use Rattle.std.specs.List.{AllByRecursion}
+use Rattle.qs_objects.proofs.Choices.{num_cases}
+use Rattle.qs_check.specs.Program.{ProgramShape, block_at, blocks_of, client_at, no_client}
+use Rattle.qs_check.specs.Sound.{IsSound, IsSoundBlock, IsSoundClient, is_in}
+use Rattle.qs_check.proofs.Bounds.{AllByRecursion-get_or, sound_block}
+use Rattle.qs_syncset.specs.Codes.{ClientCode, IsCode, code_at}
+
+-- a client that has blocks is a client of the program
+client_inside : (p : ProgramShape) (c k : ℕ) → k < blocks_of p c → c < length p.clients
+client_inside p c k inside = elim (cases_lt c (length p.clients)) [
+  | inl lt ↦ lt
+  | inr le ↦ absurd (omega (arith, inside, ap (λ (d : _). length d.blocks) (get_or_past p.clients c no_client le)))
+]
+
+pub below_eight : (code : ClientCode) (k i : ℕ) → IsCode code → k < length code.blocks → i < length (code_at code k).reserved
+    → get_or (code_at code k).reserved i 0 < 8
+below_eight code k i w inside at =
+    let p = w.program in
+    let here : k < blocks_of p w.client = omega (arith, inside, w.of.count) in
+    let block : IsSoundBlock p.objects (block_at p w.client k) = sound_block p w.client k w.sound (client_inside p w.client k here) here in
+    let same : (code_at code k).reserved ≡ (block_at p w.client k).reserved = (w.of.blocks k here).reserved in
+    let below : get_or (block_at p w.client k).reserved i 0 < length p.objects =
+    AllByRecursion-get_or (λ h. h < length p.objects) (block_at p w.client k).reserved i 0 block.reserved (omega (arith, at, ap length same)) in
+    omega (arith, below, w.sound.objects, ap (λ hs. get_or hs i 0) same)
+
+in_each : (P : ℕ → Type 0) (xs : List ℕ) (x : ℕ) → is_in xs x ≡ true → AllByRecursion P xs → P x
+in_each P [] x member each = cc
+in_each P (y ∷ ys) x member each =
+    ⊎_elim
+    (λ (is : y ≡ x). subst P is each.0)
+    (λ (other : (y == x) ≡ false). in_each P ys x (ap (λ b. b || is_in ys x) (sym other) ∙ member) each.1)
+    (num_cases y x)
+
+-- a handler of a block's list is one of 8
+pub reserved_below_eight : (p : ProgramShape) (c k : ℕ) → IsSound p → k < blocks_of p c → (h : ℕ) → is_in (block_at p c k).reserved h ≡ true → h < 8
+reserved_below_eight p c k sound inside h member =
+    let block : IsSoundBlock p.objects (block_at p c k) = sound_block p c k sound (client_inside p c k inside) inside in
+    let below : h < length p.objects = in_each (λ o. o < length p.objects) (block_at p c k).reserved h member block.reserved in
+    omega (arith, below, sound.objects)
+
+pub few_blocks : (code : ClientCode) → IsCode code → length code.blocks ≤ 64
+few_blocks code w = elim (cases_lt 0 (length code.blocks)) [
+  | inl lt ↦
+      let p = w.program in
+      let here : 0 < blocks_of p w.client = omega (arith, lt, w.of.count) in
+      let client : IsSoundClient p.objects (client_at p w.client) =
+      AllByRecursion-get_or (IsSoundClient p.objects) p.clients w.client no_client w.sound.each (client_inside p w.client 0 here) in
+      omega (arith, client.blocks, w.of.count)
+  | inr le ↦ omega (arith, le)
+]

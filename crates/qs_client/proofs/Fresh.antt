@@ -1,0 +1,84 @@
+-- A mind before its first block.
+use Rattle.std.proofs.Common.{◌≡◌, ℕ, zero, suc, ◌+◌, ◌*◌, ◌≤◌, List, [], ◌∷◌, Option, None, length, replicate, get_or, refl, sym, ap, subst, arith}
+use Rattle.std.proofs.Math.Path.{fun_ext}
+use Rattle.std.proofs.lemmas.List.{get_or-map, length-map, length-replicate}
+use Rattle.qs_objects.specs.Journals.{HeldState}
+use Rattle.qs_objects.specs.declared.held.Event.{Event}
+use Rattle.qs_objects.specs.declared.Request.{Request}
+use Rattle.qs_chunk.specs.Batch.{Batch}
+use Rattle.qs_check.specs.Serial.{zeros}
+use Rattle.qs_check.specs.Values.{Locals}
+use Rattle.qs_graph.specs.Steps.{limit}
+use Rattle.qs_syncset.specs.Codes.{BlockCode, ClientCode, IsCode, no_code}
+use Rattle.qs_client.specs.Beginning.{fresh_run}
+use Rattle.qs_client.specs.Client.{between}
+use Rattle.qs_client.specs.Kept.{IsKept, empty_rows, room_for}
+use Rattle.qs_client.specs.Mind.{fresh_mind, longest}
+use Rattle.qs_client.specs.MindState.{MindState, events_of, mind_of}
+use Rattle.qs_client.specs.Minds.{items_of}
+use Rattle.qs_client.specs.Running.{IsOpen}
+use Rattle.qs_client.specs.Trail.{TraceState, trace_state}
+use Rattle.qs_client.specs.declared.run.Run.{Run}
+use Rattle.qs_client.specs.declared.stage.Handed.TheVariants as handeds
+
+none_at : {X : Type 0} (n i : ℕ) (d : X) → get_or (replicate n d) i d ≡ d
+none_at zero i d = refl
+none_at (suc n) zero d = refl
+none_at (suc n) (suc i) d = none_at n i d
+
+no_events : (blocks : List BlockCode) → events_of (empty_rows blocks) ≡ replicate (length blocks) []
+no_events [] = refl
+no_events (b ∷ bs) = ap (λ (es : List (List Event)). [] ∷ es) (no_events bs)
+
+-- the data of a mind before its first block, with this run and these entries
+abbrev pub fresh_with : ClientCode → ℕ → Run → List Locals → MindState
+fresh_with code size run entries = record {
+  code = code;
+  size = size;
+  ticket = record { client = 0; index = 0 };
+  run = run;
+  entries = entries;
+  syncs = 0;
+  handed = handeds.Nothing;
+}
+
+abbrev pub fresh_state : ClientCode → ℕ → MindState
+fresh_state code size = fresh_with code size (fresh_run code.blocks) []
+
+no_nodes : 0 + 0 ≤ 0 * limit
+unfolding limit
+no_nodes = omega arith
+
+pub fresh_kept : (code : ClientCode) (size : ℕ) → IsCode code → (1 ≤ size) × (size ≤ 32) → IsKept (fresh_state code size)
+fresh_kept code size ok sized = record {
+  code = ok;
+  size = sized;
+  blocks = omega arith;
+  rows = length-map code.blocks (λ (b : BlockCode). trace_state [] (room_for b));
+  counts = length-replicate {A = ℕ} (longest code.blocks) 0;
+  ticket = λ some. absurd (omega (arith, some));
+  first = λ none. (refl, refl);
+  left = 0;
+  few = no_nodes;
+  standing = record { held = refl; chunks = refl; opened = λ h. subst (IsOpen size) (sym (none_at {X = Option (Batch Request)} 8 h None)) tt };
+  gone = tt;
+  later = λ k past inside. ap (λ (t : TraceState). t.room) (get_or-map (λ (b : BlockCode). trace_state [] (room_for b)) code.blocks k no_code (trace_state [] 0) inside);
+}
+
+pub fresh_is : (code : ClientCode) (size : ℕ) → mind_of (fresh_state code size) ≡ fresh_mind code size
+unfolding mind_of
+fresh_is code size = λ i. record {
+  code = code;
+  size = size;
+  ticket = record { client = 0; index = 0 };
+  client = record {
+    begun = 0;
+    place = between zeros;
+    held = fun_ext (λ h. none_at {X = Option HeldState} 8 h None) i;
+    chunk = fun_ext (λ h. ap items_of (none_at {X = Option (Batch Request)} 8 h None)) i;
+  };
+  entries = [];
+  traces = no_events code.blocks i;
+  syncs = 0;
+  handed = handeds.Nothing;
+}

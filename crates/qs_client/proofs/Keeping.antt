@@ -1,0 +1,345 @@
+-- What a mind's call does is what its definition says, and keeps what holds of every mind.
+use Rattle.std.proofs.Common.{◌≡◌, inl, inr, ℕ, zero, suc, ◌+◌, ◌*◌, ◌<◌, ◌≤◌, true, false, ◌==◌, List, [], ◌++◌, length, length-set, get_or, set, refl, sym, ap, ◌∙◌, subst, arith, append-nil, ⊎_elim}
+use Rattle.std.proofs.Math.ListN.{get_or-map}
+use Rattle.std.proofs.lemmas.Bool.{cases_lt, ne_eqb}
+use Rattle.std.proofs.lemmas.List.{ext_get_or, get_or-set_same, get_or-set_other, length-map, set-get_or}
+use Rattle.qs_objects.specs.Journals.{HeldState}
+use Rattle.qs_objects.specs.declared.held.Event.{Event}
+use Rattle.qs_objects.proofs.Choices.{eqb_self, num_cases}
+use Rattle.qs_graph.specs.Nodes as places
+use Rattle.qs_graph.specs.Steps.{limit}
+use Rattle.qs_graph.specs.Walk.{Spot, walk, Within}
+use Rattle.qs_syncset.specs.Codes.{BlockCode, IsCode, code_at}
+use Rattle.qs_client.specs.Acting.{HasActed, Wants}
+use Rattle.qs_client.specs.Client.{Settled, got, took_chunk}
+use Rattle.qs_client.specs.Kept.{IsKept, room_for}
+use Rattle.qs_client.specs.Mind.{Asks, asked_of, chunk_mind, comes_to, count_sync, done, extended, got_mind, hands_out, is_between, longest}
+use Rattle.qs_client.specs.MindState.{MindState, IsMind, block_of, client_in, events_of, mind_of, settings_in}
+use Rattle.qs_client.specs.Minds.{Outcome, place_by}
+use Rattle.qs_client.specs.Running.{KeepsRows}
+use Rattle.qs_client.specs.Standing.{HasCome, HasGot, HasSent, HasTaken, IsGone, IsStanding, after_send, handed_of, left_after}
+use Rattle.qs_client.specs.Trail.{TraceState, trace_at, trace_state}
+use Rattle.qs_client.specs.declared.act.Act.{Act}
+use Rattle.qs_client.specs.declared.act.Act.TheVariants as acts
+use Rattle.qs_client.specs.declared.run.Run.{Run}
+use Rattle.qs_client.specs.declared.stage.Handed.{Handed}
+use Rattle.qs_client.specs.declared.stage.Handed.TheVariants as handeds
+use Rattle.qs_client.specs.declared.stage.Stage.{Stage}
+use Rattle.qs_client.specs.declared.stage.Stage.TheVariants as stages
+use Rattle.qs_client.proofs.Codes.{few_blocks}
+use Rattle.qs_client.proofs.Coming.{at_call, awaits_here, nothing_between}
+
+events_at : (rows : List TraceState) (j : ℕ) → get_or (events_of rows) j [] ≡ (trace_at rows j).events
+events_at rows j = get_or-map (λ (t : TraceState). t.events) rows j (trace_state [] 0)
+
+length_events : (rows : List TraceState) → length (events_of rows) ≡ length rows
+length_events rows = length-map rows (λ (t : TraceState). t.events)
+
+-- the rows with events at the end of one
+pub extended_rows : (old new : List TraceState) (k : ℕ) (es : List Event) → KeepsRows k old new
+    → (trace_at old k).events ++ es ≡ (trace_at new k).events → events_of new ≡ extended (events_of old) k es
+extended_rows old new k es keeps same =
+    let row : List Event = get_or (events_of old) k [] ++ es in
+    ext_get_or [] (events_of new) (set (events_of old) k row)
+    (omega (arith, length_events new, length_events old, keeps.count, length-set (events_of old) k row))
+    (λ j inside.
+    ⊎_elim
+    (λ (is : k ≡ j).
+    events_at new j
+    ∙ subst (λ m. (trace_at new m).events ≡ get_or (set (events_of old) k row) m []) is
+    (sym same ∙ ap (λ (xs : List Event). xs ++ es) (sym (events_at old k))
+    ∙ sym (get_or-set_same (events_of old) k row [] (omega (arith, inside, is, length_events new, length_events old, keeps.count)))))
+    (λ (other : (k == j) ≡ false).
+    events_at new j ∙ ap (λ (t : TraceState). t.events) (keeps.others j other) ∙ sym (events_at old j)
+    ∙ sym (get_or-set_other (events_of old) k j row [] (λ e. let same : (k == k) ≡ false = subst (λ m. (k == m) ≡ false) e other in no_self k same)))
+    (num_cases k j))
+  where
+    no_self : (k : ℕ) → (k == k) ≡ false → ⊥
+    no_self k e = let yes = eqb_self k in cc
+
+-- with no event nothing changes
+pub extended_none : (ts : List (List Event)) (k : ℕ) → extended ts k [] ≡ ts
+extended_none ts k = ap (set ts k) (append-nil (get_or ts k [])) ∙ set-get_or ts k []
+
+-- the mind of these data with another run, and with nothing handed out
+abbrev pub with_run : MindState → Run → MindState
+with_run m run = record {
+  code = m.code;
+  size = m.size;
+  ticket = m.ticket;
+  run = run;
+  entries = m.entries;
+  syncs = m.syncs;
+  handed = handeds.Nothing;
+}
+
+pub comes_mind : (m : MindState) (by : Settled) (most : ℕ) (new : Run)
+    → HasCome (block_of m) (settings_in m) m.ticket (length m.entries) most by m.run new
+    → mind_of (with_run m new) ≡ comes_to (mind_of m) by
+unfolding mind_of
+comes_mind m by most new w =
+    let client = ap (λ (o : Outcome). o.client) w.same in
+    let rows = extended_rows m.run.traces new.traces m.ticket.index by.events w.rows (ap (λ (o : Outcome). o.trace) w.same) in
+    λ i. record {
+      code = m.code;
+      size = m.size;
+      ticket = m.ticket;
+      client = sym client i;
+      entries = m.entries;
+      traces = rows i;
+      syncs = m.syncs;
+      handed = handeds.Nothing;
+    }
+
+-- what does not depend on where a client stands in its block
+pub record IsSteady (m : MindState) : Type 0 where
+  pub code : IsCode m.code
+  pub size : (1 ≤ m.size) × (m.size ≤ 32)
+  pub blocks : length m.entries ≤ length m.code.blocks
+  pub rows : length m.run.traces ≡ length m.code.blocks
+  pub counts : length m.run.way.counts ≡ longest m.code.blocks
+  pub ticket : m.ticket.index + 1 ≡ length m.entries
+  pub later : (k : ℕ) → length m.entries ≤ k → k < length m.code.blocks → (trace_at m.run.traces k).room ≡ room_for (code_at m.code k)
+
+pub steady : (m : MindState) → 0 < length m.entries → IsKept m → IsSteady m
+steady m some w = record {
+  code = w.code;
+  size = w.size;
+  blocks = w.blocks;
+  rows = w.rows;
+  counts = w.counts;
+  ticket = w.ticket some;
+  later = w.later;
+}
+
+nothing_gone : (g : List places.Place) (s : Run) (stage : Stage) → IsGone g handeds.Nothing s stage
+nothing_gone g s stages.Between = tt
+nothing_gone g s stages.Runs = tt
+nothing_gone g s (stages.Full h) = tt
+nothing_gone g s (stages.Awaits h) = tt
+nothing_gone g s (stages.Leaves i) = tt
+
+pub come_kept : (m : MindState) (by : Settled) (most : ℕ) (new : Run) → IsSteady m
+    → HasCome (block_of m) (settings_in m) m.ticket (length m.entries) most by m.run new
+    → m.syncs + most ≤ length m.entries * limit → IsKept (with_run m new)
+come_kept m by most new s w few = record {
+  code = s.code;
+  size = s.size;
+  blocks = s.blocks;
+  rows = w.rows.count ∙ s.rows;
+  counts = w.counts ∙ s.counts;
+  ticket = λ some. s.ticket;
+  first = λ none. absurd (omega (arith, s.ticket, none));
+  left = most;
+  few = few;
+  standing = w.standing;
+  gone = nothing_gone (block_of m).graph new new.stage;
+  later = λ k past inside.
+      ap (λ (t : TraceState). t.room) (w.rows.others k (ne_eqb m.ticket.index k (λ e. omega (arith, e, past, s.ticket)))) ∙ s.later k past inside;
+}
+
+-- a block was begun where something was handed out, or the client does not stand between blocks
+pub begun_handed : (m : MindState) → IsKept m → (m.handed ≡ handeds.Nothing → ⊥) → 0 < length m.entries
+begun_handed m w other = elim (cases_lt 0 (length m.entries)) [ inl lt ↦ lt | inr le ↦ absurd (other (w.first (omega (arith, le))).1) ]
+
+pub begun_inside : (m : MindState) → IsKept m → (m.run.stage ≡ stages.Between → ⊥) → 0 < length m.entries
+begun_inside m w other = elim (cases_lt 0 (length m.entries)) [ inl lt ↦ lt | inr le ↦ absurd (other (w.first (omega (arith, le))).0) ]
+
+pub block_inside : (m : MindState) → IsKept m → 0 < length m.entries → m.ticket.index < length m.code.blocks
+block_inside m w some = omega (arith, w.ticket some, w.blocks)
+
+few_counted : (handed : Handed) → count_sync handed ≤ 1
+few_counted handeds.Nothing = omega arith
+few_counted handeds.Value = omega arith
+few_counted handeds.Sync = omega arith
+few_counted handeds.End = omega arith
+
+-- the number of Syncs stays small
+pub syncs_fit : (m : MindState) → IsKept m → m.syncs + count_sync m.handed < 18446744073709551616
+unfolding limit
+syncs_fit m w = omega (arith, w.few, w.blocks, few_blocks m.code w.code, few_counted m.handed)
+
+node_left : (b : BlockCode) (size k most : ℕ) (s : Run) (stage : Stage) → IsStanding b size k most s stage → IsGone b.graph handeds.Sync s stage → 1 ≤ most
+node_left b size k most s stages.Between w gone = absurd gone
+node_left b size k most s (stages.Full h) w gone = absurd gone
+node_left b size k most s (stages.Awaits h) w gone = absurd gone
+node_left b size k most s (stages.Leaves i) w gone = absurd gone
+node_left b size k most s stages.Runs w gone = some w.0 w.1 w.2.within
+  where
+    some : (n : ℕ) → n ≤ most → Within b.graph n s.way → 1 ≤ most
+    some zero few within = absurd within
+    some (suc n) few within = omega (arith, few)
+
+-- a Sync takes a node
+pub few_after : (m : MindState) (w : IsKept m) → m.syncs + count_sync m.handed + left_after m.handed w.left ≤ length m.entries * limit
+few_after m w = by_handed m.handed w.gone
+  where
+    by_handed : (handed : Handed) → IsGone (block_of m).graph handed m.run m.run.stage
+        → m.syncs + count_sync handed + left_after handed w.left ≤ length m.entries * limit
+    by_handed handeds.Nothing gone = omega (arith, w.few)
+    by_handed handeds.Value gone = omega (arith, w.few)
+    by_handed handeds.Sync gone =
+        omega (arith, w.few, node_left (block_of m) m.size m.ticket.index w.left m.run m.run.stage w.standing gone)
+    by_handed handeds.End gone = omega (arith, w.few)
+
+pub kept_mind : (m : MindState) → IsKept m → IsMind (mind_of m)
+unfolding mind_of
+kept_mind m w = record {
+  code = w.code;
+  size = w.size;
+  entries = refl;
+  blocks = w.blocks;
+  traces = length_events m.run.traces ∙ w.rows;
+  ticket = w.ticket;
+  syncs = omega (arith, w.few);
+  first = λ none. ap (λ (stage : Stage). is_between (place_by stage (block_of m).reserved (walk (block_of m).graph limit m.run.way) m.run.way.locals)) (w.first none).0;
+}
+
+-- the mind of these data with another run and something handed out
+abbrev pub hands_over : MindState → Run → Handed → MindState
+hands_over m run handed = record {
+  code = m.code;
+  size = m.size;
+  ticket = m.ticket;
+  run = run;
+  entries = m.entries;
+  syncs = m.syncs;
+  handed = handed;
+}
+
+pub wants_of : (m : MindState) (w : IsKept m) (a : Act) → Asks (mind_of m) a
+    → Wants (block_of m) (settings_in m) (length m.code.blocks) m.ticket.index (length m.entries) w.left m.run a
+unfolding mind_of
+wants_of m w a asked = record { standing = w.standing; act = asked.1 }
+
+pub asks_nothing : (m : MindState) (a : Act) → Asks (mind_of m) a → m.handed ≡ handeds.Nothing
+unfolding mind_of
+asks_nothing m a asked = asked.0
+
+pub awaits_begun : (m : MindState) (w : IsKept m) (h : ℕ) → Asks (mind_of m) (acts.Await h) → 0 < length m.entries
+awaits_begun m w h asked =
+    begun_inside m w (λ e.
+    let at : m.run.stage ≡ stages.Awaits h =
+    awaits_here (block_of m) (settings_in m) m.ticket (length m.code.blocks) (length m.entries) w.left m.run h (wants_of m w (acts.Await h) asked) in cc)
+
+pub needs_begun : (m : MindState) (w : IsKept m) (h : ℕ) → Asks (mind_of m) (acts.NeedChunk h) → 0 < length m.entries
+needs_begun m w h asked =
+    begun_inside m w (λ e.
+    let at : m.run.stage ≡ stages.Runs =
+    (at_call (block_of m) (settings_in m) m.ticket (length m.code.blocks) (length m.entries) w.left m.run h (wants_of m w (acts.NeedChunk h) asked)).stands in cc)
+
+-- a mind for which nothing is left to be done
+pub nothing_left : (m : MindState) (run : Run) → m.handed ≡ handeds.Nothing → with_run m run ≡ hands_over m run m.handed
+nothing_left m run e = λ i. hands_over m run (sym e i)
+
+pub got_is : (m : MindState) (most : ℕ) (x : HeldState) (new : Run) → m.handed ≡ handeds.Nothing
+    → HasGot (block_of m) (settings_in m) m.ticket (length m.entries) most x m.run new → mind_of (hands_over m new m.handed) ≡ got_mind (mind_of m) x
+unfolding mind_of
+got_is m most x new none w =
+    ap mind_of (sym (nothing_left m new none))
+    ∙ comes_mind m (got (settings_in m) m.ticket (block_of m).reserved (client_in m) x (client_in m).place) most new w
+
+pub taken_is : (m : MindState) (most h : ℕ) (new : Run) → m.handed ≡ handeds.Nothing
+    → HasTaken (block_of m) (settings_in m) m.ticket (length m.entries) most h m.run new → mind_of (hands_over m new m.handed) ≡ chunk_mind (mind_of m) h
+unfolding mind_of
+taken_is m most h new none w =
+    ap mind_of (sym (nothing_left m new none))
+    ∙ comes_mind m (took_chunk (settings_in m) m.ticket (block_of m).reserved (client_in m) h (client_in m).place) most new w
+
+-- what was sent is done
+abbrev pub with_syncs : MindState → ℕ → MindState
+with_syncs m syncs = record {
+  code = m.code;
+  size = m.size;
+  ticket = m.ticket;
+  run = m.run;
+  entries = m.entries;
+  syncs = syncs;
+  handed = m.handed;
+}
+
+pub done_is : (m : MindState) (most : ℕ) (new : Run) → HasSent (block_of m) (settings_in m) m.ticket (length m.entries) most m.handed m.run new
+    → mind_of (with_run (with_syncs m (m.syncs + count_sync m.handed)) new) ≡ done (mind_of m)
+unfolding mind_of
+done_is m most new w =
+    comes_mind (with_syncs m (m.syncs + count_sync m.handed))
+    (after_send (settings_in m) m.ticket (block_of m).reserved m.handed (client_in m)) (left_after m.handed most) new w
+
+-- with nothing to be done a mind stays as it is
+pub done_none : (m : MindState) → m.handed ≡ handeds.Nothing → mind_of m ≡ done (mind_of m)
+unfolding mind_of
+done_none m none =
+    (λ i. mind_of (hands_over m m.run (none i)))
+    ∙ (λ i. record {
+      code = m.code;
+      size = m.size;
+      ticket = m.ticket;
+      client = client_in m;
+      entries = m.entries;
+      traces = sym (extended_none (events_of m.run.traces) m.ticket.index) i;
+      syncs = (let same : m.syncs ≡ m.syncs + 0 = omega arith in same) i;
+      handed = handeds.Nothing;
+    })
+    ∙ (λ i. done (mind_of (hands_over m m.run (sym none i))))
+
+pub finish_kept : (m : MindState) (new : Run) (w : IsKept m) → 0 < length m.entries
+    → HasSent (block_of m) (settings_in m) m.ticket (length m.entries) w.left m.handed m.run new
+    → IsKept (with_run (with_syncs m (m.syncs + count_sync m.handed)) new)
+finish_kept m new w some sent =
+    let s = steady m some w in
+    come_kept (with_syncs m (m.syncs + count_sync m.handed))
+    (after_send (settings_in m) m.ticket (block_of m).reserved m.handed (client_in m)) (left_after m.handed w.left) new
+    (record { code = s.code; size = s.size; blocks = s.blocks; rows = s.rows; counts = s.counts; ticket = s.ticket; later = s.later })
+    sent (few_after m w)
+
+-- the next act
+
+pub acts_kept : (m : MindState) (w : IsKept m) (given : Act) (new : Run)
+    → HasActed (block_of m) (settings_in m) (length m.code.blocks) m.ticket.index (length m.entries) w.left given m.run new
+    → IsKept (hands_over m new (handed_of given))
+acts_kept m w given new a = record {
+  code = w.code;
+  size = w.size;
+  blocks = w.blocks;
+  rows = ap (λ (ts : List TraceState). length ts) a.traces ∙ w.rows;
+  counts = ap (λ (p : Spot). length p.counts) a.way ∙ w.counts;
+  ticket = w.ticket;
+  first = λ none. (
+    a.stage ∙ (w.first none).0,
+    nothing_between (block_of m) (settings_in m) m.ticket (length m.code.blocks) (length m.entries) w.left m.run given (w.first none).0 a.act,
+  );
+  left = w.left;
+  few = w.few;
+  standing = a.standing;
+  gone = a.gone;
+  later = λ k past inside. ap (λ (ts : List TraceState). (trace_at ts k).room) a.traces ∙ w.later k past inside;
+}
+
+pub acts_is : (m : MindState) (most : ℕ) (given : Act) (new : Run)
+    → HasActed (block_of m) (settings_in m) (length m.code.blocks) m.ticket.index (length m.entries) most given m.run new
+    → mind_of (hands_over m new (handed_of given)) ≡ hands_out (mind_of m) given
+unfolding mind_of
+acts_is m most given new a = λ i. record {
+  code = m.code;
+  size = m.size;
+  ticket = m.ticket;
+  client = a.rest i;
+  entries = m.entries;
+  traces = events_of (a.traces i);
+  syncs = m.syncs;
+  handed = handed_of given;
+}
+
+pub acts_asked : (m : MindState) (most : ℕ) (given : Act) (new : Run)
+    → HasActed (block_of m) (settings_in m) (length m.code.blocks) m.ticket.index (length m.entries) most given m.run new
+    → given ≡ asked_of (mind_of m)
+unfolding mind_of
+acts_asked m most given new a = a.act
+
+-- a block was begun, where the client does not stand between blocks
+pub begun_between : (m : MindState) → IsKept m → is_between (mind_of m).client.place ≡ false → 0 < length m.entries
+unfolding mind_of
+begun_between m w off =
+    begun_inside m w (λ e.
+    let on : is_between (client_in m).place ≡ true =
+    ap (λ t. is_between (place_by t (block_of m).reserved (walk (block_of m).graph limit m.run.way) m.run.way.locals)) e in cc)

@@ -1,0 +1,49 @@
+use Rattle.std.proofs.Common.{◌+◌, refl, sym, ap, ◌∙◌, subst, length, arith}
+use Rattle.qs_client.specs.Kept.{IsKept}
+use Rattle.qs_client.specs.Mind.{done}
+use Rattle.qs_client.specs.MindState.{MindState, mind_of, settings_in}
+use Rattle.qs_client.specs.contracts.mind.Mind.{the_view}
+use Rattle.qs_client.proofs.Keeping.{begun_handed, block_inside, done_is, done_none, finish_kept, syncs_fit, with_run, with_syncs}
+use Rattle.qs_client.proofs.mind.Mind.finish.Goals as goal
+
+pub returns-in-Nothing : goal.returns-in-Nothing
+returns-in-Nothing c =
+    let m : MindState = the_view c.self.inside in
+    record {
+      done = ap (λ (x : MindState). mind_of x) (sym c.self.view_is) ∙ done_none m c.in-Nothing.is ∙ ap (λ (x : MindState). done (mind_of x)) c.self.view_is;
+    }
+
+pub overflow_add-self : goal.overflow_add-self
+overflow_add-self c =
+    let m : MindState = the_view c.self.inside in omega (arith, syncs_fit m c.self.invariant.1, c.syncs.ensures.value)
+
+pub sent-requires : goal.sent-requires
+sent-requires c =
+    let m : MindState = the_view c.self.inside in
+    let w : IsKept m = c.self.invariant.1 in
+    record {
+      block = block_inside m w (begun_handed m w c.in_default.not-Nothing);
+      standing = (m.size, w.left, w.standing);
+      gone = w.gone;
+    }
+
+pub invariant_of-self : goal.invariant_of-self
+invariant_of-self c =
+    let m : MindState = the_view c.self.inside in
+    let w : IsKept m = c.self.invariant.1 in
+    let sent = c.sent.ensures.sent (settings_in m) (length m.entries) w.left refl w.standing in (
+      c.self.invariant.0,
+      subst (λ n. IsKept (with_run (with_syncs m (m.syncs + n)) c.sent.new.self)) (sym c.syncs.ensures.value)
+          (finish_kept m c.sent.new.self w (begun_handed m w c.in_default.not-Nothing) sent),
+    )
+
+pub returns : goal.returns
+returns c =
+    let m : MindState = the_view c.self.inside in
+    let w : IsKept m = c.self.invariant.1 in
+    let sent = c.sent.ensures.sent (settings_in m) (length m.entries) w.left refl w.standing in
+    record {
+      done = ap (λ n. mind_of (with_run (with_syncs m (m.syncs + n)) c.sent.new.self)) c.syncs.ensures.value
+          ∙ done_is m w.left c.sent.new.self sent
+          ∙ ap (λ (x : MindState). done (mind_of x)) c.self.view_is;
+    }

@@ -1,0 +1,22 @@
+use Rattle.std.proofs.Common.{◌≡◌, ◌≤◌, sym, ◌∙◌, subst, arith}
+use Rattle.qs_client.specs.Beginning.{fresh_run}
+use Rattle.qs_client.specs.Kept.{IsKept}
+use Rattle.qs_client.specs.MindState.{mind_of}
+use Rattle.qs_client.proofs.Fresh.{fresh_is, fresh_kept, fresh_with}
+use Rattle.qs_client.proofs.mind.Mind.new.Goals as goal
+
+pub invariant_of-result : goal.invariant_of-result
+invariant_of-result c =
+    let run : c.in_ok-run.run' ≡ fresh_run c.args.code.blocks = c.in_ok-run.ensures.fresh in
+    let none = c.in_ok-entries.ensures.items in (
+      omega (arith, c.in_ok-entries.ensures.capacity, c.blocks-2.ensures.value),
+      subst IsKept (λ i. fresh_with c.args.code c.args.size (sym run i) (sym none i)) (fresh_kept c.args.code c.args.size c.is_code.ensures.code (subst (λ n. (1 ≤ n) × (n ≤ 32)) c.get.ensures.size c.get.ensures.within)),
+    )
+
+pub returns : goal.returns
+returns c =
+    let run : c.in_ok-run.run' ≡ fresh_run c.args.code.blocks = c.in_ok-run.ensures.fresh in
+    let none = c.in_ok-entries.ensures.items in
+    record {
+      fresh = (λ i. mind_of (fresh_with c.args.code c.args.size (run i) (none i))) ∙ fresh_is c.args.code c.args.size;
+    }

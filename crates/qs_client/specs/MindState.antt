@@ -1,0 +1,63 @@
+-- A client's mind as it is kept, and as the acts are defined on it; what holds of every mind.
+use Rattle.std.specs.Prelude.{◌≡◌, ◌<◌, ◌≤◌, ℕ, ◌+◌, ◌*◌, List, length, map, true}
+use Rattle.qs_objects.specs.declared.held.Event.{Event}
+use Rattle.qs_objects.specs.declared.held.Ticket.{Ticket}
+use Rattle.qs_check.specs.Values.{Locals}
+use Rattle.qs_graph.specs.Steps.{limit}
+use Rattle.qs_syncset.specs.Codes.{BlockCode, ClientCode, IsCode, code_at}
+use Rattle.qs_client.specs.Client.{Client, Settings}
+use Rattle.qs_client.specs.Mind.{Mind, is_between}
+use Rattle.qs_client.specs.Minds.{client_of}
+use Rattle.qs_client.specs.Trail.{TraceState}
+use Rattle.qs_client.specs.declared.run.Run.{Run}
+use Rattle.qs_client.specs.declared.stage.Handed.{Handed}
+
+-- the code and the chunks' size; the ticket of the block that was begun last, and where the client stands in it; the variables at entry of
+-- the blocks that were begun; the Syncs that were sent; and what the last act carried
+pub record MindState : Type 0 where
+  pub code : ClientCode
+  pub size : ℕ
+  pub ticket : Ticket
+  pub run : Run
+  pub entries : List Locals
+  pub syncs : ℕ
+  pub handed : Handed
+
+-- the code of the block that was begun last
+abbrev pub block_of : MindState → BlockCode
+block_of m = code_at m.code m.ticket.index
+
+abbrev pub events_of : List TraceState → List (List Event)
+events_of rows = map (λ (t : TraceState). t.events) rows
+
+abbrev pub settings_in : MindState → Settings
+settings_in m = record { dynamic = m.code.dynamic; size = m.size }
+
+-- the client in its block
+abbrev pub client_in : MindState → Client
+client_in m = client_of (block_of m).graph (block_of m).reserved (length m.entries) m.run
+
+-- a mind as its acts are defined
+unfoldable pub mind_of : MindState → Mind
+mind_of m = record {
+  code = m.code;
+  size = m.size;
+  ticket = m.ticket;
+  client = client_in m;
+  entries = m.entries;
+  traces = events_of m.run.traces;
+  syncs = m.syncs;
+  handed = m.handed;
+}
+
+-- what holds of every mind
+pub record IsMind (m : Mind) : Type 0 where
+  pub code : IsCode m.code
+  pub size : (1 ≤ m.size) × (m.size ≤ 32)
+  pub entries : length m.entries ≡ m.client.begun
+  pub blocks : m.client.begun ≤ length m.code.blocks
+  pub traces : length m.traces ≡ length m.code.blocks
+  pub ticket : 0 < m.client.begun → m.ticket.index + 1 ≡ m.client.begun
+  pub syncs : m.syncs ≤ m.client.begun * limit
+  -- before its first block it stands between blocks
+  pub first : m.client.begun ≡ 0 → is_between m.client.place ≡ true

@@ -1,0 +1,7 @@
+-- The beginning of a block's walk.
+use Rattle.std.specs.Prelude.{length, replicate}
+use Rattle.qs_graph.specs.Walk.{Spot, entry}
+
+-- at the first node with all counts 0
+abbrev pub restarted : Spot → Spot
+restarted s = entry s.locals (replicate (length s.counts) 0)

@@ -1,0 +1,231 @@
+//! A client's mind.
+
+ghost use Rattle.std.specs.Prelude.{◌≡◌, ◌<◌, ℕ, [], IfOk, length, option_copied};
+ghost use Rattle.qs_chunk.specs.Batch.{batch};
+ghost use Rattle.qs_client.specs.Mind.{Asks, booked_mind, chunk_mind, done, ended_by, fresh_mind, got_mind, is_between, next_act, next_mind};
+ghost use Rattle.qs_client.specs.MindState.{IsMind, events_of, mind_of};
+
+use crate::act::Act;
+use crate::run::Run;
+use crate::stage::{Handed, Stage};
+use crate::traces::Traces;
+use qs_check::Locals;
+use qs_chunk::{Chunk, ChunkSize};
+use qs_objects::{Held, Request, Ticket};
+use qs_syncset::Code;
+use std::alloc::{AllocError, Global};
+use std::marker::Model;
+
+/// A client's decisions. No call after the constructor takes memory or refuses.
+#[derive(Drop)]
+pub struct Mind {
+    code: Code,
+    size: ChunkSize,
+    ticket: Ticket,
+    run: Run,
+    entries: Vec<Locals>,
+    syncs: u64,
+    handed: Handed,
+}
+
+impl Model for Mind {
+    ghost use Rattle.std.specs.Prelude.{◌≤◌, length, vec_capacity};
+    ghost use Rattle.qs_client.specs.MindState.{MindState};
+    ghost use Rattle.qs_client.specs.Kept.{IsKept};
+
+    ghost Value = { MindState };
+
+    ghost view = { λ m. record {
+      code = m.code;
+      size = m.size;
+      ticket = m.ticket;
+      run = m.run;
+      entries = m.entries.items;
+      syncs = m.syncs;
+      handed = m.handed;
+    } };
+
+    ghost invariant = { λ m. (length m.code.blocks ≤ vec_capacity m.entries) × IsKept (record {
+      code = m.code;
+      size = m.size;
+      ticket = m.ticket;
+      run = m.run;
+      entries = m.entries.items;
+      syncs = m.syncs;
+      handed = m.handed;
+    }) };
+}
+
+impl Mind {
+    /// The mind of a client that runs this code in chunks of this size, before its first block, with all the memory that it will ever need.
+    pub fn new(alloc: Global, code: Code, size: ChunkSize) -> Result<Mind, AllocError>
+        ensures fresh { IfOk result (λ m. mind_of m ≡ fresh_mind code size) }
+    {
+        code.is_code();
+        let _ = size.get();
+        let run = Run::new(alloc, &code)?;
+        let entries = Vec::with_capacity(alloc, code.blocks())?;
+        Ok(Mind {
+            code,
+            size,
+            ticket: Ticket {
+                client: 0,
+                index: 0,
+            },
+            run,
+            entries,
+            syncs: 0,
+            handed: Handed::Nothing,
+        })
+    }
+
+    /// What holds of every mind. It does nothing.
+    pub fn is_mind(&self)
+        ensures mind { IsMind (mind_of self.now) }
+    {
+        let _ = &self.code;
+    }
+
+    // What is left to be done for the last act, once it was done.
+    fn finish(&mut self)
+        ensures done { mind_of self.new ≡ done (mind_of self.old) }
+    {
+        if let Handed::Nothing = self.handed {
+            return;
+        }
+        self.syncs += self.handed.syncs();
+        self.run.sent(&self.code, self.ticket, self.handed);
+        self.handed = Handed::Nothing;
+    }
+
+    /// What the client does next, to be called once the last act was done. An object or a chunk that it sends goes out of the mind.
+    pub fn next(&mut self) -> Act
+        ensures act { result ≡ next_act (mind_of self.old) }
+        ensures rest { mind_of self.new ≡ next_mind (mind_of self.old) }
+    {
+        self.finish();
+        let act = self.run.act(&self.code, self.ticket, self.entries.len());
+        self.handed = act.leaves();
+        act
+    }
+
+    /// The client's next block was reserved, with this ticket.
+    pub fn booked(&mut self, ticket: Ticket)
+        requires asked { Asks (mind_of self.old) Act.Reserve }
+        requires next { ticket.index ≡ (mind_of self.old).client.begun }
+        ensures booked { mind_of self.new ≡ booked_mind (mind_of self.old) ticket }
+    {
+        self.entries.push_reserved(*self.run.way.locals());
+        self.ticket = ticket;
+        self.run.begin(&self.code, ticket);
+    }
+
+    /// The object came that the client waited for.
+    pub fn got(&mut self, held: Held)
+        requires asked { (h : ℕ) × Asks (mind_of self.old) (Act.Await h) }
+        ensures got { mind_of self.new ≡ got_mind (mind_of self.old) held }
+    {
+        self.run.take_object(&self.code, self.ticket, held);
+    }
+
+    /// An empty chunk of the lane that the client asked for.
+    pub fn chunk(&mut self, chunk: Chunk<Request>)
+        requires asked { (h : ℕ) × Asks (mind_of self.old) (Act.NeedChunk h) }
+        requires empty { chunk ≡ batch [] (mind_of self.old).size }
+        ensures chunk { (h : ℕ) → Asks (mind_of self.old) (Act.NeedChunk h) → mind_of self.new ≡ chunk_mind (mind_of self.old) h }
+    {
+        self.run.take_chunk(&self.code, self.ticket, chunk);
+    }
+
+    /// The code that the client runs.
+    #[tactic(auto, unfolding(crate::specs::MindState::mind_of))]
+    pub fn code(&self) -> &Code
+        ensures value { result.now ≡ (mind_of self.now).code }
+    {
+        &self.code
+    }
+
+    /// How many blocks the client has.
+    #[tactic(auto, unfolding(crate::specs::MindState::mind_of))]
+    pub fn blocks(&self) -> usize
+        ensures value { result ≡ length (mind_of self.now).code.blocks }
+    {
+        self.code.blocks()
+    }
+
+    /// How many blocks were begun.
+    #[tactic(auto, unfolding(crate::specs::MindState::mind_of))]
+    pub fn begun(&self) -> usize
+        ensures value { result ≡ (mind_of self.now).client.begun }
+    {
+        self.entries.len()
+    }
+
+    /// Whether the client stands between blocks.
+    #[tactic(auto, unfolding(crate::specs::MindState::mind_of))]
+    pub fn is_between(&self) -> bool
+        ensures value { result ≡ is_between (mind_of self.now).client.place }
+    {
+        matches!(self.run.stage, Stage::Between)
+    }
+
+    /// How many blocks have ended, as the act after a block's last End comes.
+    #[tactic(auto, unfolding(crate::specs::MindState::mind_of))]
+    pub fn ended(&self) -> usize
+        ensures value { result ≡ ended_by (mind_of self.now).client }
+    {
+        let begun = self.entries.len();
+        if self.is_between() { begun } else { begun - 1 }
+    }
+
+    /// How many Syncs were sent, as the act after each comes.
+    #[tactic(auto, unfolding(crate::specs::MindState::mind_of))]
+    pub fn syncs(&self) -> u64
+        ensures value { result ≡ (mind_of self.now).syncs }
+    {
+        self.syncs
+    }
+
+    /// The traces so far, of all blocks.
+    #[tactic(auto, unfolding(crate::specs::MindState::mind_of))]
+    pub fn traces(&self) -> &Traces
+        ensures value { events_of result.now ≡ (mind_of self.now).traces }
+    {
+        &self.run.traces
+    }
+
+    /// The client's variables as it entered each block that was begun.
+    #[tactic(auto, unfolding(crate::specs::MindState::mind_of))]
+    pub fn entries(&self) -> &[Locals]
+        ensures value { result.now ≡ (mind_of self.now).entries }
+    {
+        &self.entries
+    }
+
+    /// The object of a handler, where the client holds it.
+    #[tactic(auto, unfolding(crate::specs::MindState::mind_of))]
+    pub fn held(&self, handler: u8) -> Option<&Held>
+        requires handler { handler < 8 }
+        ensures value { option_copied result ≡ (mind_of self.now).client.held handler }
+    {
+        self.run.hands.held(handler)
+    }
+
+    /// The traces of all blocks and the variables at entry of those that were begun.
+    #[tactic(auto, unfolding(crate::specs::MindState::mind_of))]
+    pub fn into_rows(self) -> (Traces, Vec<Locals>)
+        ensures traces { events_of result.0 ≡ (mind_of self).traces }
+        ensures entries { result.1.items ≡ (mind_of self).entries }
+    {
+        let Mind {
+            code: _,
+            size: _,
+            ticket: _,
+            run,
+            entries,
+            syncs: _,
+            handed: _,
+        } = self;
+        (run.into_traces(), entries)
+    }
+}

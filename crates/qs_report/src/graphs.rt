@@ -1,0 +1,222 @@
+// The control-flow graphs of a program.
+
+ghost use Rattle.std.specs.Prelude.{◌≡◌, ◌<◌, ◌++◌, decimal, length, IfOk, OnOk};
+ghost use Rattle.std.specs.List.{AllByRecursion, filter};
+ghost use Rattle.qs_check.specs.Program.{block_at, blocks_of};
+ghost use Rattle.qs_graph.specs.Nodes.{place_at};
+ghost use Rattle.qs_syncset.specs.Table.{has};
+ghost use Rattle.qs_report.specs.GraphText.{listed, name_of, removed_text, label_text, node_line, nodes_text, block_line};
+ghost use Rattle.qs_report.specs.GraphText.{IsBlockText, IsClientText, IsGraphText, IsAdded};
+
+use crate::bytes::{put, put_all};
+use crate::names::{client_name, object_name};
+use itoa::Buffer;
+use qs_check::Program;
+use qs_graph::{Graph, Node, graph};
+use qs_syncset::{Sets, held_sets};
+use std::alloc::{AllocError, Global};
+
+fn removed_word(is_held: bool) -> &'static [u8]
+    ensures word { result.now ≡ removed_text is_held }
+{
+    if is_held { b" removed" } else { b" kept" }
+}
+
+// A word and the name of an object.
+fn put_named(
+    out: &mut Vec<u8>,
+    program: &Program,
+    word: &[u8],
+    object: u8,
+) -> Result<(), AllocError>
+    ensures ok { OnOk result (out.new.items ≡ out.old.items ++ (word.now ++ name_of program.now object)) }
+{
+    put(out, word)?;
+    put(out, object_name(program, usize::from(object)))
+}
+
+// What a node does.
+fn put_label(
+    out: &mut Vec<u8>,
+    program: &Program,
+    graph: &Graph,
+    sets: &Sets,
+    n: usize,
+) -> Result<(), AllocError>
+    requires node { n < length graph.now }
+    requires sets { length sets.now ≡ length graph.now }
+    ensures ok { OnOk result (out.new.items ≡ out.old.items ++ label_text program.now (has sets.now n) (place_at graph.now n).node) }
+{
+    graph.is_graph();
+    match graph.node(n) {
+        Node::Entry => put(out, b"entry"),
+        Node::Local(_) => put(out, b"local"),
+        Node::Branch(_) => put(out, b"branch"),
+        Node::Sync(handler) => {
+            put_named(out, program, b"sync ", *handler)?;
+            put(out, removed_word(sets.holds(n, *handler)))
+        }
+        Node::Query(_, call) => put_named(out, program, b"query ", call.object),
+        Node::Call(call) => put_named(out, program, b"call ", call.object),
+        Node::Exit => put(out, b"exit"),
+    }
+}
+
+// The numbers of the nodes that a node leads to.
+fn put_targets(out: &mut Vec<u8>, targets: &[usize]) -> Result<(), AllocError>
+    ensures ok { OnOk result (out.new.items ≡ out.old.items ++ listed decimal targets.now) }
+{
+    if targets.is_empty() {
+        return put(out, b" -");
+    }
+    for target in targets {
+        let mut buffer = Buffer::new();
+        put_all(out, &[b" ", buffer.format(*target).as_bytes()])?;
+    }
+    Ok(())
+}
+
+// The objects of a block's list that are held at a node, in the list's order.
+fn held_at(alloc: Global, reserved: &[u8], sets: &Sets, n: usize) -> Result<Vec<u8>, AllocError>
+    requires node { n < length sets.now }
+    requires handlers { AllByRecursion (λ h. h < 8) reserved.now }
+    ensures held { IfOk result (λ held. held.items ≡ filter (has sets.now n) reserved.now) }
+{
+    let mut held = Vec::new(alloc);
+    for object in reserved {
+        if sets.holds(n, *object) {
+            held.push(*object)?;
+        }
+    }
+    Ok(held)
+}
+
+// The names of objects.
+fn put_names(out: &mut Vec<u8>, program: &Program, objects: &[u8]) -> Result<(), AllocError>
+    ensures ok { OnOk result (out.new.items ≡ out.old.items ++ listed (name_of program.now) objects.now) }
+{
+    if objects.is_empty() {
+        return put(out, b" -");
+    }
+    for object in objects {
+        put_named(out, program, b" ", *object)?;
+    }
+    Ok(())
+}
+
+fn put_node(
+    alloc: Global,
+    out: &mut Vec<u8>,
+    program: &Program,
+    reserved: &[u8],
+    graph: &Graph,
+    sets: &Sets,
+    n: usize,
+) -> Result<(), AllocError>
+    requires node { n < length graph.now }
+    requires sets { length sets.now ≡ length graph.now }
+    requires handlers { AllByRecursion (λ h. h < 8) reserved.now }
+    ensures ok { OnOk result (out.new.items ≡ out.old.items ++ node_line program.now reserved.now graph.now sets.now n) }
+{
+    let mut buffer = Buffer::new();
+    let held = held_at(alloc, reserved, sets, n)?;
+    put_all(out, &[buffer.format(n).as_bytes(), b" "])?;
+    put_label(out, program, graph, sets, n)?;
+    put(out, b" ->")?;
+    put_targets(out, graph.edges(n))?;
+    put(out, b" held")?;
+    put_names(out, program, held.as_slice())?;
+    put(out, b"\n")
+}
+
+fn put_nodes(
+    alloc: Global,
+    out: &mut Vec<u8>,
+    program: &Program,
+    reserved: &[u8],
+    graph: &Graph,
+    sets: &Sets,
+) -> Result<(), AllocError>
+    requires sets { length sets.now ≡ length graph.now }
+    requires handlers { AllByRecursion (λ h. h < 8) reserved.now }
+    ensures ok { OnOk result (out.new.items ≡ out.old.items ++ nodes_text program.now reserved.now graph.now sets.now) }
+{
+    for n in 0..graph.len() {
+        put_node(alloc, out, program, reserved, graph, sets, n)?;
+    }
+    Ok(())
+}
+
+fn put_block_line(
+    out: &mut Vec<u8>,
+    program: &Program,
+    client: u8,
+    block: u8,
+) -> Result<(), AllocError>
+    ensures ok { OnOk result (out.new.items ≡ out.old.items ++ block_line program.now client block) }
+{
+    let mut buffer = Buffer::new();
+    let number = buffer.format(block).as_bytes();
+    put_all(
+        out,
+        &[b"block ", client_name(program, client), b" ", number, b"\n"],
+    )
+}
+
+// The objects that a block reserves, each one of 8.
+fn reserved_by(program: &Program, client: u8, block: u8) -> &[u8]
+    requires client { client < length program.now.clients }
+    requires block { block < blocks_of program.now client }
+    ensures value { result.now ≡ (block_at program.now client block).reserved }
+    ensures handlers { AllByRecursion (λ h. h < 8) result.now }
+{
+    program.is_sound();
+    program.block(client, block).reserved()
+}
+
+fn put_block(
+    alloc: Global,
+    out: &mut Vec<u8>,
+    program: &Program,
+    client: u8,
+    block: u8,
+) -> Result<(), AllocError>
+    requires client { client < length program.now.clients }
+    requires block { block < blocks_of program.now client }
+    ensures ok { OnOk result (IsAdded (IsBlockText program.now client block) out.old.items out.new.items) }
+{
+    let graph = graph(alloc, program, client, block)?;
+    let sets = held_sets(alloc, &graph)?;
+    let reserved = reserved_by(program, client, block);
+    put_block_line(out, program, client, block)?;
+    put_nodes(alloc, out, program, reserved, &graph, &sets)
+}
+
+fn put_blocks(
+    alloc: Global,
+    out: &mut Vec<u8>,
+    program: &Program,
+    client: u8,
+) -> Result<(), AllocError>
+    requires client { client < length program.now.clients }
+    ensures ok { OnOk result (IsAdded (IsClientText program.now client) out.old.items out.new.items) }
+{
+    program.is_sound();
+    for block in 0..program.blocks_of(client) {
+        put_block(alloc, out, program, client, block as u8)?;
+    }
+    Ok(())
+}
+
+/// The text of a program's control-flow graphs: for each block its nodes as they are built, each with its number, what it does, the
+/// nodes that it leads to, and the objects that are held as it is reached. An error says that a growth was refused, and nothing is left.
+pub fn graph_text(alloc: Global, program: &Program) -> Result<Vec<u8>, AllocError>
+    ensures text { IfOk result (λ bytes. IsGraphText program.now bytes.items) }
+{
+    program.is_sound();
+    let mut out = Vec::new(alloc);
+    for client in 0..program.clients() {
+        put_blocks(alloc, &mut out, program, client as u8)?;
+    }
+    Ok(out)
+}
