@@ -22,6 +22,7 @@ use Rattle.qs_syncset.specs.SoundSynced.{IsSoundSynced}
 use Rattle.qs_client.specs.Acting.{Wants, with_hands}
 use Rattle.qs_client.specs.Client.{Client, Settings, act_at, act_of, call_act, clears, got, rest_act, took_chunk, settle}
 use Rattle.qs_client.specs.Hand.{held_at, chunk_at, with_held, with_chunk}
+use Rattle.qs_client.specs.MindState.{IsQuiet}
 use Rattle.qs_client.specs.Trail.{trace_at}
 use Rattle.qs_client.specs.Minds.{HasSettled, client_of, items_of, outcome, place_by, place_of}
 use Rattle.qs_client.specs.Running.{IsOpen, IsRunning, IsLoud}
@@ -35,11 +36,6 @@ use Rattle.qs_client.specs.declared.stage.Stage.TheVariants as stages
 use Rattle.qs_client.proofs.Going.{IsAmongEight, among_eight, standing_of}
 use Rattle.qs_client.proofs.Moves.{moves}
 use Rattle.qs_client.proofs.Hold.{chunk_each, held_put, holding_put, items_put}
-
--- nothing is sent
-abbrev pub IsQuiet : Act → Type 0
-IsQuiet (acts.Send h p) = ⊥
-IsQuiet a = Unit {0}
 
 clears_other : (settings : Settings) (h : ℕ) (x : Option HeldState) (c : Option (List Request)) (other given : Act) → IsQuiet given
     → clears settings h x c other ≡ given → other ≡ given

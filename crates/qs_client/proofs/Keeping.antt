@@ -13,8 +13,8 @@ use Rattle.qs_syncset.specs.Codes.{BlockCode, IsCode, code_at}
 use Rattle.qs_client.specs.Acting.{HasActed, Wants}
 use Rattle.qs_client.specs.Client.{Settled, got, took_chunk}
 use Rattle.qs_client.specs.Kept.{IsKept, room_for}
-use Rattle.qs_client.specs.Mind.{Asks, asked_of, chunk_mind, comes_to, count_sync, done, extended, got_mind, hands_out, is_between, longest}
-use Rattle.qs_client.specs.MindState.{MindState, IsMind, block_of, client_in, events_of, mind_of, settings_in}
+use Rattle.qs_client.specs.Mind.{Asks, Mind, asked_of, chunk_mind, comes_to, count_sync, done, extended, got_mind, hands_out, is_between, longest}
+use Rattle.qs_client.specs.MindState.{MindState, IsMind, IsQuiet, block_of, client_in, events_of, mind_of, settings_in}
 use Rattle.qs_client.specs.Minds.{Outcome, place_by}
 use Rattle.qs_client.specs.Running.{KeepsRows}
 use Rattle.qs_client.specs.Standing.{HasCome, HasGot, HasSent, HasTaken, IsGone, IsStanding, after_send, handed_of, left_after}
@@ -343,3 +343,11 @@ begun_between m w off =
     begun_inside m w (λ e.
     let on : is_between (client_in m).place ≡ true =
     ap (λ t. is_between (place_by t (block_of m).reserved (walk (block_of m).graph limit m.run.way) m.run.way.locals)) e in cc)
+
+-- an act that sends nothing asks for something to come
+pub quiet_asks : (m : Mind) (given : Act) → IsQuiet given → given ≡ asked_of m → Asks (hands_out m given) given
+quiet_asks m acts.Reserve quiet e = (refl, sym e)
+quiet_asks m (acts.Send h p) quiet e = absurd quiet
+quiet_asks m (acts.Await h) quiet e = (refl, sym e)
+quiet_asks m (acts.NeedChunk h) quiet e = (refl, sym e)
+quiet_asks m acts.Finished quiet e = (refl, sym e)

@@ -9,6 +9,8 @@ use Rattle.qs_client.specs.Client.{Client, Settings}
 use Rattle.qs_client.specs.Mind.{Mind, is_between}
 use Rattle.qs_client.specs.Minds.{client_of}
 use Rattle.qs_client.specs.Trail.{TraceState}
+use Rattle.qs_client.specs.declared.act.Act.{Act}
+use Rattle.qs_client.specs.declared.act.Act.TheVariants as acts
 use Rattle.qs_client.specs.declared.run.Run.{Run}
 use Rattle.qs_client.specs.declared.stage.Handed.{Handed}
 
@@ -49,6 +51,11 @@ mind_of m = record {
   syncs = m.syncs;
   handed = m.handed;
 }
+
+-- an act that sends nothing
+abbrev pub IsQuiet : Act → Type 0
+IsQuiet (acts.Send h p) = ⊥
+IsQuiet act = Unit {0}
 
 -- what holds of every mind
 pub record IsMind (m : Mind) : Type 0 where

@@ -1,15 +1,13 @@
 //! All the memory of a client, and the beginning of a block.
 
-ghost use Rattle.std.specs.Prelude.{◌≡◌, ◌<◌, ◌≤◌, ℕ, IfOk, length, replicate};
+ghost use Rattle.std.specs.Prelude.{◌≡◌, ◌<◌, ℕ, IfOk, length};
 ghost use Rattle.qs_syncset.specs.Codes.{code_at};
-ghost use Rattle.qs_check.specs.Serial.{zeros};
+ghost use Rattle.qs_client.specs.Beginning.{begins_at, fresh_run};
 ghost use Rattle.qs_client.specs.Client.{Place, Settings};
-ghost use Rattle.qs_client.specs.Hand.{no_hands};
 ghost use Rattle.qs_client.specs.Kept.{empty_rows, room_for};
 ghost use Rattle.qs_client.specs.Mind.{longest};
 ghost use Rattle.qs_client.specs.Minds.{HasSettled};
 ghost use Rattle.qs_client.specs.Running.{IsRunning};
-ghost use Rattle.qs_client.specs.Beginning.{begins_at, fresh_run};
 
 use crate::hands::Hands;
 use crate::run::Run;

@@ -3,7 +3,7 @@
 ghost use Rattle.std.specs.Prelude.{◌≡◌, ◌<◌, ℕ, [], IfOk, length, option_copied};
 ghost use Rattle.qs_chunk.specs.Batch.{batch};
 ghost use Rattle.qs_client.specs.Mind.{Asks, booked_mind, chunk_mind, done, ended_by, fresh_mind, got_mind, is_between, next_act, next_mind};
-ghost use Rattle.qs_client.specs.MindState.{IsMind, events_of, mind_of};
+ghost use Rattle.qs_client.specs.MindState.{IsMind, IsQuiet, events_of, mind_of};
 
 use crate::act::Act;
 use crate::run::Run;
@@ -102,6 +102,7 @@ impl Mind {
     pub fn next(&mut self) -> Act
         ensures act { result ≡ next_act (mind_of self.old) }
         ensures rest { mind_of self.new ≡ next_mind (mind_of self.old) }
+        ensures asked { IsQuiet result → Asks (mind_of self.new) result }
     {
         self.finish();
         let act = self.run.act(&self.code, self.ticket, self.entries.len());
@@ -115,7 +116,8 @@ impl Mind {
         requires next { ticket.index ≡ (mind_of self.old).client.begun }
         ensures booked { mind_of self.new ≡ booked_mind (mind_of self.old) ticket }
     {
-        self.entries.push_reserved(*self.run.way.locals());
+        let locals = *self.run.way.locals();
+        self.entries.push_reserved(locals);
         self.ticket = ticket;
         self.run.begin(&self.code, ticket);
     }
@@ -143,6 +145,14 @@ impl Mind {
         ensures value { result.now ≡ (mind_of self.now).code }
     {
         &self.code
+    }
+
+    /// How many requests a chunk takes.
+    #[tactic(auto, unfolding(crate::specs::MindState::mind_of))]
+    pub fn size(&self) -> ChunkSize
+        ensures value { result ≡ (mind_of self.now).size }
+    {
+        self.size
     }
 
     /// How many blocks the client has.

@@ -24,3 +24,8 @@ pub mod Core
 pub mod CoreSchedule
 pub mod CoreReached
 pub mod CoreExamples
+pub mod LaneStates
+pub mod HandlerSeats
+pub mod ClientSeats
+pub mod CoreState
+pub mod CoreShown

@@ -2,7 +2,7 @@
 
 ghost use Rattle.std.specs.Prelude.{◌≡◌, ◌<◌, ◌≤◌, ℕ, IfOk, length, map, vec_len};
 ghost use Rattle.qs_core.specs.Beginning.{AreIdle, idle};
-ghost use Rattle.qs_core.specs.Plain.{room_in, room_of};
+ghost use Rattle.qs_core.specs.Plain.{fresh_handler, room_in, room_of};
 ghost use Rattle.qs_core.specs.Hall.{CanEnterAll, CanLog, CanLogAll, entered_all, logged_all, logged_at};
 ghost use Rattle.qs_core.specs.Queues.{QueueState};
 
@@ -76,12 +76,22 @@ fn fresh_handler(
     requires { object < length program.now.objects }
     ensures idle { IfOk result (λ handler. handler ≡ idle program.now room object) }
 {
+    let held = declared_held(alloc, program, object)?;
+    HandlerState::new(alloc, held, room)
+}
+
+/// An object as declared, with room in its journal for all requests that there can be on it.
+pub(crate) fn declared_held(
+    alloc: Global,
+    program: &Program,
+    object: u8,
+) -> Result<Held, AllocError>
+    requires { object < length program.now.objects }
+    ensures held { IfOk result (λ held. held ≡ (fresh_handler program.now object).held) }
+{
     program.is_sound();
     match Object::new(alloc, program.kind(object)) {
-        Ok(state) => {
-            let held = Held::new(alloc, state, journal_room(program, object))?;
-            HandlerState::new(alloc, held, room)
-        }
+        Ok(state) => Held::new(alloc, state, journal_room(program, object)),
         Err(ObjectFault::Memory) => Err(AllocError),
         Err(ObjectFault::Range) => unreachable!(),
     }

@@ -134,6 +134,22 @@ impl Held {
         })
     }
 
+    /// The same once more, with memory of its own. An error says that this memory was refused.
+    pub fn copied(&self, alloc: Global) -> Result<Held, AllocError>
+        ensures same { IfOk result (λ held. held ≡ self.now) }
+    {
+        let object = self.object.copied(alloc)?;
+        let mut entries = Vec::with_capacity(alloc, self.room)?;
+        for entry in &self.entries {
+            entries.push(entry.copied())?;
+        }
+        Ok(Held {
+            object,
+            entries,
+            room: self.room,
+        })
+    }
+
     /// Whether the journal has room for one more entry.
     pub fn has_room(&self) -> bool
         ensures room { result ≡ room_is_left self.now }

@@ -1,11 +1,11 @@
 // Objects: accounts, buffers and grids.
 
-ghost use Rattle.std.specs.Prelude.{◌≡◌, ◌↔◌, ◌≤◌, length, Some, None, IfOk, IsErrOf, IsSome, IsTrue, slice_get, pos, ◌+ℤ◌};
-ghost use Rattle.qs_objects.specs.Objects.{starts, needs_memory, kind_of, values_of};
+ghost use Rattle.std.specs.Prelude.{◌≡◌, ◌↔◌, ◌≤◌, length, Some, None, IfOk, IsErrOf, IsSome, IsTrue, slice_get, pos, ◌+ℤ◌, ℤ, vec_capacity};
+ghost use Rattle.qs_objects.specs.Objects.{IsKept, starts, needs_memory, kind_of, state_of, values_of};
 ghost use Rattle.qs_objects.specs.Act.{act, clamped};
 
 use crate::{Request, account, buffer, grid};
-use std::alloc::Global;
+use std::alloc::{AllocError, Global};
 use std::marker::Model;
 use thiserror::Error;
 
@@ -43,6 +43,41 @@ enum Content {
         columns: usize,
         cells: Vec<i64>,
     },
+}
+
+// Numbers once more, in a vector with room for so many.
+fn copied(alloc: Global, numbers: &[i64], room: usize) -> Result<Vec<i64>, AllocError>
+    ensures same { IfOk result (λ copy. copy.items ≡ numbers.now) }
+    ensures room { IfOk result (λ copy. room ≤ vec_capacity copy) }
+{
+    let mut copy = Vec::with_capacity(alloc, room)?;
+    copy.extend_from_slice(numbers)?;
+    Ok(copy)
+}
+
+impl Content {
+    fn copied(&self, alloc: Global) -> Result<Content, AllocError>
+        requires kept { IsKept self.now }
+        ensures same { IfOk result (λ content. (refused : ℤ) → state_of content refused ≡ state_of self.now refused) }
+        ensures kept { IfOk result IsKept }
+    {
+        match self {
+            Content::Account { balance } => Ok(Content::Account { balance: *balance }),
+            Content::Buffer { capacity, values } => Ok(Content::Buffer {
+                capacity: *capacity,
+                values: copied(alloc, values.as_slice(), *capacity)?,
+            }),
+            Content::Grid {
+                rows,
+                columns,
+                cells,
+            } => Ok(Content::Grid {
+                rows: *rows,
+                columns: *columns,
+                cells: copied(alloc, cells.as_slice(), cells.len())?,
+            }),
+        }
+    }
 }
 
 /// An object: what it holds, and how many commands it refused.
@@ -111,6 +146,16 @@ impl Object {
         Ok(Object {
             content,
             refused: 0,
+        })
+    }
+
+    /// The same object once more, with memory of its own. An error says that this memory was refused.
+    pub fn copied(&self, alloc: Global) -> Result<Object, AllocError>
+        ensures same { IfOk result (λ object. object ≡ self.now) }
+    {
+        Ok(Object {
+            content: self.content.copied(alloc)?,
+            refused: self.refused,
         })
     }
 

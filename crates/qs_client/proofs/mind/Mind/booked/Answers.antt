@@ -36,7 +36,7 @@ invariant_of-self c =
     let asked : Asks (mind_of m) acts.Reserve = subst (λ (x : MindState). Asks (mind_of x) acts.Reserve) (sym c.self.view_is) c.requires.asked in
     let is : t.index ≡ length m.entries = next_ticket m t (c.requires.next ∙ ap (λ (x : MindState). (mind_of x).client.begun) (sym c.self.view_is)) in
     let entries : c.push_reserved.new.self.items ≡ (entered m t).entries =
-    c.push_reserved.ensures.items ∙ ap (λ (l : Locals). m.entries ++ l ∷ []) c.locals.ensures.value in
+    c.push_reserved.ensures.items ∙ ap (λ (l : Locals). m.entries ++ l ∷ []) c.locals-locals.ensures.value in
     let settled = c.begin.ensures.settled (settings_in m) (length (entered m t).entries) (between m.run.way.locals) limit refl (entered_running m w t asked is) in (
       omega (arith, c.self.invariant.0, c.push_reserved.ensures.capacity),
       subst (λ (es : List Locals). IsKept (record {
@@ -58,7 +58,7 @@ returns c =
     let asked : Asks (mind_of m) acts.Reserve = subst (λ (x : MindState). Asks (mind_of x) acts.Reserve) (sym c.self.view_is) c.requires.asked in
     let is : t.index ≡ length m.entries = next_ticket m t (c.requires.next ∙ ap (λ (x : MindState). (mind_of x).client.begun) (sym c.self.view_is)) in
     let entries : c.push_reserved.new.self.items ≡ (entered m t).entries =
-    c.push_reserved.ensures.items ∙ ap (λ (l : Locals). m.entries ++ l ∷ []) c.locals.ensures.value in
+    c.push_reserved.ensures.items ∙ ap (λ (l : Locals). m.entries ++ l ∷ []) c.locals-locals.ensures.value in
     let settled = c.begin.ensures.settled (settings_in m) (length (entered m t).entries) (between m.run.way.locals) limit refl (entered_running m w t asked is) in
     record {
       booked = ap (λ (es : List Locals). mind_of (record {

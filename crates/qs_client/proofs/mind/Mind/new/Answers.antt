@@ -8,9 +8,11 @@ use Rattle.qs_client.proofs.mind.Mind.new.Goals as goal
 pub invariant_of-result : goal.invariant_of-result
 invariant_of-result c =
     let run : c.in_ok-run.run' ≡ fresh_run c.args.code.blocks = c.in_ok-run.ensures.fresh in
+    let sized : (1 ≤ c.args.size) × (c.args.size ≤ 32) = subst (λ n. (1 ≤ n) × (n ≤ 32)) c.get.ensures.size c.get.ensures.within in
     let none = c.in_ok-entries.ensures.items in (
       omega (arith, c.in_ok-entries.ensures.capacity, c.blocks-2.ensures.value),
-      subst IsKept (λ i. fresh_with c.args.code c.args.size (sym run i) (sym none i)) (fresh_kept c.args.code c.args.size c.is_code.ensures.code (subst (λ n. (1 ≤ n) × (n ≤ 32)) c.get.ensures.size c.get.ensures.within)),
+      subst IsKept (λ i. fresh_with c.args.code c.args.size (sym run i) (sym none i))
+          (fresh_kept c.args.code c.args.size c.is_code.ensures.code sized),
     )
 
 pub returns : goal.returns

@@ -1,11 +1,11 @@
 use Rattle.std.proofs.Common.{◌≡◌, sym, ap, ◌∙◌, subst, length, arith}
 use Rattle.qs_client.specs.Acting.{HasActed}
 use Rattle.qs_client.specs.Kept.{IsKept}
-use Rattle.qs_client.specs.Mind.{asked_of, done, hands_out}
+use Rattle.qs_client.specs.Mind.{Asks, Mind, asked_of, done, hands_out}
 use Rattle.qs_client.specs.MindState.{MindState, block_of, mind_of, settings_in}
 use Rattle.qs_client.specs.contracts.mind.Mind.{the_view}
 use Rattle.qs_client.specs.declared.stage.Handed.{Handed}
-use Rattle.qs_client.proofs.Keeping.{acts_asked, acts_is, acts_kept, hands_over}
+use Rattle.qs_client.proofs.Keeping.{acts_asked, acts_is, acts_kept, hands_over, quiet_asks}
 use Rattle.qs_client.proofs.mind.Mind.next.Goals as goal
 
 pub invariant_of-self : goal.invariant_of-self
@@ -30,9 +30,13 @@ returns c =
     let finished : mind_of m ≡ done (mind_of c.args.self.now) = ap mind_of c.self.view_is ∙ c.finish.ensures.done in
     let given : c.act-act.result ≡ asked_of (done (mind_of c.args.self.now)) =
     acts_asked m w.left c.act-act.result c.act-act.new.self acted ∙ ap asked_of finished in
+    let new : mind_of (hands_over m c.act-act.new.self c.leaves-self-inside.result) ≡ hands_out (mind_of m) c.act-act.result =
+    ap (λ (h : Handed). mind_of (hands_over m c.act-act.new.self h)) c.leaves-self-inside.ensures.value
+    ∙ acts_is m w.left c.act-act.result c.act-act.new.self acted in
     record {
+      asked = λ quiet.
+          subst (λ (x : Mind). Asks x c.act-act.result) (sym new)
+          (quiet_asks (mind_of m) c.act-act.result quiet (acts_asked m w.left c.act-act.result c.act-act.new.self acted));
       act = given;
-      rest = ap (λ (h : Handed). mind_of (hands_over m c.act-act.new.self h)) c.leaves-self-inside.ensures.value
-          ∙ acts_is m w.left c.act-act.result c.act-act.new.self acted
-          ∙ (λ i. hands_out (finished i) (given i));
+      rest = new ∙ (λ i. hands_out (finished i) (given i));
     }

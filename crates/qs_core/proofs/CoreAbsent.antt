@@ -1,0 +1,29 @@
+-- An actor that is not there has no step.
+use Rattle.std.proofs.Common.{◌≡◌, ◌≤◌, ℕ, List, [], length, None, refl, sym, ap, subst, ◌∙◌, arith}
+use Rattle.qs_handler.specs.Handler.{act_of}
+use Rattle.qs_core.specs.Core.{core_step, fresh_held, takes_ticket}
+use Rattle.qs_core.specs.CoreReached.{ReachedCore}
+use Rattle.qs_core.specs.CoreState.{CoreKeeps, CoreState, IsCoreState, codes_of, core_of}
+use Rattle.qs_core.specs.declared.actor.Actor.{Actor}
+use Rattle.qs_core.specs.declared.actor.Actor.TheVariants as actor
+
+module _ (r s : CoreState) (view : r ≡ s) (kept : IsCoreState r) (keeps : CoreKeeps s) (a : Actor) where
+  abbrev HasNone : CoreState → Type 0
+  HasNone y = core_step (codes_of y) y.size (core_of y) a ≡ None
+
+  keeps_here : CoreKeeps r
+  keeps_here = subst CoreKeeps (sym view) keeps
+
+  pub absent_client : (c : ℕ) → a ≡ actor.Client c → length r.clients ≤ c → HasNone s
+  unfolding ReachedCore
+  absent_client c is out =
+      let beyond : length r.program.clients ≤ c = omega (arith, out, kept.clients) in
+      subst HasNone view (ap (core_step (codes_of r) r.size (core_of r)) is ∙ keeps_here.others.steps c beyond)
+
+  pub absent_handler : (h : ℕ) → a ≡ actor.Handler h → length r.handlers ≤ h → HasNone s
+  unfolding ReachedCore
+  absent_handler h is out =
+      let beyond : length r.program.objects ≤ h = omega (arith, out, kept.handlers) in
+      let idle = keeps_here.others.handler h beyond in
+      let empty = keeps_here.others.tickets h beyond in
+      subst HasNone view (ap (core_step (codes_of r) r.size (core_of r)) is ∙ (rw idle (rw empty refl)))

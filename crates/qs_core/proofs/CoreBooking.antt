@@ -1,0 +1,319 @@
+-- A reservation, and a ticket that is taken, in the lists that the code holds.
+use Rattle.std.proofs.Common.{◌≡◌, ◌<◌, ◌≤◌, ℕ, zero, suc, ◌+◌, ◌-◌, ◌==◌, ◌||◌, Bool, true, false, nat_lt, if◌then◌else◌, List, [], ◌∷◌, ◌++◌, length, filter, get_or, Option, Some, None, refl, sym, ap, subst, ◌∙◌, arith}
+use Rattle.std.specs.List.{AllByRecursion, IsDistinct}
+use Rattle.std.proofs.Math.ListN.{set}
+use Rattle.std.proofs.Math.Path.{fun_ext}
+use Rattle.std.proofs.lemmas.List.{length-append, length-set}
+use Rattle.qs_objects.specs.declared.held.Next.TheVariants as nexts
+use Rattle.qs_objects.specs.Journals.{HeldState}
+use Rattle.qs_objects.specs.declared.held.Ticket.{Ticket}
+use Rattle.qs_objects.specs.declared.Request.{Request}
+use Rattle.qs_chunk.specs.declared.parcel.Parcel.TheVariants as parcels
+use Rattle.qs_graph.specs.Synced.{Synced, Done, Call, Sync, Query}
+use Rattle.qs_check.specs.Program.{ProgramShape, block_at, blocks_of}
+use Rattle.qs_check.specs.Solo.{put}
+use Rattle.qs_check.specs.Sound.{IsSound, IsSoundBlock, is_in}
+use Rattle.qs_check.specs.Values.{Locals}
+use Rattle.qs_check.proofs.Bounds.{sound_block}
+use Rattle.qs_client.specs.Client.{Place, act_at, between, runs, full, awaits, leaves, call_act, clears}
+use Rattle.qs_client.specs.Mind.{Mind, asked_of, booked_mind, booked_with, locals_at, settings_of}
+use Rattle.qs_client.specs.MindState.{IsMind, mind_of}
+use Rattle.qs_client.specs.declared.act.Act.{Act}
+use Rattle.qs_client.specs.declared.act.Act.TheVariants as wants
+use Rattle.qs_handler.specs.Handler.{Handler, act_of, taken}
+use Rattle.qs_handler.specs.declared.mind.Act.TheVariants as acts
+use Rattle.qs_handler.proofs.Turns.{acts_lose_nothing}
+use Rattle.qs_syncset.specs.Codes.{ClientCode, IsCodeOf, code_at}
+use Rattle.qs_core.specs.ClientSeats.{AreStocked, ClientSeatState, IsClientSeat, whole_of}
+use Rattle.qs_core.specs.Core.{AreCodes, Core, core_step, may}
+use Rattle.qs_core.specs.CoreReached.{CoreStands, IsBegun, ReachedCore}
+use Rattle.qs_core.specs.CoreSchedule.{before_it, serving}
+use Rattle.qs_core.specs.CoreState.{CoreKeeps, CoreState, CoreSteps, IsCoreState, IsSide, Side, all_blocks, codes_of, core_from, core_of, handler_at, side_at, side_of, tickets_at}
+use Rattle.qs_core.specs.HandlerSeats.{CanEnterAll, HandlerSeatState, IsHandlerSeat, TakesTicket, entered_all, handler_of, handler_seat, no_seat, seat_at}
+use Rattle.qs_core.specs.LaneStates.{IsStocked}
+use Rattle.qs_core.specs.Plain.{ticket}
+use Rattle.qs_core.specs.declared.actor.Actor.{Actor}
+use Rattle.qs_core.specs.declared.actor.Actor.TheVariants as actor
+use Rattle.qs_core.proofs.CoreEntering.{can_enter, handlers_entered, length_entered, order_few, rooms_entered, tickets_entered}
+use Rattle.qs_core.proofs.CoreFields.{each, field_kept}
+use Rattle.qs_core.proofs.CoreHandlers as handlers
+use Rattle.qs_core.proofs.CoreLists.{all_here, all_set, handler_put, map_here, side_put, tickets_put_at}
+use Rattle.qs_core.proofs.CoreMinds.{gave_begun, whole_mind}
+use Rattle.qs_core.proofs.CoreMoves.{all_put}
+use Rattle.qs_core.proofs.CoreReserving as reserving
+use Rattle.qs_core.proofs.ClientSeats.{IsSeatOf}
+
+-- what holds of each member holds of all
+members : (rs : List ℕ) (P : ℕ → Type 0) → ((h : ℕ) → is_in rs h ≡ true → P h) → AllByRecursion P rs
+members [] P each = tt
+members (x ∷ rs) P each = (each x self, members rs P (λ h m. each h (by_test h (x == h) m)))
+  where
+    self : is_in (x ∷ rs) x ≡ true
+    self = let same : (x == x) ≡ true = grind arith in rw same refl
+
+    by_test : (h : ℕ) (b : Bool) → is_in rs h ≡ true → (b || is_in rs h) ≡ true
+    by_test h true m = refl
+    by_test h false m = m
+
+member_of : (rs : List ℕ) (h : ℕ) {n : ℕ} → is_in rs h ≡ true → AllByRecursion (λ k. k < n) rs → h < n
+member_of [] h member all = cc
+member_of (x ∷ rs) h {n} member all = by_test (x == h) refl member (λ m. member_of rs h m all.1)
+  where
+    by_test : (b : Bool) → (x == h) ≡ b → (b || is_in rs h) ≡ true → (is_in rs h ≡ true → h < n) → h < n
+    by_test true e m later = let same : x ≡ h = grind (arith, e) in subst (λ k. k < n) same all.0
+    by_test false e m later = later m
+
+-- a client that wants to reserve stands between blocks, with one to come
+pub reserving_at : (n : Mind) → asked_of n ≡ wants.Reserve → (l : Locals) × (n.client.place ≡ between l) × (n.client.begun < length n.code.blocks)
+reserving_at n asked = by_place n.client.place refl asked
+  where
+    not_cleared : (h : ℕ) (x : Option HeldState) (k : Option (List Request)) (other : Act) → (other ≡ wants.Reserve → ⊥) → clears (settings_of n) h x k other ≡ wants.Reserve → ⊥
+    not_cleared h (Some x) k other differs is = cc
+    not_cleared h None (Some rs) other differs is = cc
+    not_cleared h None None other differs is = differs is
+
+    by_place : (p : Place) → n.client.place ≡ p → act_at (settings_of n) (length n.code.blocks) n.client p ≡ wants.Reserve → (l : Locals) × (n.client.place ≡ between l) × (n.client.begun < length n.code.blocks)
+    by_place (between l) e a = by_count (nat_lt n.client.begun (length n.code.blocks)) refl a
+      where
+        by_count : (b : Bool) → nat_lt n.client.begun (length n.code.blocks) ≡ b → (if b then wants.Reserve else wants.Finished) ≡ wants.Reserve → (l : Locals) × (n.client.place ≡ between l) × (n.client.begun < length n.code.blocks)
+        by_count true less is = (l, e, grind (arith, less))
+        by_count false less is = cc
+    by_place (runs (Done l)) e a = cc
+    by_place (runs (Call r next)) e a = by_hands (n.client.held r.object) (n.client.chunk r.object) a
+      where
+        by_hands : (x : Option HeldState) (k : Option (List Request)) → call_act (settings_of n) r.object x k ≡ wants.Reserve → (l : Locals) × (n.client.place ≡ between l) × (n.client.begun < length n.code.blocks)
+        by_hands (Some x) k is = cc
+        by_hands None None is = cc
+        by_hands None (Some rs) is = cc
+    by_place (runs (Sync h next)) e a = absurd (not_cleared h (n.client.held h) (n.client.chunk h) (wants.Send h parcels.Sync) (λ is. cc) a)
+    by_place (runs (Query r next)) e a = cc
+    by_place (full h rest) e a = absurd (not_cleared h None (n.client.chunk h) wants.Finished (λ is. cc) a)
+    by_place (awaits h rest) e a = cc
+    by_place (leaves h hs l) e a = absurd (not_cleared h (n.client.held h) (n.client.chunk h) (wants.Send h parcels.End) (λ is. cc) a)
+
+module _ (s : CoreState) (kept : IsCoreState s) (sound : IsSound s.program) (keeps : CoreKeeps s)
+    (keeps_on : (a : Actor) (x : Core) → core_step (codes_of s) s.size (core_of s) a ≡ Some x → ReachedCore s.program (codes_of s) s.size x)
+    (c : ℕ) (inside : c < length s.clients) (old : ClientSeatState) (here : side_at s.clients c ≡ side_of old)
+    (seat : IsClientSeat old) (stocked : AreStocked old) (ok : IsMind (mind_of old.mind)) (asked : old.act ≡ wants.Reserve) where
+  abbrev own : Mind
+  own = whole_of old
+
+  abbrev host : Mind
+  host = (side_at s.clients c).mind
+
+  own_ok : IsMind own
+  own_ok = whole_mind old seat ok
+
+  host_is : host ≡ own
+  host_is = ap (λ (x : Side). x.mind) here
+
+  abbrev pub now : Ticket
+  now = ticket c own.client.begun
+
+  abbrev pub list : List ℕ
+  list = (block_at s.program c own.client.begun).reserved
+
+  wants_it : asked_of host ≡ wants.Reserve
+  wants_it = ap asked_of host_is ∙ sym seat.act ∙ asked
+
+  room : (l : Locals) × (host.client.place ≡ between l) × (host.client.begun < length host.code.blocks)
+  room = reserving_at host wants_it
+
+  k_less : own.client.begun < length own.code.blocks
+  k_less = subst (λ (m : Mind). m.client.begun < length m.code.blocks) host_is room.2
+
+  size_is : host.size ≡ s.size
+  size_is = (kept.sides c inside).size
+
+  in_program : c < length s.program.clients
+  in_program = omega (arith, inside, kept.clients)
+
+  is_code : IsCodeOf s.program kept.mode c host.code
+  is_code = kept.codes.own c in_program
+
+  pub in_blocks : own.client.begun < blocks_of s.program c
+  in_blocks = let code_is : host.code ≡ own.code = ap (λ (m : Mind). m.code) host_is in let m : length own.code.blocks ≡ blocks_of s.program c = ap (λ (x : ClientCode). length x.blocks) (sym code_is) ∙ is_code.count in omega (arith, k_less, m)
+
+  list_is : (code_at host.code own.client.begun).reserved ≡ list
+  list_is = (is_code.blocks own.client.begun in_blocks).reserved
+
+  block_sound : IsSoundBlock s.program.objects (block_at s.program c own.client.begun)
+  block_sound = sound_block s.program c own.client.begun sound in_program in_blocks
+
+  pub in_hall : AllByRecursion (λ h. h < length s.handlers) list
+  in_hall = subst (λ n. AllByRecursion (λ h. h < n) list) (sym kept.handlers) block_sound.reserved
+
+  -- the machine after the step
+  abbrev next : Core
+  next = core_from (s.order ++ ticket c host.client.begun ∷ [])
+      (put (side_at s.clients) c (reserving.reserved_side s.order (side_at s.clients) (handler_at s.program s.handlers) (tickets_at s.handlers) c room.0))
+      (handler_at s.program s.handlers)
+      (reserving.more_tickets s.order (side_at s.clients) (handler_at s.program s.handlers) (tickets_at s.handlers) c room.0)
+
+  fresh : get_or host.traces host.client.begun [] ≡ []
+  unfolding core_of ReachedCore
+  fresh = (keeps.tickets.fresh (ticket c host.client.begun) (omega arith)).1
+
+  host_ok : IsMind host
+  host_ok = subst IsMind (sym host_is) own_ok
+
+  stepped : core_step (codes_of s) s.size (core_of s) (actor.Client c) ≡ Some next
+  unfolding core_of
+  stepped =
+      subst (λ n. core_step (codes_of s) n (core_of s) (actor.Client c) ≡ Some next) size_is
+      (reserving.reserve_steps s.order (side_at s.clients) (handler_at s.program s.handlers) (tickets_at s.handlers) c room.0 room.1 wants_it host_ok.entries (omega (arith, host_ok.traces, room.2)) fresh)
+
+  then : CoreStands s.program (codes_of s) s.size next
+  unfolding ReachedCore
+  then = keeps_on (actor.Client c) next stepped
+
+  -- the order has room, and each handler of the list
+  pub order_room : length s.order < all_blocks s.program
+  order_room =
+      let few : length next.order ≤ all_blocks s.program =
+      order_few (blocks_of s.program) (length s.program.clients) next.order (begun_clients next.order then.tickets.order) (λ k. counted_few k) in
+      let more : length (s.order ++ ticket c host.client.begun ∷ []) ≡ length s.order + 1 = length_more s.order (ticket c host.client.begun) in
+      omega (arith, few, more)
+    where
+      length_more : (ts : List Ticket) (t : Ticket) → length (ts ++ t ∷ []) ≡ length ts + 1
+      length_more [] t = refl
+      length_more (u ∷ ts) t = let m = length_more ts t in omega (arith, m)
+
+      begun_clients : (ts : List Ticket) → AllByRecursion (IsBegun s.program next) ts → AllByRecursion (λ (t : Ticket). t.client < length s.program.clients) ts
+      begun_clients [] all = tt
+      begun_clients (t ∷ ts) all = (all.0.0, begun_clients ts all.1)
+
+      counted_few : (k : ℕ) → length (filter (λ (t : Ticket). t.client == k) next.order) ≤ blocks_of s.program k
+      counted_few k = omega (arith, then.tickets.counted k, then.tickets.begun k)
+
+  longer : (h : ℕ) → is_in list h ≡ true → length (tickets_at s.handlers h) < all_blocks s.program
+  longer h member =
+      let few : length (before_it next h) ≤ all_blocks s.program = then.tickets.few h in
+      let mine : is_in (code_at host.code host.client.begun).reserved h ≡ true =
+      subst (λ n. is_in (code_at host.code n).reserved h ≡ true) (ap (λ (m : Mind). m.client.begun) (sym host_is)) (ap (λ rs. is_in rs h) list_is ∙ member) in
+      let has : next.tickets h ≡ tickets_at s.handlers h ++ ticket c host.client.begun ∷ [] = rw mine refl in
+      let all : length (serving (handler_at s.program s.handlers h) ++ (tickets_at s.handlers h ++ ticket c host.client.begun ∷ [])) ≤ all_blocks s.program =
+      subst (λ ts. length (serving (handler_at s.program s.handlers h) ++ ts) ≤ all_blocks s.program) has few in
+      omega (arith, all, length-append (serving (handler_at s.program s.handlers h)) (tickets_at s.handlers h ++ ticket c host.client.begun ∷ []), length-append (tickets_at s.handlers h) (ticket c host.client.begun ∷ []))
+
+  pub can_enter_all : CanEnterAll now s.handlers list
+  can_enter_all = can_enter now s.handlers list block_sound.distinct (members list (λ h. (h < length s.handlers) × (length (seat_at s.handlers h).tickets < (seat_at s.handlers h).room)) (λ h member.
+      let less : h < length s.handlers = member_of list h member in_hall in
+      (less, room_at h less member)))
+    where
+      room_at : (h : ℕ) → h < length s.handlers → is_in list h ≡ true → length (seat_at s.handlers h).tickets < (seat_at s.handlers h).room
+      room_at h less member =
+          let queue : tickets_at s.handlers h ≡ (seat_at s.handlers h).tickets = map_here (λ (x : HandlerSeatState). x.tickets) s.handlers h no_seat [] less in
+          let roomy : all_blocks s.program ≤ (seat_at s.handlers h).room = all_here (λ (x : HandlerSeatState). all_blocks s.program ≤ x.room) s.handlers h no_seat kept.rooms less in
+          omega (arith, longer h member, ap length queue, roomy)
+
+  module _ (new : ClientSeatState) (came : IsSeatOf (booked_mind own now) new) (lanes_stay : new.lanes ≡ old.lanes) where
+    abbrev pub booked_after : CoreState
+    booked_after = record { program = s.program; size = s.size; order = s.order ++ now ∷ []; clients = set s.clients c new; handlers = entered_all now s.handlers list }
+
+    place_is : own.client.place ≡ between room.0
+    place_is = subst (λ (m : Mind). m.client.place ≡ between room.0) host_is room.1
+
+    now_is : ticket c host.client.begun ≡ now
+    now_is = ap (λ (m : Mind). ticket c m.client.begun) host_is
+
+    new_is : whole_of new ≡ booked_with own now room.0
+    new_is = came.whole_is ∙ ap (λ (p : Place). booked_with own now (locals_at p)) place_is
+
+    sides_then : put (side_at s.clients) c (record { mind = booked_with host (ticket c host.client.begun) room.0; lanes = (side_at s.clients c).lanes }) ≡ side_at (set s.clients c new)
+    sides_then =
+        (λ i. put (side_at s.clients) c (record {
+          mind = (ap (λ (m : Mind). booked_with m (ticket c m.client.begun) room.0) host_is ∙ sym new_is) i;
+          lanes = (ap (λ (x : Side). x.lanes) here ∙ sym lanes_stay) i;
+        }))
+        ∙ sym (side_put s.clients c new inside)
+
+    tickets_then : next.tickets ≡ tickets_at (entered_all now s.handlers list)
+    tickets_then = fun_ext (λ h.
+        (λ i. if is_in (code_at host.code (host_is i).client.begun).reserved h then tickets_at s.handlers h ++ now_is i ∷ [] else tickets_at s.handlers h)
+        ∙ (λ i. if is_in (list_is i) h then tickets_at s.handlers h ++ now ∷ [] else tickets_at s.handlers h)
+        ∙ sym (tickets_entered now s.handlers list block_sound.distinct in_hall h))
+
+    codes_then : codes_of booked_after ≡ codes_of s
+    codes_then =
+        ap (each (λ (x : Side). x.mind.code)) (side_put s.clients c new inside)
+        ∙ field_kept (λ (x : Side). x.mind.code) (side_at s.clients) c (side_of new) (ap (λ (m : Mind). m.code) new_is ∙ sym (ap (λ (m : Mind). m.code) host_is))
+
+    pub reserve_steps : CoreSteps s (actor.Client c) booked_after
+    unfolding core_of
+    reserve_steps = record {
+      steps = stepped ∙ (λ i. Some (core_from (s.order ++ now_is i ∷ []) (sides_then i) (sym (handlers_entered now s.program s.handlers list in_hall) i) (tickets_then i)));
+      program = refl;
+      size = refl;
+      codes = codes_then;
+    }
+
+    is_side : IsSide s.program s.size c (side_of old)
+    is_side = subst (IsSide s.program s.size c) here (kept.sides c inside)
+
+    new_side : IsSide s.program s.size c (side_of new)
+    new_side = record {
+      lanes = ap length lanes_stay ∙ is_side.lanes;
+      size = ap (λ (m : Mind). m.size) new_is ∙ is_side.size;
+      owner = λ less. ap (λ (m : Mind). m.ticket.client) new_is;
+    }
+
+    pub reserve_kept : IsCoreState booked_after
+    reserve_kept = record {
+      clients = length-set s.clients c new ∙ kept.clients;
+      handlers = length_entered now s.handlers list ∙ kept.handlers;
+      sides = λ n less. subst (IsSide s.program s.size n) (λ i. sym (side_put s.clients c new inside) i n)
+          (all_put (IsSide s.program s.size) (length s.clients) (side_at s.clients) c (side_of new) new_side kept.sides n (subst (λ m. n < m) (length-set s.clients c new) less));
+      stocked = all_set AreStocked s.clients c new
+          (subst (λ (m : Mind). AllByRecursion (IsStocked m.size) new.lanes) (sym new_is) (subst (AllByRecursion (IsStocked own.size)) (sym lanes_stay) stocked))
+          kept.stocked;
+      rooms = rooms_entered now (all_blocks s.program) s.handlers list in_hall kept.rooms;
+      mode = kept.mode;
+      codes = subst (AreCodes s.program kept.mode) (sym codes_then) kept.codes;
+    }
+
+-- a handler takes the first ticket of its queue
+module _ (s : CoreState) (kept : IsCoreState s) (h : ℕ) (inside : h < length s.handlers) (old : HandlerSeatState) (here : handler_at s.program s.handlers h ≡ handler_of old)
+    (queue : tickets_at s.handlers h ≡ old.tickets) (seat : IsHandlerSeat old) (roomy : all_blocks s.program ≤ old.room) (asked : old.act ≡ acts.TakeTicket) where
+  abbrev wants_ticket : act_of (handler_at s.program s.handlers h) ≡ acts.TakeTicket
+  wants_ticket = ap act_of here ∙ sym seat.act ∙ asked
+
+  pub ticket_rests : old.tickets ≡ [] → core_step (codes_of s) s.size (core_of s) (actor.Handler h) ≡ None
+  unfolding core_of
+  ticket_rests none = handlers.ticket_stays (codes_of s) s.size s.order (side_at s.clients) (handler_at s.program s.handlers) (tickets_at s.handlers) h wants_ticket (queue ∙ none)
+
+  module _ (new : HandlerSeatState) (takes : TakesTicket old new) where
+    abbrev pub taken_after : CoreState
+    taken_after = record { program = s.program; size = s.size; order = s.order; clients = s.clients; handlers = set s.handlers h new }
+
+    new_handler : handler_of new ≡ takes.2
+    new_handler = ap handler_of takes.5 ∙ acts_lose_nothing takes.2
+
+    pub ticket_steps : CoreSteps s (actor.Handler h) taken_after
+    unfolding core_of
+    ticket_steps = record {
+      steps =
+          handlers.ticket_steps (codes_of s) s.size s.order (side_at s.clients) (handler_at s.program s.handlers) (tickets_at s.handlers) h takes.0 takes.1 takes.2
+          wants_ticket (queue ∙ takes.3) (ap (λ (x : Handler). taken x (nexts.Ticket takes.0)) here ∙ takes.4)
+          ∙ (λ i. Some (core_from s.order (side_at s.clients) (handlers_then i) (tickets_then i)));
+      program = refl;
+      size = refl;
+      codes = refl;
+    }
+      where
+        handlers_then : put (handler_at s.program s.handlers) h takes.2 ≡ handler_at s.program (set s.handlers h new)
+        handlers_then = ap (put (handler_at s.program s.handlers) h) (sym new_handler) ∙ sym (handler_put s.program s.handlers h new inside)
+
+        tickets_then : put (tickets_at s.handlers) h takes.1 ≡ tickets_at (set s.handlers h new)
+        tickets_then = ap (put (tickets_at s.handlers) h) (sym (ap (λ (x : HandlerSeatState). x.tickets) takes.5)) ∙ sym (tickets_put_at s.handlers h new inside)
+
+    pub ticket_kept : IsCoreState taken_after
+    ticket_kept = record {
+      clients = kept.clients;
+      handlers = length-set s.handlers h new ∙ kept.handlers;
+      sides = kept.sides;
+      stocked = kept.stocked;
+      rooms = all_set (λ (x : HandlerSeatState). all_blocks s.program ≤ x.room) s.handlers h new (subst (λ (x : HandlerSeatState). all_blocks s.program ≤ x.room) (sym takes.5) roomy) kept.rooms;
+      mode = kept.mode;
+      codes = kept.codes;
+    }

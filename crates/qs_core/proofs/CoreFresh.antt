@@ -1,0 +1,184 @@
+-- The optimised machine before its first step.
+use Rattle.std.proofs.Common.{◌≡◌, ◌<◌, ◌≤◌, ℕ, zero, suc, ◌+◌, Bool, true, false, nat_lt, List, [], ◌∷◌, map, length, replicate, get_or, sum_by, refl, sym, ap, subst, ◌∙◌, arith, ◌⊎◌, inl, inr, None}
+use Rattle.std.specs.List.{AllByRecursion, range_with_len}
+use Rattle.std.proofs.Math.Path.{fun_ext}
+use Rattle.std.proofs.lemmas.List.{length-map}
+use Rattle.std.proofs.lemmas.List.Sums.{sum_by-cons}
+use Rattle.qs_objects.specs.declared.held.Event.{Event}
+use Rattle.qs_objects.specs.declared.held.Ticket.{Ticket}
+use Rattle.qs_check.specs.Program.{ClientShape, ProgramShape, blocks_of, no_client}
+use Rattle.qs_check.specs.Serial.{zeros}
+use Rattle.qs_check.specs.Values.{Locals}
+use Rattle.qs_chunk.specs.Batch.{batch}
+use Rattle.qs_client.specs.Client.{first_client}
+use Rattle.qs_client.specs.Mind.{Mind, fresh_mind}
+use Rattle.qs_handler.specs.Handler.{Handler, free}
+use Rattle.qs_syncset.specs.declared.mode.Mode.{Mode}
+use Rattle.qs_syncset.specs.Codes.{ClientCode, IsCodeOf}
+use Rattle.qs_core.specs.ClientSeats.{AreStocked, ClientSeatState, whole_of}
+use Rattle.qs_core.specs.Core.{AreCodes, Core, core_begin, fresh_held}
+use Rattle.qs_core.specs.CoreState.{AreFreshClients, AreFreshHandlers, CoreState, IsCoreState, IsFreshClient, IsFreshCore, IsSide, Side, all_blocks, codes_of, core_of, handler_at, no_side, side_at, side_of, tickets_at}
+use Rattle.qs_core.specs.HandlerSeats.{HandlerSeatState, handler_of, handler_seat, no_seat}
+use Rattle.qs_core.specs.LaneStates.{IsStocked, LaneState, fresh_lane, lane_at}
+use Rattle.qs_core.proofs.CoreLists.{map_here}
+
+-- the blocks, client by client
+sum_listed : {X : Type 0} (f : X → ℕ) (g : ℕ → ℕ) (xs : List X) (d : X) (a : ℕ) → ((i : ℕ) → i < length xs → f (get_or xs i d) ≡ g (a + i)) → sum_by f xs ≡ sum_by g (range_with_len a (length xs))
+sum_listed f g [] d a each = refl
+sum_listed f g (x ∷ xs) d a each =
+    let here : a + 0 ≡ a = omega arith in
+    let first : f x ≡ g a = each 0 (omega arith) ∙ ap g here in
+    let others = sum_listed f g xs d (a + 1) (λ i less. let place : a + suc i ≡ (a + 1) + i = omega arith in each (suc i) (omega arith) ∙ ap g place) in
+    rw (sum_by-cons f x xs, sum_by-cons g a (range_with_len (a + 1) (length xs))) (omega (arith, first, others))
+
+pub blocks_listed : (p : ProgramShape) → sum_by (λ (c : ClientShape). length c.blocks) p.clients ≡ all_blocks p
+blocks_listed p = sum_listed (λ (c : ClientShape). length c.blocks) (blocks_of p) p.clients no_client 0 (λ i less. let place : i ≡ 0 + i = omega arith in ap (blocks_of p) place)
+
+abbrev no_events : List Event
+no_events = []
+
+none_at : (n k : ℕ) → get_or (replicate n no_events) k [] ≡ []
+none_at zero k = refl
+none_at (suc n) zero = refl
+none_at (suc n) (suc k) = none_at n k
+
+-- any lane of a client that has begun nothing
+lane_fresh : (size n h : ℕ) → (lane_at (replicate n (fresh_lane size)) h ≡ fresh_lane size) ⊎ (lane_at (replicate n (fresh_lane size)) h ≡ fresh_lane 0)
+lane_fresh size zero h = inr refl
+lane_fresh size (suc n) zero = inl refl
+lane_fresh size (suc n) (suc h) = lane_fresh size n h
+
+-- a field that is the same in all fresh lanes
+lane_field : {A : Type 0} (f : LaneState → A) (a : A) → ((size : ℕ) → f (fresh_lane size) ≡ a) → (size n h : ℕ) → f (lane_at (replicate n (fresh_lane size)) h) ≡ a
+lane_field f a each size n h = elim (lane_fresh size n h) [
+  | inl is ↦ ap f is ∙ each size
+  | inr is ↦ ap f is ∙ each 0
+]
+
+-- the member at a place
+pick : {A : Type 0} (xs : List A) (i : ℕ) → i < length xs → A
+pick [] i less = absurd (omega (arith, less))
+pick (x ∷ xs) zero less = x
+pick (x ∷ xs) (suc i) less = pick xs i (omega (arith, less))
+
+-- a client's side before its first block
+pub record IsFreshSide (s : Side) : Type 0 where
+  pub code : ClientCode
+  pub chunk : ℕ
+  pub lanes_of : ℕ
+  pub mind : s.mind ≡ fresh_mind code chunk
+  pub lanes : s.lanes ≡ replicate lanes_of (fresh_lane chunk)
+
+module _ (p : ProgramShape) (mode : Mode) (chunk room : ℕ) (cs : List ClientSeatState) (hs : List HandlerSeatState) (clients : AreFreshClients p mode chunk cs) (handlers : AreFreshHandlers p room hs) where
+  abbrev made : CoreState
+  made = record { program = p; size = chunk; order = []; clients = cs; handlers = hs }
+
+  in_list : (c : ℕ) (d : ClientSeatState) → c < length p.clients → side_at cs c ≡ side_of (get_or cs c d)
+  in_list c d less = map_here side_of cs c d no_side (subst (λ n. c < n) (sym clients.many) less)
+
+  -- the client of this number
+  seat_of : (c : ℕ) → c < length p.clients → ClientSeatState
+  seat_of c less = pick cs c (subst (λ n. c < n) (sym clients.many) less)
+
+  fresh_inside : (c : ℕ) → c < length p.clients → IsFreshSide (side_at cs c)
+  fresh_inside c less =
+      let f = clients.each c (seat_of c less) less in
+      subst IsFreshSide (sym (in_list c (seat_of c less) less)) (record { code = f.code; chunk = chunk; lanes_of = length p.objects; mind = f.mind; lanes = f.lanes })
+
+  out_of : {A : Type 0} (xs : List A) (c : ℕ) (d : A) → length xs ≤ c → get_or xs c d ≡ d
+  out_of [] c d out = refl
+  out_of (x ∷ xs) zero d out = absurd (omega (arith, out))
+  out_of (x ∷ xs) (suc c) d out = out_of xs c d (omega (arith, out))
+
+  beyond : (c : ℕ) → length p.clients ≤ c → side_at cs c ≡ no_side
+  beyond c out = out_of (map side_of cs) c no_side (let m : length (map side_of cs) ≡ length cs = length-map cs side_of in omega (arith, m, clients.many, out))
+
+  fresh_side : (c : ℕ) → IsFreshSide (side_at cs c)
+  fresh_side c = by_test (nat_lt c (length p.clients)) refl
+    where
+      by_test : (b : Bool) → nat_lt c (length p.clients) ≡ b → IsFreshSide (side_at cs c)
+      by_test true e = fresh_inside c (grind (arith, e))
+      by_test false e = subst IsFreshSide (sym (beyond c (grind (arith, e)))) (record { code = record { dynamic = false; blocks = [] }; chunk = 0; lanes_of = 0; mind = refl; lanes = refl })
+
+  codes_inside : (c : ℕ) → c < length p.clients → IsCodeOf p mode c (codes_of made c)
+  codes_inside c less =
+      let f = clients.each c (seat_of c less) less in
+      subst (IsCodeOf p mode c) (sym (ap (λ (x : Side). x.mind.code) (in_list c (seat_of c less) less) ∙ ap (λ (m : Mind). m.code) f.mind)) f.of
+
+  pub codes_are : AreCodes p mode (codes_of made)
+  codes_are = record { own = codes_inside; none = λ c out. ap (λ (x : Side). x.mind.code.blocks) (beyond c out) }
+
+  handlers_are : (h : ℕ) → handler_at p hs h ≡ free (fresh_held p h)
+  handlers_are h = by_test (nat_lt h (length p.objects)) refl
+    where
+      by_test : (b : Bool) → nat_lt h (length p.objects) ≡ b → handler_at p hs h ≡ free (fresh_held p h)
+      by_test true e =
+          let less : h < length p.objects = grind (arith, e) in
+          map_here handler_of hs h no_seat (free (fresh_held p h)) (omega (arith, less, handlers.many)) ∙ ap handler_of (handlers.each h no_seat less)
+      by_test false e =
+          let out : length p.objects ≤ h = grind (arith, e) in
+          out_of (map handler_of hs) h (free (fresh_held p h)) (let m : length (map handler_of hs) ≡ length hs = length-map hs handler_of in omega (arith, m, handlers.many, out))
+
+  tickets_are : (h : ℕ) → tickets_at hs h ≡ []
+  tickets_are h = by_test (nat_lt h (length p.objects)) refl
+    where
+      queue_of : HandlerSeatState → List Ticket
+      queue_of x = x.tickets
+
+      by_test : (b : Bool) → nat_lt h (length p.objects) ≡ b → tickets_at hs h ≡ []
+      by_test true e =
+          let less : h < length p.objects = grind (arith, e) in
+          map_here queue_of hs h no_seat [] (omega (arith, less, handlers.many)) ∙ ap queue_of (handlers.each h no_seat less)
+      by_test false e =
+          let out : length p.objects ≤ h = grind (arith, e) in
+          out_of (map queue_of hs) h [] (let m : length (map queue_of hs) ≡ length hs = length-map hs queue_of in omega (arith, m, handlers.many, out))
+
+  pub begins : core_of made ≡ core_begin p
+  unfolding core_of
+  begins = λ k. record {
+    order = [];
+    client = fun_ext (λ c. ap (λ (m : Mind). m.client) (fresh_side c).mind) k;
+    syncs = fun_ext (λ c. ap (λ (m : Mind). m.syncs) (fresh_side c).mind) k;
+    down = fun_ext (λ c. fun_ext (λ h. (λ i. (lane_at ((fresh_side c).lanes i) h).down) ∙ lane_field (λ (l : LaneState). l.down) [] (λ n. refl) (fresh_side c).chunk (fresh_side c).lanes_of h)) k;
+    up = fun_ext (λ c. fun_ext (λ h. (λ i. (lane_at ((fresh_side c).lanes i) h).up) ∙ lane_field (λ (l : LaneState). l.up) None (λ n. refl) (fresh_side c).chunk (fresh_side c).lanes_of h)) k;
+    spare = fun_ext (λ c. fun_ext (λ h. (λ i. length (lane_at ((fresh_side c).lanes i) h).spare) ∙ lane_field (λ (l : LaneState). length l.spare) 4 (λ n. refl) (fresh_side c).chunk (fresh_side c).lanes_of h)) k;
+    handler = fun_ext handlers_are k;
+    tickets = fun_ext tickets_are k;
+    entry = fun_ext (λ (t : Ticket). ap (λ (m : Mind). get_or m.entries t.index []) (fresh_side t.client).mind) k;
+    trace = fun_ext (λ (t : Ticket). ap (λ (m : Mind). get_or m.traces t.index []) (fresh_side t.client).mind ∙ none_at (length (fresh_side t.client).code.blocks) t.index) k;
+  }
+
+  replicate_stocked : (size n : ℕ) → AllByRecursion (IsStocked size) (replicate n (fresh_lane size))
+  replicate_stocked size zero = tt
+  replicate_stocked size (suc n) = ((refl, (refl, (refl, (refl, tt)))), replicate_stocked size n)
+
+  each_of : {A : Type 0} (P : A → Type 0) (xs : List A) → ((d : A) (i : ℕ) → i < length xs → P (get_or xs i d)) → AllByRecursion P xs
+  each_of P [] all = tt
+  each_of P (x ∷ xs) all = (all x 0 (omega arith), each_of P xs (λ d i less. all d (suc i) (omega arith)))
+
+  length_replicate : {A : Type 0} (n : ℕ) (x : A) → length (replicate n x) ≡ n
+  length_replicate zero x = refl
+  length_replicate (suc n) x = ap suc (length_replicate n x)
+
+  pub kept : room ≡ all_blocks p → IsCoreState made
+  kept enough = record {
+    clients = clients.many;
+    handlers = handlers.many;
+    sides = λ c less.
+        let inside : c < length p.clients = omega (arith, less, clients.many) in
+        let d = seat_of c inside in
+        let f = clients.each c d inside in
+        subst (IsSide p chunk c) (sym (in_list c d inside)) (record {
+          lanes = ap length f.lanes ∙ length_replicate (length p.objects) (fresh_lane chunk);
+          size = ap (λ (m : Mind). m.size) f.mind;
+          owner = λ some. let none : (whole_of (get_or cs c d)).client.begun ≡ 0 = ap (λ (m : Mind). m.client.begun) f.mind in absurd (omega (arith, some, none));
+        });
+    stocked = each_of AreStocked cs (λ d c less.
+        let f = clients.each c d (omega (arith, less, clients.many)) in
+        subst (λ n. AllByRecursion (IsStocked n) (get_or cs c d).lanes) (sym (ap (λ (m : Mind). m.size) f.mind)) (subst (AllByRecursion (IsStocked chunk)) (sym f.lanes) (replicate_stocked chunk (length p.objects))));
+    rooms = each_of (λ (x : HandlerSeatState). all_blocks p ≤ x.room) hs (λ d h less.
+        let is = handlers.each h d (omega (arith, less, handlers.many)) in
+        let rooms_is : (get_or hs h d).room ≡ room = ap (λ (x : HandlerSeatState). x.room) is in omega (arith, rooms_is, enough));
+    mode = mode;
+    codes = codes_are;
+  }

@@ -1,0 +1,88 @@
+-- Schedules of the optimised machine, a step at a time.
+use Rattle.std.proofs.Common.{◌≡◌, ◌<◌, ℕ, zero, suc, ◌+◌, Bool, true, false, length, get_or, take, arith, List, [], ◌∷◌, ◌++◌, map, None, refl, ap, sym, subst, ◌∙◌, add-one, zero-add, append_assoc, append-nil}
+use Rattle.std.specs.Prelude.{Result, Ok, Err, IfOk}
+use Rattle.std.specs.Bool.{OnTrue}
+use Rattle.std.specs.List.{range_with_len}
+use Rattle.qs_check.specs.Program.{ProgramShape}
+use Rattle.qs_syncset.specs.declared.mode.Mode.{Mode}
+use Rattle.qs_core.specs.Core.{AreCodes, core_begin, core_step}
+use Rattle.qs_core.specs.CoreSchedule.{IsShown, core_or_stay, core_played, core_plays, core_scheduled, on_way}
+use Rattle.qs_core.specs.Isolation.{IsIsolated}
+use Rattle.qs_core.specs.Schedule.{actors_of, repeated, schedule}
+use Rattle.qs_core.specs.declared.played.Played.{Played}
+use Rattle.qs_core.specs.CoreState.{CoreIsIsolated, CoreState, CoreSteps, IsFreshCore, IsPlayedOn, IsShownIsolated, codes_of, core_of}
+use Rattle.qs_core.specs.declared.actor.Actor.{Actor}
+use Rattle.qs_core.proofs.CoreReaching.{core_plays_more}
+use Rattle.qs_core.proofs.Lists.{range_more}
+
+-- one actor more
+pub played_more : (p : ProgramShape) (mode : Mode) (size : ℕ) (actors : List Actor) (old new : CoreState) (a : Actor) (b : Bool) → IsPlayedOn p mode size actors old → OnTrue b (CoreSteps old a new)
+    → (b ≡ false → core_step (codes_of old) old.size (core_of old) a ≡ None) → (b ≡ false → new ≡ old) → IsPlayedOn p mode size (actors ++ a ∷ []) new
+played_more p mode size actors old new a true on steps none same = record {
+  program = steps.program ∙ on.program;
+  size = steps.size ∙ on.size;
+  codes = subst (AreCodes p mode) (sym steps.codes) on.codes;
+  played =
+      sym (ap (core_or_stay (core_of old)) steps.steps)
+      ∙ (λ k. core_or_stay (on.played k) (core_step (codes_of old) (on.size k) (on.played k) a))
+      ∙ sym (core_plays_more (codes_of old) size actors a (core_begin p))
+      ∙ (λ k. core_plays (sym steps.codes k) size (actors ++ a ∷ []) (core_begin p));
+}
+played_more p mode size actors old new a false on steps none same =
+    subst (IsPlayedOn p mode size (actors ++ a ∷ [])) (sym (same refl)) (record {
+      program = on.program;
+      size = on.size;
+      codes = on.codes;
+      played =
+          sym (ap (core_or_stay (core_of old)) (none refl))
+          ∙ (λ k. core_or_stay (on.played k) (core_step (codes_of old) (on.size k) (on.played k) a))
+          ∙ sym (core_plays_more (codes_of old) size actors a (core_begin p));
+    })
+
+mapped_more : (f : ℕ → Actor) (xs : List ℕ) (n : ℕ) → map f (xs ++ n ∷ []) ≡ map f xs ++ f n ∷ []
+mapped_more f [] n = refl
+mapped_more f (x ∷ xs) n = ap (λ zs. f x ∷ zs) (mapped_more f xs n)
+
+-- one actor more of a row
+pub row_more : (actors : List Actor) (f : ℕ → Actor) (n : ℕ) → actors ++ map f (range_with_len 0 (n + 1)) ≡ (actors ++ map f (range_with_len 0 n)) ++ f n ∷ []
+row_more actors f n =
+    ap (λ xs. actors ++ xs) (ap (λ m. map f (range_with_len 0 m)) (add-one n) ∙ ap (map f) (range_more 0 n ∙ ap (λ m. range_with_len 0 n ++ m ∷ []) (zero-add n)) ∙ mapped_more f (range_with_len 0 n) n)
+    ∙ sym (append_assoc actors (map f (range_with_len 0 n)) (f n ∷ []))
+
+-- before the first actor
+pub fresh_played : (p : ProgramShape) (mode : Mode) (size : ℕ) (s : CoreState) → IsFreshCore p mode size s → IsPlayedOn p mode size [] s
+fresh_played p mode size s fresh = record { program = fresh.program; size = fresh.size; codes = fresh.codes; played = fresh.begins }
+
+take_next : {A : Type 0} (xs : List A) (i : ℕ) (d : A) → i < length xs → take (suc i) xs ≡ take i xs ++ get_or xs i d ∷ []
+take_next [] i d less = absurd (omega (arith, less))
+take_next (x ∷ xs) zero d less = refl
+take_next (x ∷ xs) (suc i) d less = ap (λ zs. x ∷ zs) (take_next xs i d (omega (arith, less)))
+
+pub take_more : {A : Type 0} (xs : List A) (i : ℕ) (d : A) → i < length xs → take (i + 1) xs ≡ take i xs ++ get_or xs i d ∷ []
+take_more xs i d less = ap (λ n. take n xs) (add-one i) ∙ take_next xs i d less
+
+-- one round more
+pub round_more : (p : ProgramShape) (picks : List Actor) (n : ℕ) → schedule p picks (n + 1) ≡ schedule p picks n ++ actors_of p
+round_more p picks n = ap (schedule p picks) (add-one n) ∙ sym (append_assoc picks (repeated n (actors_of p)) (actors_of p))
+
+-- what is shown after the whole schedule
+pub schedule_shown : (p : ProgramShape) (mode : Mode) (size : ℕ) (picks : List Actor) (rounds : ℕ) (s : CoreState) (played : Played) → IsPlayedOn p mode size (schedule p picks rounds) s
+    → played ≡ core_played s.program (core_of s) → IsShown p mode size picks rounds played
+unfolding core_scheduled
+schedule_shown p mode size picks rounds s played on is =
+    (codes_of s, on.codes, is ∙ (λ k. core_played (on.program k) (on.played k)))
+
+pub schedule_isolated : (p : ProgramShape) (mode : Mode) (size : ℕ) (picks : List Actor) (rounds : ℕ) (s : CoreState) (played : Played) → IsPlayedOn p mode size (schedule p picks rounds) s
+    → played ≡ core_played s.program (core_of s) → CoreIsIsolated s → IsShownIsolated p mode size picks rounds played
+unfolding core_scheduled IsShownIsolated
+schedule_isolated p mode size picks rounds s played on is isolated = (
+  codes_of s,
+  on.codes,
+  is ∙ (λ k. core_played (on.program k) (on.played k)),
+  subst (λ x. IsIsolated p played (on_way x)) on.played
+      (subst (λ r. IsIsolated p r (on_way (core_of s))) (sym is) (subst (λ q. IsIsolated q (core_played s.program (core_of s)) (on_way (core_of s))) on.program isolated)),
+)
+
+pub if_shown : {E : Type 0} (P : Played → Type 0) (result : Result Played E) (shown : Played) → IfOk result (λ played. played ≡ shown) → ((played : Played) → played ≡ shown → P played) → IfOk result P
+if_shown P (Ok played) shown is holds = holds played is
+if_shown P (Err e) shown is holds = tt

@@ -1,0 +1,72 @@
+-- A client's reservation is a step of the machine.
+use Rattle.std.proofs.Common.{◌≡◌, ◌<◌, ℕ, zero, suc, Bool, false, ◌==◌, arith, if◌then◌else◌, List, [], ◌∷◌, ◌++◌, length, get_or, refl, sym, ap, ◌∙◌, Some, None}
+use Rattle.std.proofs.Math.Path.{fun_ext}
+use Rattle.qs_objects.specs.declared.held.Event.{Event}
+use Rattle.qs_objects.specs.declared.held.Ticket.{Ticket}
+use Rattle.qs_check.specs.Solo.{put}
+use Rattle.qs_check.specs.Values.{Locals}
+use Rattle.qs_client.specs.Client.{Settled, between, booked}
+use Rattle.qs_client.specs.Mind.{Mind, asked_of, booked_with, extended, settings_of, tree_at}
+use Rattle.qs_client.specs.declared.act.Act.TheVariants as acts
+use Rattle.qs_client.proofs.Hold.{put_same, put_set_at}
+use Rattle.qs_handler.specs.Handler.{Handler}
+use Rattle.qs_syncset.specs.Codes.{ClientCode, code_at}
+use Rattle.qs_core.specs.Core.{Core, core_step, may, reserves_from}
+use Rattle.qs_core.specs.CoreState.{Side, core_from}
+use Rattle.qs_core.specs.LaneStates.{LaneState}
+use Rattle.qs_core.specs.Plain.{ticket}
+use Rattle.qs_core.specs.declared.actor.Actor.TheVariants as actor
+use Rattle.qs_core.proofs.CoreClients.{entries_in, traces_in}
+use Rattle.qs_core.proofs.CoreFields.{field_put, field_kept, lanes_stay, tickets_put}
+
+-- a list with one more at its end
+pub last_put : {A : Type 0} (xs : List A) (x d : A) (n : ℕ) → get_or (xs ++ x ∷ []) n d ≡ put (λ m. get_or xs m d) (length xs) x n
+last_put [] x d zero = refl
+last_put [] x d (suc n) = let other : (0 == suc n) ≡ false = grind arith in rw other refl
+last_put (y ∷ xs) x d zero = let other : (suc (length xs) == 0) ≡ false = grind arith in rw other refl
+last_put (y ∷ xs) x d (suc n) = let next : (suc (length xs) == suc n) ≡ (length xs == n) = grind arith in rw next (last_put xs x d n)
+
+module _ (order : List Ticket) (sides : ℕ → Side) (handler : ℕ → Handler) (tickets : ℕ → List Ticket) (c : ℕ) (l : Locals) where
+  abbrev own : Mind
+  own = (sides c).mind
+
+  abbrev code : ℕ → ClientCode
+  code n = (sides n).mind.code
+
+  abbrev pub next_of : Ticket
+  next_of = ticket c own.client.begun
+
+  -- the client's side once its block was reserved
+  abbrev pub reserved_side : Side
+  reserved_side = record { mind = booked_with own next_of l; lanes = (sides c).lanes }
+
+  -- each handler of the block's list has one more ticket
+  abbrev pub more_tickets : ℕ → List Ticket
+  more_tickets h = if may code own.size next_of h then tickets h ++ next_of ∷ [] else tickets h
+
+  abbrev by_block : Settled
+  by_block = booked (settings_of own) next_of (code_at own.code own.client.begun).reserved own.client (tree_at own.code own.client.begun l)
+
+  pub reserve_steps : own.client.place ≡ between l → asked_of own ≡ acts.Reserve → length own.entries ≡ own.client.begun → own.client.begun < length own.traces
+      → get_or own.traces own.client.begun [] ≡ []
+      → core_step code own.size (core_from order sides handler tickets) (actor.Client c) ≡ Some (core_from (order ++ next_of ∷ []) (put sides c reserved_side) handler more_tickets)
+  reserve_steps place_is asked counted traced empty = rw asked (ap (reserves_from code own.size (core_from order sides handler tickets) c) place_is ∙ (λ k. Some (record {
+    order = order ++ next_of ∷ [];
+    client = sym (field_put (λ (s : Side). s.mind.client) sides c reserved_side) k;
+    syncs = sym (field_kept (λ (s : Side). s.mind.syncs) sides c reserved_side refl) k;
+    down = sym (lanes_stay (λ (x : LaneState). x.down) sides c reserved_side refl) k;
+    up = sym (lanes_stay (λ (x : LaneState). x.up) sides c reserved_side refl) k;
+    spare = sym (lanes_stay (λ (x : LaneState). length x.spare) sides c reserved_side refl) k;
+    handler = handler;
+    tickets = more_tickets;
+    entry = sym (tickets_put entries_in sides c own.client.begun reserved_side l entries_are) k;
+    trace = sym (tickets_put traces_in sides c own.client.begun reserved_side by_block.events traces_are) k;
+  })))
+    where
+      entries_are : entries_in reserved_side ≡ put (entries_in (sides c)) own.client.begun l
+      entries_are = fun_ext (last_put own.entries l []) ∙ ap (λ n. put (entries_in (sides c)) n l) counted
+
+      traces_are : traces_in reserved_side ≡ put (traces_in (sides c)) own.client.begun by_block.events
+      traces_are =
+          fun_ext (put_set_at own.traces own.client.begun (traces_in (sides c) own.client.begun ++ by_block.events) [] traced)
+          ∙ ap (λ (es : List Event). put (traces_in (sides c)) own.client.begun (es ++ by_block.events)) empty

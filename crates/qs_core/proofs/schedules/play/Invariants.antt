@@ -1,0 +1,17 @@
+use Rattle.std.proofs.Common.{◌≡◌, drop}
+use Rattle.qs_core.specs.Plain.{begin}
+use Rattle.qs_core.specs.Rules.{plain_of}
+use Rattle.qs_core.specs.Schedule.{plays, schedule}
+use Rattle.qs_core.proofs.schedules.play.Given as goal
+
+abbrev pub invariant-loop-pick : goal.invariant-loop-pick
+invariant-loop-pick l = record {
+  program : l.rules.program ≡ l.program;
+  value : plays l.program (drop l.pick-index l.picks) (plain_of l.rules) ≡ plays l.program l.picks (begin l.program);
+}
+
+abbrev pub invariant-loop-round : goal.invariant-loop-round
+invariant-loop-round l = record {
+  program : l.rules.program ≡ l.program;
+  value : plain_of l.rules ≡ plays l.program (schedule l.program l.picks l._round) (begin l.program);
+}

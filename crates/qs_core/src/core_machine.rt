@@ -1,0 +1,277 @@
+//! The optimised machine.
+
+ghost use Rattle.std.specs.Prelude.{◌≡◌, ◌<◌, None, Some, false, length, slice_index_or, vec_len, IfOk};
+ghost use Rattle.std.specs.Bool.{OnTrue};
+ghost use Rattle.qs_core.specs.Core.{core_step};
+ghost use Rattle.qs_core.specs.CoreSchedule.{core_played};
+ghost use Rattle.qs_core.specs.CoreState.{AreFreshClients, AreFreshHandlers, CoreKeeps, CoreSteps, GoesOn, IsCoreState, IsFreshClient, IsFreshCore, core_of, codes_of};
+ghost use Rattle.qs_core.specs.ClientSeats.{ClientSeatState};
+ghost use Rattle.qs_core.specs.HandlerSeats.{CanEnterAll, HandlerSeatState, entered_all, entered_at, seat_at, turns_to};
+ghost use Rattle.qs_client.specs.declared.act.Act.TheVariants as wants;
+ghost use Rattle.qs_core.specs.declared.actor.Actor.TheVariants as actors;
+
+use crate::actor::Actor;
+use crate::client_seat::ClientSeat;
+use crate::core_showing;
+use crate::hall::declared_held;
+use crate::handler_seat::HandlerSeat;
+use crate::played::Played;
+use qs_check::Program;
+use qs_chunk::ChunkSize;
+use qs_objects::Ticket;
+use qs_syncset::{Mode, compile};
+use std::alloc::{AllocError, Global};
+use std::marker::Model;
+
+/// A program on its way in the optimised machine: clients with their lanes, and handlers with their queues of tickets. It takes memory in
+/// `new` alone.
+#[derive(Drop)]
+pub(crate) struct CoreMachine<'p> {
+    program: &'p Program,
+    size: ChunkSize,
+    order: Vec<Ticket>,
+    clients: Vec<ClientSeat>,
+    handlers: Vec<HandlerSeat>,
+}
+
+impl<'p> Model for CoreMachine<'p> {
+    ghost use Rattle.std.specs.Prelude.{◌≤◌, vec_capacity};
+    ghost use Rattle.qs_core.specs.CoreState.{CoreState, IsCoreState, all_blocks, core_code};
+
+    ghost Value = { CoreState };
+
+    ghost coded = { core_code };
+
+    ghost view = { λ m. record { program = m.program.now; size = m.size; order = m.order.items; clients = m.clients.items; handlers = m.handlers.items } };
+
+    ghost invariant = { λ m.
+        IsCoreState (record { program = m.program.now; size = m.size; order = m.order.items; clients = m.clients.items; handlers = m.handlers.items })
+        × (all_blocks m.program.now ≤ vec_capacity m.order) };
+}
+
+// A ticket comes to each handler of a list.
+fn enter_all(handlers: &mut Vec<HandlerSeat>, objects: &[u8], ticket: Ticket)
+    requires { CanEnterAll ticket handlers.old.items objects.now }
+    ensures entered { handlers.new.items ≡ entered_all ticket handlers.old.items objects.now }
+{
+    for object in objects {
+        enter_at(handlers, *object, ticket);
+    }
+}
+
+fn enter_at(handlers: &mut Vec<HandlerSeat>, object: u8, ticket: Ticket)
+    requires object { object < length handlers.old.items }
+    requires room { length (seat_at handlers.old.items object).tickets < (seat_at handlers.old.items object).room }
+    ensures entered { handlers.new.items ≡ entered_at ticket handlers.old.items object }
+    ensures len { vec_len handlers.new ≡ vec_len handlers.old }
+{
+    let handler = &mut handlers[usize::from(object)];
+    handler.enter(ticket);
+}
+
+// The clients of a program before their first blocks.
+fn fresh_clients(
+    alloc: Global,
+    program: &Program,
+    mode: Mode,
+    size: ChunkSize,
+) -> Result<Vec<ClientSeat>, AllocError>
+    ensures fresh { IfOk result (λ clients. AreFreshClients program.now mode size clients.items) }
+{
+    program.is_sound();
+    let mut clients = Vec::new(alloc);
+    for number in 0..program.clients() as u8 {
+        clients.push(fresh_client(alloc, program, mode, size, number)?)?;
+    }
+    Ok(clients)
+}
+
+fn fresh_client(
+    alloc: Global,
+    program: &Program,
+    mode: Mode,
+    size: ChunkSize,
+    number: u8,
+) -> Result<ClientSeat, AllocError>
+    requires { number < length program.now.clients }
+    ensures fresh { IfOk result (λ client. IsFreshClient program.now mode size number client) }
+{
+    let code = compile(alloc, program, mode, number)?;
+    ClientSeat::new(alloc, code, size, program.objects())
+}
+
+// The handlers of a program, each with its object as declared and room for so many tickets.
+fn fresh_handlers(
+    alloc: Global,
+    program: &Program,
+    room: usize,
+) -> Result<Vec<HandlerSeat>, AllocError>
+    ensures fresh { IfOk result (λ handlers. AreFreshHandlers program.now room handlers.items) }
+{
+    program.is_sound();
+    let mut handlers = Vec::new(alloc);
+    for object in 0..program.objects() as u8 {
+        let held = declared_held(alloc, program, object)?;
+        handlers.push(HandlerSeat::new(alloc, held, room)?)?;
+    }
+    Ok(handlers)
+}
+
+impl<'p> CoreMachine<'p> {
+    /// A program before its first step. It takes all the memory that the run will need, by the loads; a refused growth leaves nothing.
+    pub(crate) fn new(
+        alloc: Global,
+        program: &'p Program,
+        mode: Mode,
+        size: ChunkSize,
+    ) -> Result<CoreMachine<'p>, AllocError>
+        ensures fresh { IfOk result (IsFreshCore program.now mode size) }
+    {
+        program.is_sound();
+        let blocks = program.blocks();
+        let clients = fresh_clients(alloc, program, mode, size)?;
+        let handlers = fresh_handlers(alloc, program, blocks)?;
+        let order = Vec::with_capacity(alloc, blocks)?;
+        Ok(CoreMachine {
+            program,
+            size,
+            order,
+            clients,
+            handlers,
+        })
+    }
+
+    /// What holds of every machine. It does nothing.
+    pub(crate) fn is_machine(&self)
+        ensures state { IsCoreState self.now }
+    {
+        let _ = &self.order;
+    }
+
+    /// The program.
+    pub(crate) fn program(&self) -> &Program
+        ensures value { result.now ≡ self.now.program }
+    {
+        self.program
+    }
+
+    /// One step of an actor: true where it has one, and else false, with nothing changed; also where there is no such actor.
+    pub(crate) fn step(&mut self, actor: Actor) -> bool
+        requires keeps { CoreKeeps self.old }
+        requires on { GoesOn self.old }
+        ensures steps { OnTrue result (CoreSteps self.old actor self.new) }
+        ensures none { result ≡ false → core_step (codes_of self.old) self.old.size (core_of self.old) actor ≡ None }
+        ensures unchanged { result ≡ false → self.new ≡ self.old }
+    {
+        match actor {
+            Actor::Client(client) => {
+                usize::from(client) < self.clients.len() && self.step_client(client)
+            }
+            Actor::Handler(handler) => {
+                usize::from(handler) < self.handlers.len() && self.step_handler(handler)
+            }
+        }
+    }
+
+    fn step_client(&mut self, number: u8) -> bool
+        requires number { number < length self.old.clients }
+        requires keeps { CoreKeeps self.old }
+        requires on { GoesOn self.old }
+        ensures steps { OnTrue result (CoreSteps self.old (actors.Client number) self.new) }
+        ensures none { result ≡ false → core_step (codes_of self.old) self.old.size (core_of self.old) (actors.Client number) ≡ None }
+        ensures unchanged { result ≡ false → self.new ≡ self.old }
+    {
+        if self.clients[usize::from(number)].wants_block() {
+            self.reserve(number);
+            return true;
+        }
+        self.go_on(number)
+    }
+
+    // A client reserves the objects of its next block.
+    fn reserve(&mut self, number: u8)
+        requires number { number < length self.old.clients }
+        requires asked { (d : ClientSeatState) → (slice_index_or self.old.clients number d).act ≡ wants.Reserve }
+        requires keeps { CoreKeeps self.old }
+        requires on { GoesOn self.old }
+        ensures steps { CoreSteps self.old (actors.Client number) self.new }
+    {
+        self.program.is_sound();
+        let client = &self.clients[usize::from(number)];
+        client.is_seat();
+        let ticket = Ticket {
+            client: number,
+            index: client.begun() as u8,
+        };
+        self.order.push_reserved(ticket);
+        let block = self.program.block(number, ticket.index);
+        enter_all(&mut self.handlers, block.reserved(), ticket);
+        let client = &mut self.clients[usize::from(number)];
+        client.book(ticket);
+    }
+
+    // A client goes on at a lane.
+    fn go_on(&mut self, number: u8) -> bool
+        requires number { number < length self.old.clients }
+        requires other { (d : ClientSeatState) → (slice_index_or self.old.clients number d).act ≡ wants.Reserve → ⊥ }
+        requires keeps { CoreKeeps self.old }
+        ensures steps { OnTrue result (CoreSteps self.old (actors.Client number) self.new) }
+        ensures none { result ≡ false → core_step (codes_of self.old) self.old.size (core_of self.old) (actors.Client number) ≡ None }
+        ensures unchanged { result ≡ false → self.new ≡ self.old }
+    {
+        let client = &mut self.clients[usize::from(number)];
+        client.is_seat();
+        client.go_on()
+    }
+
+    fn step_handler(&mut self, number: u8) -> bool
+        requires number { number < length self.old.handlers }
+        requires keeps { CoreKeeps self.old }
+        ensures steps { OnTrue result (CoreSteps self.old (actors.Handler number) self.new) }
+        ensures none { result ≡ false → core_step (codes_of self.old) self.old.size (core_of self.old) (actors.Handler number) ≡ None }
+        ensures unchanged { result ≡ false → self.new ≡ self.old }
+    {
+        match self.handlers[usize::from(number)].client() {
+            None => self.take_ticket(number),
+            Some(client) => self.meet(number, client),
+        }
+    }
+
+    // A handler takes the next ticket of its queue.
+    fn take_ticket(&mut self, number: u8) -> bool
+        requires number { number < length self.old.handlers }
+        requires asked { (d : HandlerSeatState) → turns_to (slice_index_or self.old.handlers number d).act ≡ None }
+        requires keeps { CoreKeeps self.old }
+        ensures steps { OnTrue result (CoreSteps self.old (actors.Handler number) self.new) }
+        ensures none { result ≡ false → core_step (codes_of self.old) self.old.size (core_of self.old) (actors.Handler number) ≡ None }
+        ensures unchanged { result ≡ false → self.new ≡ self.old }
+    {
+        let handler = &mut self.handlers[usize::from(number)];
+        handler.is_seat();
+        handler.take_ticket()
+    }
+
+    // A handler does what it does next at the lane of its client.
+    fn meet(&mut self, number: u8, client: u8) -> bool
+        requires number { number < length self.old.handlers }
+        requires asked { (d : HandlerSeatState) → turns_to (slice_index_or self.old.handlers number d).act ≡ Some client }
+        requires keeps { CoreKeeps self.old }
+        ensures steps { OnTrue result (CoreSteps self.old (actors.Handler number) self.new) }
+        ensures none { result ≡ false → core_step (codes_of self.old) self.old.size (core_of self.old) (actors.Handler number) ≡ None }
+        ensures unchanged { result ≡ false → self.new ≡ self.old }
+    {
+        let handler = &mut self.handlers[usize::from(number)];
+        handler.is_seat();
+        let client = &mut self.clients[usize::from(client)];
+        client.meet(number, handler)
+    }
+
+    /// What the run has shown.
+    pub(crate) fn shown(&self, alloc: Global) -> Result<Played, AllocError>
+        requires keeps { CoreKeeps self.now }
+        ensures shown { IfOk result (λ played. played ≡ core_played self.now.program (core_of self.now)) }
+    {
+        self.program.is_sound();
+        core_showing::shown(alloc, &self.order, &self.clients, &self.handlers)
+    }
+}

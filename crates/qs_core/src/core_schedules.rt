@@ -1,0 +1,61 @@
+//! Schedules of the optimised machine.
+
+ghost use Rattle.std.specs.Prelude.{IfOk};
+ghost use Rattle.qs_core.specs.CoreSchedule.{IsPlayedIn, IsShown};
+ghost use Rattle.qs_core.specs.CoreState.{IsShownIsolated};
+
+use crate::actor::Actor;
+use crate::fault::PlayFault;
+use crate::optimised::Core;
+use crate::played::Played;
+use crate::schedules::are_named;
+use qs_check::Program;
+use qs_chunk::ChunkSize;
+use qs_syncset::Mode;
+use std::alloc::{AllocError, Global};
+
+/// What a program shows in the optimised machine after a schedule, as `play_plain` does under the plain rules: in this mode, which says
+/// how synchronisations with objects that are held are left out, and with chunks of this size.
+pub fn play(
+    alloc: Global,
+    program: &Program,
+    mode: Mode,
+    size: ChunkSize,
+    picks: &[Actor],
+    rounds: u32,
+) -> Result<Played, PlayFault>
+    ensures played { IsPlayedIn program.now mode size picks.now rounds result }
+    ensures isolated { IfOk result (IsShownIsolated program.now mode size picks.now rounds) }
+{
+    if rounds > 1_000_000 {
+        return Err(PlayFault::Rounds);
+    }
+    if !are_named(program, picks) {
+        return Err(PlayFault::Actor);
+    }
+    match play_core(alloc, program, mode, size, picks, rounds) {
+        Ok(played) => Ok(played),
+        Err(_) => Err(PlayFault::Memory),
+    }
+}
+
+fn play_core(
+    alloc: Global,
+    program: &Program,
+    mode: Mode,
+    size: ChunkSize,
+    picks: &[Actor],
+    rounds: u32,
+) -> Result<Played, AllocError>
+    ensures shown { IfOk result (IsShown program.now mode size picks.now rounds) }
+    ensures isolated { IfOk result (IsShownIsolated program.now mode size picks.now rounds) }
+{
+    let mut core = Core::new(alloc, program, mode, size)?;
+    for pick in picks {
+        let _stepped = core.step(*pick);
+    }
+    for _round in 0..rounds {
+        core.round();
+    }
+    core.shown(alloc)
+}

@@ -1,0 +1,268 @@
+//! What a run of the optimised machine has shown, read off its clients and handlers.
+
+ghost use Rattle.std.specs.Prelude.{◌≡◌, ◌≤◌, ◌<◌, ◌&&◌, IfOk, length, map, sum_by, slice_index_or, [], IsSome, Some, option_copied};
+ghost use Rattle.std.specs.List.{range_with_len};
+ghost use Rattle.qs_objects.specs.declared.held.Ticket.{Ticket as TicketShape};
+ghost use Rattle.qs_core.specs.ClientSeats.{whole_of};
+ghost use Rattle.qs_core.specs.CoreSchedule.{has_ended};
+ghost use Rattle.qs_core.specs.CoreShown.{AreBegunBy, AreShowable, AreSomewhere, HaveLane, HaveLanes, IsBegunBy, TurnTo, TurnsTo, are_clear, are_through, are_waiting, held_at, is_waiting, object_at, shown_by};
+ghost use Rattle.qs_core.specs.CoreState.{side_at};
+ghost use Rattle.qs_core.specs.HandlerSeats.{IsHandlerSeat, seat_at};
+
+use crate::client_seat::ClientSeat;
+use crate::handler_seat::HandlerSeat;
+use crate::played::{Played, Row, Traces};
+use qs_check::Locals;
+use qs_objects::{Held, Journal, Object, Ticket};
+use std::alloc::{AllocError, Global};
+
+// A client by its number.
+fn seat(clients: &[ClientSeat], number: usize) -> &ClientSeat
+    requires number { number < length clients.now }
+    ensures mind { whole_of result.now ≡ (side_at clients.now number).mind }
+    ensures lanes { result.now.lanes ≡ (side_at clients.now number).lanes }
+{
+    &clients[number]
+}
+
+// The client of a ticket, which has the block's variables at entry and its trace.
+fn seat_of<'a>(clients: &'a [ClientSeat], ticket: &Ticket) -> &'a ClientSeat
+    requires begun { IsBegunBy clients.now ticket.now }
+    ensures mind { whole_of result.now ≡ (side_at clients.now ticket.now.client).mind }
+    ensures entries { ticket.now.index < length (whole_of result.now).entries }
+    ensures traces { ticket.now.index < length (whole_of result.now).traces }
+{
+    let client = seat(clients, usize::from(ticket.client));
+    client.is_seat();
+    client
+}
+
+/// For each ticket whether its block has ended.
+pub(crate) fn endings(
+    alloc: Global,
+    clients: &[ClientSeat],
+    order: &[Ticket],
+) -> Result<Row<bool>, AllocError>
+    requires begun { AreBegunBy clients.now order.now }
+    ensures value { IfOk result (λ row. row ≡ map (λ (t : TicketShape). has_ended (side_at clients.now t.client).mind.client t.index) order.now) }
+{
+    let mut row = Vec::new(alloc);
+    for ticket in order {
+        row.push(seat_of(clients, ticket).has_ended(ticket.index))?;
+    }
+    Ok(Row::from_vec(row))
+}
+
+/// For each ticket its client's variables at entry.
+pub(crate) fn entries(
+    alloc: Global,
+    clients: &[ClientSeat],
+    order: &[Ticket],
+) -> Result<Row<Locals>, AllocError>
+    requires begun { AreBegunBy clients.now order.now }
+    ensures value { IfOk result (λ row. row ≡ map (λ (t : TicketShape). slice_index_or (side_at clients.now t.client).mind.entries t.index []) order.now) }
+{
+    let mut row = Vec::new(alloc);
+    for ticket in order {
+        row.push(seat_of(clients, ticket).entry(ticket.index))?;
+    }
+    Ok(Row::from_vec(row))
+}
+
+/// For each ticket its block's trace.
+pub(crate) fn traces(
+    alloc: Global,
+    clients: &[ClientSeat],
+    order: &[Ticket],
+) -> Result<Traces, AllocError>
+    requires begun { AreBegunBy clients.now order.now }
+    ensures value { IfOk result (λ traces. traces ≡ map (λ (t : TicketShape). slice_index_or (side_at clients.now t.client).mind.traces t.index []) order.now) }
+{
+    let mut row = Vec::new(alloc);
+    for ticket in order {
+        row.push(seat_of(clients, ticket).trace(alloc, ticket.index)?)?;
+    }
+    Ok(Traces::from_vec(row))
+}
+
+// How many Syncs a client has sent: at most so many in each of its blocks.
+fn syncs_of(client: &ClientSeat) -> u64
+    ensures value { result ≡ (whole_of client.now).syncs }
+    ensures few { result ≤ 192000128 }
+{
+    client.is_seat();
+    client.syncs()
+}
+
+/// How many Syncs the clients have sent.
+pub(crate) fn syncs(clients: &[ClientSeat]) -> u64
+    requires few { length clients.now ≤ 8 }
+    ensures value { result ≡ sum_by (λ c. (side_at clients.now c).mind.syncs) (range_with_len 0 (length clients.now)) }
+{
+    let mut syncs = 0;
+    for number in 0..clients.len() {
+        syncs += syncs_of(seat(clients, number));
+    }
+    syncs
+}
+
+/// Whether each client stands between two blocks with none to come.
+#[tactic(auto, using(crate::proofs::CoreShowing::all_more))]
+pub(crate) fn are_done(clients: &[ClientSeat]) -> bool
+    ensures value { result ≡ are_through clients.now }
+{
+    let mut done = true;
+    for number in 0..clients.len() {
+        done = done && seat(clients, number).is_done();
+    }
+    done
+}
+
+// Whether nothing lies in any client's lane to this handler.
+#[tactic(auto, using(crate::proofs::CoreShowing::all_more))]
+fn is_clear_to(clients: &[ClientSeat], handler: usize) -> bool
+    requires lanes { HaveLane clients.now handler }
+    ensures value { result ≡ are_clear clients.now handler }
+{
+    let mut clear = true;
+    for number in 0..clients.len() {
+        clear = clear && seat(clients, number).lane(handler).is_empty();
+    }
+    clear
+}
+
+// Whether a handler waits, and nothing lies in the lanes to it.
+fn is_idle(clients: &[ClientSeat], handlers: &[HandlerSeat], number: usize) -> bool
+    requires number { number < length handlers.now }
+    requires lanes { HaveLane clients.now number }
+    ensures value { result ≡ (is_waiting (seat_at handlers.now number) && are_clear clients.now number) }
+{
+    handlers[number].is_waiting() && is_clear_to(clients, number)
+}
+
+/// Whether no handler serves anybody or has tickets, and nothing lies in the lanes to them.
+#[tactic(auto, using(crate::proofs::CoreShowing::all_more))]
+pub(crate) fn are_idle(clients: &[ClientSeat], handlers: &[HandlerSeat]) -> bool
+    requires lanes { HaveLanes clients.now handlers.now }
+    ensures value { result ≡ are_waiting clients.now handlers.now }
+{
+    let mut idle = true;
+    for number in 0..handlers.len() {
+        idle = idle && is_idle(clients, handlers, number);
+    }
+    idle
+}
+
+// Whether the run is finished.
+fn are_finished(clients: &[ClientSeat], handlers: &[HandlerSeat]) -> bool
+    requires lanes { HaveLanes clients.now handlers.now }
+    ensures value { result ≡ (are_through clients.now && are_waiting clients.now handlers.now) }
+{
+    are_done(clients) && are_idle(clients, handlers)
+}
+
+// A handler by its number.
+fn handler_at(handlers: &[HandlerSeat], number: u8) -> &HandlerSeat
+    requires number { number < length handlers.now }
+    ensures seat { result.now ≡ seat_at handlers.now number }
+    ensures kept { IsHandlerSeat result.now }
+{
+    let handler = &handlers[usize::from(number)];
+    handler.is_seat();
+    handler
+}
+
+// The object of a handler, wherever it is.
+fn object<'a>(
+    clients: &'a [ClientSeat],
+    handlers: &'a [HandlerSeat],
+    number: u8,
+) -> Option<&'a Held>
+    requires number { number < length handlers.now }
+    requires few { length handlers.now ≤ 8 }
+    requires lanes { HaveLane clients.now number }
+    requires turns { TurnsTo clients.now (seat_at handlers.now number) }
+    ensures value { option_copied result ≡ object_at clients.now handlers.now number }
+{
+    let handler = handler_at(handlers, number);
+    match handler.held() {
+        Some(held) => Some(held),
+        None => match handler.client() {
+            Some(client) => seat(clients, usize::from(client)).away(number),
+            None => None,
+        },
+    }
+}
+
+// The object of a handler once more.
+fn copied(
+    alloc: Global,
+    clients: &[ClientSeat],
+    handlers: &[HandlerSeat],
+    number: u8,
+) -> Result<Held, AllocError>
+    requires number { number < length handlers.now }
+    requires few { length handlers.now ≤ 8 }
+    requires lanes { HaveLane clients.now number }
+    requires turns { TurnsTo clients.now (seat_at handlers.now number) }
+    requires somewhere { IsSome (object_at clients.now handlers.now number) }
+    ensures value { IfOk result (λ held. held ≡ held_at clients.now handlers.now number) }
+{
+    match object(clients, handlers, number) {
+        Some(held) => held.copied(alloc),
+        None => unreachable!(),
+    }
+}
+
+/// For each handler its object's journal and its object.
+pub(crate) fn parts(
+    alloc: Global,
+    clients: &[ClientSeat],
+    handlers: &[HandlerSeat],
+) -> Result<(Row<Journal>, Row<Object>), AllocError>
+    requires few { length handlers.now ≤ 8 }
+    requires lanes { HaveLanes clients.now handlers.now }
+    requires turns { TurnTo clients.now handlers.now }
+    requires somewhere { AreSomewhere clients.now handlers.now }
+    ensures journals { IfOk result (λ rows. rows.0 ≡ map (λ h. (held_at clients.now handlers.now h).journal) (range_with_len 0 (length handlers.now))) }
+    ensures states { IfOk result (λ rows. rows.1 ≡ map (λ h. (held_at clients.now handlers.now h).object) (range_with_len 0 (length handlers.now))) }
+{
+    let mut journals = Vec::new(alloc);
+    let mut states = Vec::new(alloc);
+    for number in 0..handlers.len() as u8 {
+        let (object, journal) = copied(alloc, clients, handlers, number)?.into_parts();
+        journals.push(journal)?;
+        states.push(object)?;
+    }
+    Ok((Row::from_vec(journals), Row::from_vec(states)))
+}
+
+/// What the run has shown, by the order of reservations, the clients and the handlers.
+pub(crate) fn shown(
+    alloc: Global,
+    order: &[Ticket],
+    clients: &[ClientSeat],
+    handlers: &[HandlerSeat],
+) -> Result<Played, AllocError>
+    requires showable { AreShowable order.now clients.now handlers.now }
+    ensures shown { IfOk result (λ played. played ≡ shown_by order.now clients.now handlers.now) }
+{
+    let mut tickets = Vec::new(alloc);
+    tickets.extend_from_slice(order)?;
+    let ended = endings(alloc, clients, order)?;
+    let entries = entries(alloc, clients, order)?;
+    let traces = traces(alloc, clients, order)?;
+    let syncs = syncs(clients);
+    let finished = are_finished(clients, handlers);
+    let (journals, states) = parts(alloc, clients, handlers)?;
+    Ok(Played {
+        order: Row::from_vec(tickets),
+        ended,
+        entries,
+        traces,
+        journals,
+        states,
+        syncs,
+        finished,
+    })
+}

@@ -1,0 +1,102 @@
+//! The optimised machine, from its beginning on.
+
+ghost use Rattle.std.specs.Prelude.{◌≡◌, ◌++◌, ℕ, List, None, false, IfOk};
+ghost use Rattle.qs_check.specs.Program.{ProgramShape};
+ghost use Rattle.qs_syncset.specs.declared.mode.Mode.{Mode as ModeShape};
+ghost use Rattle.qs_core.specs.CoreSchedule.{core_played};
+ghost use Rattle.qs_core.specs.Schedule.{actors_of};
+ghost use Rattle.qs_core.specs.declared.actor.Actor.{Actor as ActorShape};
+ghost use Rattle.std.specs.Bool.{OnTrue};
+ghost use Rattle.qs_core.specs.Core.{core_step};
+ghost use Rattle.qs_core.specs.CoreState.{CoreIsIsolated, CoreSteps, IsFreshCore, IsPlayedOn, codes_of, core_of};
+
+use crate::actor::Actor;
+use crate::core_machine::CoreMachine;
+use crate::played::Played;
+use qs_check::Program;
+use qs_chunk::ChunkSize;
+use qs_syncset::Mode;
+use std::alloc::{AllocError, Global};
+use std::marker::Model;
+
+/// A program on its way in the optimised machine, from its beginning on: each client sends chunks of commands to the handlers, and
+/// runs its queries itself on the objects that come to it. It takes memory in `new` alone.
+#[derive(Drop)]
+pub struct Core<'p> {
+    machine: CoreMachine<'p>,
+}
+
+impl<'p> Model for Core<'p> {
+    ghost use Rattle.qs_core.specs.CoreState.{CoreState, IsReachedCore, core_code};
+
+    ghost Value = { CoreState };
+
+    ghost coded = { core_code };
+
+    ghost view = { λ c. c.machine };
+
+    ghost invariant = { λ c. IsReachedCore c.machine };
+}
+
+impl<'p> Core<'p> {
+    /// A program before its first step, in this mode and with chunks of this size. It takes all the memory that the run will need, by the
+    /// loads; a refused growth leaves nothing.
+    pub fn new(
+        alloc: Global,
+        program: &'p Program,
+        mode: Mode,
+        size: ChunkSize,
+    ) -> Result<Core<'p>, AllocError>
+        ensures fresh { IfOk result (IsFreshCore program.now mode size) }
+    {
+        let machine = CoreMachine::new(alloc, program, mode, size)?;
+        Ok(Core { machine })
+    }
+
+    /// One step of an actor: true where it has one, and else false, with nothing changed; also where there is no such actor. What has
+    /// run stays isolated.
+    pub fn step(&mut self, actor: Actor) -> bool
+        ensures steps { OnTrue result (CoreSteps self.old actor self.new) }
+        ensures none { result ≡ false → core_step (codes_of self.old) self.old.size (core_of self.old) actor ≡ None }
+        ensures unchanged { result ≡ false → self.new ≡ self.old }
+        ensures isolated { CoreIsIsolated self.new }
+    {
+        self.machine.program().is_sound();
+        self.machine.is_machine();
+        self.machine.step(actor)
+    }
+
+    /// At every moment each reservation has done what its block does alone, as far as it has come; it does nothing.
+    pub fn is_isolated(&self)
+        ensures isolated { CoreIsIsolated self.now }
+    {
+        self.machine.program().is_sound();
+        self.machine.is_machine();
+    }
+
+    /// One step of each client and then of each handler, in text order.
+    pub(crate) fn round(&mut self)
+        ensures round { (p : ProgramShape) (mode : ModeShape) (size : ℕ) (actors : List ActorShape) → IsPlayedOn p mode size actors self.old → IsPlayedOn p mode size (actors ++ actors_of p) self.new }
+    {
+        let program = self.machine.program();
+        program.is_sound();
+        let clients = program.clients() as u8;
+        let handlers = program.objects() as u8;
+        for client in 0..clients {
+            let _stepped = self.step(Actor::Client(client));
+        }
+        for handler in 0..handlers {
+            let _stepped = self.step(Actor::Handler(handler));
+        }
+    }
+
+    /// What the run has shown.
+    pub(crate) fn shown(&self, alloc: Global) -> Result<Played, AllocError>
+        ensures shown { IfOk result (λ played. played ≡ core_played self.now.program (core_of self.now)) }
+        ensures isolated { CoreIsIsolated self.now }
+    {
+        self.machine.program().is_sound();
+        self.machine.is_machine();
+        self.machine.shown(alloc)
+    }
+}
