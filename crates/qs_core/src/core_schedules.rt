@@ -14,8 +14,11 @@ use qs_chunk::ChunkSize;
 use qs_syncset::Mode;
 use std::alloc::{AllocError, Global};
 
-/// What a program shows in the optimised machine after a schedule, as `play_plain` does under the plain rules: in this mode, which says
-/// how synchronisations with objects that are held are left out, and with chunks of this size.
+/// What a program shows in the optimised machine after a schedule: first the picks, one step each, then so many rounds, each of them one
+/// step of every client and then of every handler in text order; an actor without a step changes nothing. The mode says how
+/// synchronisations with objects that are held are left out, and chunks have this size. `Rounds` comes for more than 1,000,000 rounds,
+/// `Actor` for a pick that names no actor of the program, both before any growth; `Memory` where one is refused. What is shown is
+/// isolated, as under the plain rules.
 pub fn play(
     alloc: Global,
     program: &Program,
