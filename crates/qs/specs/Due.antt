@@ -15,11 +15,14 @@ use Rattle.qs_script.specs.declared.tree.Item.{Item}
 use Rattle.qs_check.specs.Checked.{fault_of}
 use Rattle.qs_check.specs.Resolve.{resolved}
 use Rattle.qs_check.specs.Program.{ProgramShape}
+use Rattle.qs_syncset.specs.declared.mode.Mode.TheVariants.{Both}
+use Rattle.qs_core.specs.CoreSchedule.{IsShown}
 use Rattle.qs_core.specs.Schedule.{played_of, scheduled}
+use Rattle.qs_core.specs.declared.played.Played.{Played}
 use Rattle.qs.specs.declared.due.Due.{Due}
 use Rattle.qs.specs.declared.due.Due.TheVariants.{Text, Refused}
 use Rattle.qs.specs.declared.words.Command.{Command}
-use Rattle.qs.specs.declared.words.Command.TheVariants.{Rules, Check, Graph}
+use Rattle.qs.specs.declared.words.Command.TheVariants.{Rules, Play, Check, Graph}
 use Rattle.qs.specs.Words.{command_in}
 
 abbrev pub due_text : Due → List ℕ
@@ -43,13 +46,19 @@ IsWantOfMemory (Refused (fault.Check check.Memory)) = Unit {0}
 IsWantOfMemory (Refused (fault.Play play.Memory)) = Unit {0}
 IsWantOfMemory _ = ⊥
 
--- how many rounds `rules` plays
+-- how many rounds `rules` and `play` play
 abbrev pub rounds : ℕ
 rounds = 1000000
 
--- what a command makes of a program: the report of its run under the plain rules, without picks, its counts, or its graphs
+-- how many commands a chunk of `play` takes
+abbrev pub chunk_size : ℕ
+chunk_size = 8
+
+-- what a command makes of a program: the report of its run under the plain rules, without picks, or in the optimised machine, its
+-- counts, or its graphs
 abbrev pub IsTextBy : Command → ProgramShape → List ℕ → Type 0
 IsTextBy Rules p text = text ≡ report_text p (played_of p (scheduled p [] rounds))
+IsTextBy Play p text = (played : Played) × IsShown p Both chunk_size [] rounds played × (text ≡ report_text p played)
 IsTextBy Check p text = text ≡ counts_text p
 IsTextBy Graph p text = IsGraphText p text
 

@@ -2,7 +2,7 @@
 use Rattle.std.specs.Prelude.{ℕ, Bool, ◌==◌, if◌then◌else◌, List, [], ◌∷◌, codes, Option, Some, None}
 use Rattle.std.specs.Cmp.Lexicographic.{pointwise}
 use Rattle.qs.specs.declared.words.Command.{Command}
-use Rattle.qs.specs.declared.words.Command.TheVariants.{Rules, Check, Graph}
+use Rattle.qs.specs.declared.words.Command.TheVariants.{Rules, Play, Check, Graph}
 
 abbrev pub same_word : List ℕ → List ℕ → Bool
 same_word = pointwise ◌==◌
@@ -10,6 +10,7 @@ same_word = pointwise ◌==◌
 abbrev pub command_of_word : List ℕ → Option Command
 command_of_word word =
     if same_word word (codes "rules") then Some Rules
+    else if same_word word (codes "play") then Some Play
     else if same_word word (codes "check") then Some Check
     else if same_word word (codes "graph") then Some Graph else None
 

@@ -3,14 +3,16 @@
 ghost use Rattle.std.specs.Prelude.{◌≡◌, ◌+◌, ◌≤◌, ◌⊎◌, false, None, Some, map, IfOk, IfSome};
 ghost use Rattle.qs_report.specs.declared.faults.Fault.TheVariants as fault;
 ghost use Rattle.qs.specs.Words.{command_in};
-ghost use Rattle.qs.specs.Due.{IsDue, IsDueOfProgram, IsDueOfText, IsRefusedBy, IsWantOfMemory, due_status, longest};
+ghost use Rattle.qs.specs.Due.{IsDue, IsDueOfProgram, IsDueOfText, IsRefusedBy, IsWantOfMemory, chunk_size, due_status, longest};
 
 use crate::input::{Counted, InputFault, gather};
 use crate::words::{Command, command_of_line};
 use qs_check::{Program, check};
-use qs_core::play_plain;
+use qs_chunk::ChunkSize;
+use qs_core::{play, play_plain};
 use qs_report::{Fault, check_text, graph_text, report, status};
 use qs_script::read;
+use qs_syncset::Mode;
 use std::alloc::Global;
 use std::io::Read;
 
@@ -39,13 +41,27 @@ impl Due {
 
 const ROUNDS: u32 = 1_000_000;
 
-// What a command makes of a program: a run of so many rounds, the counts, or the graphs.
+// How many commands a chunk takes.
+fn chunk_size() -> ChunkSize
+    ensures size { result ≡ chunk_size }
+{
+    match ChunkSize::new(8) {
+        Some(size) => size,
+        None => unreachable!(),
+    }
+}
+
+// What a command makes of a program: a run of so many rounds by the plain rules or in the optimised machine, the counts, or the graphs.
 fn due_of_program(alloc: Global, command: Command, program: &Program) -> Due
     ensures not_input { ¬ IsRefusedBy fault.Input result }
     ensures due { IsWantOfMemory result ⊎ IsDueOfProgram command program.now result }
 {
     let text = match command {
         Command::Rules => match play_plain(alloc, program, &[], ROUNDS) {
+            Ok(played) => report(alloc, program, &played),
+            Err(fault) => return Due::Refused(Fault::Play(fault)),
+        },
+        Command::Play => match play(alloc, program, Mode::Both, chunk_size(), &[], ROUNDS) {
             Ok(played) => report(alloc, program, &played),
             Err(fault) => return Due::Refused(Fault::Play(fault)),
         },

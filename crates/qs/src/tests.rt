@@ -128,7 +128,7 @@ fn other_lines_are_refused_unread(rt: HostRuntime) {
     is_refused_unread(&rt, rt.alloc(), &["qs"]);
     is_refused_unread(&rt, rt.alloc(), &["rules"]);
     is_refused_unread(&rt, rt.alloc(), &["qs", "rules", "rules"]);
-    for word in ["", "rule", "rules ", "Rules", "play", "--help"] {
+    for word in ["", "rule", "rules ", "Rules", "plays", "run", "--help"] {
         is_refused_unread(&rt, rt.alloc(), &["qs", word]);
     }
 }
@@ -235,7 +235,7 @@ fn answers_or_wants_memory(rt: &impl Abort, alloc: Global, word: &str, due: &[u8
         let is_check = written == Some(b"refused: check 12 Memory\n".as_slice());
         let is_play = written == Some(b"refused: play 1 Memory\n".as_slice());
         let is_elsewhere = written == Some(b"refused: memory\n".as_slice());
-        assert!(rt; is_read || is_check || (is_play && word == "rules") || is_elsewhere);
+        assert!(rt; is_read || is_check || (is_play && word != "graph") || is_elsewhere);
     } else {
         assert_eq!(rt; status, STATUS);
         assert_eq!(rt; written, Some(due));
@@ -245,6 +245,11 @@ fn answers_or_wants_memory(rt: &impl Abort, alloc: Global, word: &str, due: &[u8
 #[test]
 fn each_allocation(rt: HostRuntime) {
     answers_or_wants_memory(&rt, rt.alloc(), "rules", DUE);
+}
+
+#[test]
+fn each_allocation_for_play(rt: HostRuntime) {
+    answers_or_wants_memory(&rt, rt.alloc(), "play", DUE);
 }
 
 #[test]
@@ -421,6 +426,42 @@ fn two_clients_transfer(rt: HostRuntime) {
         b"object a account 100 object b account 100 client ann { separate a b { a.withdraw(30); b.deposit(30); x = a.balance(); y = b.balance(); } } client bob { separate a { a.deposit(1); } separate b { b.deposit(1); y = b.balance(); } }",
         b"order 3\nticket ann 0 done\na.withdraw(30)\nb.deposit(30)\na.balance() = 70\nb.balance() = 130\nticket bob 0 done\na.deposit(1)\nticket bob 1 done\nb.deposit(1)\nb.balance() = 131\nstates\na account 71 refused 0\nb account 131 refused 0\nsyncs 3\nfinished\n",
         0,
+    );
+}
+
+#[test]
+fn plays_in_the_machine(rt: HostRuntime) {
+    gives(
+        &rt,
+        rt.alloc(),
+        "play",
+        b"object b buffer 1 client c { separate b { b.put(1); b.put(2); x = b.take(); b.drop(); y = b.take(); z = b.refused(); } }",
+        b"order 1\nticket c 0 done\nb.put(1)\nb.put(2)\nb.take() = 1\nb.drop()\nb.take() = 0\nb.refused() = 2\nstates\nb buffer 1 [] refused 2\nsyncs 2\nfinished\n",
+        0,
+    );
+    gives(
+        &rt,
+        rt.alloc(),
+        "play",
+        b"",
+        b"order 0\nstates\nsyncs 0\nfinished\n",
+        0,
+    );
+    gives(
+        &rt,
+        rt.alloc(),
+        "play",
+        b"object acc account 1 client c { separate acc {",
+        b"refused: read 5 Form line 1\n",
+        2,
+    );
+    gives(
+        &rt,
+        rt.alloc(),
+        "play",
+        b"object a account 1 object b account 1 client c { separate a { b.deposit(1); } }",
+        b"refused: check 4 NotReserved\n",
+        2,
     );
 }
 

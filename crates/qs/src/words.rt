@@ -8,6 +8,8 @@ ghost use Rattle.qs.specs.Words.{command_in, command_of_word};
 pub enum Command {
     /// Check it, and play it by the plain rules to the end.
     Rules,
+    /// Check it, and play it in the optimised machine to the end.
+    Play,
     /// Check it, and count.
     Check,
     /// Check it, and show the graphs of its blocks.
@@ -19,6 +21,8 @@ fn command_of(word: &str) -> Option<Command>
 {
     if word == "rules" {
         Some(Command::Rules)
+    } else if word == "play" {
+        Some(Command::Play)
     } else if word == "check" {
         Some(Command::Check)
     } else if word == "graph" {

@@ -73,3 +73,4 @@ pub mod CoreReaching
 pub mod CoreShowing
 pub mod CoreReadings
 pub mod CorePlaying
+pub mod AloneCodes

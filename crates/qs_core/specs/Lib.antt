@@ -24,6 +24,7 @@ pub mod Core
 pub mod CoreSchedule
 pub mod CoreReached
 pub mod CoreExamples
+pub mod CoalescedExamples
 pub mod LaneStates
 pub mod HandlerSeats
 pub mod ClientSeats

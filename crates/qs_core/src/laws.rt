@@ -1,5 +1,6 @@
 //! What the definitions say, for callers' proofs and for readers.
 
+ghost use Rattle.qs_core.specs.CoalescedExamples.{CoalescedExamples};
 ghost use Rattle.qs_core.specs.CoreExamples.{CoreExamples};
 ghost use Rattle.qs_core.specs.CoreSchedule.{CoreRunsAreIsolated};
 ghost use Rattle.qs_core.specs.Isolation.{PlainRunsAreIsolated};
@@ -33,4 +34,10 @@ pub fn core_runs_are_isolated()
 /// computed by the definitions; it does nothing.
 pub fn core_examples()
     ensures examples { CoreExamples }
+{}
+
+/// Blocks in the optimised machine in each of the four modes, with their graphs, replies and syncs, computed by the definitions; it does
+/// nothing.
+pub fn coalesced_examples()
+    ensures examples { CoalescedExamples }
 {}
