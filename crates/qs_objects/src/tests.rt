@@ -335,6 +335,78 @@ fn journals_note_each_request(rt: HostRuntime) -> Result<(), Fail> {
     Ok(())
 }
 
+// An object's values, from the first on.
+fn values(alloc: Global, object: &Object) -> Result<Vec<i64>, Fail> {
+    let mut values = Vec::new(alloc);
+    for place in 0..object.len() {
+        if let Some(value) = object.value(place) {
+            values.push(value)?;
+        }
+    }
+    Ok(values)
+}
+
+#[test]
+fn copies_go_their_own_ways(rt: HostRuntime) -> Result<(), Fail> {
+    for (kind, op, numbers, once, twice) in [
+        (
+            Kind::Account { balance: 5 },
+            Op::Deposit,
+            [7].as_slice(),
+            [12].as_slice(),
+            [19].as_slice(),
+        ),
+        (
+            Kind::Buffer { capacity: 2 },
+            Op::Put,
+            [7].as_slice(),
+            [7].as_slice(),
+            [7, 7].as_slice(),
+        ),
+        (
+            Kind::Grid {
+                rows: 1,
+                columns: 2,
+            },
+            Op::AddCell,
+            [0, 1, 7].as_slice(),
+            [0, 7].as_slice(),
+            [0, 14].as_slice(),
+        ),
+    ] {
+        let mut object = Object::new(rt.alloc(), kind)?;
+        ask(rt.alloc(), &mut object, op, numbers);
+        let mut copy = object.copied(rt.alloc())?;
+        assert_eq!(rt; values(rt.alloc(), &copy)?.as_slice(), once, "{op:?}");
+        ask(rt.alloc(), &mut copy, op, numbers);
+        assert_eq!(rt; values(rt.alloc(), &copy)?.as_slice(), twice, "{op:?}");
+        assert_eq!(rt; values(rt.alloc(), &object)?.as_slice(), once, "{op:?}");
+    }
+    Ok(())
+}
+
+#[test]
+fn a_copy_has_the_journal_and_its_room(rt: HostRuntime) -> Result<(), Fail> {
+    let account = Object::new(rt.alloc(), Kind::Account { balance: 1 })?;
+    let mut held = Held::new(rt.alloc(), account, 2)?;
+    let ticket = Ticket {
+        client: 3,
+        index: 7,
+    };
+    held.run(ticket, request(rt.alloc(), Op::Withdraw, &[2]));
+    let mut copy = held.copied(rt.alloc())?;
+    assert_eq!(rt; copy.journal().len(), 1);
+    assert!(rt; copy.has_room());
+    assert_eq!(rt;
+        copy.run(ticket, request(rt.alloc(), Op::Refused, &[])),
+        Some(1)
+    );
+    assert!(rt; !copy.has_room());
+    assert_eq!(rt; held.journal().len(), 1);
+    assert!(rt; held.has_room());
+    Ok(())
+}
+
 #[test]
 fn no_room_is_a_room(rt: HostRuntime) -> Result<(), Fail> {
     let buffer = Object::new(rt.alloc(), Kind::Buffer { capacity: 1 })?;
