@@ -37,7 +37,7 @@ each_is_in (h ∷ hs) = (rw (eqb_self h) refl, each_map (λ g (k : is_in hs g �
     more g k true = refl
     more g k false = k
 
-longest_covers : (bs : List BlockCode) (k : ℕ) → length (get_or bs k no_code).graph ≤ longest bs
+pub longest_covers : (bs : List BlockCode) (k : ℕ) → length (get_or bs k no_code).graph ≤ longest bs
 longest_covers [] k = omega arith
 longest_covers (b ∷ bs) zero = omega arith
 longest_covers (b ∷ bs) (suc k) = omega (arith, longest_covers bs k)

@@ -89,7 +89,7 @@ module _ (program : ProgramShape) (sound : IsSound program) (mode : Mode) (code 
     is_between c (suc n) b act =
         reserve_at program (ticket c n) (y.sent (ticket c n)) (y.got (ticket c n)) (settings_of code size c) (blocks code size c) (s.client c) (y.page (ticket c n)) (s.client c).place (k.places c n b) act
 
-    has_more : (c : ℕ) (l : Locals) → (s.client c).place ≡ between l → next_of c ≡ Reserve → (s.client c).begun < blocks_of program c
+    pub has_more : (c : ℕ) (l : Locals) → (s.client c).place ≡ between l → next_of c ≡ Reserve → (s.client c).begun < blocks_of program c
     has_more c l at act =
         let b = reserves_more (nat_lt (s.client c).begun (blocks code size c)) (sym (ap (act_at (settings_of code size c) (blocks code size c) (s.client c)) at) ∙ act) in
         let long = blocks_are program sound mode code codes size c in

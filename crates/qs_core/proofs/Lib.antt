@@ -74,3 +74,9 @@ pub mod CoreShowing
 pub mod CoreReadings
 pub mod CorePlaying
 pub mod AloneCodes
+pub mod ClientCounts
+pub mod SyncLists
+pub mod CoreCounting
+pub mod CoreSyncs
+pub mod PlainSyncs
+pub mod CoreCounted

@@ -141,7 +141,7 @@ put_more b c k = by_test (c == k) refl
     by_test true e = let same : k ≡ c = grind (arith, e) in rw same (omega arith)
     by_test false e = omega arith
 
-counts_grow : (p : ProgramShape) (b : ℕ → ℕ) (ts : List Ticket) (c : ℕ) → LegalFrom p b ts → b c ≤ counts_after b ts c
+pub counts_grow : (p : ProgramShape) (b : ℕ → ℕ) (ts : List Ticket) (c : ℕ) → LegalFrom p b ts → b c ≤ counts_after b ts c
 counts_grow p b [] c legal = omega arith
 counts_grow p b (t ∷ ts) c legal =
     let first : b c ≤ put b t.client (suc t.index) c = subst (λ n. b c ≤ put b t.client (suc n) c) (sym legal.0) (put_more b t.client c) in

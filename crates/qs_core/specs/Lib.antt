@@ -30,3 +30,4 @@ pub mod HandlerSeats
 pub mod ClientSeats
 pub mod CoreState
 pub mod CoreShown
+pub mod SyncSums

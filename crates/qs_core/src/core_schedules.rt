@@ -3,6 +3,7 @@
 ghost use Rattle.std.specs.Prelude.{IfOk};
 ghost use Rattle.qs_core.specs.CoreSchedule.{IsPlayedIn, IsShown};
 ghost use Rattle.qs_core.specs.CoreState.{IsShownIsolated};
+ghost use Rattle.qs_core.specs.SyncSums.{AreSyncsCounted};
 
 use crate::actor::Actor;
 use crate::fault::PlayFault;
@@ -18,7 +19,7 @@ use std::alloc::{AllocError, Global};
 /// step of every client and then of every handler in text order; an actor without a step changes nothing. The mode says how
 /// synchronisations with objects that are held are left out, and chunks have this size. `Rounds` comes for more than 1,000,000 rounds,
 /// `Actor` for a pick that names no actor of the program, both before any growth; `Memory` where one is refused. What is shown is
-/// isolated, as under the plain rules.
+/// isolated, as under the plain rules, and its Syncs are counted, reservation by reservation and object by object.
 pub fn play(
     alloc: Global,
     program: &Program,
@@ -29,6 +30,7 @@ pub fn play(
 ) -> Result<Played, PlayFault>
     ensures played { IsPlayedIn program.now mode size picks.now rounds result }
     ensures isolated { IfOk result (IsShownIsolated program.now mode size picks.now rounds) }
+    ensures counted { IfOk result (AreSyncsCounted program.now mode) }
 {
     if rounds > 1_000_000 {
         return Err(PlayFault::Rounds);
@@ -52,6 +54,7 @@ fn play_core(
 ) -> Result<Played, AllocError>
     ensures shown { IfOk result (IsShown program.now mode size picks.now rounds) }
     ensures isolated { IfOk result (IsShownIsolated program.now mode size picks.now rounds) }
+    ensures counted { IfOk result (AreSyncsCounted program.now mode) }
 {
     let mut core = Core::new(alloc, program, mode, size)?;
     for pick in picks {

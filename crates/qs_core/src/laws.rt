@@ -6,6 +6,7 @@ ghost use Rattle.qs_core.specs.CoreSchedule.{CoreRunsAreIsolated};
 ghost use Rattle.qs_core.specs.Isolation.{PlainRunsAreIsolated};
 ghost use Rattle.qs_core.specs.IsolationExamples.{IsolationExamples};
 ghost use Rattle.qs_core.specs.PlayExamples.{PlayExamples};
+ghost use Rattle.qs_core.specs.SyncSums.{CoreSyncsAreCounted, PlainSyncsAreCounted};
 
 /// Runs under the plain rules, with their orders, replies, states and syncs, computed by the definitions; it does nothing.
 pub fn play_examples()
@@ -40,4 +41,16 @@ pub fn core_examples()
 /// nothing.
 pub fn coalesced_examples()
     ensures examples { CoalescedExamples }
+{}
+
+/// In the optimised machine, for every checked program, mode, chunk size and list of actors, at every moment: the Syncs that each
+/// reservation has sent for each object are counted by its trace, as its mode says, and make up all that were sent. It does nothing.
+pub fn core_syncs_are_counted()
+    ensures counted { CoreSyncsAreCounted }
+{}
+
+/// Under the plain rules, for every checked program and every list of actors, at every moment: each reservation has asked for each of its
+/// queries once, and these make up all synchronisations. It does nothing.
+pub fn plain_syncs_are_counted()
+    ensures counted { PlainSyncsAreCounted }
 {}

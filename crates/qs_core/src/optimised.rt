@@ -8,6 +8,7 @@ ghost use Rattle.qs_core.specs.Schedule.{actors_of};
 ghost use Rattle.qs_core.specs.declared.actor.Actor.{Actor as ActorShape};
 ghost use Rattle.std.specs.Bool.{OnTrue};
 ghost use Rattle.qs_core.specs.Core.{core_step};
+ghost use Rattle.qs_core.specs.SyncSums.{CoreIsCounted};
 ghost use Rattle.qs_core.specs.CoreState.{CoreIsIsolated, CoreSteps, IsFreshCore, IsPlayedOn, codes_of, core_of};
 
 use crate::actor::Actor;
@@ -54,12 +55,13 @@ impl<'p> Core<'p> {
     }
 
     /// One step of an actor: true where it has one, and else false, with nothing changed; also where there is no such actor. What has
-    /// run stays isolated.
+    /// run stays isolated, and each Sync that was sent is counted.
     pub fn step(&mut self, actor: Actor) -> bool
         ensures steps { OnTrue result (CoreSteps self.old actor self.new) }
         ensures none { result ≡ false → core_step (codes_of self.old) self.old.size (core_of self.old) actor ≡ None }
         ensures unchanged { result ≡ false → self.new ≡ self.old }
         ensures isolated { CoreIsIsolated self.new }
+        ensures counted { CoreIsCounted self.new }
     {
         self.machine.program().is_sound();
         self.machine.is_machine();
@@ -72,6 +74,13 @@ impl<'p> Core<'p> {
     {
         self.machine.program().is_sound();
         self.machine.is_machine();
+    }
+
+    /// At every moment the Syncs that each reservation has sent for each object are counted by its trace, as the mode says; it does nothing.
+    pub fn is_counted(&self)
+        ensures counted { CoreIsCounted self.now }
+    {
+        self.machine.program().is_sound();
     }
 
     /// One step of each client and then of each handler, in text order.
@@ -94,6 +103,7 @@ impl<'p> Core<'p> {
     pub(crate) fn shown(&self, alloc: Global) -> Result<Played, AllocError>
         ensures shown { IfOk result (λ played. played ≡ core_played self.now.program (core_of self.now)) }
         ensures isolated { CoreIsIsolated self.now }
+        ensures counted { CoreIsCounted self.now }
     {
         self.machine.program().is_sound();
         self.machine.is_machine();

@@ -4,6 +4,7 @@ ghost use Rattle.std.specs.Prelude.{◌≡◌, None, false, IfOk};
 ghost use Rattle.std.specs.Bool.{OnTrue};
 ghost use Rattle.qs_core.specs.Plain.{begin, step as the_step};
 ghost use Rattle.qs_core.specs.Rules.{AreIsolated, Steps, plain_of};
+ghost use Rattle.qs_core.specs.SyncSums.{AreRulesCounted};
 
 use crate::actor::Actor;
 use crate::machine::Machine;
@@ -40,12 +41,13 @@ impl<'p> Rules<'p> {
     }
 
     /// One step of an actor: true where it has one, and else false, with nothing changed; also where there is no such actor. What has
-    /// run stays isolated.
+    /// run stays isolated, and each synchronisation is counted.
     pub fn step(&mut self, actor: Actor) -> bool
         ensures steps { OnTrue result (Steps self.old actor self.new) }
         ensures none { result ≡ false → the_step self.old.program (plain_of self.old) actor ≡ None }
         ensures unchanged { result ≡ false → self.new ≡ self.old }
         ensures isolated { AreIsolated self.new }
+        ensures counted { AreRulesCounted self.new }
     {
         let stepped = self.machine.step(actor);
         self.machine.program().is_sound();
@@ -55,6 +57,13 @@ impl<'p> Rules<'p> {
     /// At every moment each reservation has done what its block does alone, as far as it has come; it does nothing.
     pub fn is_isolated(&self)
         ensures isolated { AreIsolated self.now }
+    {
+        self.machine.program().is_sound();
+    }
+
+    /// At every moment each reservation has asked for each of its queries once, and these make up all synchronisations; it does nothing.
+    pub fn is_counted(&self)
+        ensures counted { AreRulesCounted self.now }
     {
         self.machine.program().is_sound();
     }

@@ -52,7 +52,7 @@ put_again held h t = fun_ext (λ k. elim (cases_eq h k) [
   | inr other ↦ put_other held h k true other
 ])
 
-sync_moves : (g : List Place) (s : Spot) (h : ℕ) → (place_at g s.node).node ≡ Sync h
+pub sync_moves : (g : List Place) (s : Spot) (h : ℕ) → (place_at g s.node).node ≡ Sync h
     → move g s ≡ Syncs h (at_node s (first_target (place_at g s.node)))
 unfolding move
 sync_moves g s h e = rw e refl

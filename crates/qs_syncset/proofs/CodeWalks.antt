@@ -47,7 +47,7 @@ graph_nodes : (objects : List Declared) (b : BlockShape) (static : Bool) (g : Li
 graph_nodes objects b false g same nodes = subst (AreSoundNodes objects b.reserved) (sym same) nodes
 graph_nodes objects b true g c nodes = coalesced_nodes objects b.reserved (block_graph b.body) g c nodes
 
-graph_length : (b : Statements) (static : Bool) (g : List Place) → IsGraphOf static b g → length g ≡ length (block_graph b)
+pub graph_length : (b : Statements) (static : Bool) (g : List Place) → IsGraphOf static b g → length g ≡ length (block_graph b)
 graph_length b false g same = ap length same
 graph_length b true g c = c.count
 
@@ -57,7 +57,7 @@ nodes_stay_sound p mode client code sound of k inside =
     (blocks_have_graphs p client k sound).sound
 
 -- the walk with all its synchronisations
-built_walk : (b : Statements) (l : Locals) (counts : List ℕ) → FollowsBlock limit b l counts → IsGraph (block_graph b)
+pub built_walk : (b : Statements) (l : Locals) (counts : List ℕ) → FollowsBlock limit b l counts → IsGraph (block_graph b)
     → (static : Bool) (g : List Place) → IsGraphOf static b g
     → IsReduced (block_graph b) g limit (entry l counts) nothing
 built_walk b l counts f ok false g same =

@@ -5,5 +5,9 @@ pub mod Moves
 pub mod SoundTrees
 pub mod CoalescedWalks
 pub mod CodeWalks
+pub mod SyncTrees
+pub mod SyncWalks
+pub mod SyncCounts
 pub mod Tables
 pub mod WorkedGraphs
+pub mod WorkedSyncs

@@ -8,4 +8,6 @@ pub mod Codes
 pub mod Shapes
 pub mod SoundSynced
 pub mod CodeLaws
+pub mod SyncCounts
+pub mod SyncExamples
 pub mod HeldExamples

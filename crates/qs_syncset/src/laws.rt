@@ -2,6 +2,8 @@
 
 ghost use Rattle.qs_syncset.specs.CodeLaws.{CoalescingIsUnique, NodesStaySound, WalksAreSound};
 ghost use Rattle.qs_syncset.specs.HeldExamples.{HeldExamples};
+ghost use Rattle.qs_syncset.specs.SyncCounts.{SetsDecide, SyncsAreCounted};
+ghost use Rattle.qs_syncset.specs.SyncExamples.{SyncExamples};
 
 /// Blocks with what is held at the nodes of their graphs, and with these graphs coalesced; it does nothing.
 pub fn held_examples()
@@ -23,4 +25,21 @@ pub fn nodes_stay_sound()
 /// list; it does nothing.
 pub fn walks_are_sound()
     ensures sound { WalksAreSound }
+{}
+
+/// What a client that follows a trace of a block sends for an object along the block's tree in a code: a Sync for each query in mode
+/// Plain, for each that comes first or directly after a command in the dynamic modes, and for each that comes to a synchronisation
+/// at which the object is not held in mode Static; and these numbers are in order. It does nothing.
+pub fn syncs_are_counted()
+    ensures counted { SyncsAreCounted }
+{}
+
+/// Blocks with the queries that they make, and the Syncs that they send in each mode, computed by the definitions; it does nothing.
+pub fn sync_count_examples()
+    ensures examples { SyncExamples }
+{}
+
+/// The held sets of a graph are a test of where its synchronisations are held; it does nothing.
+pub fn sets_decide()
+    ensures decide { SetsDecide }
 {}

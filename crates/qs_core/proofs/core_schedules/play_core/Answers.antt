@@ -2,6 +2,8 @@ use Rattle.std.proofs.Common.{◌≡◌, take, sym, subst, arith}
 use Rattle.qs_core.specs.CoreSchedule.{IsShown, core_played}
 use Rattle.qs_core.specs.CoreState.{IsPlayedOn, IsShownIsolated, core_of}
 use Rattle.qs_core.specs.Schedule.{schedule}
+use Rattle.qs_core.specs.SyncSums.{AreSyncsCounted}
+use Rattle.qs_core.proofs.CoreCounted.{schedule_counted}
 use Rattle.qs_core.proofs.CorePlaying.{if_shown, played_more, round_more, schedule_isolated, schedule_shown, take_more}
 use Rattle.qs_core.proofs.core_schedules.play_core.Goals as goal
 
@@ -29,3 +31,10 @@ returns-clause-isolated c =
     let on = subst (λ n. IsPlayedOn c.args.program.now c.args.mode c.args.size (schedule c.args.program.now c.args.picks.now n) c.loop-round.core) all_rounds c.loop-round.invariant in
     if_shown (IsShownIsolated c.args.program.now c.args.mode c.args.size c.args.picks.now c.args.rounds) c.shown.result (core_played c.loop-round.core.program (core_of c.loop-round.core)) c.shown.ensures.shown
     (λ played is. schedule_isolated c.args.program.now c.args.mode c.args.size c.args.picks.now c.args.rounds c.loop-round.core played on is c.shown.ensures.isolated)
+
+pub returns-clause-counted : goal.returns-clause-counted
+returns-clause-counted c =
+    let all_rounds : c.loop-round._round ≡ c.args.rounds = omega (arith, c.loop-round-test.false, c.loop-round.auto._round-end) in
+    let on = subst (λ n. IsPlayedOn c.args.program.now c.args.mode c.args.size (schedule c.args.program.now c.args.picks.now n) c.loop-round.core) all_rounds c.loop-round.invariant in
+    if_shown (AreSyncsCounted c.args.program.now c.args.mode) c.shown.result (core_played c.loop-round.core.program (core_of c.loop-round.core)) c.shown.ensures.shown
+    (λ played is. schedule_counted c.args.program.now c.args.mode c.args.size c.args.picks.now c.args.rounds c.loop-round.core played on is c.shown.ensures.counted)

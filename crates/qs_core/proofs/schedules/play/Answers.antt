@@ -12,7 +12,10 @@ use Rattle.qs_check.specs.Serial.{IsLegal}
 use Rattle.qs_core.specs.declared.played.Played.{Played}
 use Rattle.std.specs.Prelude.{Result, Ok, Err, IfOk}
 use Rattle.qs_core.proofs.Ordering.{IsOrdered, ordered_begin, ordered_plays, tickets_begun}
+use Rattle.qs_core.specs.SyncSums.{AreQueriesCounted}
+use Rattle.qs_core.proofs.CorePlaying.{if_shown}
 use Rattle.qs_core.proofs.Isolating.{runs_isolated}
+use Rattle.qs_core.proofs.PlainSyncs.{plain_syncs_counted}
 use Rattle.qs_core.proofs.Playing.{plays-round}
 use Rattle.qs_core.proofs.ReadingOff.{at_client}
 use Rattle.qs_core.proofs.schedules.play.Goals as goal
@@ -65,3 +68,16 @@ returns-clause-legal c =
     let p = c.args.program.now in
     let all = subst (IsOrdered p) (sym c.loop-round.invariant.value) (ordered_plays p (begin p) (schedule p c.args.picks.now c.loop-round._round) (ordered_begin p)) in
     with_order p c.into_played.result (played_of c.loop-round.rules.program (plain_of c.loop-round.rules)) c.into_played.ensures.shown all.legal
+
+pub returns-clause-counted : goal.returns-clause-counted
+unfolding scheduled
+returns-clause-counted c =
+    let p = c.args.program.now in
+    let all_rounds : c.loop-round._round ≡ c.args.rounds = omega (arith, c.loop-round-test.false, c.loop-round.auto._round-end) in
+    let there : plain_of c.loop-round.rules ≡ plays p (schedule p c.args.picks.now c.args.rounds) (begin p) =
+    c.loop-round.invariant.value ∙ ap (λ n. plays p (schedule p c.args.picks.now n) (begin p)) all_rounds in
+    let last = plays p (schedule p c.args.picks.now c.args.rounds) (begin p) in
+    let counted = subst (λ (q : ProgramShape). AreQueriesCounted p last (played_of q (plain_of c.loop-round.rules))) (sym c.loop-round.invariant.program)
+    (subst (λ (s : Plain). AreQueriesCounted p last (played_of p s)) (sym there) (plain_syncs_counted p c.is_sound.ensures.sound (schedule p c.args.picks.now c.args.rounds))) in
+    if_shown (AreQueriesCounted p last) c.into_played.result (played_of c.loop-round.rules.program (plain_of c.loop-round.rules)) c.into_played.ensures.shown
+    (λ played is. subst (AreQueriesCounted p last) (sym is) counted)

@@ -1,6 +1,8 @@
-use Rattle.std.proofs.Common.{ap, subst, ◌∙◌}
+use Rattle.std.proofs.Common.{subst}
 use Rattle.qs_check.specs.Sound.{IsSound}
 use Rattle.qs_core.specs.CoreState.{CoreIsIsolated}
+use Rattle.qs_core.specs.SyncSums.{CoreIsCounted}
+use Rattle.qs_core.proofs.CoreCounted.{core_is_counted}
 use Rattle.qs_core.proofs.CoreReaching.{core_is_isolated, core_keeps}
 use Rattle.qs_core.proofs.optimised.Core.shown.Goals as goal
 
@@ -9,3 +11,6 @@ shown-requires c = record { keeps = core_keeps c.self.inside.machine (subst IsSo
 
 pub returns-clause-isolated : goal.returns-clause-isolated
 returns-clause-isolated c = subst CoreIsIsolated c.self.view_is (core_is_isolated c.self.inside.machine (subst IsSound c.program.ensures.value c.is_sound.ensures.sound) c.is_machine.ensures.state c.self.invariant)
+
+pub returns-clause-counted : goal.returns-clause-counted
+returns-clause-counted c = subst CoreIsCounted c.self.view_is (core_is_counted c.self.inside.machine (subst IsSound c.program.ensures.value c.is_sound.ensures.sound) c.self.invariant)

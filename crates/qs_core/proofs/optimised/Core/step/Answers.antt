@@ -1,5 +1,6 @@
 use Rattle.std.proofs.Common.{subst}
 use Rattle.qs_check.specs.Sound.{IsSound}
+use Rattle.qs_core.proofs.CoreCounted.{core_next_counted}
 use Rattle.qs_core.proofs.CoreReaching.{core_goes_on, core_keeps, core_next, core_next_isolated}
 use Rattle.qs_core.proofs.optimised.Core.step.Goals as goal
 
@@ -16,3 +17,8 @@ pub returns-clause-isolated : goal.returns-clause-isolated
 returns-clause-isolated c =
     core_next_isolated c.self.inside.machine c.step.new.self c.args.actor c.step.result (subst IsSound c.program.ensures.value c.is_sound.ensures.sound) c.is_machine.ensures.state
     c.self.invariant c.step.ensures.steps c.step.ensures.unchanged
+
+pub returns-clause-counted : goal.returns-clause-counted
+returns-clause-counted c =
+    core_next_counted c.self.inside.machine c.step.new.self c.args.actor c.step.result (subst IsSound c.program.ensures.value c.is_sound.ensures.sound) c.self.invariant
+    c.step.ensures.steps c.step.ensures.unchanged

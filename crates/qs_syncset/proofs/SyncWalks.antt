@@ -1,0 +1,183 @@
+-- Syncs along a walk through a graph whose held synchronisations are removed.
+use Rattle.std.proofs.Common.{◌≡◌, inl, inr, ℕ, zero, suc, ◌+◌, ◌<◌, Bool, true, false, ◌==◌, ◌&&◌, if◌then◌else◌, List, [], ◌∷◌, length, refl, sym, ap, ◌∙◌, subst, arith}
+use Rattle.std.specs.Prelude.{not}
+use Rattle.qs_objects.specs.declared.held.Event.{Event}
+use Rattle.qs_check.specs.Solo.{value_of}
+use Rattle.qs_check.specs.Values.{Locals}
+use Rattle.qs_check.proofs.Bounds.{AllByRecursion-get_or}
+use Rattle.qs_graph.specs.declared.node.Node.{Node}
+use Rattle.qs_graph.specs.declared.node.Node.TheVariants.{Entry, Local, Branch, Sync, Query, Call, Exit}
+use Rattle.qs_graph.specs.declared.node.Action.TheVariants.{Nothing}
+use Rattle.qs_graph.specs.Nodes.{Place, place_at, exit, first_target, made_local}
+use Rattle.qs_graph.specs.Synced.{Synced}
+use Rattle.qs_graph.specs.Walk.{Spot, Move, Ends, Goes, Calls, Syncs, Queries, at_node, move, move_by, said, walk, EachNext, Within}
+use Rattle.qs_graph.specs.WellFormed.{IsGraph, IsPlace, IsInRange}
+use Rattle.qs_syncset.specs.Coalesced.{IsRemovedIfHeld, IsCoalesced}
+use Rattle.qs_syncset.specs.Held.{IsHeld}
+use Rattle.qs_syncset.specs.SyncCounts.{Decides, kept_along, kept_by, syncs_along}
+use Rattle.qs_syncset.proofs.Moves.{move_same, move_here}
+use Rattle.qs_syncset.proofs.CoalescedWalks.{IsRemovedHere, place_is, sync_moves}
+use Rattle.qs_syncset.proofs.SyncTrees.{IsAsking, IsQueryOf}
+
+-- where a synchronisation leads
+abbrev pub beyond : List Place → Spot → Spot
+beyond g s = at_node s (first_target (place_at g s.node))
+
+-- a move to a synchronisation is made at its node
+syncs_by : (v : Node) (s : Spot) (a b j : ℕ) (t : Spot) → move_by v s a b ≡ Syncs j t → v ≡ Sync j
+syncs_by Entry s a b j t e = absurd (cc)
+syncs_by (Local x) s a b j t e = absurd (cc)
+syncs_by (Branch x) s a b j t e = absurd (cc)
+syncs_by (Sync k) s a b j t e = let same : k ≡ j = cc in ap Sync same
+syncs_by (Query x c) s a b j t e = absurd (cc)
+syncs_by (Call c) s a b j t e = absurd (cc)
+syncs_by Exit s a b j t e = absurd (cc)
+
+syncs_at : (g : List Place) (s : Spot) (j : ℕ) (t : Spot) → move g s ≡ Syncs j t → (place_at g s.node).node ≡ Sync j
+unfolding move
+syncs_at g s j t e = syncs_by (place_at g s.node).node s _ _ j t e
+
+query_said : (h : ℕ) (go other : Spot → Synced) (l : Locals) (m : Move) → EachNext (λ t. IsQueryOf h (go t) → IsQueryOf h (other t)) m
+    → IsQueryOf h (said go l m) → IsQueryOf h (said other l m)
+query_said h go other l Ends each q = q
+query_said h go other l (Goes s) each q = each q
+query_said h go other l (Calls r s) each q = q
+query_said h go other l (Syncs k s) each q = q
+query_said h go other l (Queries r s) each q = q
+
+-- the same at the next spots
+next_both : (P Q : Spot → Type 0) → ((s : Spot) → P s → Q s) → (m : Move) → EachNext P m → EachNext Q m
+next_both P Q f Ends p = tt
+next_both P Q f (Goes s) p = f s p
+next_both P Q f (Calls r s) p = f s p
+next_both P Q f (Syncs h s) p = f s p
+next_both P Q f (Queries r s) p = λ v. f (s v) (p v)
+
+module _ (g new : List Place) (c : IsCoalesced g new) where
+  query_here : (h n : ℕ) (s : Spot) → Within g n s → IsQueryOf h (walk g n s) → IsQueryOf h (walk new n s)
+  query_here h zero s within q = absurd within
+  query_here h (suc n) s within q = elim (place_is g new c s.node within.0) [
+    | inl same ↦
+        subst (λ m. IsQueryOf h (said (walk new n) s.locals m)) (sym (move_same g new s same))
+        (query_said h (walk g n) (walk new n) s.locals (move g s)
+        (next_both (Within g n) (λ t. IsQueryOf h (walk g n t) → IsQueryOf h (walk new n t)) (query_here h n) (move g s) within.1) q)
+    | inr r ↦ absurd (subst (λ m. IsQueryOf h (said (walk g n) s.locals m)) (sync_moves g s r.handler r.sync) q)
+  ]
+
+  asking_said : (n : ℕ) (l : Locals) (m : Move) → EachNext (Within g n) m → EachNext (λ t. IsAsking (walk g n t) → IsAsking (walk new n t)) m
+      → IsAsking (said (walk g n) l m) → IsAsking (said (walk new n) l m)
+  asking_said n l Ends within each a = a
+  asking_said n l (Goes s) within each a = each a
+  asking_said n l (Calls r s) within each a = each a
+  asking_said n l (Syncs h s) within each a = (query_here h n s within a.0, each a.1)
+  asking_said n l (Queries r s) within each a = λ v. each v (a v)
+
+  -- a synchronisation that is left stands before a query as it did
+  pub asking : (n : ℕ) (s : Spot) → Within g n s → IsAsking (walk g n s) → IsAsking (walk new n s)
+  asking zero s within a = absurd within
+  asking (suc n) s within a = elim (place_is g new c s.node within.0) [
+    | inl same ↦
+        subst (λ m. IsAsking (said (walk new n) s.locals m)) (sym (move_same g new s same))
+        (asking_said n s.locals (move g s) within.1
+        (next_both (Within g n) (λ t. IsAsking (walk g n t) → IsAsking (walk new n t)) (asking n) (move g s) within.1) a)
+    | inr r ↦ removed r (λ t within a. asking n t within a)
+  ]
+    where
+      removed : IsRemovedHere g new s.node → ((t : Spot) → Within g n t → IsAsking (walk g n t) → IsAsking (walk new n t)) → IsAsking (walk new (suc n) s)
+      removed r ih =
+          let old = sync_moves g s r.handler r.sync in
+          let now = move_here new s (made_local (place_at g s.node)) r.place in
+          let there : IsAsking (said (walk g n) s.locals (Syncs r.handler (beyond g s))) = subst (λ m. IsAsking (said (walk g n) s.locals m)) old a in
+          subst (λ m. IsAsking (said (walk new n) s.locals m)) (sym now) (ih (beyond g s) (subst (EachNext (Within g n)) old within.1) there.1)
+
+-- a synchronisation is with one of 8 handlers
+pub in_range : (g : List Place) → IsGraph g → (n : ℕ) → n < length g → (j : ℕ) → (place_at g n).node ≡ Sync j → j < 8
+in_range g ok n inside j e =
+    let here : IsPlace (length g) (place_at g n) = AllByRecursion-get_or (IsPlace (length g)) g n exit ok.places inside in
+    subst IsInRange e here.in_range
+
+module _ (g new : List Place) (c : IsCoalesced g new) (held : ℕ → ℕ → Bool) (decides : Decides g held) (h : ℕ) where
+  -- of no trace there are none
+  kept_none : (n : ℕ) (s : Spot) → kept_along g held h n s [] ≡ 0
+  kept_none zero s = refl
+  kept_none (suc n) s = by_move (move g s) (λ t. kept_none n t)
+    where
+      by_move : (m : Move) → ((t : Spot) → kept_along g held h n t [] ≡ 0) → kept_by g held h (kept_along g held h n) s.node m [] ≡ 0
+      by_move Ends later = refl
+      by_move (Goes t) later = later t
+      by_move (Calls r t) later = refl
+      by_move (Syncs j t) later = refl
+      by_move (Queries r t) later = refl
+
+  to_false : (b : Bool) → (b ≡ true → ⊥) → b ≡ false
+  to_false true never = absurd (never refl)
+  to_false false never = refl
+
+  -- a synchronisation that is left is not held
+  left_here : (n j : ℕ) → n < length g → (place_at g n).node ≡ Sync j → place_at new n ≡ place_at g n → held n j ≡ false
+  left_here n j inside e same =
+      elim (subst (λ v. IsRemovedIfHeld (IsHeld g n) v (place_at g n) (place_at new n)) e (c.places n inside)) [
+        | inl w ↦
+            let never : Local Nothing ≡ Sync j = sym (ap (λ (p : Place). p.node) w.1) ∙ (ap (λ (p : Place). p.node) same ∙ e) in
+            absurd (cc)
+        | inr w ↦ to_false (held n j) (λ t. w.0 ((decides n j e).0 t))
+      ]
+
+  removed_here : (r n : ℕ) → (place_at g n).node ≡ Sync r → IsHeld g n r → held n r ≡ true
+  removed_here r n e is = (decides n r e).1 is
+
+  abbrev pub Same : ℕ → Spot → Type 0
+  Same n t = (es : List Event) (b : Bool) → syncs_along false h b (walk new n t) es ≡ kept_along g held h n t es
+
+  -- the place is as it was
+  same_step : (n : ℕ) (s : Spot) (m : Move) → ((j : ℕ) (t : Spot) → m ≡ Syncs j t → held s.node j ≡ false) → EachNext (Same n) m
+      → (es : List Event) (b : Bool) → syncs_along false h b (said (walk new n) s.locals m) es ≡ kept_by g held h (kept_along g held h n) s.node m es
+  same_step n s Ends left each es b = refl
+  same_step n s (Goes t) left each es b = each es b
+  same_step n s (Calls r t) left each [] b = refl
+  same_step n s (Calls r t) left each (e ∷ es) b = each es (if r.object == h then false else b)
+  same_step n s (Syncs j t) left each [] b = refl
+  same_step n s (Syncs j t) left each (e ∷ es) b = by_case (j == h) refl
+    where
+      by_case : (x : Bool) → (j == h) ≡ x
+          → (if x then 1 + syncs_along false h true (walk new n t) (e ∷ es) else syncs_along false h b (walk new n t) (e ∷ es))
+          ≡ (if x && not (held s.node h) then 1 else 0) + kept_along g held h n t (e ∷ es)
+      by_case true is =
+          let same : j ≡ h = grind (arith, is) in
+          let not_held : held s.node h ≡ false = subst (λ k. held s.node k ≡ false) same (left j t refl) in
+          rw not_held (ap (λ k. 1 + k) (each (e ∷ es) true))
+      by_case false is = let i = each (e ∷ es) b in omega (arith, i)
+  same_step n s (Queries r t) left each [] b = refl
+  same_step n s (Queries r t) left each (e ∷ es) b = each (value_of e.reply) es b
+
+  -- without the test, what is sent through the graph that is left is what is not held in the whole graph
+  pub kept_is : (n : ℕ) (s : Spot) → Within g n s → Same n s
+  kept_is zero s within es b = absurd within
+  kept_is (suc n) s within es b =
+      let each : EachNext (Same n) (move g s) = next_both (Within g n) (Same n) (kept_is n) (move g s) within.1 in
+      elim (place_is g new c s.node within.0) [
+        | inl same ↦
+            subst (λ m. syncs_along false h b (said (walk new n) s.locals m) es ≡ kept_along g held h (suc n) s es) (sym (move_same g new s same))
+            (same_step n s (move g s) (λ j t e. left_here s.node j within.0 (syncs_at g s j t e) same) each es b)
+        | inr r ↦ removed r each
+      ]
+    where
+      removed : IsRemovedHere g new s.node → EachNext (Same n) (move g s) → syncs_along false h b (walk new (suc n) s) es ≡ kept_along g held h (suc n) s es
+      removed r each =
+          let old = sync_moves g s r.handler r.sync in
+          let now = move_here new s (made_local (place_at g s.node)) r.place in
+          let next : Same n (beyond g s) = subst (EachNext (Same n)) old each in
+          subst (λ m. syncs_along false h b (said (walk new n) s.locals m) es ≡ kept_along g held h (suc n) s es) (sym now)
+          (subst (λ m. syncs_along false h b (walk new n (beyond g s)) es ≡ kept_by g held h (kept_along g held h n) s.node m es) (sym old) (by_trace es next))
+        where
+          by_case : (x : Bool) → (r.handler == h) ≡ x → (k : ℕ) → k ≡ (if x && not (held s.node h) then 1 else 0) + k
+          by_case true is k =
+              let same : r.handler ≡ h = grind (arith, is) in
+              let holds : held s.node h ≡ true = subst (λ k. held s.node k ≡ true) same (removed_here r.handler s.node r.sync r.held) in
+              rw holds (omega arith)
+          by_case false is k = omega arith
+
+          by_trace : (es : List Event) → Same n (beyond g s) → syncs_along false h b (walk new n (beyond g s)) es ≡ kept_by g held h
+              (kept_along g held h n) s.node (Syncs r.handler (beyond g s)) es
+          by_trace [] next = next [] b ∙ kept_none n (beyond g s)
+          by_trace (e ∷ es) next = next (e ∷ es) b ∙ by_case (r.handler == h) refl (kept_along g held h n (beyond g s) (e ∷ es))

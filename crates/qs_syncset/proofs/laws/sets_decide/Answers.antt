@@ -1,0 +1,5 @@
+use Rattle.qs_syncset.proofs.SyncCounts.{sets_decide}
+use Rattle.qs_syncset.proofs.laws.sets_decide.Goals as goal
+
+pub returns : goal.returns
+returns c = record { decide = sets_decide }

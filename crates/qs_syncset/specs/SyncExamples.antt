@@ -1,0 +1,77 @@
+-- Blocks on an account a with balance 100 and on variables that are 0, and how many Syncs they send for a in each mode.
+use Rattle.std.specs.Prelude.{◌≡◌, ℕ, Bool, true, false, List, [], ◌∷◌, length, slice_index_or, pos}
+use Rattle.qs_objects.specs.Act.{account}
+use Rattle.qs_objects.specs.Objects.{fresh}
+use Rattle.qs_objects.specs.declared.held.Event.{Event}
+use Rattle.qs_script.specs.declared.tree.Relation.TheVariants.{Unequal}
+use Rattle.qs_check.specs.Solo.{solo}
+use Rattle.qs_check.specs.Statements.{Statements, end, command, query, choose, again}
+use Rattle.qs_check.specs.Values.{Locals}
+use Rattle.qs_check.specs.declared.code.Atom.TheVariants.{Variable, Number}
+use Rattle.qs_check.specs.declared.code.Test as tests
+use Rattle.qs_graph.specs.GraphExamples.{balance, deposit, leave_first, query_in_repeat}
+use Rattle.qs_graph.specs.Graphs.{block_graph}
+use Rattle.qs_graph.specs.Nodes.{Place, exit, to}
+use Rattle.qs_graph.specs.Steps.{limit}
+use Rattle.qs_graph.specs.Synced.{Synced}
+use Rattle.qs_graph.specs.SyncedExamples.{both}
+use Rattle.qs_graph.specs.Walk.{walk}
+use Rattle.qs_graph.specs.declared.node.Action.TheVariants.{Nothing}
+use Rattle.qs_graph.specs.declared.node.Node.TheVariants.{Entry, Local, Query, Sync}
+use Rattle.qs_syncset.specs.Coalesced.{IsCoalesced}
+use Rattle.qs_syncset.specs.HeldExamples.{without_inner, without_last}
+use Rattle.qs_syncset.specs.SyncCounts.{entry_with, kept, queries, runs, syncs_along}
+
+-- x = a.balance(); x = a.balance(); x = a.balance();
+abbrev pub three : Statements
+three = query 0 balance (query 0 balance (query 0 balance end))
+
+-- of the queries, the first alone has kept its synchronisation
+abbrev pub first_alone : List Place
+first_alone =
+    to Entry 1 ∷ to (Sync 0) 2 ∷ to (Query 0 balance) 3 ∷ to (Local Nothing) 4 ∷ to (Query 0 balance) 5 ∷ to (Local Nothing) 6
+    ∷ to (Query 0 balance) 7 ∷ exit ∷ []
+
+-- repeat 3 { x = a.balance(); }
+abbrev pub repeated : Statements
+repeated = again 3 (query 0 balance end) end
+
+-- x != 0
+abbrev pub not_zero : tests.Test
+not_zero = record { left = Variable 0; relation = Unequal; right = Number (pos 0) }
+
+-- if x != 0 { a.deposit(1); } else { x = a.balance(); } y = a.balance();
+abbrev pub either : Statements
+either = choose not_zero true (command deposit end) (query 0 balance end) (query 1 balance end)
+
+abbrev pub zeros : Locals
+zeros = both (pos 0) (pos 0)
+
+abbrev pub trace_of : Statements → List Event
+trace_of b = (solo b zeros (λ h. fresh (account (pos 100)))).trace
+
+abbrev pub tree_in : List Place → Synced
+tree_in g = walk g limit (entry_with (length g) zeros)
+
+-- a test of what is held, by the nodes at which a is
+abbrev pub held_at : List Bool → ℕ → ℕ → Bool
+held_at table n h = slice_index_or table n false
+
+-- a block with its graph coalesced and a table of the nodes at which a is held: the queries, the runs of them and those at which a is not
+-- held; and the Syncs that are sent in the modes Plain, Dynamic, Static and Both
+pub record Counts (b : Statements) (coalesced : List Place) (table : List Bool) (counted sent : List ℕ) : Type 0 where
+  pub graph : IsCoalesced (block_graph b) coalesced
+  pub counts : queries 0 (trace_of b) ∷ runs 0 (trace_of b) ∷ kept b (held_at table) zeros 0 (trace_of b) ∷ [] ≡ counted
+  pub sends : syncs_along false 0 false (tree_in (block_graph b)) (trace_of b) ∷ syncs_along true 0 false (tree_in (block_graph b)) (trace_of b)
+      ∷ syncs_along false 0 false (tree_in coalesced) (trace_of b) ∷ syncs_along true 0 false (tree_in coalesced) (trace_of b) ∷ [] ≡ sent
+
+pub record SyncExamples : Type 0 where
+  pub one_after_another : Counts three first_alone (false ∷ false ∷ true ∷ true ∷ true ∷ true ∷ true ∷ true ∷ [])
+      (3 ∷ 1 ∷ 1 ∷ []) (3 ∷ 1 ∷ 1 ∷ 1 ∷ [])
+  pub in_repeat : Counts repeated (block_graph repeated) [] (3 ∷ 1 ∷ 3 ∷ []) (3 ∷ 1 ∷ 3 ∷ 1 ∷ [])
+  pub before_repeat : Counts query_in_repeat without_inner (false ∷ false ∷ true ∷ true ∷ true ∷ true ∷ true ∷ true ∷ [])
+      (4 ∷ 1 ∷ 1 ∷ []) (4 ∷ 1 ∷ 1 ∷ 1 ∷ [])
+  pub where_bodies_meet : Counts either (block_graph either) (false ∷ false ∷ false ∷ false ∷ true ∷ false ∷ true ∷ true ∷ [])
+      (2 ∷ 1 ∷ 2 ∷ []) (2 ∷ 1 ∷ 2 ∷ 1 ∷ [])
+  pub past_a_leave : Counts leave_first without_last (false ∷ false ∷ true ∷ true ∷ true ∷ true ∷ false ∷ true ∷ true ∷ true ∷ [])
+      (2 ∷ 1 ∷ 1 ∷ []) (2 ∷ 1 ∷ 1 ∷ 1 ∷ [])
