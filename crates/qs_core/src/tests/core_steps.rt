@@ -22,6 +22,7 @@ fn stepping(
         steps.push(core.step(*pick))?;
     }
     core.is_isolated();
+    core.is_counted();
     Ok(steps)
 }
 

@@ -130,6 +130,8 @@ fn steps(rt: HostRuntime) -> Result<(), Fail> {
     {
         assert_eq!(rt; rules.step(actor), stepped, "{place} {actor:?}");
     }
+    rules.is_isolated();
+    rules.is_counted();
     Ok(())
 }
 
