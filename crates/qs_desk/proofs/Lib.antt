@@ -1,0 +1,5 @@
+pub mod Orders
+pub mod Plans
+pub mod Pushing
+pub mod Starts
+pub mod Steps

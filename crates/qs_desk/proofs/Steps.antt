@@ -1,0 +1,101 @@
+-- A desk stays one at each booking, and as it is closed.
+use Rattle.std.proofs.Common.{◌≡◌, ℕ, zero, suc, ◌+◌, ◌<◌, ◌≤◌, ◌==◌, Bool, true, false, Some, List, [], ◌∷◌, ◌++◌, cond, map, replicate, length, slice_get, refl, ap, sym, ◌∙◌, subst, arith, length-append, length-set, ◌≢◌, ⊎_elim, get_or-set_other}
+use Rattle.std.proofs.lemmas.Grind.{get_or-set_at}
+use Rattle.std.proofs.lemmas.Bool.Decides.{eqb_tells}
+use Rattle.std.proofs.lemmas.List.Elements.{filter-append}
+use Rattle.std.specs.Prelude.{slice_index, slice_set, nat_eq}
+use Rattle.atomic_table.specs.Seated.{TableId}
+use Rattle.qs_objects.specs.declared.held.Ticket.{Ticket}
+use Rattle.qs_check.specs.Program.{ProgramShape, blocks_of}
+use Rattle.qs_check.specs.Serial.{IsLegal}
+use Rattle.qs_check.specs.Sound.{IsSound}
+use Rattle.qs_desk.specs.Desks.{IsDesk}
+use Rattle.qs_desk.specs.Lines.{LineView, line_at, line_name, IsLineOf, IsNewLine, grown, closed_line, MayGrow, MayClose}
+use Rattle.qs_desk.specs.Tickets.{ticket, of_client}
+use Rattle.qs_desk.proofs.Orders.{legal_more, short}
+use Rattle.qs_desk.proofs.Starts.{names_len}
+use Rattle.qs_desk.proofs.Pushing.{may_grow, may_close, is_grown, is_closed}
+
+named : (lines : List LineView) (h : ℕ) → h < length lines → slice_get (map line_name lines) h ≡ Some (line_at lines h).name
+named [] h less = absurd (omega (arith, less))
+named (l ∷ lines) zero less = refl
+named (l ∷ lines) (suc h) less = named lines h (omega (arith, less))
+
+none : (n k : ℕ) → slice_index (replicate n 0) k ≡ 0
+none zero k = refl
+none (suc n) zero = refl
+none (suc n) (suc k) = none n k
+
+pub starts : (p : ProgramShape) (names : List TableId) (lines : List LineView) → IsSound p → map line_name lines ≡ names → length lines ≡ length p.objects
+    → ((h : ℕ) → h < length lines → IsNewLine p h (line_at lines h)) → IsDesk p names [] false lines (replicate 8 0)
+starts p names lines sound are all new = record {
+  sound = sound;
+  legal = tt;
+  pushed = λ h less. let n = new h less in (ap (λ ns. slice_get ns h) (sym are) ∙ named lines h less, ap (λ (l : LineView). l.room) n, ap (λ (l : LineView). l.key) n, ap (λ (l : LineView). l.sent) n);
+  all = (sym (names_len lines) ∙ ap length are, ap length (sym are) ∙ names_len lines ∙ all);
+  counted = λ c less. none 8 c;
+  eight = refl;
+}
+
+module _ (p : ProgramShape) (names : List TableId) (history : List Ticket) (lines : List LineView) (books : List ℕ) (is : IsDesk p names history false lines books) where
+  pub few_tickets : length history ≤ 512
+  few_tickets = short p history is.sound is.legal
+
+  pub all_may_grow : (t : Ticket) (h : ℕ) → h < length lines → MayGrow p t h (line_at lines h)
+  all_may_grow t h less = may_grow p names history h (line_at lines h) (is.pushed h less) t few_tickets
+
+  pub all_may_close : (h : ℕ) → h < length lines → MayClose (line_at lines h)
+  all_may_close h less = may_close p names history h (line_at lines h) (is.pushed h less) few_tickets
+
+  module _ (c n : ℕ) (place : c < 8) (was : slice_index books c ≡ n) (some : n < blocks_of p c) where
+    abbrev pub t : Ticket
+    t = ticket c n
+
+    legal : IsLegal p (history ++ t ∷ [])
+    legal = legal_more p (λ _. 0) history t is.legal (omega (arith, was, is.counted c place)) some
+
+    pub room_left : length history < 512
+    room_left = omega (arith, short p (history ++ t ∷ []) is.sound legal, length-append history (t ∷ []))
+
+    more : (k : ℕ) → length (of_client k (history ++ t ∷ [])) ≡ length (of_client k history) + cond (c == k) 1 0
+    more k = ap length (filter-append (λ (u : Ticket). u.client == k) history (t ∷ [])) ∙ length-append (of_client k history) (cond (c == k) (t ∷ []) []) ∙ ap (λ m. length (of_client k history) + m) (by (c == k))
+      where
+        by : (b : Bool) → length (cond b (t ∷ []) []) ≡ cond b 1 0
+        by true = refl
+        by false = refl
+
+    book_more : (k : ℕ) → slice_index (slice_set books c (n + 1)) k ≡ slice_index books k + cond (c == k) 1 0
+    book_more k =
+        ⊎_elim
+        (λ (x : (nat_eq c k ≡ true) × (c ≡ k)).
+        let at : slice_index (slice_set books c (n + 1)) k ≡ n + 1 = get_or-set_at books c k (n + 1) 0 (sym x.1) (omega (arith, place, is.eight)) in
+        let here : slice_index books k ≡ n = ap (slice_index books) (sym x.1) ∙ was in rw x.0 (omega (arith, at, here)))
+        (λ (x : (nat_eq c k ≡ false) × (c ≢ k)).
+        let at : slice_index (slice_set books c (n + 1)) k ≡ slice_index books k = get_or-set_other books c k (n + 1) 0 (λ e. x.1 (sym e)) in rw x.0 (omega (arith, at)))
+        (eqb_tells c k)
+
+    pub desk_more : (lines' : List LineView) → length lines' ≡ length lines → ((h : ℕ) → h < length lines → line_at lines' h ≡ grown p t h (line_at lines h))
+        → IsDesk p names (history ++ t ∷ []) false lines' (slice_set books c (n + 1))
+    desk_more lines' len grew = record {
+      sound = is.sound;
+      legal = legal;
+      pushed = λ h less.
+          let less' : h < length lines = omega (arith, less, len) in
+          subst (IsLineOf p names (history ++ t ∷ []) false h) (sym (grew h less')) (is_grown p names history h (line_at lines h) (is.pushed h less') t);
+      all = (len ∙ is.all.0, is.all.1);
+      counted = λ k less. book_more k ∙ ap (λ m. m + cond (c == k) 1 0) (is.counted k less) ∙ sym (more k);
+      eight = length-set books c (n + 1) ∙ is.eight;
+    }
+
+  pub desk_closed : (lines' : List LineView) → length lines' ≡ length lines → ((h : ℕ) → h < length lines → line_at lines' h ≡ closed_line (line_at lines h))
+      → IsDesk p names history true lines' books
+  desk_closed lines' len grew = record {
+    sound = is.sound;
+    legal = is.legal;
+    pushed = λ h less.
+        let less' : h < length lines = omega (arith, less, len) in
+        subst (IsLineOf p names history true h) (sym (grew h less')) (is_closed p names history h (line_at lines h) (is.pushed h less'));
+    all = (len ∙ is.all.0, is.all.1);
+    counted = is.counted;
+    eight = is.eight;
+  }

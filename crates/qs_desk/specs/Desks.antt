@@ -1,0 +1,19 @@
+-- What a desk keeps.
+use Rattle.std.specs.Prelude.{◌≡◌, ℕ, ◌<◌, Bool, List, length, slice_index}
+use Rattle.atomic_table.specs.Seated.{TableId}
+use Rattle.qs_objects.specs.declared.held.Ticket.{Ticket}
+use Rattle.qs_check.specs.Program.{ProgramShape}
+use Rattle.qs_check.specs.Serial.{IsLegal}
+use Rattle.qs_check.specs.Sound.{IsSound}
+use Rattle.qs_desk.specs.Lines.{LineView, line_at, IsLineOf}
+use Rattle.qs_desk.specs.Tickets.{of_client}
+
+-- the history is a legal order; what was pushed to a handler are its tickets that reserve the handler, in that order; the books have
+-- each client's tickets
+pub record IsDesk (p : ProgramShape) (names : List TableId) (history : List Ticket) (closed : Bool) (lines : List LineView) (books : List ℕ) : Type 0 where
+  pub sound : IsSound p
+  pub legal : IsLegal p history
+  pub pushed : (h : ℕ) → h < length lines → IsLineOf p names history closed h (line_at lines h)
+  pub all : (length lines ≡ length names) × (length names ≡ length p.objects)
+  pub counted : (c : ℕ) → c < 8 → slice_index books c ≡ length (of_client c history)
+  pub eight : length books ≡ 8

@@ -1,0 +1,6 @@
+pub mod Views
+pub mod Tickets
+pub mod Places
+pub mod Plans
+pub mod Lines
+pub mod Desks

@@ -1,0 +1,153 @@
+//! The desk.
+
+ghost use Rattle.std.specs.Prelude.{◌≡◌, ℕ, ◌+◌, ◌<◌, ◌≤◌, false, true, List, [], ◌∷◌, ◌++◌, length, vec_len, vec_capacity, map, replicate};
+ghost use Rattle.qs_check.specs.Program.{blocks_of};
+ghost use Rattle.qs_check.specs.Serial.{IsLegal};
+ghost use Rattle.qs_check.specs.Sound.{IsSound};
+ghost use Rattle.qs_desk.specs.Lines.{line_at, grown, closed_line, line_name, IsNewLine, MayGrow, MayClose};
+ghost use Rattle.qs_desk.specs.Plans.{lists_of};
+ghost use Rattle.qs_desk.specs.Tickets.{ticket, of_client, pushed_to};
+ghost use Rattle.qs_objects.specs.declared.held.Next.{Next};
+
+use crate::name::DeskName;
+use crate::plan::Plan;
+use crate::queue::{Line, LineEnd, Tickets};
+use crate::share::{Books, Share};
+use qs_objects::{Next, Ticket};
+use std::marker::Model;
+use std::sync::Wait;
+
+/// The desk: the order of all reservations, and the desk's ends of the handlers' queues of tickets.
+#[derive(Drop)]
+pub struct Desk<D: DeskName> {
+    plan: Plan,
+    history: Vec<Ticket>,
+    lines: Vec<Line>,
+    books: Books<D>,
+    closed: bool,
+}
+
+impl<D: DeskName> Model for Desk<D> {
+    ghost use Rattle.std.specs.Prelude.{◌≡◌, ◌≤◌, vec_capacity};
+    ghost use Rattle.qs_desk.specs.Desks.{IsDesk};
+    ghost use Rattle.qs_desk.specs.Plans.{lists_of};
+    ghost use Rattle.qs_desk.specs.Views.{DeskView};
+
+    ghost Value = { DeskView };
+
+    ghost view = { λ d. record { history = d.history.items; closed = d.closed } };
+
+    ghost invariant = { λ d.
+        IsDesk D.program D.queues d.history.items d.closed d.lines.items d.books
+        × (d.plan ≡ lists_of D.program)
+        × (512 ≤ vec_capacity d.history) };
+}
+
+impl<D: DeskName> Desk<D> {
+    pub(crate) fn new(
+        plan: Plan,
+        history: Vec<Ticket>,
+        lines: Vec<Line>,
+        books: Books<D>,
+    ) -> Desk<D>
+        requires program { IsSound D.program × (plan ≡ lists_of D.program) }
+        requires history { (history.items ≡ []) × (512 ≤ vec_capacity history) }
+        requires names { (map line_name lines.items ≡ D.queues) × (length lines.items ≡ length D.program.objects) }
+        requires lines { (h : ℕ) → h < length lines.items → IsNewLine D.program h (line_at lines.items h) }
+        requires books { books ≡ replicate 8 0 }
+        ensures desk { result ≡ record { history = []; closed = false } }
+    {
+        Desk {
+            plan,
+            history,
+            lines,
+            books,
+            closed: false,
+        }
+    }
+
+    /// Books the next block of the share's client: the history grows by its ticket, and so does the queue of each handler that the block
+    /// reserves, all in one.
+    pub fn book<R: Wait>(&mut self, rt: &R, share: &mut Share<D>) -> Ticket
+        requires unclosed { self.old.closed ≡ false }
+        requires left { share.old.count < blocks_of D.program share.old.client }
+        ensures ticket { result ≡ ticket share.old.client share.old.count }
+        ensures history { self.new ≡ record self.old { history = self.old.history ++ result ∷ [] } }
+        ensures share { share.new ≡ record share.old { count = share.old.count + 1 } }
+    {
+        let ticket = share.next();
+        self.books.count(share);
+        self.history.push_reserved(ticket);
+        push_ticket::<D, R>(rt, &self.plan, &mut self.lines, ticket);
+        ticket
+    }
+
+    /// Puts the closing mark at the end of each handler's queue.
+    pub fn close<R: Wait>(&mut self, rt: &R)
+        requires unclosed { self.old.closed ≡ false }
+        ensures closed { self.new ≡ record self.old { closed = true } }
+    {
+        self.closed = true;
+        push_closed(rt, &mut self.lines);
+    }
+
+    /// The tickets of all reservations, in their order, which is legal.
+    pub fn into_order(self) -> Vec<Ticket>
+        ensures order { result.items ≡ self.history }
+        ensures legal { IsLegal D.program self.history }
+    {
+        let Desk { history, .. } = self;
+        history
+    }
+
+    /// The history has as many tickets of a client as its share says.
+    pub(crate) fn booked(&mut self, share: &mut Share<D>)
+        ensures same { (self.new ≡ self.old) × (share.new ≡ share.old) }
+        ensures count { length (of_client share.old.client self.old.history) ≡ share.old.count }
+    {
+        self.books.check(share);
+    }
+
+    /// What a handler took is a front of what was pushed to it.
+    pub(crate) fn follows(&mut self, tickets: Tickets<D>)
+        ensures same { self.new ≡ self.old }
+        ensures front { (rest : List Next) × (pushed_to D.program tickets.handler self.old.history self.old.closed ≡ tickets.taken ++ rest) }
+    {
+        let (handler, end) = tickets.into_end();
+        meet(self.lines.as_mut_slice(), handler, end);
+    }
+}
+
+// The two ends of a handler's queue meet.
+fn meet(lines: &mut [Line], handler: u8, end: LineEnd)
+    requires { (handler < length lines.old) × (end.name ≡ (line_at lines.old handler).name) }
+    ensures same { lines.new ≡ lines.old }
+    ensures front { (rest : List Next) × ((line_at lines.old handler).sent ≡ end.received ++ rest) }
+{
+    lines[usize::from(handler)].agree(end);
+}
+
+// Pushes a ticket to each handler that its block reserves.
+fn push_ticket<D: DeskName, R: Wait>(rt: &R, plan: &Plan, lines: &mut Vec<Line>, ticket: Ticket)
+    requires plan { plan.now ≡ lists_of D.program }
+    requires room { (h : ℕ) → h < length lines.old.items → MayGrow D.program ticket h (line_at lines.old.items h) }
+    ensures len { length lines.new.items ≡ length lines.old.items }
+    ensures grown { (h : ℕ) → h < length lines.old.items → line_at lines.new.items h ≡ grown D.program ticket h (line_at lines.old.items h) }
+{
+    for handler in 0..lines.len() {
+        if plan.reserves(ticket, handler) {
+            lines[handler].push(rt, Next::Ticket(ticket));
+        }
+    }
+}
+
+// Pushes the closing mark to each handler.
+fn push_closed<R: Wait>(rt: &R, lines: &mut Vec<Line>)
+    requires room { (h : ℕ) → h < length lines.old.items → MayClose (line_at lines.old.items h) }
+    ensures len { length lines.new.items ≡ length lines.old.items }
+    ensures closed { (h : ℕ) → h < length lines.old.items → line_at lines.new.items h ≡ closed_line (line_at lines.old.items h) }
+{
+    for handler in 0..lines.len() {
+        lines[handler].push(rt, Next::Closed);
+    }
+}

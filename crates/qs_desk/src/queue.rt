@@ -1,0 +1,156 @@
+//! A handler's queue of tickets.
+
+ghost use Rattle.std.specs.Prelude.{◌≡◌, ◌<◌, [], ◌∷◌, ◌++◌, length, IfOk};
+ghost use Rattle.qs_desk.specs.Tickets.{IsFor};
+ghost use Rattle.qs_desk.specs.Lines.{whose, new_line, new_end, IsEndOf};
+
+use crate::name::DeskName;
+use qs_check::Program;
+use qs_objects::Next;
+use qs_queue::{Form, Key, Sender, Taker, make_ends};
+use std::alloc::{AllocError, Global};
+use std::marker::{Brand, Model, PhantomData};
+use std::sync::Wait;
+
+/// Whose tickets may be in a queue: those of the blocks of this program that reserve this handler. No value of it is made.
+pub struct Whose {
+    pub program: Program,
+    pub handler: u8,
+}
+
+/// Tickets whose blocks reserve the handler, and at last the closing mark.
+pub struct Reserving;
+
+impl Form<Next, Whose> for Reserving {
+    ghost use Rattle.qs_desk.specs.Tickets.{AreFor, for_front};
+    ghost use Rattle.qs_desk.specs.Lines.{nobody};
+
+    ghost good = { λ w xs. AreFor w.program w.handler xs };
+
+    ghost none = { λ w. tt };
+
+    ghost front = { λ w xs ys is. for_front w.program w.handler xs ys is };
+
+    ghost unset = { nobody };
+}
+
+/// The desk's end.
+pub type Line = Sender<Next, Whose, Reserving>;
+
+/// The handler's end.
+pub type LineEnd = Taker<Next, Whose, Reserving>;
+
+/// A program and a handler that are known only as the queue is made.
+trait Chosen {
+    ghost use Rattle.std.specs.Prelude.{ℕ};
+    ghost use Rattle.qs_check.specs.Program.{ProgramShape};
+
+    ghost program: { ProgramShape };
+
+    ghost handler: { ℕ };
+}
+
+impl Chosen for Brand {
+    ghost use Rattle.std.specs.Prelude.{[]};
+
+    ghost program = { record { objects = []; clients = [] } };
+
+    ghost handler = { 0 };
+}
+
+struct ChosenKey<N> {
+    of: PhantomData<N>,
+}
+
+impl<N: Chosen> Key<Whose> for ChosenKey<N> {
+    ghost use Rattle.qs_desk.specs.Lines.{whose};
+
+    ghost key = { whose N.program N.handler };
+}
+
+fn make_chosen<N: Chosen>(
+    alloc: Global,
+    program: &Program,
+    handler: u8,
+) -> Result<(Line, LineEnd), AllocError>
+    requires { (N.program ≡ program.now) × (N.handler ≡ handler) }
+    ensures line { IfOk result (λ ends. ends.0 ≡ new_line program.now ends.1.name handler) }
+    ensures end { IfOk result (λ ends. ends.1 ≡ new_end program.now ends.1.name handler) }
+{
+    let _program = program;
+    let _handler = handler;
+    make_ends::<Next, Whose, Reserving, ChosenKey<N>>(alloc, 513)
+}
+
+/// Both ends of a handler's queue, with room for the tickets of all blocks that there can be, and the closing mark.
+pub(crate) fn make_line(
+    alloc: Global,
+    program: &Program,
+    handler: u8,
+) -> Result<(Line, LineEnd), AllocError>
+    ensures line { IfOk result (λ ends. ends.0 ≡ new_line program.now ends.1.name handler) }
+    ensures end { IfOk result (λ ends. ends.1 ≡ new_end program.now ends.1.name handler) }
+{
+    make_chosen::<Brand>(alloc, program, handler)
+}
+
+/// A handler's end of its queue of tickets at a desk.
+#[derive(Drop)]
+pub struct Tickets<D: DeskName> {
+    handler: u8,
+    end: LineEnd,
+    of: PhantomData<D>,
+}
+
+impl<D: DeskName> Model for Tickets<D> {
+    ghost use Rattle.qs_desk.specs.Lines.{IsEndOf};
+    ghost use Rattle.qs_desk.specs.Views.{TicketsView};
+
+    ghost Value = { TicketsView };
+
+    ghost view = { λ t. record { handler = t.handler; taken = t.end.received } };
+
+    ghost invariant = { λ t. IsEndOf D.program D.queues t.handler t.end };
+}
+
+impl<D: DeskName> Tickets<D> {
+    pub(crate) fn new(handler: u8, end: LineEnd) -> Tickets<D>
+        requires { IsEndOf D.program D.queues handler end }
+        ensures { result ≡ record { handler = handler; taken = end.received } }
+    {
+        Tickets {
+            handler,
+            end,
+            of: PhantomData,
+        }
+    }
+
+    /// Whose tickets they are.
+    pub fn handler(&self) -> u8
+        ensures handler { result ≡ self.now.handler }
+    {
+        self.handler
+    }
+
+    /// Takes the next ticket, whose block reserves this handler, or the closing mark. Waits until there is one.
+    pub fn take<R: Wait>(&mut self, rt: &R) -> Next
+        ensures taken { self.new ≡ record self.old { taken = self.old.taken ++ result ∷ [] } }
+        ensures reserved { IsFor D.program self.old.handler result }
+    {
+        self.end.take(rt)
+    }
+
+    /// Its queue's end, and its handler.
+    pub(crate) fn into_end(self) -> (u8, LineEnd)
+        ensures handler { result.0 ≡ self.handler }
+        ensures taken { result.1.received ≡ self.taken }
+        ensures end { IsEndOf D.program D.queues self.handler result.1 }
+    {
+        let Tickets {
+            handler,
+            end,
+            of: _,
+        } = self;
+        (handler, end)
+    }
+}

@@ -1,0 +1,155 @@
+//! A desk that has no name yet.
+
+ghost use Rattle.std.specs.Prelude.{◌≡◌, ℕ, ◌<◌, ◌≤◌, length, vec_len, vec_capacity, map, false, [], ◌∷◌, IfOk, None, slice_index_or};
+ghost use Rattle.qs_check.specs.Sound.{IsSound};
+ghost use Rattle.qs_desk.specs.Lines.{line_at, line_name, IsNewLine, end_at, tickets_at};
+ghost use Rattle.qs_desk.specs.Places.{places, share_at};
+ghost use Rattle.qs_desk.specs.Plans.{lists_of};
+
+use crate::desk::Desk;
+use crate::name::DeskName;
+use crate::plan::Plan;
+use crate::queue::{Line, LineEnd, Tickets, make_line};
+use crate::share::{Blanks, Share};
+use qs_check::Program;
+use qs_objects::Ticket;
+use std::alloc::{AllocError, Global};
+use std::marker::Model;
+use std::snapshot::Snapshot;
+
+/// A desk that has no name yet, with all the memory that it and its handlers' queues will need.
+#[derive(Drop)]
+pub struct RawDesk {
+    program: Snapshot<Program>,
+    plan: Plan,
+    history: Vec<Ticket>,
+    lines: Vec<Line>,
+    ends: [Option<LineEnd>; 8],
+    blanks: Blanks,
+}
+
+impl Model for RawDesk {
+    ghost use Rattle.std.specs.Prelude.{◌≡◌, ℕ, ◌≤◌, ◌<◌, map, length, [], vec_capacity};
+    ghost use Rattle.qs_check.specs.Sound.{IsSound};
+    ghost use Rattle.qs_desk.specs.Lines.{line_at, line_name, IsNewLine, end_at};
+    ghost use Rattle.qs_desk.specs.Places.{places};
+    ghost use Rattle.qs_desk.specs.Plans.{lists_of};
+    ghost use Rattle.qs_desk.specs.Views.{RawView, raw_code};
+
+    ghost Value = { RawView };
+
+    ghost coded = { raw_code };
+
+    ghost view = { λ r. record { program = r.program.value; queues = map line_name r.lines.items; ledgers = r.blanks } };
+
+    ghost invariant = { λ r.
+        IsSound r.program.value
+        × (r.plan ≡ lists_of r.program.value)
+        × (r.history.items ≡ []) × (512 ≤ vec_capacity r.history)
+        × (length r.lines.items ≡ length r.program.value.objects)
+        × ((h : ℕ) → h < length r.lines.items → IsNewLine r.program.value h (line_at r.lines.items h))
+        × (r.ends ≡ map (end_at r.program.value (map line_name r.lines.items)) places) };
+}
+
+/// What a desk begins with: the desk, a share for each client, and the tickets of each handler.
+#[derive(Drop)]
+pub struct DeskParts<D: DeskName> {
+    pub desk: Desk<D>,
+    pub shares: [Option<Share<D>>; 8],
+    pub tickets: [Option<Tickets<D>>; 8],
+}
+
+fn make_lines(
+    alloc: Global,
+    program: &Program,
+) -> Result<(Vec<Line>, [Option<LineEnd>; 8]), AllocError>
+    ensures len { IfOk result (λ made. length made.0.items ≡ length program.now.objects) }
+    ensures lines { IfOk result (λ made. (h : ℕ) → h < length made.0.items → IsNewLine program.now h (line_at made.0.items h)) }
+    ensures ends { IfOk result (λ made. made.1 ≡ map (end_at program.now (map line_name made.0.items)) places) }
+{
+    program.is_sound();
+    let mut lines = Vec::new(alloc);
+    let mut ends = [None, None, None, None, None, None, None, None];
+    for handler in 0..program.objects() {
+        let (line, end) = make_line(alloc, program, handler as u8)?;
+        lines.push(line)?;
+        ends[handler] = Some(end);
+    }
+    Ok((lines, ends))
+}
+
+impl RawDesk {
+    /// A desk for a program, with all the memory that it will need: its queues have room for all bookings and a closing mark. An error
+    /// says that memory was refused.
+    pub fn new(alloc: Global, program: &Program) -> Result<RawDesk, AllocError>
+        ensures program { IfOk result (λ raw. raw.program ≡ program.now) }
+    {
+        program.is_sound();
+        let plan = Plan::new(alloc, program)?;
+        let history = Vec::with_capacity(alloc, 512)?;
+        let (lines, ends) = make_lines(alloc, program)?;
+        Ok(RawDesk {
+            program: Snapshot::of(program),
+            plan,
+            history,
+            lines,
+            ends,
+            blanks: Blanks::new(),
+        })
+    }
+
+    /// The desk under a name, with a share for each client of the program, and the tickets of each of its handlers; takes no memory.
+    pub fn open<D: DeskName>(self) -> DeskParts<D>
+        requires program { D.program ≡ self.program }
+        requires queues { D.queues ≡ self.queues }
+        requires ledgers { D.ledgers ≡ self.ledgers }
+        ensures desk { result.desk ≡ record { history = []; closed = false } }
+        ensures shares { result.shares ≡ map (share_at D.program) places }
+        ensures tickets { result.tickets ≡ map (tickets_at D.program) places }
+    {
+        let RawDesk {
+            program: _,
+            plan,
+            history,
+            lines,
+            ends,
+            blanks,
+        } = self;
+        let (books, shares) = blanks.open::<D>(&plan);
+        DeskParts {
+            desk: Desk::new(plan, history, lines, books),
+            shares,
+            tickets: name_all(ends),
+        }
+    }
+}
+
+// The tickets of a handler whose queue has an end.
+fn name_end<D: DeskName>(handler: u8, end: Option<LineEnd>) -> Option<Tickets<D>>
+    requires names { length D.queues ≡ length D.program.objects }
+    requires end { end ≡ end_at D.program D.queues handler }
+    ensures tickets { result ≡ tickets_at D.program handler }
+{
+    match end {
+        Some(end) => Some(Tickets::new(handler, end)),
+        None => None,
+    }
+}
+
+fn name_all<D: DeskName>(ends: [Option<LineEnd>; 8]) -> [Option<Tickets<D>>; 8]
+    requires names { length D.queues ≡ length D.program.objects }
+    requires ends { ends ≡ map (end_at D.program D.queues) places }
+    ensures tickets { result ≡ map (tickets_at D.program) places }
+{
+    let [a, b, c, d, e, f, g, h] = ends;
+    [
+        name_end(0, a),
+        name_end(1, b),
+        name_end(2, c),
+        name_end(3, d),
+        name_end(4, e),
+        name_end(5, f),
+        name_end(6, g),
+        name_end(7, h),
+    ]
+}

@@ -1,0 +1,267 @@
+//! What a client has booked, as it knows and as the desk knows.
+
+ghost use Rattle.std.specs.Prelude.{◌≡◌, ◌+◌, ◌<◌, ◌∷◌, [], slice_index, slice_set, replicate, nat_lt, length, map};
+ghost use Rattle.qs_check.specs.Program.{blocks_of};
+ghost use Rattle.qs_desk.specs.Places.{client_of, parts_of, amount_of, share_at, places};
+ghost use Rattle.qs_desk.specs.Plans.{lists_of};
+ghost use Rattle.qs_desk.specs.Tickets.{ticket};
+
+use crate::name::DeskName;
+use crate::plan::Plan;
+use qs_objects::Ticket;
+use std::marker::{Model, PhantomData};
+use std::sync::ledger::{self, Blank, Book, Ledger};
+
+/// The ledger of the client with this number.
+pub struct Place<D: DeskName, const CLIENT: u8> {
+    of: PhantomData<D>,
+}
+
+impl<D: DeskName, const CLIENT: u8> Ledger for Place<D, CLIENT> {
+    ghost use Rattle.std.specs.Prelude.{slice_index};
+
+    ghost name = { slice_index D.ledgers CLIENT };
+
+    ghost parts = { 1 };
+}
+
+/// The whole of one client's ledger.
+#[derive(Drop)]
+pub enum Mark<D: DeskName> {
+    First(ledger::Share<Place<D, 0>>),
+    Second(ledger::Share<Place<D, 1>>),
+    Third(ledger::Share<Place<D, 2>>),
+    Fourth(ledger::Share<Place<D, 3>>),
+    Fifth(ledger::Share<Place<D, 4>>),
+    Sixth(ledger::Share<Place<D, 5>>),
+    Seventh(ledger::Share<Place<D, 6>>),
+    Eighth(ledger::Share<Place<D, 7>>),
+}
+
+/// A client's share of a desk: how many blocks the client has booked there. A desk has one for each client.
+#[derive(Drop)]
+pub struct Share<D: DeskName> {
+    client: u8,
+    count: u8,
+    blocks: usize,
+    mark: Mark<D>,
+}
+
+impl<D: DeskName> Model for Share<D> {
+    ghost use Rattle.std.specs.Prelude.{◌≡◌};
+    ghost use Rattle.qs_check.specs.Program.{blocks_of};
+    ghost use Rattle.qs_desk.specs.Places.{client_of, parts_of, amount_of};
+    ghost use Rattle.qs_desk.specs.Views.{ShareView};
+
+    ghost Value = { ShareView };
+
+    ghost view = { λ s. record { client = s.client; count = s.count } };
+
+    ghost invariant = { λ s.
+        (s.client ≡ client_of s.mark) × (parts_of s.mark ≡ 1) × (s.count ≡ amount_of s.mark) × (s.blocks ≡ blocks_of D.program s.client) };
+}
+
+impl<D: DeskName> Share<D> {
+    /// Whose share it is.
+    pub fn client(&self) -> u8
+        ensures client { result ≡ self.now.client }
+    {
+        self.client
+    }
+
+    /// How many blocks the client has booked.
+    pub fn count(&self) -> u8
+        ensures count { result ≡ self.now.count }
+    {
+        self.count
+    }
+
+    /// Whether the client has a block left to book.
+    pub fn left(&self) -> bool
+        ensures left { result ≡ nat_lt self.now.count (blocks_of D.program self.now.client) }
+    {
+        usize::from(self.count) < self.blocks
+    }
+
+    /// The client's next block.
+    pub(crate) fn next(&self) -> Ticket
+        ensures ticket { result ≡ ticket self.now.client self.now.count }
+    {
+        Ticket {
+            client: self.client,
+            index: self.count,
+        }
+    }
+}
+
+// The share of a client that the program has.
+fn first_share<D: DeskName>(plan: &Plan, client: u8, mark: Mark<D>) -> Option<Share<D>>
+    requires plan { plan.now ≡ lists_of D.program }
+    requires mark { (client_of mark ≡ client) × (parts_of mark ≡ 1) × (amount_of mark ≡ 0) }
+    ensures share { result ≡ share_at D.program client }
+{
+    if usize::from(client) >= plan.clients() {
+        return None;
+    }
+    Some(Share {
+        client,
+        count: 0,
+        blocks: plan.blocks_of(client),
+        mark,
+    })
+}
+
+/// How many blocks each client has booked, as the desk counts them.
+#[derive(Drop)]
+pub struct Books<D: DeskName> {
+    first: Book<Place<D, 0>>,
+    second: Book<Place<D, 1>>,
+    third: Book<Place<D, 2>>,
+    fourth: Book<Place<D, 3>>,
+    fifth: Book<Place<D, 4>>,
+    sixth: Book<Place<D, 5>>,
+    seventh: Book<Place<D, 6>>,
+    eighth: Book<Place<D, 7>>,
+}
+
+impl<D: DeskName> Model for Books<D> {
+    ghost use Rattle.std.specs.Prelude.{List, ℕ, [], ◌∷◌};
+
+    ghost Value = { List ℕ };
+
+    ghost view = { λ b.
+        b.first.total ∷ b.second.total ∷ b.third.total ∷ b.fourth.total ∷ b.fifth.total ∷ b.sixth.total ∷ b.seventh.total ∷ b.eighth.total ∷ [] };
+}
+
+/// Ledgers that have no type yet, one for each client.
+#[derive(Drop)]
+pub struct Blanks {
+    first: Blank,
+    second: Blank,
+    third: Blank,
+    fourth: Blank,
+    fifth: Blank,
+    sixth: Blank,
+    seventh: Blank,
+    eighth: Blank,
+}
+
+impl Model for Blanks {
+    ghost use Rattle.std.specs.Prelude.{◌≡◌, List, ℕ, [], ◌∷◌};
+
+    ghost Value = { List ℕ };
+
+    ghost view = { λ b.
+        b.first.name ∷ b.second.name ∷ b.third.name ∷ b.fourth.name ∷ b.fifth.name ∷ b.sixth.name ∷ b.seventh.name ∷ b.eighth.name ∷ [] };
+
+    ghost invariant = { λ b.
+        (b.first.parts ≡ 1) × (b.second.parts ≡ 1) × (b.third.parts ≡ 1) × (b.fourth.parts ≡ 1)
+        × (b.fifth.parts ≡ 1) × (b.sixth.parts ≡ 1) × (b.seventh.parts ≡ 1) × (b.eighth.parts ≡ 1) };
+}
+
+impl Blanks {
+    pub(crate) fn new() -> Blanks {
+        Blanks {
+            first: Blank::new(1),
+            second: Blank::new(1),
+            third: Blank::new(1),
+            fourth: Blank::new(1),
+            fifth: Blank::new(1),
+            sixth: Blank::new(1),
+            seventh: Blank::new(1),
+            eighth: Blank::new(1),
+        }
+    }
+
+    /// Books in which nothing is booked, and the shares of the clients that there are.
+    pub(crate) fn open<D: DeskName>(self, plan: &Plan) -> (Books<D>, [Option<Share<D>>; 8])
+        requires ledgers { D.ledgers ≡ self }
+        requires plan { plan.now ≡ lists_of D.program }
+        ensures books { result.0 ≡ replicate 8 0 }
+        ensures shares { result.1 ≡ map (share_at D.program) places }
+    {
+        let (first, a) = self.first.open::<Place<D, 0>>();
+        let (second, b) = self.second.open::<Place<D, 1>>();
+        let (third, c) = self.third.open::<Place<D, 2>>();
+        let (fourth, d) = self.fourth.open::<Place<D, 3>>();
+        let (fifth, e) = self.fifth.open::<Place<D, 4>>();
+        let (sixth, f) = self.sixth.open::<Place<D, 5>>();
+        let (seventh, g) = self.seventh.open::<Place<D, 6>>();
+        let (eighth, h) = self.eighth.open::<Place<D, 7>>();
+        let books = Books {
+            first,
+            second,
+            third,
+            fourth,
+            fifth,
+            sixth,
+            seventh,
+            eighth,
+        };
+        let shares = [
+            first_share(plan, 0, Mark::First(a)),
+            first_share(plan, 1, Mark::Second(b)),
+            first_share(plan, 2, Mark::Third(c)),
+            first_share(plan, 3, Mark::Fourth(d)),
+            first_share(plan, 4, Mark::Fifth(e)),
+            first_share(plan, 5, Mark::Sixth(f)),
+            first_share(plan, 6, Mark::Seventh(g)),
+            first_share(plan, 7, Mark::Eighth(h)),
+        ];
+        (books, shares)
+    }
+}
+
+// One more block in a client's ledger.
+fn count_one<L: Ledger>(book: &mut Book<L>, mark: &mut ledger::Share<L>)
+    requires whole { (mark.old.parts ≡ 1) × (L.parts ≡ 1) }
+    ensures before { mark.old.amount ≡ book.old.total }
+    ensures book { book.new.total ≡ book.old.total + 1 }
+    ensures mark { (mark.new.amount ≡ mark.old.amount + 1) × (mark.new.parts ≡ 1) }
+{
+    book.audit(mark);
+    book.add(mark, 1);
+}
+
+impl<D: DeskName> Books<D> {
+    /// The share's count is what the books have of its client.
+    pub(crate) fn check(&mut self, share: &mut Share<D>)
+        ensures same { (self.new ≡ self.old) × (share.new ≡ share.old) }
+        ensures count { slice_index self.old share.old.client ≡ share.old.count }
+        ensures place { share.old.client < 8 }
+    {
+        let books = self;
+        match &mut share.mark {
+            Mark::First(mark) => books.first.audit(mark),
+            Mark::Second(mark) => books.second.audit(mark),
+            Mark::Third(mark) => books.third.audit(mark),
+            Mark::Fourth(mark) => books.fourth.audit(mark),
+            Mark::Fifth(mark) => books.fifth.audit(mark),
+            Mark::Sixth(mark) => books.sixth.audit(mark),
+            Mark::Seventh(mark) => books.seventh.audit(mark),
+            Mark::Eighth(mark) => books.eighth.audit(mark),
+        }
+    }
+
+    /// Counts one more block of the share's client, which has one left.
+    pub(crate) fn count(&mut self, share: &mut Share<D>)
+        requires left { share.old.count < 64 }
+        ensures before { slice_index self.old share.old.client ≡ share.old.count }
+        ensures place { share.old.client < 8 }
+        ensures books { self.new ≡ slice_set self.old share.old.client (share.old.count + 1) }
+        ensures share { share.new ≡ record share.old { count = share.old.count + 1 } }
+    {
+        let books = self;
+        match &mut share.mark {
+            Mark::First(mark) => count_one(&mut books.first, mark),
+            Mark::Second(mark) => count_one(&mut books.second, mark),
+            Mark::Third(mark) => count_one(&mut books.third, mark),
+            Mark::Fourth(mark) => count_one(&mut books.fourth, mark),
+            Mark::Fifth(mark) => count_one(&mut books.fifth, mark),
+            Mark::Sixth(mark) => count_one(&mut books.sixth, mark),
+            Mark::Seventh(mark) => count_one(&mut books.seventh, mark),
+            Mark::Eighth(mark) => count_one(&mut books.eighth, mark),
+        }
+        share.count += 1;
+    }
+}

@@ -1,0 +1,25 @@
+-- What a queue of empty chunks, and a queue of parcels, have after a value that may be sent.
+use Rattle.std.proofs.Common.{◌≡◌, ℕ, List, [], ◌∷◌, ◌++◌, Ok, Err, sym, ap, subst}
+use Rattle.std.specs.Prelude.{Result, IfOk, IfErr}
+use Rattle.qs_objects.specs.declared.Request.{Request}
+use Rattle.qs_chunk.specs.Batch.{Batch, batch}
+use Rattle.qs_queue.specs.Views.{SenderView}
+use Rattle.qs_lane.specs.Spares.{AllEmpty}
+
+pub empty_more : (size : ℕ) (cs : List (Batch Request)) (c : Batch Request) → AllEmpty size cs → c ≡ batch [] size → AllEmpty size (cs ++ c ∷ [])
+empty_more size [] c all is = (is, tt)
+empty_more size (d ∷ cs) c all is = (all.0, empty_more size cs c all.1 is)
+
+pub empty_last : (size : ℕ) (cs : List (Batch Request)) (c : Batch Request) → AllEmpty size (cs ++ c ∷ []) → c ≡ batch [] size
+empty_last size [] c all = all.0
+empty_last size (d ∷ cs) c all = empty_last size cs c all.1
+
+-- whether it was sent or came back, the queue stays as its form says
+pub sent_or_back : {T K : Type 0} (good : K → List T → Type 0) (r : Result (Unit {0}) T) (x : T) (old new : SenderView T K)
+    → good old.key old.sent → good old.key (old.sent ++ x ∷ [])
+    → IfOk r (λ _. new ≡ record old { sent = old.sent ++ x ∷ [] }) → IfErr r (λ y. (y ≡ x) × (new ≡ old))
+    → (new.room ≡ old.room) × (new.key ≡ old.key) × good new.key new.sent
+sent_or_back {T} {K} good (Ok u) x old new was more ok back =
+    (ap (λ (s : SenderView T K). s.room) ok, ap (λ (s : SenderView T K). s.key) ok, subst (λ (s : SenderView T K). good s.key s.sent) (sym ok) more)
+sent_or_back {T} {K} good (Err y) x old new was more ok back =
+    (ap (λ (s : SenderView T K). s.room) back.1, ap (λ (s : SenderView T K). s.key) back.1, subst (λ (s : SenderView T K). good s.key s.sent) (sym back.1) was)

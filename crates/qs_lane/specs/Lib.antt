@@ -1,0 +1,2 @@
+pub mod Spares
+pub mod Views

@@ -1,0 +1,197 @@
+//! The two ends of a lane.
+
+ghost use Rattle.std.specs.Prelude.{◌≡◌, ◌+◌, ◌≤◌, List, [], ◌∷◌, ◌++◌, length, true, false, IfOk, IfErr, IfSome, IfNone};
+ghost use Rattle.qs_objects.specs.Journals.{HeldState};
+ghost use Rattle.qs_chunk.specs.Batch.{batch};
+ghost use Rattle.qs_chunk.specs.Lanes.{IsLane, MayFollow, is_asked};
+ghost use Rattle.qs_chunk.specs.declared.parcel.Parcel.{Parcel};
+ghost use Rattle.qs_lane.specs.Views.{syncs};
+
+use crate::forms::{AnyObjects, EmptyChunks, InLane, Keyless, KnownSize, SizeKey};
+use qs_chunk::{Chunk, ChunkSize, Parcel};
+use qs_objects::{Held, Request};
+use qs_queue::{Sender, Taker, make_ends};
+use std::alloc::{AllocError, Global};
+use std::marker::{Brand, Model};
+use std::sync::Wait;
+
+/// The client's end of a lane.
+#[derive(Drop)]
+pub struct LaneOut {
+    down: Sender<Parcel, ChunkSize, InLane>,
+    up: Taker<Held, (), AnyObjects>,
+    spare: Taker<Chunk<Request>, ChunkSize, EmptyChunks>,
+}
+
+impl Model for LaneOut {
+    ghost use Rattle.std.specs.Prelude.{◌≡◌};
+    ghost use Rattle.qs_chunk.specs.Lanes.{IsLane};
+    ghost use Rattle.qs_lane.specs.Views.{OutView};
+
+    ghost Value = { OutView };
+
+    ghost view = { λ s. record {
+      name = record { down = s.down.name; up = s.up.name };
+      size = s.down.key;
+      sent = s.down.sent;
+      got = s.up.received;
+    } };
+
+    ghost invariant = { λ s. (s.down.room ≡ 16) × (s.spare.key ≡ s.down.key) × IsLane s.down.key s.down.sent };
+}
+
+/// The handler's end of a lane.
+#[derive(Drop)]
+pub struct LaneIn {
+    down: Taker<Parcel, ChunkSize, InLane>,
+    up: Sender<Held, (), AnyObjects>,
+    spare: Sender<Chunk<Request>, ChunkSize, EmptyChunks>,
+}
+
+impl Model for LaneIn {
+    ghost use Rattle.std.specs.Prelude.{◌≡◌, ◌≤◌, length};
+    ghost use Rattle.qs_lane.specs.Spares.{AllEmpty};
+    ghost use Rattle.qs_lane.specs.Views.{InView, syncs};
+
+    ghost Value = { InView };
+
+    ghost view = { λ s. record {
+      name = record { down = s.down.name; up = s.up.name };
+      size = s.down.key;
+      received = s.down.received;
+      given = s.up.sent;
+    } };
+
+    ghost invariant = { λ s.
+        (s.spare.key ≡ s.down.key) × AllEmpty s.spare.key s.spare.sent × (length s.up.sent ≤ syncs s.down.received) };
+}
+
+fn lane_of<N: KnownSize, R: Wait>(
+    rt: &R,
+    alloc: Global,
+    size: ChunkSize,
+) -> Result<(LaneOut, LaneIn), AllocError>
+    requires { N.size ≡ size }
+    ensures out { IfOk result (λ ends. ends.0 ≡ record { name = ends.1.name; size = size; sent = []; got = [] }) }
+    ensures inside { IfOk result (λ ends. ends.1 ≡ record { name = ends.1.name; size = size; received = []; given = [] }) }
+{
+    let (down, down_end) = make_ends::<Parcel, ChunkSize, InLane, SizeKey<N>>(alloc, 16)?;
+    let (up_end, up) = make_ends::<Held, (), AnyObjects, Keyless>(alloc, 1)?;
+    let (spare_end, spare) = make_ends::<Chunk<Request>, ChunkSize, EmptyChunks, SizeKey<N>>(
+        alloc, 4,
+    )?;
+    let out = LaneOut { down, up, spare };
+    let mut inside = LaneIn {
+        down: down_end,
+        up: up_end,
+        spare: spare_end,
+    };
+    for _ in 0..4u8 {
+        inside.spare(rt, Chunk::with_capacity(alloc, size)?);
+    }
+    Ok((out, inside))
+}
+
+/// The two ends of a lane whose chunks have this size: room for sixteen parcels down and one object up, and four empty chunks. All its
+/// memory is taken here; an error says that it was refused.
+pub fn lane<R: Wait>(
+    rt: &R,
+    alloc: Global,
+    size: ChunkSize,
+) -> Result<(LaneOut, LaneIn), AllocError>
+    ensures out { IfOk result (λ ends. ends.0 ≡ record { name = ends.1.name; size = size; sent = []; got = [] }) }
+    ensures inside { IfOk result (λ ends. ends.1 ≡ record { name = ends.1.name; size = size; received = []; given = [] }) }
+{
+    lane_of::<Brand, R>(rt, alloc, size)
+}
+
+impl LaneOut {
+    /// Sends a parcel that may follow what was sent; a chunk in it has the lane's size. The parcel comes back, and nothing changes, only
+    /// where sixteen parcels lay in the lane.
+    pub fn try_send<R: Wait>(&mut self, rt: &R, parcel: Parcel) -> Result<(), Parcel>
+        requires follows { MayFollow self.old.size (is_asked false self.old.sent) parcel }
+        ensures ok { IfOk result (λ _. self.new ≡ record self.old { sent = self.old.sent ++ parcel ∷ [] }) }
+        ensures back { IfErr result (λ back. (back ≡ parcel) × (self.new ≡ self.old)) }
+        ensures full { IfErr result (λ _. (received parcels : List Parcel) × (length parcels ≡ 16) × (self.old.sent ≡ received ++ parcels)) }
+    {
+        self.down.try_send(rt, parcel)
+    }
+
+    /// Sends a parcel that may follow what was sent; a chunk in it has the lane's size. Waits until there is room.
+    pub fn send<R: Wait>(&mut self, rt: &R, parcel: Parcel)
+        requires follows { MayFollow self.old.size (is_asked false self.old.sent) parcel }
+        ensures sent { self.new ≡ record self.old { sent = self.old.sent ++ parcel ∷ [] } }
+    {
+        self.down.send(rt, parcel);
+    }
+
+    /// Takes the next object that was given. Waits until there is one.
+    pub fn get<R: Wait>(&mut self, rt: &R) -> Held
+        ensures got { self.new ≡ record self.old { got = self.old.got ++ result ∷ [] } }
+    {
+        self.up.take(rt)
+    }
+
+    /// Takes an empty chunk of the lane's size. Waits until there is one.
+    pub fn empty<R: Wait>(&mut self, rt: &R) -> Chunk<Request>
+        ensures same { self.new ≡ self.old }
+        ensures empty { result ≡ batch [] self.old.size }
+    {
+        self.spare.take(rt)
+    }
+}
+
+impl LaneIn {
+    /// Takes the next parcel, which may follow what was received. There is none only where the lane was empty, and then nothing changes.
+    pub fn try_take<R: Wait>(&mut self, rt: &R) -> Option<Parcel>
+        ensures none { IfNone result (self.new ≡ self.old) }
+        ensures some { IfSome result (λ parcel. self.new ≡ record self.old { received = self.old.received ++ parcel ∷ [] }) }
+        ensures follows { IfSome result (λ parcel. MayFollow self.old.size (is_asked false self.old.received) parcel) }
+    {
+        self.down.try_take(rt)
+    }
+
+    /// Takes the next parcel, which may follow what was received. Waits until there is one.
+    pub fn take<R: Wait>(&mut self, rt: &R) -> Parcel
+        ensures taken { self.new ≡ record self.old { received = self.old.received ++ result ∷ [] } }
+        ensures follows { MayFollow self.old.size (is_asked false self.old.received) result }
+    {
+        self.down.take(rt)
+    }
+
+    /// Gives the object to the client, which asked for it by the last parcel. Waits while an object lies in the lane.
+    pub fn give<R: Wait>(&mut self, rt: &R, held: Held)
+        requires asked { is_asked false self.old.received ≡ true }
+        requires unserved { length self.old.given + 1 ≡ syncs self.old.received }
+        ensures given { self.new ≡ record self.old { given = self.old.given ++ held ∷ [] } }
+    {
+        self.up.send(rt, held);
+    }
+
+    /// Gives an empty chunk of the lane's size back; it is dropped where four lie in the lane.
+    pub fn spare<R: Wait>(&mut self, rt: &R, chunk: Chunk<Request>)
+        requires empty { chunk ≡ batch [] self.old.size }
+        ensures same { self.new ≡ self.old }
+    {
+        let _ = self.spare.try_send(rt, chunk);
+    }
+}
+
+/// What the two ends of one lane know together: what was received is a front of what was sent, each parcel of which may follow those
+/// before it; what was got is a front of what was given, no more than the client asked for.
+pub fn agree(out: LaneOut, inside: LaneIn)
+    requires lane { out.name ≡ inside.name }
+    ensures down { (rest : List Parcel) × (out.sent ≡ inside.received ++ rest) }
+    ensures form { IsLane out.size out.sent }
+    ensures up { (rest : List HeldState) × (inside.given ≡ out.got ++ rest) }
+    ensures served { length inside.given ≤ syncs inside.received }
+{
+    let LaneOut { mut down, up, .. } = out;
+    let LaneIn {
+        down: down_end,
+        up: mut up_end,
+        ..
+    } = inside;
+    down.agree(down_end);
+    up_end.agree(up);
+}

@@ -1,0 +1,9 @@
+//! The lane, a client's private queue at a handler: parcels go down, and objects and empty chunks come up.
+#![tactic(auto)]
+
+mod ends;
+mod forms;
+#[cfg(test)]
+mod tests;
+
+pub use ends::{LaneIn, LaneOut, agree, lane};

@@ -1,0 +1,113 @@
+//! The rule under which a queue's two ends share it.
+
+use crate::form::{Form, Key};
+use crossbeam_queue::RuledArrayQueue;
+use crossbeam_queue::protocol::{Join, Lesson, Outcome, Protocol, Split};
+use std::collections::LinkedList;
+use std::marker::PhantomData;
+
+/// What a pass may do, and what it has done. No value of it is made.
+pub struct Known<T, K> {
+    pub opens: bool,
+    pub sends: bool,
+    pub takes: bool,
+    pub key: K,
+    pub sent: LinkedList<T>,
+    pub received: LinkedList<T>,
+}
+
+/// One pass sends and one takes; what was received and what the queue holds is what was sent, which is good.
+pub struct InForm<F> {
+    of: PhantomData<F>,
+}
+
+impl<T, K, F: Form<T, K>> Protocol<T, Known<T, K>> for InForm<F> {
+    ghost use Rattle.qs_queue.specs.Rule.{Keeps, opening};
+
+    ghost holds = { Keeps F.good };
+
+    ghost first = { opening F.unset };
+}
+
+/// A queue whose items keep a form.
+pub type Queue<T, K, F> = RuledArrayQueue<T, Known<T, K>, InForm<F>>;
+
+/// The first pass becomes the two ends, with a key.
+pub struct Opens<N> {
+    of: PhantomData<N>,
+}
+
+impl<T, K, N: Key<K>> Split<Known<T, K>> for Opens<N> {
+    ghost use Rattle.std.specs.Prelude.{[]};
+    ghost use Rattle.qs_queue.specs.Rule.{sending, taking};
+
+    ghost left = { λ v. sending N.key [] };
+
+    ghost right = { λ v. taking N.key [] };
+}
+
+/// The two ends come together in one pass, and part again.
+pub struct Meets<F> {
+    of: PhantomData<F>,
+}
+
+impl<T, K, F: Form<T, K>> Split<Known<T, K>> for Meets<F> {
+    ghost use Rattle.qs_queue.specs.Rule.{sending, taking};
+
+    ghost left = { λ v. sending v.key v.sent };
+
+    ghost right = { λ v. taking v.key v.received };
+}
+
+impl<T, K, F: Form<T, K>> Join<Known<T, K>> for Meets<F> {
+    ghost use Rattle.qs_queue.specs.Rule.{whole, spent};
+
+    ghost both = { λ v w. whole v.key v.sent w.received };
+
+    ghost spent = { spent F.unset };
+}
+
+/// A value is sent; if the queue is full, what it holds is the end of what was sent.
+pub struct Sends;
+
+impl<T, K> Outcome<T, Known<T, K>> for Sends {
+    ghost use Rattle.std.specs.Prelude.{◌≡◌, ◌++◌, ◌∷◌, []};
+    ghost use Rattle.qs_queue.specs.Rule.{sending};
+
+    ghost then = { λ v x w. w ≡ sending v.key (v.sent ++ x ∷ []) };
+}
+
+impl<T, K> Lesson<T, Known<T, K>> for Sends {
+    ghost use Rattle.std.specs.Prelude.{◌≡◌, ◌++◌, List};
+
+    ghost fact = { λ v items. (received : List T) × (v.sent ≡ received ++ items) };
+}
+
+/// A value is taken, and what was received is good.
+pub struct Takes<F> {
+    of: PhantomData<F>,
+}
+
+impl<T, K, F: Form<T, K>> Outcome<T, Known<T, K>> for Takes<F> {
+    ghost use Rattle.std.specs.Prelude.{◌≡◌, ◌++◌, ◌∷◌, []};
+    ghost use Rattle.qs_queue.specs.Rule.{taking};
+
+    ghost then = { λ v x w. (w ≡ taking v.key (v.received ++ x ∷ [])) × F.good v.key (v.received ++ x ∷ []) };
+}
+
+impl<T, K, F: Form<T, K>> Lesson<T, Known<T, K>> for Takes<F> {
+    ghost use Rattle.std.specs.Prelude.{◌++◌};
+
+    ghost fact = { λ v items. F.good v.key (v.received ++ items) };
+}
+
+/// What was received and what the queue holds is what was sent, which is good.
+pub struct Agrees<F> {
+    of: PhantomData<F>,
+}
+
+impl<T, K, F: Form<T, K>> Lesson<T, Known<T, K>> for Agrees<F> {
+    ghost use Rattle.std.specs.Prelude.{◌≡◌, ◌++◌};
+
+    ghost fact = { λ v items. (v.sent ≡ v.received ++ items) × F.good v.key v.sent };
+}
