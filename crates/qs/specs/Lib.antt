@@ -1,4 +1,3 @@
 pub mod Reading
-pub mod Words
 pub mod Due
 pub mod Input

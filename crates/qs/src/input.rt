@@ -65,7 +65,7 @@ impl<R: Read> Counted<R> {
 pub enum InputFault {
     /// A read failed.
     Read,
-    /// A growth was refused.
+    /// An allocation failed.
     Memory,
 }
 
@@ -97,7 +97,7 @@ fn zeros(alloc: Global, count: usize) -> Result<Vec<u8>, AllocError>
 }
 
 /// The input up to its end or its first `longest` bytes, by at most `longest` reads. `Read` comes exactly where a read fails, and no
-/// read comes after it; `Memory` where a growth was refused, before the first read.
+/// read comes after it; `Memory` where an allocation failed, before the first read.
 pub fn gather<R: Read>(
     alloc: Global,
     input: &mut Counted<R>,

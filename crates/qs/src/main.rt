@@ -1,7 +1,7 @@
 //! The program: a script on standard input, a text on standard output.
 #![tactic(auto)]
 
-ghost use Rattle.std.specs.Prelude.{◌≡◌, false, map, string_bytes, IfOk, MatchBool};
+ghost use Rattle.std.specs.Prelude.{◌≡◌, ◌⊎◌, false, map, string_bytes, IfErr, IfOk, MatchBool};
 ghost use Rattle.qs.specs.Due.{IsDone};
 ghost use Rattle.qs_report.specs.declared.faults.Fault.TheVariants as fault;
 ghost use Rattle.qs_report.specs.Faults.{fault_text};
@@ -13,7 +13,6 @@ mod output;
 mod serving;
 #[cfg(test)]
 mod tests;
-mod words;
 
 use due::Due;
 use input::Counted;
@@ -26,10 +25,15 @@ use std::process::ExitCode;
 use std::rt::Env;
 use std::{env, io};
 
-// The process's arguments, the program's name first.
-fn arguments<R: Env + Alloc<A = Global>>(rt: &R) -> io::Result<Vec<String>> {
-    let words = env::args(rt)?.collect(rt.alloc())?;
-    Ok(words)
+// The process's arguments, the program's name first. An argument that is not UTF-8 is a fault of the command line.
+fn arguments<R: Env + Alloc<A = Global>>(rt: &R) -> Result<Vec<String>, Fault>
+    ensures fault { IfErr result (λ f. (f ≡ fault.Memory) ⊎ (f ≡ fault.CommandLine)) }
+{
+    match env::args(rt) {
+        Ok(words) => words.collect(rt.alloc()).map_err(|_| Fault::Memory),
+        Err(error) if error.kind() == io::ErrorKind::InvalidData => Err(Fault::CommandLine),
+        Err(_) => Err(Fault::Memory),
+    }
 }
 
 // The texts of the words.
@@ -43,24 +47,25 @@ fn texts(alloc: Global, words: &Vec<String>) -> Result<Vec<&str>, AllocError>
     Ok(texts)
 }
 
-// Tells want of memory, and answers the status.
-fn give_up<W: Write>(out: &mut W, watch: &mut Watch<W>) -> u8
+// Tells a fault of the arguments, and answers the status.
+fn give_up<W: Write>(fault: Fault, out: &mut W, watch: &mut Watch<W>) -> u8
     requires fine { watch.old.has_failed ≡ false }
-    ensures front { AppendsFront (W.contents out.old) (W.contents out.new) (fault_text fault.Memory) }
-    ensures status { MatchBool watch.new.has_failed (result ≡ 4) (IsDone (W.contents out.old) (W.contents out.new) (Due.Refused fault.Memory) result) }
+    ensures front { AppendsFront (W.contents out.old) (W.contents out.new) (fault_text fault) }
+    ensures status { MatchBool watch.new.has_failed (result ≡ 4) (IsDone (W.contents out.old) (W.contents out.new) (Due.Refused fault) result) }
 {
-    let due = Due::Refused(Fault::Memory);
+    let due = Due::Refused(fault);
     finish(out, watch, &due)
 }
 
 fn main(rt: HostRuntime) -> ExitCode {
     let mut input = Counted::new(rt.reader());
     let mut out = io::writer(&rt);
-    let Ok(words) = arguments(&rt) else {
-        return ExitCode::from(give_up(&mut out, &mut Watch::new()));
+    let words = match arguments(&rt) {
+        Ok(words) => words,
+        Err(fault) => return ExitCode::from(give_up(fault, &mut out, &mut Watch::new())),
     };
     let Ok(texts) = texts(rt.alloc(), &words) else {
-        return ExitCode::from(give_up(&mut out, &mut Watch::new()));
+        return ExitCode::from(give_up(Fault::Memory, &mut out, &mut Watch::new()));
     };
     ExitCode::from(serve(
         rt.alloc(),

@@ -10,11 +10,4 @@ pub mod Kept
 pub mod Sounds
 pub mod Scripts
 pub mod Soundness
-pub mod RequestPaths
 pub mod Bounds
-pub mod Trees
-pub mod TreeWalks
-pub mod SoundTrees
-pub mod Each
-pub mod Histories
-pub mod SerialRuns

@@ -30,7 +30,7 @@ abbrev pub fault_of : List Item → Option CheckFault
 fault_of items = first_fault (met start (script_places items)) (excess_of (resolved items))
 
 -- a script is accepted exactly where it has no fault, and its program is the script by number; else its fault is told,
--- unless memory is wanted
+-- unless memory runs out
 abbrev pub IsCheckOf : List Item → Result ProgramShape CheckFault → Type 0
 IsCheckOf items (Ok p) = (fault_of items ≡ None) × (p ≡ resolved items)
 IsCheckOf items (Err fault) = fault ≢ f.Memory → fault_of items ≡ Some fault

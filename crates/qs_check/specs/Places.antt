@@ -194,7 +194,7 @@ abbrev pub over : Met → Met
 over (Ok s) = Ok (without_variables s)
 over (Err fault) = Err fault
 
--- what a call of the code says: the first fault, or the scope that it leaves; want of memory says nothing
+-- what a call of the code says: the first fault, or the scope that it leaves; out of memory says nothing
 abbrev pub Fails : CheckFault → Met → Type 0
 Fails fault m = fault ≢ f.Memory → m ≡ Err fault
 

@@ -1,9 +1,10 @@
 //! Checks of whole scripts.
 
-ghost use Rattle.std.specs.Prelude.{◌≡◌, ◌≢◌, ◌≤◌, [], ◌∷◌, ◌++◌, OnOk, MatchResult};
+ghost use Rattle.std.specs.List.{AllByRecursion};
+ghost use Rattle.std.specs.Prelude.{◌≡◌, ◌≢◌, ◌≤◌, [], ◌∷◌, ◌++◌, length, IfOk, OnOk, MatchResult};
 ghost use Rattle.qs_check.specs.Checked.{IsCheckOf, text_fault, excess_of, shape_of};
-ghost use Rattle.qs_check.specs.Places.{Meets, met, over, without_variables, script_places};
-ghost use Rattle.qs_check.specs.Resolve.{resolved as resolved_of, lists_of};
+ghost use Rattle.qs_check.specs.Places.{Meets, met, over, start, without_variables, script_places};
+ghost use Rattle.qs_check.specs.Resolve.{resolved as resolved_of, clients_of, lists_of, objects_of};
 ghost use Rattle.qs_check.specs.Program.{whole_load, whole_weight};
 ghost use Rattle.qs_check.specs.Sound.{IsSound};
 
@@ -26,7 +27,7 @@ struct Resolved {
 }
 
 /// Checks a script and replaces each name by its number. `Ok` exactly where the script has no fault; else the first fault
-/// in text order, then `Load`, then `Weight`. `Memory` where a growth was refused, at any place. An error leaves nothing.
+/// in text order, then `Load`, then `Weight`. `Memory` where an allocation failed, at any place. An error leaves nothing.
 pub fn check(alloc: Global, script: Script) -> Result<Program, CheckFault>
     ensures check { IsCheckOf script result }
 {
@@ -41,8 +42,36 @@ fn resolve(alloc: Global, items: &[Item]) -> Result<Resolved, CheckFault>
         (λ fault. fault ≢ CheckFault.Memory → text_fault items.now ≡ Some fault) }
 {
     let mut scope = Scope::new(alloc);
+    let resolved = resolve_from(alloc, &mut scope, items);
+    drop(scope);
+    resolved
+}
+
+// The same, from a scope in which nothing is known. The caller keeps the scope: its drop at each `?` would be long to prove.
+fn resolve_from(alloc: Global, scope: &mut Scope, items: &[Item]) -> Result<Resolved, CheckFault>
+    requires start { scope.old ≡ start }
+    ensures text { MatchResult result
+        (λ r. (text_fault items.now ≡ None) × (shape_of r ≡ resolved_of items.now))
+        (λ fault. fault ≢ CheckFault.Memory → text_fault items.now ≡ Some fault) }
+{
     let mut variables = VecDeque::new(alloc);
-    check_items(alloc, &mut scope, &mut variables, items)?;
+    check_items(alloc, scope, &mut variables, items)?;
+    Ok(numbered(alloc, scope, variables, items)?)
+}
+
+// Replaces the names of a script whose text was walked.
+fn numbered(
+    alloc: Global,
+    scope: &Scope,
+    variables: VecDeque<Names>,
+    items: &[Item],
+) -> Result<Resolved, AllocError>
+    requires objects { length scope.now.objects ≤ 8 }
+    requires variables { variables.items ≡ lists_of items.now }
+    requires limit { AllByRecursion (λ v. length v ≤ 16) variables.items }
+    ensures objects { IfOk result (λ r. r.objects.items ≡ objects_of items.now) }
+    ensures clients { IfOk result (λ r. r.clients.items ≡ clients_of scope.now.objects scope.now.kinds items.now) }
+{
     let objects = resolve_objects(alloc, items)?;
     let clients = resolve_clients(alloc, scope.objects(), scope.kinds(), variables, items)?;
     Ok(Resolved { objects, clients })
@@ -99,6 +128,3 @@ fn add_variables(all: &mut VecDeque<Names>, variables: Names) -> Result<(), Allo
     all.push_back(variables)?;
     Ok(())
 }
-
-#[cfg(test)]
-mod tests;

@@ -75,8 +75,8 @@ impl Scope {
         }
         self.clients.number(name.copied())?;
         self.blocks = 0;
-        self.variables = Names::new(alloc);
-        self.reserved = Names::new(alloc);
+        forget(alloc, &mut self.variables);
+        forget(alloc, &mut self.reserved);
         Ok(())
     }
 
@@ -88,7 +88,7 @@ impl Scope {
             return Err(CheckFault::Limit);
         }
         self.blocks += 1;
-        self.reserved = Names::new(alloc);
+        forget(alloc, &mut self.reserved);
         Ok(())
     }
 
@@ -173,6 +173,13 @@ impl Scope {
     {
         self.kinds.as_slice()
     }
+}
+
+// Leaves no names.
+fn forget(alloc: Global, names: &mut Names)
+    ensures none { names.new ≡ [] }
+{
+    drop(mem::replace(names, Names::new(alloc)));
 }
 
 fn add_kind(kinds: &mut Vec<Kind>, kind: Kind) -> Result<(), AllocError>

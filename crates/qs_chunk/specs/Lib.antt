@@ -5,3 +5,4 @@ pub mod LaneLaws
 pub mod LaneExamples
 pub mod LaneViews
 pub mod LaneViewExamples
+pub mod LaneParts

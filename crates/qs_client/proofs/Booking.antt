@@ -4,15 +4,15 @@ use Rattle.std.proofs.lemmas.List.{length-replicate}
 use Rattle.qs_objects.specs.declared.held.Ticket.{Ticket}
 use Rattle.qs_objects.specs.declared.Request.{Request}
 use Rattle.qs_objects.proofs.Choices.{eqb_self, apart_eqb, num_cases}
-use Rattle.qs_check.specs.Interaction.{Interaction}
 use Rattle.qs_check.specs.Loads.{load_of}
-use Rattle.qs_check.specs.Paths.{counts}
-use Rattle.qs_check.specs.Paths as paths
 use Rattle.qs_check.specs.Program.{block_at, blocks_of}
-use Rattle.qs_check.specs.Solo.{put}
 use Rattle.qs_check.specs.Sound.{is_in}
 use Rattle.qs_check.specs.Values.{Locals}
-use Rattle.qs_check.proofs.RequestPaths.{requests_within}
+use Rattle.qs_meaning.specs.Interaction.{Interaction}
+use Rattle.qs_meaning.specs.Paths.{counts}
+use Rattle.qs_meaning.specs.Solo.{put}
+use Rattle.qs_meaning.proofs.RequestPaths.{requests_within}
+use Rattle.qs_meaning.specs.Paths as paths
 use Rattle.qs_graph.specs.Steps.{limit}
 use Rattle.qs_graph.specs.Synced.{Synced, Done, Call, Sync, Query, erased}
 use Rattle.qs_graph.specs.Walk.{entry, walk, Within}
@@ -21,22 +21,23 @@ use Rattle.qs_syncset.specs.CodeLaws.{IsSoundWalk}
 use Rattle.qs_syncset.specs.Flow.{nothing}
 use Rattle.qs_syncset.specs.SoundSynced.{IsOnReserved, IsSoundSynced}
 use Rattle.qs_syncset.proofs.CodeWalks.{walks_are_sound}
-use Rattle.qs_client.specs.Beginning.{begins_at}
-use Rattle.qs_client.specs.Client.{Settled, between, booked, settle}
-use Rattle.qs_client.specs.Hand.{chunk_at, held_at}
-use Rattle.qs_client.specs.Kept.{IsKept, room_for, sum_below}
-use Rattle.qs_client.specs.Mind.{Asks, booked_mind, booked_with, locals_at, longest, tree_at}
+use Rattle.qs_client_run.specs.Beginning.{begins_at}
+use Rattle.qs_client_run.specs.Client.{Settled, between, booked, settle}
+use Rattle.qs_client_run.specs.Hand.{chunk_at, held_at}
+use Rattle.qs_client_run.specs.BlockSizes.{room_for, sum_below, longest}
+use Rattle.qs_client_run.specs.Minds.{HasSettled, items_of, outcome, place_by}
+use Rattle.qs_client_run.specs.Running.{Fits, IsRunning}
+use Rattle.qs_client_run.specs.Standing.{HasCome, IsStanding}
+use Rattle.qs_client_run.specs.Trail.{trace_at}
+use Rattle.qs_client_run.specs.declared.run.Run.{Run}
+use Rattle.qs_client_run.proofs.Codes.{reserved_below_eight}
+use Rattle.qs_client_run.proofs.Coming.{reserves_here}
+use Rattle.qs_client_run.proofs.Going.{standing_of}
+use Rattle.qs_client_run.specs.declared.act.Act.TheVariants as acts
+use Rattle.qs_client_run.specs.declared.stage.Stage.TheVariants as stages
+use Rattle.qs_client.specs.Kept.{IsKept}
+use Rattle.qs_client.specs.Mind.{Asks, booked_mind, booked_with, locals_at, tree_at}
 use Rattle.qs_client.specs.MindState.{MindState, block_of, client_in, mind_of, settings_in}
-use Rattle.qs_client.specs.Minds.{HasSettled, items_of, outcome, place_by}
-use Rattle.qs_client.specs.Running.{Fits, IsRunning}
-use Rattle.qs_client.specs.Standing.{HasCome, IsStanding}
-use Rattle.qs_client.specs.Trail.{trace_at}
-use Rattle.qs_client.specs.declared.act.Act.TheVariants as acts
-use Rattle.qs_client.specs.declared.run.Run.{Run}
-use Rattle.qs_client.specs.declared.stage.Stage.TheVariants as stages
-use Rattle.qs_client.proofs.Codes.{reserved_below_eight}
-use Rattle.qs_client.proofs.Coming.{reserves_here}
-use Rattle.qs_client.proofs.Going.{standing_of}
 use Rattle.qs_client.proofs.Keeping.{IsSteady, asks_nothing, come_kept, comes_mind, hands_over, nothing_left, wants_of}
 
 -- the sum falls by one where one of the numbers does

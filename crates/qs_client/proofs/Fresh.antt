@@ -5,21 +5,22 @@ use Rattle.std.proofs.lemmas.List.{get_or-map, length-map, length-replicate}
 use Rattle.qs_objects.specs.Journals.{HeldState}
 use Rattle.qs_objects.specs.declared.held.Event.{Event}
 use Rattle.qs_objects.specs.declared.Request.{Request}
-use Rattle.qs_chunk.specs.Batch.{Batch}
-use Rattle.qs_check.specs.Serial.{zeros}
 use Rattle.qs_check.specs.Values.{Locals}
+use Rattle.qs_meaning.specs.Serial.{zeros}
 use Rattle.qs_graph.specs.Steps.{limit}
 use Rattle.qs_syncset.specs.Codes.{BlockCode, ClientCode, IsCode, no_code}
-use Rattle.qs_client.specs.Beginning.{fresh_run}
-use Rattle.qs_client.specs.Client.{between}
-use Rattle.qs_client.specs.Kept.{IsKept, empty_rows, room_for}
-use Rattle.qs_client.specs.Mind.{fresh_mind, longest}
+use Rattle.qs_chunk.specs.Batch.{Batch}
+use Rattle.qs_client_run.specs.Beginning.{fresh_run}
+use Rattle.qs_client_run.specs.Client.{between}
+use Rattle.qs_client_run.specs.BlockSizes.{empty_rows, room_for, longest}
+use Rattle.qs_client_run.specs.Minds.{items_of}
+use Rattle.qs_client_run.specs.Running.{IsOpen}
+use Rattle.qs_client_run.specs.Trail.{TraceState, trace_state}
+use Rattle.qs_client_run.specs.declared.run.Run.{Run}
+use Rattle.qs_client_run.specs.declared.stage.Handed.TheVariants as handeds
+use Rattle.qs_client.specs.Kept.{IsKept}
+use Rattle.qs_client.specs.Mind.{fresh_mind}
 use Rattle.qs_client.specs.MindState.{MindState, events_of, mind_of}
-use Rattle.qs_client.specs.Minds.{items_of}
-use Rattle.qs_client.specs.Running.{IsOpen}
-use Rattle.qs_client.specs.Trail.{TraceState, trace_state}
-use Rattle.qs_client.specs.declared.run.Run.{Run}
-use Rattle.qs_client.specs.declared.stage.Handed.TheVariants as handeds
 
 none_at : {X : Type 0} (n i : ℕ) (d : X) → get_or (replicate n d) i d ≡ d
 none_at zero i d = refl

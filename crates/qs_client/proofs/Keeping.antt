@@ -6,28 +6,29 @@ use Rattle.std.proofs.lemmas.List.{ext_get_or, get_or-set_same, get_or-set_other
 use Rattle.qs_objects.specs.Journals.{HeldState}
 use Rattle.qs_objects.specs.declared.held.Event.{Event}
 use Rattle.qs_objects.proofs.Choices.{eqb_self, num_cases}
-use Rattle.qs_graph.specs.Nodes as places
 use Rattle.qs_graph.specs.Steps.{limit}
 use Rattle.qs_graph.specs.Walk.{Spot, walk, Within}
+use Rattle.qs_graph.specs.Nodes as places
 use Rattle.qs_syncset.specs.Codes.{BlockCode, IsCode, code_at}
-use Rattle.qs_client.specs.Acting.{HasActed, Wants}
-use Rattle.qs_client.specs.Client.{Settled, got, took_chunk}
-use Rattle.qs_client.specs.Kept.{IsKept, room_for}
-use Rattle.qs_client.specs.Mind.{Asks, Mind, asked_of, chunk_mind, comes_to, count_sync, done, extended, got_mind, hands_out, is_between, longest}
-use Rattle.qs_client.specs.MindState.{MindState, IsMind, IsQuiet, block_of, client_in, events_of, mind_of, settings_in}
-use Rattle.qs_client.specs.Minds.{Outcome, place_by}
-use Rattle.qs_client.specs.Running.{KeepsRows}
-use Rattle.qs_client.specs.Standing.{HasCome, HasGot, HasSent, HasTaken, IsGone, IsStanding, after_send, handed_of, left_after}
-use Rattle.qs_client.specs.Trail.{TraceState, trace_at, trace_state}
-use Rattle.qs_client.specs.declared.act.Act.{Act}
-use Rattle.qs_client.specs.declared.act.Act.TheVariants as acts
-use Rattle.qs_client.specs.declared.run.Run.{Run}
-use Rattle.qs_client.specs.declared.stage.Handed.{Handed}
-use Rattle.qs_client.specs.declared.stage.Handed.TheVariants as handeds
-use Rattle.qs_client.specs.declared.stage.Stage.{Stage}
-use Rattle.qs_client.specs.declared.stage.Stage.TheVariants as stages
-use Rattle.qs_client.proofs.Codes.{few_blocks}
-use Rattle.qs_client.proofs.Coming.{at_call, awaits_here, nothing_between}
+use Rattle.qs_client_run.specs.Acting.{HasActed, Wants, IsQuiet}
+use Rattle.qs_client_run.specs.Client.{Settled, got, took_chunk}
+use Rattle.qs_client_run.specs.BlockSizes.{room_for, longest}
+use Rattle.qs_client_run.specs.Standing.{count_sync, HasCome, HasGot, HasSent, HasTaken, IsGone, IsStanding, after_send, handed_of, left_after}
+use Rattle.qs_client_run.specs.Minds.{Outcome, place_by}
+use Rattle.qs_client_run.specs.Running.{KeepsRows}
+use Rattle.qs_client_run.specs.Trail.{TraceState, trace_at, trace_state}
+use Rattle.qs_client_run.specs.declared.act.Act.{Act}
+use Rattle.qs_client_run.specs.declared.run.Run.{Run}
+use Rattle.qs_client_run.specs.declared.stage.Handed.{Handed}
+use Rattle.qs_client_run.specs.declared.stage.Stage.{Stage}
+use Rattle.qs_client_run.proofs.Codes.{few_blocks}
+use Rattle.qs_client_run.proofs.Coming.{at_call, awaits_here, nothing_between}
+use Rattle.qs_client_run.specs.declared.act.Act.TheVariants as acts
+use Rattle.qs_client_run.specs.declared.stage.Handed.TheVariants as handeds
+use Rattle.qs_client_run.specs.declared.stage.Stage.TheVariants as stages
+use Rattle.qs_client.specs.Kept.{IsKept}
+use Rattle.qs_client.specs.Mind.{Asks, Mind, asked_of, chunk_mind, comes_to, done, extended, got_mind, hands_out, is_between}
+use Rattle.qs_client.specs.MindState.{MindState, IsMind, block_of, client_in, events_of, mind_of, settings_in}
 
 events_at : (rows : List TraceState) (j : ℕ) → get_or (events_of rows) j [] ≡ (trace_at rows j).events
 events_at rows j = get_or-map (λ (t : TraceState). t.events) rows j (trace_state [] 0)

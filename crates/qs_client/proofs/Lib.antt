@@ -1,14 +1,3 @@
-pub mod Moves
-pub mod Steps
-pub mod Rooms
-pub mod Hold
-pub mod Going
-pub mod Sending
-pub mod Clearing
-pub mod Acting
-pub mod Codes
-pub mod Coming
-pub mod Keeping
 pub mod Booking
 pub mod Fresh
-pub mod Parting
+pub mod Keeping

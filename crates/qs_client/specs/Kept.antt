@@ -1,26 +1,13 @@
 -- What holds of a client's mind as it is kept.
-use Rattle.std.specs.Prelude.{◌≡◌, ◌<◌, ◌≤◌, ℕ, zero, suc, ◌+◌, ◌*◌, List, [], length, map}
+use Rattle.std.specs.Prelude.{◌≡◌, ◌<◌, ◌≤◌, ℕ, ◌+◌, ◌*◌, length}
 use Rattle.qs_graph.specs.Steps.{limit}
-use Rattle.qs_syncset.specs.Codes.{BlockCode, IsCode, code_at, load_at}
-use Rattle.qs_client.specs.Mind.{longest}
+use Rattle.qs_syncset.specs.Codes.{IsCode, code_at}
+use Rattle.qs_client_run.specs.BlockSizes.{longest, room_for}
+use Rattle.qs_client_run.specs.Standing.{IsGone, IsStanding}
+use Rattle.qs_client_run.specs.Trail.{trace_at}
+use Rattle.qs_client_run.specs.declared.stage.Handed.TheVariants as handeds
+use Rattle.qs_client_run.specs.declared.stage.Stage.TheVariants as stages
 use Rattle.qs_client.specs.MindState.{MindState, block_of}
-use Rattle.qs_client.specs.Standing.{IsGone, IsStanding}
-use Rattle.qs_client.specs.Trail.{TraceState, trace_at, trace_state}
-use Rattle.qs_client.specs.declared.stage.Handed.TheVariants as handeds
-use Rattle.qs_client.specs.declared.stage.Stage.TheVariants as stages
-
--- the sum of f below n
-abbrev pub sum_below : ℕ → (ℕ → ℕ) → ℕ
-sum_below zero f = 0
-sum_below (suc n) f = f n + sum_below n f
-
--- no more requests are made in the block
-abbrev pub room_for : BlockCode → ℕ
-room_for b = sum_below 8 (load_at b)
-
--- the traces before the first block
-abbrev pub empty_rows : List BlockCode → List TraceState
-empty_rows blocks = map (λ (b : BlockCode). trace_state [] (room_for b)) blocks
 
 pub record IsKept (m : MindState) : Type 0 where
   pub code : IsCode m.code

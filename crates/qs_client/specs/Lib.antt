@@ -1,14 +1,3 @@
-pub mod Hand
-pub mod Trail
-pub mod Restart
-pub mod Client
-pub mod ClientExamples
-pub mod Running
-pub mod Minds
-pub mod Standing
-pub mod Mind
-pub mod ClientLaws
-pub mod MindState
-pub mod Acting
 pub mod Kept
-pub mod Beginning
+pub mod Mind
+pub mod MindState

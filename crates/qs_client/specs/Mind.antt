@@ -1,25 +1,21 @@
 -- A client's mind: what it has come to, and what each call does to it.
-use Rattle.std.specs.Prelude.{◌≡◌, ℕ, ◌+◌, ◌-◌, Bool, true, false, if◌then◌else◌, List, [], ◌∷◌, ◌++◌, length, replicate, max, slice_index_or, slice_set}
+use Rattle.std.specs.Prelude.{◌≡◌, ℕ, suc, ◌&&◌, ◌||◌, nat_lt, nat_eq, ◌+◌, ◌-◌, Bool, true, false, if◌then◌else◌, List, [], ◌∷◌, ◌++◌, length, replicate, slice_index_or, slice_set}
 use Rattle.qs_objects.specs.Journals.{HeldState}
 use Rattle.qs_objects.specs.declared.held.Event.{Event}
 use Rattle.qs_objects.specs.declared.held.Ticket.{Ticket}
-use Rattle.qs_check.specs.Serial.{zeros}
 use Rattle.qs_check.specs.Values.{Locals}
+use Rattle.qs_meaning.specs.Serial.{zeros}
 use Rattle.qs_graph.specs.Steps.{limit}
 use Rattle.qs_graph.specs.Synced.{Synced}
 use Rattle.qs_graph.specs.Walk.{entry, walk}
-use Rattle.qs_syncset.specs.Codes.{BlockCode, ClientCode, code_at}
-use Rattle.qs_client.specs.Client.{Client, Place, Settings, Settled, act_of, between, runs, full, awaits, leaves, booked, first_client, got, took_chunk}
-use Rattle.qs_client.specs.ClientLaws.{with_act}
-use Rattle.qs_client.specs.Standing.{after_send, gave, handed_of}
-use Rattle.qs_client.specs.declared.act.Act.{Act}
-use Rattle.qs_client.specs.declared.stage.Handed.{Handed}
-use Rattle.qs_client.specs.declared.stage.Handed.TheVariants as handeds
-
--- the nodes of the longest graph
-abbrev pub longest : List BlockCode → ℕ
-longest [] = 0
-longest (b ∷ bs) = max (length b.graph) (longest bs)
+use Rattle.qs_syncset.specs.Codes.{ClientCode, code_at}
+use Rattle.qs_client_run.specs.Client.{Client, Place, Settings, Settled, act_of, between, runs, full, awaits, leaves, booked, first_client, got, took_chunk}
+use Rattle.qs_client_run.specs.ClientLaws.{with_act}
+use Rattle.qs_client_run.specs.Standing.{after_send, gave, handed_of, count_sync}
+use Rattle.qs_client_run.specs.declared.act.Act.{Act}
+use Rattle.qs_client_run.specs.declared.stage.Handed.{Handed}
+use Rattle.qs_client_run.specs.BlockSizes.{longest}
+use Rattle.qs_client_run.specs.declared.stage.Handed.TheVariants as handeds
 
 -- a block as a tree with the synchronisations that are left in it, from these variables; each repeat sets its count as it begins
 abbrev pub tree_at : ClientCode → ℕ → Locals → Synced
@@ -60,10 +56,6 @@ comes_to m s = record {
   syncs = m.syncs;
   handed = handeds.Nothing;
 }
-
-abbrev pub count_sync : Handed → ℕ
-count_sync handeds.Sync = 1
-count_sync handed = 0
 
 abbrev pub counted : Mind → Mind
 counted m = record {
@@ -179,3 +171,7 @@ fresh_mind code size = record {
   syncs = 0;
   handed = handeds.Nothing;
 }
+
+-- whether a client's block has ended
+abbrev pub has_ended : Client → ℕ → Bool
+has_ended m k = nat_lt (suc k) m.begun || (nat_eq (suc k) m.begun && is_between m.place)

@@ -5,14 +5,12 @@ use Rattle.qs_objects.specs.declared.held.Ticket.{Ticket}
 use Rattle.qs_check.specs.Values.{Locals}
 use Rattle.qs_graph.specs.Steps.{limit}
 use Rattle.qs_syncset.specs.Codes.{BlockCode, ClientCode, IsCode, code_at}
-use Rattle.qs_client.specs.Client.{Client, Settings}
+use Rattle.qs_client_run.specs.Client.{Client, Settings}
+use Rattle.qs_client_run.specs.Minds.{client_of}
+use Rattle.qs_client_run.specs.Trail.{TraceState}
+use Rattle.qs_client_run.specs.declared.run.Run.{Run}
+use Rattle.qs_client_run.specs.declared.stage.Handed.{Handed}
 use Rattle.qs_client.specs.Mind.{Mind, is_between}
-use Rattle.qs_client.specs.Minds.{client_of}
-use Rattle.qs_client.specs.Trail.{TraceState}
-use Rattle.qs_client.specs.declared.act.Act.{Act}
-use Rattle.qs_client.specs.declared.act.Act.TheVariants as acts
-use Rattle.qs_client.specs.declared.run.Run.{Run}
-use Rattle.qs_client.specs.declared.stage.Handed.{Handed}
 
 -- the code and the chunks' size; the ticket of the block that was begun last, and where the client stands in it; the variables at entry of
 -- the blocks that were begun; the Syncs that were sent; and what the last act carried
@@ -51,11 +49,6 @@ mind_of m = record {
   syncs = m.syncs;
   handed = m.handed;
 }
-
--- an act that sends nothing
-abbrev pub IsQuiet : Act → Type 0
-IsQuiet (acts.Send h p) = ⊥
-IsQuiet act = Unit {0}
 
 -- what holds of every mind
 pub record IsMind (m : Mind) : Type 0 where

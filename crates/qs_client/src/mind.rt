@@ -3,14 +3,12 @@
 ghost use Rattle.std.specs.Prelude.{◌≡◌, ◌<◌, ℕ, [], IfOk, length, option_copied};
 ghost use Rattle.qs_chunk.specs.Batch.{batch};
 ghost use Rattle.qs_client.specs.Mind.{Asks, booked_mind, chunk_mind, done, ended_by, fresh_mind, got_mind, is_between, next_act, next_mind};
-ghost use Rattle.qs_client.specs.MindState.{IsMind, IsQuiet, events_of, mind_of};
+ghost use Rattle.qs_client_run.specs.Acting.{IsQuiet};
+ghost use Rattle.qs_client.specs.MindState.{IsMind, events_of, mind_of};
 
-use crate::act::Act;
-use crate::run::Run;
-use crate::stage::{Handed, Stage};
-use crate::traces::Traces;
 use qs_check::Locals;
 use qs_chunk::{Chunk, ChunkSize};
+use qs_client_run::{Act, Handed, Run, Stage, Traces};
 use qs_objects::{Held, Request, Ticket};
 use qs_syncset::Code;
 use std::alloc::{AllocError, Global};

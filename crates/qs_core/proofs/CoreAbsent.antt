@@ -1,11 +1,10 @@
 -- An actor that is not there has no step.
-use Rattle.std.proofs.Common.{◌≡◌, ◌≤◌, ℕ, List, [], length, None, refl, sym, ap, subst, ◌∙◌, arith}
-use Rattle.qs_handler.specs.Handler.{act_of}
-use Rattle.qs_core.specs.Core.{core_step, fresh_held, takes_ticket}
-use Rattle.qs_core.specs.CoreReached.{ReachedCore}
+use Rattle.std.proofs.Common.{◌≡◌, ◌≤◌, ℕ, length, None, refl, sym, ap, subst, ◌∙◌, arith}
+use Rattle.qs_played.specs.declared.actor.Actor.{Actor}
+use Rattle.qs_played.specs.declared.actor.Actor.TheVariants as actor
+use Rattle.qs_core_laws.specs.Core.{core_step}
+use Rattle.qs_core_laws.specs.CoreReached.{ReachedCore}
 use Rattle.qs_core.specs.CoreState.{CoreKeeps, CoreState, IsCoreState, codes_of, core_of}
-use Rattle.qs_core.specs.declared.actor.Actor.{Actor}
-use Rattle.qs_core.specs.declared.actor.Actor.TheVariants as actor
 
 module _ (r s : CoreState) (view : r ≡ s) (kept : IsCoreState r) (keeps : CoreKeeps s) (a : Actor) where
   abbrev HasNone : CoreState → Type 0

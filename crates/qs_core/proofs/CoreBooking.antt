@@ -1,47 +1,47 @@
 -- A reservation, and a ticket that is taken, in the lists that the code holds.
-use Rattle.std.proofs.Common.{◌≡◌, ◌<◌, ◌≤◌, ℕ, zero, suc, ◌+◌, ◌-◌, ◌==◌, ◌||◌, Bool, true, false, nat_lt, if◌then◌else◌, List, [], ◌∷◌, ◌++◌, length, filter, get_or, Option, Some, None, refl, sym, ap, subst, ◌∙◌, arith}
-use Rattle.std.specs.List.{AllByRecursion, IsDistinct}
+use Rattle.std.proofs.Common.{◌≡◌, ◌<◌, ◌≤◌, ℕ, ◌+◌, ◌-◌, ◌==◌, ◌||◌, Bool, true, false, nat_lt, if◌then◌else◌, List, [], ◌∷◌, ◌++◌, length, filter, get_or, Option, Some, None, refl, sym, ap, subst, ◌∙◌, arith}
+use Rattle.std.specs.List.{AllByRecursion}
 use Rattle.std.proofs.Math.ListN.{set}
 use Rattle.std.proofs.Math.Path.{fun_ext}
 use Rattle.std.proofs.lemmas.List.{length-append, length-set}
-use Rattle.qs_objects.specs.declared.held.Next.TheVariants as nexts
 use Rattle.qs_objects.specs.Journals.{HeldState}
 use Rattle.qs_objects.specs.declared.held.Ticket.{Ticket}
 use Rattle.qs_objects.specs.declared.Request.{Request}
-use Rattle.qs_chunk.specs.declared.parcel.Parcel.TheVariants as parcels
-use Rattle.qs_graph.specs.Synced.{Synced, Done, Call, Sync, Query}
-use Rattle.qs_check.specs.Program.{ProgramShape, block_at, blocks_of}
-use Rattle.qs_check.specs.Solo.{put}
+use Rattle.qs_objects.specs.declared.held.Next.TheVariants as nexts
+use Rattle.qs_check.specs.Program.{block_at, blocks_of}
+use Rattle.qs_meaning.specs.Solo.{put}
 use Rattle.qs_check.specs.Sound.{IsSound, IsSoundBlock, is_in}
 use Rattle.qs_check.specs.Values.{Locals}
 use Rattle.qs_check.proofs.Bounds.{sound_block}
-use Rattle.qs_client.specs.Client.{Place, act_at, between, runs, full, awaits, leaves, call_act, clears}
+use Rattle.qs_graph.specs.Synced.{Done, Call, Sync, Query}
+use Rattle.qs_syncset.specs.Codes.{ClientCode, IsCodeOf, code_at}
+use Rattle.qs_chunk.specs.declared.parcel.Parcel.TheVariants as parcels
+use Rattle.qs_handler.specs.Handler.{Handler, act_of, taken, serving}
+use Rattle.qs_handler.proofs.Turns.{acts_lose_nothing}
+use Rattle.qs_handler.specs.declared.mind.Act.TheVariants as acts
+use Rattle.qs_client_run.specs.Client.{Place, act_at, between, runs, full, awaits, leaves, call_act, clears}
 use Rattle.qs_client.specs.Mind.{Mind, asked_of, booked_mind, booked_with, locals_at, settings_of}
 use Rattle.qs_client.specs.MindState.{IsMind, mind_of}
-use Rattle.qs_client.specs.declared.act.Act.{Act}
-use Rattle.qs_client.specs.declared.act.Act.TheVariants as wants
-use Rattle.qs_handler.specs.Handler.{Handler, act_of, taken}
-use Rattle.qs_handler.specs.declared.mind.Act.TheVariants as acts
-use Rattle.qs_handler.proofs.Turns.{acts_lose_nothing}
-use Rattle.qs_syncset.specs.Codes.{ClientCode, IsCodeOf, code_at}
-use Rattle.qs_core.specs.ClientSeats.{AreStocked, ClientSeatState, IsClientSeat, whole_of}
-use Rattle.qs_core.specs.Core.{AreCodes, Core, core_step, may}
-use Rattle.qs_core.specs.CoreReached.{CoreStands, IsBegun, ReachedCore}
-use Rattle.qs_core.specs.CoreSchedule.{before_it, serving}
+use Rattle.qs_client_run.specs.declared.act.Act.{Act}
+use Rattle.qs_client_run.specs.declared.act.Act.TheVariants as wants
+use Rattle.qs_played.specs.Played.{ticket}
+use Rattle.qs_played.specs.declared.actor.Actor.{Actor}
+use Rattle.qs_played.specs.declared.actor.Actor.TheVariants as actor
+use Rattle.qs_core_laws.specs.Core.{AreCodes, Core, core_step}
+use Rattle.qs_core_laws.specs.CoreReached.{CoreStands, IsBegun, ReachedCore}
+use Rattle.qs_core_laws.specs.CoreSchedule.{before_it}
+use Rattle.qs_core_parts.specs.CoreClients.{AreStocked, CoreClientState, IsCoreClient, whole_of}
+use Rattle.qs_core_parts.specs.CoreHandlers.{CanEnterAll, CoreHandlerState, IsCoreHandler, TakesTicket, entered_all, handler_of, no_seat, seat_at}
+use Rattle.qs_core_parts.specs.LaneStates.{IsStocked}
+use Rattle.qs_core_parts.proofs.CoreMinds.{whole_mind}
+use Rattle.qs_core_parts.proofs.ClientModels.{IsSeatOf}
 use Rattle.qs_core.specs.CoreState.{CoreKeeps, CoreState, CoreSteps, IsCoreState, IsSide, Side, all_blocks, codes_of, core_from, core_of, handler_at, side_at, side_of, tickets_at}
-use Rattle.qs_core.specs.HandlerSeats.{CanEnterAll, HandlerSeatState, IsHandlerSeat, TakesTicket, entered_all, handler_of, handler_seat, no_seat, seat_at}
-use Rattle.qs_core.specs.LaneStates.{IsStocked}
-use Rattle.qs_core.specs.Plain.{ticket}
-use Rattle.qs_core.specs.declared.actor.Actor.{Actor}
-use Rattle.qs_core.specs.declared.actor.Actor.TheVariants as actor
 use Rattle.qs_core.proofs.CoreEntering.{can_enter, handlers_entered, length_entered, order_few, rooms_entered, tickets_entered}
 use Rattle.qs_core.proofs.CoreFields.{each, field_kept}
-use Rattle.qs_core.proofs.CoreHandlers as handlers
 use Rattle.qs_core.proofs.CoreLists.{all_here, all_set, handler_put, map_here, side_put, tickets_put_at}
-use Rattle.qs_core.proofs.CoreMinds.{gave_begun, whole_mind}
 use Rattle.qs_core.proofs.CoreMoves.{all_put}
+use Rattle.qs_core.proofs.HandlerFields as handlers
 use Rattle.qs_core.proofs.CoreReserving as reserving
-use Rattle.qs_core.proofs.ClientSeats.{IsSeatOf}
 
 -- what holds of each member holds of all
 members : (rs : List ℕ) (P : ℕ → Type 0) → ((h : ℕ) → is_in rs h ≡ true → P h) → AllByRecursion P rs
@@ -93,8 +93,8 @@ reserving_at n asked = by_place n.client.place refl asked
 
 module _ (s : CoreState) (kept : IsCoreState s) (sound : IsSound s.program) (keeps : CoreKeeps s)
     (keeps_on : (a : Actor) (x : Core) → core_step (codes_of s) s.size (core_of s) a ≡ Some x → ReachedCore s.program (codes_of s) s.size x)
-    (c : ℕ) (inside : c < length s.clients) (old : ClientSeatState) (here : side_at s.clients c ≡ side_of old)
-    (seat : IsClientSeat old) (stocked : AreStocked old) (ok : IsMind (mind_of old.mind)) (asked : old.act ≡ wants.Reserve) where
+    (c : ℕ) (inside : c < length s.clients) (old : CoreClientState) (here : side_at s.clients c ≡ side_of old)
+    (seat : IsCoreClient old) (stocked : AreStocked old) (ok : IsMind (mind_of old.mind)) (asked : old.act ≡ wants.Reserve) where
   abbrev own : Mind
   own = whole_of old
 
@@ -203,11 +203,11 @@ module _ (s : CoreState) (kept : IsCoreState s) (sound : IsSound s.program) (kee
     where
       room_at : (h : ℕ) → h < length s.handlers → is_in list h ≡ true → length (seat_at s.handlers h).tickets < (seat_at s.handlers h).room
       room_at h less member =
-          let queue : tickets_at s.handlers h ≡ (seat_at s.handlers h).tickets = map_here (λ (x : HandlerSeatState). x.tickets) s.handlers h no_seat [] less in
-          let roomy : all_blocks s.program ≤ (seat_at s.handlers h).room = all_here (λ (x : HandlerSeatState). all_blocks s.program ≤ x.room) s.handlers h no_seat kept.rooms less in
+          let queue : tickets_at s.handlers h ≡ (seat_at s.handlers h).tickets = map_here (λ (x : CoreHandlerState). x.tickets) s.handlers h no_seat [] less in
+          let roomy : all_blocks s.program ≤ (seat_at s.handlers h).room = all_here (λ (x : CoreHandlerState). all_blocks s.program ≤ x.room) s.handlers h no_seat kept.rooms less in
           omega (arith, longer h member, ap length queue, roomy)
 
-  module _ (new : ClientSeatState) (came : IsSeatOf (booked_mind own now) new) (lanes_stay : new.lanes ≡ old.lanes) where
+  module _ (new : CoreClientState) (came : IsSeatOf (booked_mind own now) new) (lanes_stay : new.lanes ≡ old.lanes) where
     abbrev pub booked_after : CoreState
     booked_after = record { program = s.program; size = s.size; order = s.order ++ now ∷ []; clients = set s.clients c new; handlers = entered_all now s.handlers list }
 
@@ -273,8 +273,8 @@ module _ (s : CoreState) (kept : IsCoreState s) (sound : IsSound s.program) (kee
     }
 
 -- a handler takes the first ticket of its queue
-module _ (s : CoreState) (kept : IsCoreState s) (h : ℕ) (inside : h < length s.handlers) (old : HandlerSeatState) (here : handler_at s.program s.handlers h ≡ handler_of old)
-    (queue : tickets_at s.handlers h ≡ old.tickets) (seat : IsHandlerSeat old) (roomy : all_blocks s.program ≤ old.room) (asked : old.act ≡ acts.TakeTicket) where
+module _ (s : CoreState) (kept : IsCoreState s) (h : ℕ) (inside : h < length s.handlers) (old : CoreHandlerState) (here : handler_at s.program s.handlers h ≡ handler_of old)
+    (queue : tickets_at s.handlers h ≡ old.tickets) (seat : IsCoreHandler old) (roomy : all_blocks s.program ≤ old.room) (asked : old.act ≡ acts.TakeTicket) where
   abbrev wants_ticket : act_of (handler_at s.program s.handlers h) ≡ acts.TakeTicket
   wants_ticket = ap act_of here ∙ sym seat.act ∙ asked
 
@@ -282,7 +282,7 @@ module _ (s : CoreState) (kept : IsCoreState s) (h : ℕ) (inside : h < length s
   unfolding core_of
   ticket_rests none = handlers.ticket_stays (codes_of s) s.size s.order (side_at s.clients) (handler_at s.program s.handlers) (tickets_at s.handlers) h wants_ticket (queue ∙ none)
 
-  module _ (new : HandlerSeatState) (takes : TakesTicket old new) where
+  module _ (new : CoreHandlerState) (takes : TakesTicket old new) where
     abbrev pub taken_after : CoreState
     taken_after = record { program = s.program; size = s.size; order = s.order; clients = s.clients; handlers = set s.handlers h new }
 
@@ -305,7 +305,7 @@ module _ (s : CoreState) (kept : IsCoreState s) (h : ℕ) (inside : h < length s
         handlers_then = ap (put (handler_at s.program s.handlers) h) (sym new_handler) ∙ sym (handler_put s.program s.handlers h new inside)
 
         tickets_then : put (tickets_at s.handlers) h takes.1 ≡ tickets_at (set s.handlers h new)
-        tickets_then = ap (put (tickets_at s.handlers) h) (sym (ap (λ (x : HandlerSeatState). x.tickets) takes.5)) ∙ sym (tickets_put_at s.handlers h new inside)
+        tickets_then = ap (put (tickets_at s.handlers) h) (sym (ap (λ (x : CoreHandlerState). x.tickets) takes.5)) ∙ sym (tickets_put_at s.handlers h new inside)
 
     pub ticket_kept : IsCoreState taken_after
     ticket_kept = record {
@@ -313,7 +313,7 @@ module _ (s : CoreState) (kept : IsCoreState s) (h : ℕ) (inside : h < length s
       handlers = length-set s.handlers h new ∙ kept.handlers;
       sides = kept.sides;
       stocked = kept.stocked;
-      rooms = all_set (λ (x : HandlerSeatState). all_blocks s.program ≤ x.room) s.handlers h new (subst (λ (x : HandlerSeatState). all_blocks s.program ≤ x.room) (sym takes.5) roomy) kept.rooms;
+      rooms = all_set (λ (x : CoreHandlerState). all_blocks s.program ≤ x.room) s.handlers h new (subst (λ (x : CoreHandlerState). all_blocks s.program ≤ x.room) (sym takes.5) roomy) kept.rooms;
       mode = kept.mode;
       codes = kept.codes;
     }

@@ -1,20 +1,18 @@
--- Wherever the optimised machine and the plain rules have come, what they have shown is counted.
+-- Wherever the optimised machine has come, what it has shown is counted.
 use Rattle.std.proofs.Common.{◌≡◌, ℕ, Bool, true, false, List, refl, sym, subst}
 use Rattle.std.specs.Bool.{OnTrue}
 use Rattle.qs_check.specs.Program.{ProgramShape}
 use Rattle.qs_check.specs.Sound.{IsSound}
 use Rattle.qs_syncset.specs.declared.mode.Mode.{Mode}
-use Rattle.qs_core.specs.Core.{AreCodes}
-use Rattle.qs_core.specs.CoreSchedule.{core_played}
-use Rattle.qs_core.specs.CoreState.{CoreState, CoreSteps, IsPlayedOn, IsReachedCore, codes_of, core_of}
-use Rattle.qs_core.specs.Rules.{IsReached, RulesState}
-use Rattle.qs_core.specs.Schedule.{played_of, schedule}
-use Rattle.qs_core.specs.SyncSums.{AreQueriesCounted, AreRulesCounted, AreSyncsCounted, CoreIsCounted}
-use Rattle.qs_core.specs.declared.actor.Actor.{Actor}
-use Rattle.qs_core.specs.declared.played.Played.{Played}
+use Rattle.qs_played.specs.Schedule.{schedule}
+use Rattle.qs_played.specs.SyncSums.{AreSyncsCounted}
+use Rattle.qs_played.specs.declared.actor.Actor.{Actor}
+use Rattle.qs_played.specs.declared.played.Played.{Played}
+use Rattle.qs_core_laws.specs.Core.{AreCodes}
+use Rattle.qs_core_laws.specs.CoreSchedule.{core_played}
+use Rattle.qs_core_laws.proofs.CoreSyncs.{core_syncs_counted}
+use Rattle.qs_core.specs.CoreState.{CoreState, CoreSteps, IsPlayedOn, IsReachedCore, codes_of, core_of, CoreIsCounted}
 use Rattle.qs_core.proofs.CoreReaching.{core_next}
-use Rattle.qs_core.proofs.CoreSyncs.{core_syncs_counted}
-use Rattle.qs_core.proofs.PlainSyncs.{plain_syncs_counted}
 
 pub core_is_counted : (s : CoreState) → IsSound s.program → IsReachedCore s → CoreIsCounted s
 core_is_counted s sound reached mode codes =
@@ -37,7 +35,3 @@ pub schedule_counted : (p : ProgramShape) (mode : Mode) (size : ℕ) (picks : Li
 schedule_counted p mode size picks rounds s played on is counted =
     let here = counted mode (subst (λ q. AreCodes q mode (codes_of s)) (sym on.program) on.codes) in
     subst (AreSyncsCounted p mode) (sym is) (subst (λ q. AreSyncsCounted q mode (core_played s.program (core_of s))) on.program here)
-
-pub reached_counted : (r : RulesState) → IsSound r.program → IsReached r → AreRulesCounted r
-reached_counted r sound (actors, is) =
-    subst (λ s. AreQueriesCounted r.program s (played_of r.program s)) (sym is) (plain_syncs_counted r.program sound actors)

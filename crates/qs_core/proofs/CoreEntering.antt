@@ -1,44 +1,42 @@
 -- A ticket comes to each handler of a list.
-use Rattle.std.proofs.Common.{◌≡◌, ◌<◌, ◌≤◌, ℕ, zero, suc, ◌+◌, ◌==◌, ◌||◌, Bool, true, false, nat_lt, if◌then◌else◌, List, [], ◌∷◌, ◌++◌, length, map, filter, get_or, sum_by, refl, sym, ap, subst, ◌∙◌, arith}
+use Rattle.std.proofs.Common.{◌≡◌, ◌<◌, ◌≤◌, ℕ, zero, suc, ◌+◌, ◌==◌, ◌||◌, Bool, true, false, nat_lt, if◌then◌else◌, List, [], ◌∷◌, ◌++◌, length, filter, sum_by, refl, sym, ap, subst, ◌∙◌, arith}
 use Rattle.std.specs.List.{AllByRecursion, IsDistinct, range_with_len}
-use Rattle.std.proofs.Math.ListN.{set}
-use Rattle.std.proofs.Math.Path.{fun_ext}
 use Rattle.std.proofs.lemmas.List.{length-set, get_or-set_other}
 use Rattle.std.proofs.lemmas.Map.Keys.{IsDistinct-head, IsDistinct-tail}
 use Rattle.qs_objects.specs.declared.held.Ticket.{Ticket}
 use Rattle.qs_check.specs.Program.{ProgramShape}
-use Rattle.qs_check.specs.Solo.{put}
+use Rattle.qs_meaning.specs.Solo.{put}
 use Rattle.qs_check.specs.Sound.{is_in}
-use Rattle.qs_client.proofs.Hold.{put_same}
+use Rattle.qs_client_run.proofs.Hold.{put_same}
+use Rattle.qs_played.proofs.Lists.{sum_by-range_more}
+use Rattle.qs_core_parts.specs.CoreHandlers.{CanEnterAll, CoreHandlerState, entered, entered_all, entered_at, handler_of, no_seat, seat_at}
 use Rattle.qs_core.specs.CoreState.{handler_at, tickets_at}
-use Rattle.qs_core.specs.HandlerSeats.{CanEnterAll, HandlerSeatState, entered, entered_all, entered_at, handler_of, no_seat, seat_at}
 use Rattle.qs_core.proofs.CoreLists.{all_here, all_set, handler_put, map_here, tickets_put_at}
-use Rattle.qs_core.proofs.Lists.{sum_by-range_more}
 
 module _ (t : Ticket) where
-  pub length_entered : (hs : List HandlerSeatState) (rs : List ℕ) → length (entered_all t hs rs) ≡ length hs
+  pub length_entered : (hs : List CoreHandlerState) (rs : List ℕ) → length (entered_all t hs rs) ≡ length hs
   length_entered hs [] = refl
   length_entered hs (h ∷ rest) = length_entered (entered_at t hs h) rest ∙ length-set hs h (entered t (seat_at hs h))
 
   -- the handlers' minds stay
-  pub handlers_entered : (p : ProgramShape) (hs : List HandlerSeatState) (rs : List ℕ) → AllByRecursion (λ h. h < length hs) rs → handler_at p (entered_all t hs rs) ≡ handler_at p hs
+  pub handlers_entered : (p : ProgramShape) (hs : List CoreHandlerState) (rs : List ℕ) → AllByRecursion (λ h. h < length hs) rs → handler_at p (entered_all t hs rs) ≡ handler_at p hs
   handlers_entered p hs [] inside = refl
   handlers_entered p hs (h ∷ rest) inside =
       handlers_entered p (entered_at t hs h) rest (subst (λ n. AllByRecursion (λ k. k < n) rest) (sym (length-set hs h (entered t (seat_at hs h)))) inside.1)
       ∙ handler_put p hs h (entered t (seat_at hs h)) inside.0
       ∙ put_same (handler_at p hs) h (handler_of (entered t (seat_at hs h))) (map_here handler_of hs h no_seat _ inside.0)
 
-  one_entered : (hs : List HandlerSeatState) (h : ℕ) → h < length hs → tickets_at (entered_at t hs h) ≡ put (tickets_at hs) h (tickets_at hs h ++ t ∷ [])
+  one_entered : (hs : List CoreHandlerState) (h : ℕ) → h < length hs → tickets_at (entered_at t hs h) ≡ put (tickets_at hs) h (tickets_at hs h ++ t ∷ [])
   one_entered hs h inside =
       tickets_put_at hs h (entered t (seat_at hs h)) inside
-      ∙ ap (λ (ts : List Ticket). put (tickets_at hs) h (ts ++ t ∷ [])) (sym (map_here (λ (s : HandlerSeatState). s.tickets) hs h no_seat [] inside))
+      ∙ ap (λ (ts : List Ticket). put (tickets_at hs) h (ts ++ t ∷ [])) (sym (map_here (λ (s : CoreHandlerState). s.tickets) hs h no_seat [] inside))
 
   not_in : (rs : List ℕ) (h n : ℕ) → (h == n) ≡ true → AllByRecursion (λ y. (h == y) ≡ false) rs → is_in rs n ≡ false
   not_in [] h n e far = refl
   not_in (y ∷ rs) h n e far = let other : (y == n) ≡ false = grind (arith, e, far.0) in rw other (not_in rs h n e far.1)
 
   -- one ticket more at each of different handlers
-  pub tickets_entered : (hs : List HandlerSeatState) (rs : List ℕ) → IsDistinct ◌==◌ rs → AllByRecursion (λ h. h < length hs) rs → (n : ℕ)
+  pub tickets_entered : (hs : List CoreHandlerState) (rs : List ℕ) → IsDistinct ◌==◌ rs → AllByRecursion (λ h. h < length hs) rs → (n : ℕ)
       → tickets_at (entered_all t hs rs) n ≡ (if is_in rs n then tickets_at hs n ++ t ∷ [] else tickets_at hs n)
   tickets_entered hs [] distinct inside n = refl
   tickets_entered hs (h ∷ rest) distinct inside n =
@@ -52,25 +50,25 @@ module _ (t : Ticket) where
       by_test true e = let same : h ≡ n = grind (arith, e) in rw (not_in rest h n e (IsDistinct-head ◌==◌ h rest distinct)) (ap (λ m. tickets_at hs m ++ t ∷ []) same)
       by_test false e = refl
 
-  abbrev CanEnter : List HandlerSeatState → ℕ → Type 0
+  abbrev CanEnter : List CoreHandlerState → ℕ → Type 0
   CanEnter hs h = (h < length hs) × (length (seat_at hs h).tickets < (seat_at hs h).room)
 
-  still : (hs : List HandlerSeatState) (h : ℕ) (rs : List ℕ) → AllByRecursion (λ y. (h == y) ≡ false) rs → AllByRecursion (CanEnter hs) rs → AllByRecursion (CanEnter (entered_at t hs h)) rs
+  still : (hs : List CoreHandlerState) (h : ℕ) (rs : List ℕ) → AllByRecursion (λ y. (h == y) ≡ false) rs → AllByRecursion (CanEnter hs) rs → AllByRecursion (CanEnter (entered_at t hs h)) rs
   still hs h [] far can = tt
   still hs h (y ∷ rs) far can =
       let same : seat_at (entered_at t hs h) y ≡ seat_at hs y = get_or-set_other hs h y (entered t (seat_at hs h)) no_seat (λ is. let yes : (h == y) ≡ true = grind (arith, is) in let no = far.0 in cc) in
-      ((subst (λ n. y < n) (sym (length-set hs h (entered t (seat_at hs h)))) can.0.0, subst (λ (s : HandlerSeatState). length s.tickets < s.room) (sym same) can.0.1), still hs h rs far.1 can.1)
+      ((subst (λ n. y < n) (sym (length-set hs h (entered t (seat_at hs h)))) can.0.0, subst (λ (s : CoreHandlerState). length s.tickets < s.room) (sym same) can.0.1), still hs h rs far.1 can.1)
 
-  pub can_enter : (hs : List HandlerSeatState) (rs : List ℕ) → IsDistinct ◌==◌ rs → AllByRecursion (CanEnter hs) rs → CanEnterAll t hs rs
+  pub can_enter : (hs : List CoreHandlerState) (rs : List ℕ) → IsDistinct ◌==◌ rs → AllByRecursion (CanEnter hs) rs → CanEnterAll t hs rs
   can_enter hs [] distinct can = tt
   can_enter hs (h ∷ rest) distinct can = (can.0.0, can.0.1, can_enter (entered_at t hs h) rest (IsDistinct-tail ◌==◌ h rest distinct) (still hs h rest (IsDistinct-head ◌==◌ h rest distinct) can.1))
 
-  pub rooms_entered : (n : ℕ) (hs : List HandlerSeatState) (rs : List ℕ) → AllByRecursion (λ h. h < length hs) rs → AllByRecursion (λ (s : HandlerSeatState). n ≤ s.room) hs
-      → AllByRecursion (λ (s : HandlerSeatState). n ≤ s.room) (entered_all t hs rs)
+  pub rooms_entered : (n : ℕ) (hs : List CoreHandlerState) (rs : List ℕ) → AllByRecursion (λ h. h < length hs) rs → AllByRecursion (λ (s : CoreHandlerState). n ≤ s.room) hs
+      → AllByRecursion (λ (s : CoreHandlerState). n ≤ s.room) (entered_all t hs rs)
   rooms_entered n hs [] inside all = all
   rooms_entered n hs (h ∷ rest) inside all =
       rooms_entered n (entered_at t hs h) rest (subst (λ m. AllByRecursion (λ k. k < m) rest) (sym (length-set hs h (entered t (seat_at hs h)))) inside.1)
-      (all_set (λ (s : HandlerSeatState). n ≤ s.room) hs h (entered t (seat_at hs h)) (all_here (λ (s : HandlerSeatState). n ≤ s.room) hs h no_seat all inside.0) all)
+      (all_set (λ (s : CoreHandlerState). n ≤ s.room) hs h (entered t (seat_at hs h)) (all_here (λ (s : CoreHandlerState). n ≤ s.room) hs h no_seat all inside.0) all)
 
 -- the tickets of the first n clients
 abbrev below : ℕ → List Ticket → ℕ

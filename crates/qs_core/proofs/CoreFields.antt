@@ -1,14 +1,14 @@
 -- The machine's fields after a change of one client, at one of its lanes.
-use Rattle.std.proofs.Common.{◌≡◌, ◌<◌, ℕ, Bool, true, false, if◌then◌else◌, ◌==◌, ◌&&◌, List, [], ◌∷◌, ◌++◌, length, get_or, refl, sym, ap, subst, ◌∙◌, arith}
+use Rattle.std.proofs.Common.{◌≡◌, ◌<◌, ℕ, Bool, true, false, if◌then◌else◌, ◌==◌, ◌&&◌, List, length, refl, sym, ap, subst, ◌∙◌, arith}
 use Rattle.std.proofs.Math.ListN.{set}
 use Rattle.std.proofs.Math.Path.{fun_ext}
 use Rattle.qs_objects.specs.declared.held.Ticket.{Ticket}
-use Rattle.qs_check.specs.Solo.{put}
-use Rattle.qs_client.proofs.Hold.{put_field, put_same, put_set_at}
-use Rattle.qs_core.specs.Core.{put_lane, put_ticket}
+use Rattle.qs_meaning.specs.Solo.{put}
+use Rattle.qs_client_run.proofs.Hold.{put_field, put_same, put_set_at}
+use Rattle.qs_played.specs.Played.{ticket}
+use Rattle.qs_core_laws.specs.Core.{put_lane, put_ticket}
+use Rattle.qs_core_parts.specs.LaneStates.{LaneState, fresh_lane, lane_at}
 use Rattle.qs_core.specs.CoreState.{Side}
-use Rattle.qs_core.specs.LaneStates.{LaneState, fresh_lane, lane_at}
-use Rattle.qs_core.specs.Plain.{ticket}
 
 -- a field at each place
 abbrev pub each : {A B : Type 0} → (A → B) → (ℕ → A) → ℕ → B

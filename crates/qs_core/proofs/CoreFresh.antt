@@ -7,19 +7,15 @@ use Rattle.std.proofs.lemmas.List.Sums.{sum_by-cons}
 use Rattle.qs_objects.specs.declared.held.Event.{Event}
 use Rattle.qs_objects.specs.declared.held.Ticket.{Ticket}
 use Rattle.qs_check.specs.Program.{ClientShape, ProgramShape, blocks_of, no_client}
-use Rattle.qs_check.specs.Serial.{zeros}
-use Rattle.qs_check.specs.Values.{Locals}
-use Rattle.qs_chunk.specs.Batch.{batch}
-use Rattle.qs_client.specs.Client.{first_client}
-use Rattle.qs_client.specs.Mind.{Mind, fresh_mind}
-use Rattle.qs_handler.specs.Handler.{Handler, free}
 use Rattle.qs_syncset.specs.declared.mode.Mode.{Mode}
 use Rattle.qs_syncset.specs.Codes.{ClientCode, IsCodeOf}
-use Rattle.qs_core.specs.ClientSeats.{AreStocked, ClientSeatState, whole_of}
-use Rattle.qs_core.specs.Core.{AreCodes, Core, core_begin, fresh_held}
-use Rattle.qs_core.specs.CoreState.{AreFreshClients, AreFreshHandlers, CoreState, IsCoreState, IsFreshClient, IsFreshCore, IsSide, Side, all_blocks, codes_of, core_of, handler_at, no_side, side_at, side_of, tickets_at}
-use Rattle.qs_core.specs.HandlerSeats.{HandlerSeatState, handler_of, handler_seat, no_seat}
-use Rattle.qs_core.specs.LaneStates.{IsStocked, LaneState, fresh_lane, lane_at}
+use Rattle.qs_handler.specs.Handler.{free}
+use Rattle.qs_client.specs.Mind.{Mind, fresh_mind}
+use Rattle.qs_core_laws.specs.Core.{AreCodes, core_begin, fresh_held}
+use Rattle.qs_core_parts.specs.CoreClients.{AreStocked, CoreClientState, whole_of}
+use Rattle.qs_core_parts.specs.CoreHandlers.{CoreHandlerState, handler_of, no_seat}
+use Rattle.qs_core_parts.specs.LaneStates.{IsStocked, LaneState, fresh_lane, lane_at}
+use Rattle.qs_core.specs.CoreState.{AreFreshClients, AreFreshHandlers, CoreState, IsCoreState, IsSide, Side, all_blocks, codes_of, core_of, handler_at, no_side, side_at, side_of, tickets_at}
 use Rattle.qs_core.proofs.CoreLists.{map_here}
 
 -- the blocks, client by client
@@ -69,15 +65,15 @@ pub record IsFreshSide (s : Side) : Type 0 where
   pub mind : s.mind ≡ fresh_mind code chunk
   pub lanes : s.lanes ≡ replicate lanes_of (fresh_lane chunk)
 
-module _ (p : ProgramShape) (mode : Mode) (chunk room : ℕ) (cs : List ClientSeatState) (hs : List HandlerSeatState) (clients : AreFreshClients p mode chunk cs) (handlers : AreFreshHandlers p room hs) where
+module _ (p : ProgramShape) (mode : Mode) (chunk room : ℕ) (cs : List CoreClientState) (hs : List CoreHandlerState) (clients : AreFreshClients p mode chunk cs) (handlers : AreFreshHandlers p room hs) where
   abbrev made : CoreState
   made = record { program = p; size = chunk; order = []; clients = cs; handlers = hs }
 
-  in_list : (c : ℕ) (d : ClientSeatState) → c < length p.clients → side_at cs c ≡ side_of (get_or cs c d)
+  in_list : (c : ℕ) (d : CoreClientState) → c < length p.clients → side_at cs c ≡ side_of (get_or cs c d)
   in_list c d less = map_here side_of cs c d no_side (subst (λ n. c < n) (sym clients.many) less)
 
   -- the client of this number
-  seat_of : (c : ℕ) → c < length p.clients → ClientSeatState
+  seat_of : (c : ℕ) → c < length p.clients → CoreClientState
   seat_of c less = pick cs c (subst (λ n. c < n) (sym clients.many) less)
 
   fresh_inside : (c : ℕ) → c < length p.clients → IsFreshSide (side_at cs c)
@@ -122,7 +118,7 @@ module _ (p : ProgramShape) (mode : Mode) (chunk room : ℕ) (cs : List ClientSe
   tickets_are : (h : ℕ) → tickets_at hs h ≡ []
   tickets_are h = by_test (nat_lt h (length p.objects)) refl
     where
-      queue_of : HandlerSeatState → List Ticket
+      queue_of : CoreHandlerState → List Ticket
       queue_of x = x.tickets
 
       by_test : (b : Bool) → nat_lt h (length p.objects) ≡ b → tickets_at hs h ≡ []
@@ -176,9 +172,9 @@ module _ (p : ProgramShape) (mode : Mode) (chunk room : ℕ) (cs : List ClientSe
     stocked = each_of AreStocked cs (λ d c less.
         let f = clients.each c d (omega (arith, less, clients.many)) in
         subst (λ n. AllByRecursion (IsStocked n) (get_or cs c d).lanes) (sym (ap (λ (m : Mind). m.size) f.mind)) (subst (AllByRecursion (IsStocked chunk)) (sym f.lanes) (replicate_stocked chunk (length p.objects))));
-    rooms = each_of (λ (x : HandlerSeatState). all_blocks p ≤ x.room) hs (λ d h less.
+    rooms = each_of (λ (x : CoreHandlerState). all_blocks p ≤ x.room) hs (λ d h less.
         let is = handlers.each h d (omega (arith, less, handlers.many)) in
-        let rooms_is : (get_or hs h d).room ≡ room = ap (λ (x : HandlerSeatState). x.room) is in omega (arith, rooms_is, enough));
+        let rooms_is : (get_or hs h d).room ≡ room = ap (λ (x : CoreHandlerState). x.room) is in omega (arith, rooms_is, enough));
     mode = mode;
     codes = codes_are;
   }

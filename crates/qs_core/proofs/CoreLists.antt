@@ -1,18 +1,17 @@
 -- Lists of clients and handlers as functions of their numbers.
-use Rattle.std.proofs.Common.{◌≡◌, ◌<◌, ℕ, zero, suc, Bool, true, false, ◌==◌, if◌then◌else◌, List, [], ◌∷◌, ◌++◌, length, map, get_or, refl, sym, ap, subst, ◌∙◌, arith}
+use Rattle.std.proofs.Common.{◌≡◌, ◌<◌, ℕ, zero, suc, Bool, true, false, ◌==◌, if◌then◌else◌, List, [], ◌∷◌, length, map, get_or, refl, sym, ap, subst, ◌∙◌, arith}
 use Rattle.std.specs.List.{AllByRecursion}
 use Rattle.std.proofs.Math.ListN.{set}
 use Rattle.std.proofs.Math.Path.{fun_ext}
 use Rattle.std.proofs.lemmas.List.{length-map, map-set, get_or-set_same, get_or-set_other}
-use Rattle.qs_objects.specs.declared.held.Ticket.{Ticket}
 use Rattle.qs_check.specs.Program.{ProgramShape}
-use Rattle.qs_check.specs.Solo.{put}
-use Rattle.qs_client.proofs.Hold.{put_same, put_set_at}
+use Rattle.qs_meaning.specs.Solo.{put}
 use Rattle.qs_handler.specs.Handler.{Handler, free}
-use Rattle.qs_core.specs.ClientSeats.{ClientSeatState}
-use Rattle.qs_core.specs.Core.{fresh_held}
-use Rattle.qs_core.specs.CoreState.{Side, handler_at, no_side, side_at, side_of, tickets_at}
-use Rattle.qs_core.specs.HandlerSeats.{HandlerSeatState, handler_of}
+use Rattle.qs_client_run.proofs.Hold.{put_same, put_set_at}
+use Rattle.qs_core_laws.specs.Core.{fresh_held}
+use Rattle.qs_core_parts.specs.CoreClients.{CoreClientState}
+use Rattle.qs_core_parts.specs.CoreHandlers.{CoreHandlerState, handler_of}
+use Rattle.qs_core.specs.CoreState.{handler_at, no_side, side_at, side_of, tickets_at}
 
 -- a list of what its members show, changed at one place
 pub map_put : {A B : Type 0} (f : A → B) (xs : List A) (n : ℕ) (x : A) (d : B) → n < length xs → (m : ℕ) → get_or (map f (set xs n x)) m d ≡ put (λ k. get_or (map f xs) k d) n (f x) m
@@ -35,10 +34,10 @@ all_here P [] n d all inside = absurd (omega arith)
 all_here P (x ∷ xs) zero d all inside = all.0
 all_here P (x ∷ xs) (suc n) d all inside = all_here P xs n d all.1 (omega arith)
 
-pub side_put : (cs : List ClientSeatState) (c : ℕ) (s : ClientSeatState) → c < length cs → side_at (set cs c s) ≡ put (side_at cs) c (side_of s)
+pub side_put : (cs : List CoreClientState) (c : ℕ) (s : CoreClientState) → c < length cs → side_at (set cs c s) ≡ put (side_at cs) c (side_of s)
 side_put cs c s inside = fun_ext (map_put side_of cs c s no_side inside)
 
-pub handler_put : (p : ProgramShape) (hs : List HandlerSeatState) (h : ℕ) (s : HandlerSeatState) → h < length hs → handler_at p (set hs h s) ≡ put (handler_at p hs) h (handler_of s)
+pub handler_put : (p : ProgramShape) (hs : List CoreHandlerState) (h : ℕ) (s : CoreHandlerState) → h < length hs → handler_at p (set hs h s) ≡ put (handler_at p hs) h (handler_of s)
 handler_put p hs h s inside = fun_ext at_each
   where
     at_each : (n : ℕ) → handler_at p (set hs h s) n ≡ put (handler_at p hs) h (handler_of s) n
@@ -48,9 +47,9 @@ handler_put p hs h s inside = fun_ext at_each
         by_test true e = let same : h ≡ n = grind (arith, e) in subst (λ m. get_or (set (map handler_of hs) h (handler_of s)) m (free (fresh_held p m)) ≡ handler_of s) same (get_or-set_same (map handler_of hs) h (handler_of s) (free (fresh_held p h)) (subst (λ k. h < k) (sym (length-map hs handler_of)) inside))
         by_test false e = get_or-set_other (map handler_of hs) h n (handler_of s) (free (fresh_held p n)) (λ is. let yes : (h == n) ≡ true = grind (arith, is) in cc)
 
-pub tickets_put_at : (hs : List HandlerSeatState) (h : ℕ) (s : HandlerSeatState) → h < length hs → tickets_at (set hs h s) ≡ put (tickets_at hs) h s.tickets
-tickets_put_at hs h s inside = fun_ext (map_put (λ (x : HandlerSeatState). x.tickets) hs h s [] inside)
+pub tickets_put_at : (hs : List CoreHandlerState) (h : ℕ) (s : CoreHandlerState) → h < length hs → tickets_at (set hs h s) ≡ put (tickets_at hs) h s.tickets
+tickets_put_at hs h s inside = fun_ext (map_put (λ (x : CoreHandlerState). x.tickets) hs h s [] inside)
 
 -- a handler whose queue stays
-pub tickets_keep : (hs : List HandlerSeatState) (h : ℕ) (s : HandlerSeatState) → h < length hs → s.tickets ≡ tickets_at hs h → tickets_at (set hs h s) ≡ tickets_at hs
+pub tickets_keep : (hs : List CoreHandlerState) (h : ℕ) (s : CoreHandlerState) → h < length hs → s.tickets ≡ tickets_at hs h → tickets_at (set hs h s) ≡ tickets_at hs
 tickets_keep hs h s inside is = tickets_put_at hs h s inside ∙ put_same (tickets_at hs) h s.tickets (sym is)

@@ -1,45 +1,40 @@
 -- A client's or a handler's step at a lane, in the lists that the code holds.
-use Rattle.std.proofs.Common.{◌≡◌, ◌<◌, ◌≤◌, ℕ, zero, suc, ◌+◌, ◌-◌, ◌==◌, Bool, true, false, if◌then◌else◌, List, [], ◌∷◌, ◌++◌, length, map, get_or, Option, Some, None, refl, sym, ap, subst, ◌∙◌, arith, ⊎_elim}
+use Rattle.std.proofs.Common.{◌≡◌, ◌<◌, ◌≤◌, ℕ, ◌-◌, ◌==◌, Bool, true, false, if◌then◌else◌, List, [], length, Option, Some, None, refl, sym, ap, subst, ◌∙◌, arith}
 use Rattle.std.specs.List.{AllByRecursion}
 use Rattle.std.proofs.Math.ListN.{set}
-use Rattle.std.proofs.Math.Path.{fun_ext}
 use Rattle.std.proofs.lemmas.List.{length-set}
 use Rattle.qs_objects.specs.declared.held.Ticket.{Ticket}
 use Rattle.qs_objects.specs.declared.Request.{Request}
-use Rattle.qs_check.specs.Program.{ProgramShape}
-use Rattle.qs_check.specs.Solo.{put}
-use Rattle.qs_client.specs.Mind.{Mind, asked_of}
-use Rattle.qs_client.specs.MindState.{IsMind, mind_of}
-use Rattle.qs_client.specs.declared.act.Act.{Act}
-use Rattle.qs_client.specs.declared.act.Act.TheVariants as wants
-use Rattle.qs_client.proofs.Hold.{put_same}
+use Rattle.qs_meaning.specs.Solo.{put}
 use Rattle.qs_chunk.specs.Batch.{Batch, batch}
 use Rattle.qs_handler.specs.Handler.{Handler, act_of}
-use Rattle.qs_handler.specs.declared.mind.Act.TheVariants as acts
 use Rattle.qs_handler.proofs.Turns.{acts_lose_nothing}
-use Rattle.qs_syncset.specs.Codes.{ClientCode}
-use Rattle.qs_core.specs.ClientSeats.{AreStocked, ClientSeatState, HasLane, IsClientSeat, LaneStays, LaneSteps, lane_step, turns_to, whole_of}
-use Rattle.qs_core.specs.Core.{AreCodes, Core, client_step, core_step}
+use Rattle.qs_handler.specs.declared.mind.Act.TheVariants as acts
+use Rattle.qs_client.specs.Mind.{Mind, asked_of}
+use Rattle.qs_client.specs.MindState.{IsMind, mind_of}
+use Rattle.qs_client_run.specs.declared.act.Act.{Act}
+use Rattle.qs_client_run.proofs.Parting.{sends_are_parted}
+use Rattle.qs_client_run.specs.declared.act.Act.TheVariants as wants
+use Rattle.qs_played.specs.Played.{ticket}
+use Rattle.qs_played.specs.declared.actor.Actor.TheVariants as actor
+use Rattle.qs_core_laws.specs.Core.{AreCodes, Core, client_step, core_step}
+use Rattle.qs_core_parts.specs.CoreClients.{AreStocked, CoreClientState, HasLane, IsCoreClient, LaneStays, LaneSteps, lane_step, turns_to, whole_of}
+use Rattle.qs_core_parts.specs.CoreHandlers.{CoreHandlerState, IsCoreHandler, handler_of}
+use Rattle.qs_core_parts.specs.LaneStates.{IsStocked, LaneState, lane_at}
+use Rattle.qs_core_parts.proofs.LaneStock.{handler_stocked}
+use Rattle.qs_core_parts.proofs.CoreMinds.{Kept, lane_begun, step_keeps, whole_mind}
+use Rattle.qs_core_parts.specs.CoreHandlers as seats
 use Rattle.qs_core.specs.CoreState.{CoreState, CoreSteps, IsCoreState, IsSide, Side, all_blocks, codes_of, core_from, core_of, handler_at, side_at, side_of, tickets_at}
-use Rattle.qs_core.specs.HandlerSeats.{HandlerSeatState, IsHandlerSeat, handler_of, handler_seat}
-use Rattle.qs_core.specs.HandlerSeats as seats
-use Rattle.qs_core.specs.LaneStates.{IsStocked, LaneState, lane_at}
-use Rattle.qs_core.specs.Plain.{ticket}
-use Rattle.qs_core.specs.declared.actor.Actor.{Actor}
-use Rattle.qs_core.specs.declared.actor.Actor.TheVariants as actor
-use Rattle.qs_client.proofs.Parting.{sends_are_parted}
-use Rattle.qs_core.proofs.CoreClients as clients
-use Rattle.qs_core.proofs.CoreFields.{field_put, field_kept, each}
-use Rattle.qs_core.proofs.CoreHandlers as handlers
-use Rattle.qs_core.proofs.CoreLists.{all_here, all_set, handler_put, map_here, side_put, tickets_keep, tickets_put_at}
-use Rattle.qs_core.proofs.LaneStock.{handler_stocked}
-use Rattle.qs_core.proofs.CoreMinds.{Kept, lane_begun, step_keeps, whole_mind}
+use Rattle.qs_core.proofs.CoreFields.{field_kept, each}
+use Rattle.qs_core.proofs.CoreLists.{all_here, all_set, handler_put, side_put, tickets_keep}
+use Rattle.qs_core.proofs.ClientFields as clients
+use Rattle.qs_core.proofs.HandlerFields as handlers
 
 -- with other clients, and with other handlers
-abbrev pub with_clients : CoreState → List ClientSeatState → CoreState
+abbrev pub with_clients : CoreState → List CoreClientState → CoreState
 with_clients s cs = record { program = s.program; size = s.size; order = s.order; clients = cs; handlers = s.handlers }
 
-abbrev pub with_handlers : CoreState → List HandlerSeatState → CoreState
+abbrev pub with_handlers : CoreState → List CoreHandlerState → CoreState
 with_handlers s hs = record { program = s.program; size = s.size; order = s.order; clients = s.clients; handlers = hs }
 
 -- what is put at one place and holds there, and held elsewhere before
@@ -50,8 +45,8 @@ all_put P n g c a here others m less = by_test (c == m) refl
     by_test true e = let same : c ≡ m = grind (arith, e) in subst (λ k. P k a) same here
     by_test false e = others m less
 
-module _ (s : CoreState) (kept : IsCoreState s) (c : ℕ) (inside : c < length s.clients) (old : ClientSeatState) (here : side_at s.clients c ≡ side_of old)
-    (seat : IsClientSeat old) (stocked : AreStocked old) (ok : IsMind (mind_of old.mind)) (has_lane : HasLane old) (new : ClientSeatState) (moves : LaneSteps old new) where
+module _ (s : CoreState) (kept : IsCoreState s) (c : ℕ) (inside : c < length s.clients) (old : CoreClientState) (here : side_at s.clients c ≡ side_of old)
+    (seat : IsCoreClient old) (stocked : AreStocked old) (ok : IsMind (mind_of old.mind)) (has_lane : HasLane old) (new : CoreClientState) (moves : LaneSteps old new) where
   abbrev own : Mind
   own = whole_of old
 
@@ -147,8 +142,8 @@ module _ (s : CoreState) (kept : IsCoreState s) (c : ℕ) (inside : c < length s
   }
 
 -- where a client can't step at a lane, and does not reserve, it has no step
-module _ (s : CoreState) (kept : IsCoreState s) (c : ℕ) (inside : c < length s.clients) (old : ClientSeatState) (here : side_at s.clients c ≡ side_of old)
-    (seat : IsClientSeat old) (ok : IsMind (mind_of old.mind)) (has_lane : HasLane old) (stays : LaneStays old) where
+module _ (s : CoreState) (kept : IsCoreState s) (c : ℕ) (inside : c < length s.clients) (old : CoreClientState) (here : side_at s.clients c ≡ side_of old)
+    (seat : IsCoreClient old) (ok : IsMind (mind_of old.mind)) (has_lane : HasLane old) (stays : LaneStays old) where
   abbrev at_rest : Type 0
   at_rest = core_step (codes_of s) s.size (core_of s) (actor.Client c) ≡ None
 
@@ -193,9 +188,9 @@ module _ (s : CoreState) (kept : IsCoreState s) (c : ℕ) (inside : c < length s
       by_act wants.Finished e = ends e
 
 -- a handler's step at the lane of client c, whose seat is `guest`
-module _ (s : CoreState) (kept : IsCoreState s) (h : ℕ) (inside : h < length s.handlers) (old : HandlerSeatState) (here : handler_at s.program s.handlers h ≡ handler_of old)
-    (queue : tickets_at s.handlers h ≡ old.tickets) (seat : IsHandlerSeat old) (roomy : all_blocks s.program ≤ old.room)
-    (c : ℕ) (turned : seats.turns_to old.act ≡ Some c) (there : c < length s.clients) (guest : ClientSeatState) (found : side_at s.clients c ≡ side_of guest) (stocked : AreStocked guest) where
+module _ (s : CoreState) (kept : IsCoreState s) (h : ℕ) (inside : h < length s.handlers) (old : CoreHandlerState) (here : handler_at s.program s.handlers h ≡ handler_of old)
+    (queue : tickets_at s.handlers h ≡ old.tickets) (seat : IsCoreHandler old) (roomy : all_blocks s.program ≤ old.room)
+    (c : ℕ) (turned : seats.turns_to old.act ≡ Some c) (there : c < length s.clients) (guest : CoreClientState) (found : side_at s.clients c ≡ side_of guest) (stocked : AreStocked guest) where
   abbrev host : Handler
   host = handler_at s.program s.handlers h
 
@@ -215,13 +210,13 @@ module _ (s : CoreState) (kept : IsCoreState s) (h : ℕ) (inside : h < length s
   pub handler_rests : seats.lane_step (handler_of old) old.act (lane_at guest.lanes h) ≡ None → core_step (codes_of s) s.size (core_of s) (actor.Handler h) ≡ None
   handler_rests none = met ∙ ap handled none
 
-  module _ (fits : (b : Batch Request) → old.act ≡ acts.Spare c b → b ≡ batch [] (whole_of guest).size) (new : HandlerSeatState) (k : LaneState)
+  module _ (fits : (b : Batch Request) → old.act ≡ acts.Spare c b → b ≡ batch [] (whole_of guest).size) (new : CoreHandlerState) (k : LaneState)
       (moves : seats.LaneSteps old (lane_at guest.lanes h) new k) where
     abbrev next : Handler
     next = moves.0
 
     -- the client's seat with the lane as it is then
-    abbrev pub visited : ClientSeatState
+    abbrev pub visited : CoreClientState
     visited = record { mind = guest.mind; act = guest.act; lanes = set guest.lanes h k }
 
     abbrev pub met_after : CoreState
@@ -260,7 +255,7 @@ module _ (s : CoreState) (kept : IsCoreState s) (h : ℕ) (inside : h < length s
         handlers_then = ap (put (handler_at s.program s.handlers) h) (sym next_is) ∙ sym (handler_put s.program s.handlers h new inside)
 
         tickets_then : tickets_at s.handlers ≡ tickets_at (set s.handlers h new)
-        tickets_then = sym (tickets_keep s.handlers h new inside (ap (λ (x : HandlerSeatState). x.tickets) moves.2 ∙ sym queue))
+        tickets_then = sym (tickets_keep s.handlers h new inside (ap (λ (x : CoreHandlerState). x.tickets) moves.2 ∙ sym queue))
 
     guest_side : IsSide s.program s.size c (side_of guest)
     guest_side = subst (IsSide s.program s.size c) found (kept.sides c there)
@@ -286,7 +281,7 @@ module _ (s : CoreState) (kept : IsCoreState s) (h : ℕ) (inside : h < length s
       stocked = all_set AreStocked s.clients c visited
           (subst (λ (m : Mind). AllByRecursion (IsStocked m.size) visited.lanes) (sym same_mind) (all_set (IsStocked (whole_of guest).size) guest.lanes h k lane_stocked stocked))
           kept.stocked;
-      rooms = all_set (λ (x : HandlerSeatState). all_blocks s.program ≤ x.room) s.handlers h new (subst (λ (x : HandlerSeatState). all_blocks s.program ≤ x.room) (sym moves.2) roomy) kept.rooms;
+      rooms = all_set (λ (x : CoreHandlerState). all_blocks s.program ≤ x.room) s.handlers h new (subst (λ (x : CoreHandlerState). all_blocks s.program ≤ x.room) (sym moves.2) roomy) kept.rooms;
       mode = kept.mode;
       codes = subst (AreCodes s.program kept.mode) (sym codes_then) kept.codes;
     }

@@ -1,19 +1,18 @@
 -- Schedules of the optimised machine, a step at a time.
-use Rattle.std.proofs.Common.{◌≡◌, ◌<◌, ℕ, zero, suc, ◌+◌, Bool, true, false, length, get_or, take, arith, List, [], ◌∷◌, ◌++◌, map, None, refl, ap, sym, subst, ◌∙◌, add-one, zero-add, append_assoc, append-nil}
-use Rattle.std.specs.Prelude.{Result, Ok, Err, IfOk}
+use Rattle.std.proofs.Common.{◌≡◌, ◌<◌, ℕ, zero, suc, ◌+◌, Bool, true, false, length, get_or, take, arith, List, [], ◌∷◌, ◌++◌, map, None, refl, ap, sym, subst, ◌∙◌, add-one, zero-add, append_assoc}
 use Rattle.std.specs.Bool.{OnTrue}
 use Rattle.std.specs.List.{range_with_len}
 use Rattle.qs_check.specs.Program.{ProgramShape}
 use Rattle.qs_syncset.specs.declared.mode.Mode.{Mode}
-use Rattle.qs_core.specs.Core.{AreCodes, core_begin, core_step}
-use Rattle.qs_core.specs.CoreSchedule.{IsShown, core_or_stay, core_played, core_plays, core_scheduled, on_way}
-use Rattle.qs_core.specs.Isolation.{IsIsolated}
-use Rattle.qs_core.specs.Schedule.{actors_of, repeated, schedule}
-use Rattle.qs_core.specs.declared.played.Played.{Played}
+use Rattle.qs_played.specs.Isolation.{IsIsolated}
+use Rattle.qs_played.specs.Schedule.{actors_of, repeated, schedule}
+use Rattle.qs_played.specs.declared.played.Played.{Played}
+use Rattle.qs_played.specs.declared.actor.Actor.{Actor}
+use Rattle.qs_played.proofs.Lists.{range_more}
+use Rattle.qs_core_laws.specs.Core.{AreCodes, core_begin, core_step}
+use Rattle.qs_core_laws.specs.CoreSchedule.{IsShown, core_or_stay, core_played, core_plays, core_scheduled, on_way}
 use Rattle.qs_core.specs.CoreState.{CoreIsIsolated, CoreState, CoreSteps, IsFreshCore, IsPlayedOn, IsShownIsolated, codes_of, core_of}
-use Rattle.qs_core.specs.declared.actor.Actor.{Actor}
 use Rattle.qs_core.proofs.CoreReaching.{core_plays_more}
-use Rattle.qs_core.proofs.Lists.{range_more}
 
 -- one actor more
 pub played_more : (p : ProgramShape) (mode : Mode) (size : ℕ) (actors : List Actor) (old new : CoreState) (a : Actor) (b : Bool) → IsPlayedOn p mode size actors old → OnTrue b (CoreSteps old a new)
@@ -82,7 +81,3 @@ schedule_isolated p mode size picks rounds s played on is isolated = (
   subst (λ x. IsIsolated p played (on_way x)) on.played
       (subst (λ r. IsIsolated p r (on_way (core_of s))) (sym is) (subst (λ q. IsIsolated q (core_played s.program (core_of s)) (on_way (core_of s))) on.program isolated)),
 )
-
-pub if_shown : {E : Type 0} (P : Played → Type 0) (result : Result Played E) (shown : Played) → IfOk result (λ played. played ≡ shown) → ((played : Played) → played ≡ shown → P played) → IfOk result P
-if_shown P (Ok played) shown is holds = holds played is
-if_shown P (Err e) shown is holds = tt

@@ -1,18 +1,17 @@
 -- What a list of actors leads to in the optimised machine, and where one more step leads.
 use Rattle.std.proofs.Common.{◌≡◌, ℕ, Bool, true, false, List, [], ◌∷◌, ◌++◌, Some, refl, ap, sym, subst, ◌∙◌}
 use Rattle.std.specs.Bool.{OnTrue}
-use Rattle.qs_check.specs.Program.{ProgramShape}
 use Rattle.qs_check.specs.Sound.{IsSound}
 use Rattle.qs_syncset.specs.declared.mode.Mode.{Mode}
 use Rattle.qs_syncset.specs.Codes.{ClientCode}
-use Rattle.qs_core.specs.Core.{AreCodes, Core, core_begin, core_step}
-use Rattle.qs_core.specs.CoreReached.{ReachedCore}
-use Rattle.qs_core.specs.CoreSchedule.{core_or_stay, core_played, core_plays, on_way}
+use Rattle.qs_played.specs.Isolation.{IsIsolated}
+use Rattle.qs_played.specs.declared.actor.Actor.{Actor}
+use Rattle.qs_core_laws.specs.Core.{AreCodes, Core, core_begin, core_step}
+use Rattle.qs_core_laws.specs.CoreReached.{ReachedCore}
+use Rattle.qs_core_laws.specs.CoreSchedule.{core_or_stay, core_played, core_plays, on_way}
+use Rattle.qs_core_laws.proofs.CoreIsolating.{core_isolated}
+use Rattle.qs_core_laws.proofs.CoreReached.{reached_keeps}
 use Rattle.qs_core.specs.CoreState.{CoreIsIsolated, CoreKeeps, CoreState, CoreSteps, GoesOn, IsCoreState, IsReachedCore, codes_of, core_of}
-use Rattle.qs_core.specs.Isolation.{IsIsolated}
-use Rattle.qs_core.specs.declared.actor.Actor.{Actor}
-use Rattle.qs_core.proofs.CoreIsolating.{core_isolated}
-use Rattle.qs_core.proofs.CoreReached.{reached_keeps}
 
 pub core_plays_more : (code : ℕ → ClientCode) (size : ℕ) (actors : List Actor) (a : Actor) (s : Core)
     → core_plays code size (actors ++ a ∷ []) s ≡ core_or_stay (core_plays code size actors s) (core_step code size (core_plays code size actors s) a)

@@ -2,20 +2,20 @@
 use Rattle.std.proofs.Common.{◌≡◌, ◌<◌, ℕ, zero, suc, ◌+◌, Bool, ◌&&◌, [], ◌∷◌, length, map, get_or, sum_by, nat_eq, Some, IsSome, refl, ap, sym, subst, ◌∙◌, arith}
 use Rattle.std.specs.List.{range_with_len}
 use Rattle.qs_objects.specs.Journals.{HeldState}
-use Rattle.qs_check.specs.Sound.{IsSound}
-use Rattle.qs_client.specs.Mind.{is_between}
-use Rattle.qs_chunk.specs.Batch.{Batch}
 use Rattle.qs_objects.specs.declared.Request.{Request}
-use Rattle.qs_handler.specs.Handler.{Handler, free, serves, spares, gives, away, closed, act_of}
+use Rattle.qs_check.specs.Sound.{IsSound}
+use Rattle.qs_chunk.specs.Batch.{Batch}
+use Rattle.qs_handler.specs.Handler.{Handler, free, serves, spares, gives, away, closed, act_of, is_free}
 use Rattle.qs_handler.specs.declared.mind.Act.{Act}
 use Rattle.qs_handler.specs.declared.mind.Act.TheVariants as acts
-use Rattle.qs_core.specs.Core.{fresh_held}
-use Rattle.qs_core.specs.CoreReached.{IsBegun, ReachedCore}
-use Rattle.qs_core.specs.CoreSchedule.{all_of, core_played, found_by, held_now, held_or_none, is_done, is_finished, is_free, is_idle}
-use Rattle.qs_core.specs.CoreShown.{AreBegunBy, AreShowable, AreSomewhere, HaveLanes, TurnTo, are_clear, core_in, held_at, is_clear, is_through, is_waiting, object_at, shown_by}
+use Rattle.qs_client.specs.Mind.{is_between}
+use Rattle.qs_core_laws.specs.Core.{fresh_held}
+use Rattle.qs_core_laws.specs.CoreReached.{IsBegun, ReachedCore}
+use Rattle.qs_core_laws.specs.CoreSchedule.{all_of, core_played, found_by, held_now, held_or_none, is_done, is_finished, is_idle}
+use Rattle.qs_core_parts.specs.CoreHandlers.{is_waiting, CoreHandlerState, handler_of, no_seat, seat_at, turns_to}
+use Rattle.qs_core_parts.specs.LaneStates.{lane_at}
+use Rattle.qs_core.specs.CoreShown.{AreBegunBy, AreShowable, AreSomewhere, HaveLanes, TurnTo, are_clear, core_in, held_at, is_clear, is_through, object_at, shown_by}
 use Rattle.qs_core.specs.CoreState.{CoreKeeps, CoreState, IsCoreState, core_of, handler_at, side_at, tickets_at}
-use Rattle.qs_core.specs.HandlerSeats.{HandlerSeatState, handler_of, no_seat, seat_at, turns_to}
-use Rattle.qs_core.specs.LaneStates.{lane_at}
 use Rattle.qs_core.proofs.CoreLists.{all_here, map_here}
 
 -- two readings of each number of a range that agree
@@ -41,7 +41,7 @@ module _ (s : CoreState) (h : ℕ) (inside : h < length s.handlers) where
   handler_is = map_here handler_of s.handlers h no_seat (free (fresh_held s.program h)) inside
 
   tickets_are : tickets_at s.handlers h ≡ (seat_at s.handlers h).tickets
-  tickets_are = map_here (λ (x : HandlerSeatState). x.tickets) s.handlers h no_seat [] inside
+  tickets_are = map_here (λ (x : CoreHandlerState). x.tickets) s.handlers h no_seat [] inside
 
   found_same : (x : Handler) → found_by (core_of s) h x ≡ found_by (core_in s.clients s.handlers) h x
   unfolding core_of

@@ -1,22 +1,22 @@
 -- A client's reservation is a step of the machine.
-use Rattle.std.proofs.Common.{◌≡◌, ◌<◌, ℕ, zero, suc, Bool, false, ◌==◌, arith, if◌then◌else◌, List, [], ◌∷◌, ◌++◌, length, get_or, refl, sym, ap, ◌∙◌, Some, None}
+use Rattle.std.proofs.Common.{◌≡◌, ◌<◌, ℕ, zero, suc, false, ◌==◌, arith, if◌then◌else◌, List, [], ◌∷◌, ◌++◌, length, get_or, refl, sym, ap, ◌∙◌, Some}
 use Rattle.std.proofs.Math.Path.{fun_ext}
 use Rattle.qs_objects.specs.declared.held.Event.{Event}
 use Rattle.qs_objects.specs.declared.held.Ticket.{Ticket}
-use Rattle.qs_check.specs.Solo.{put}
+use Rattle.qs_meaning.specs.Solo.{put}
 use Rattle.qs_check.specs.Values.{Locals}
-use Rattle.qs_client.specs.Client.{Settled, between, booked}
-use Rattle.qs_client.specs.Mind.{Mind, asked_of, booked_with, extended, settings_of, tree_at}
-use Rattle.qs_client.specs.declared.act.Act.TheVariants as acts
-use Rattle.qs_client.proofs.Hold.{put_same, put_set_at}
-use Rattle.qs_handler.specs.Handler.{Handler}
 use Rattle.qs_syncset.specs.Codes.{ClientCode, code_at}
-use Rattle.qs_core.specs.Core.{Core, core_step, may, reserves_from}
+use Rattle.qs_handler.specs.Handler.{Handler}
+use Rattle.qs_client_run.specs.Client.{Settled, between, booked}
+use Rattle.qs_client.specs.Mind.{Mind, asked_of, booked_with, settings_of, tree_at}
+use Rattle.qs_client_run.proofs.Hold.{put_set_at}
+use Rattle.qs_client_run.specs.declared.act.Act.TheVariants as acts
+use Rattle.qs_played.specs.Played.{ticket}
+use Rattle.qs_played.specs.declared.actor.Actor.TheVariants as actor
+use Rattle.qs_core_laws.specs.Core.{core_step, may, reserves_from}
+use Rattle.qs_core_parts.specs.LaneStates.{LaneState}
 use Rattle.qs_core.specs.CoreState.{Side, core_from}
-use Rattle.qs_core.specs.LaneStates.{LaneState}
-use Rattle.qs_core.specs.Plain.{ticket}
-use Rattle.qs_core.specs.declared.actor.Actor.TheVariants as actor
-use Rattle.qs_core.proofs.CoreClients.{entries_in, traces_in}
+use Rattle.qs_core.proofs.ClientFields.{entries_in, traces_in}
 use Rattle.qs_core.proofs.CoreFields.{field_put, field_kept, lanes_stay, tickets_put}
 
 -- a list with one more at its end

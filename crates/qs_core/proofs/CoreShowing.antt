@@ -1,20 +1,21 @@
 -- What is read off the lists of the optimised machine.
 use Rattle.std.proofs.Common.{◌≡◌, ◌<◌, ◌≤◌, ℕ, ◌+◌, Bool, true, false, ◌&&◌, List, [], ◌∷◌, ◌++◌, length, Some, None, refl, ap, sym, ◌∙◌, arith, add-one, zero-add}
 use Rattle.std.specs.List.{range_with_len}
-use Rattle.qs_graph.specs.Steps.{limit}
-use Rattle.qs_client.proofs.Codes.{few_blocks}
-use Rattle.qs_client.specs.MindState.{IsMind, mind_of}
 use Rattle.qs_objects.specs.Journals.{HeldState}
+use Rattle.qs_graph.specs.Steps.{limit}
+use Rattle.qs_chunk.specs.LaneParts.{away_at}
 use Rattle.qs_handler.specs.Handler.{Handler, free, serves, spares, gives, away, closed, act_of, held_of}
-use Rattle.qs_core.specs.ClientSeats.{ClientSeatState, IsClientSeat, whole_of}
-use Rattle.qs_core.specs.Core.{Core}
-use Rattle.qs_core.specs.CoreSchedule.{all_of, away_at, found_by}
+use Rattle.qs_client_run.proofs.Codes.{few_blocks}
+use Rattle.qs_client.specs.MindState.{IsMind, mind_of}
+use Rattle.qs_played.proofs.Lists.{range_more}
+use Rattle.qs_core_laws.specs.Core.{Core}
+use Rattle.qs_core_laws.specs.CoreSchedule.{all_of, found_by}
+use Rattle.qs_core_parts.specs.CoreClients.{CoreClientState, IsCoreClient, whole_of}
+use Rattle.qs_core_parts.specs.CoreHandlers.{CoreHandlerState, IsCoreHandler, handler_of, seat_at, turns_to}
+use Rattle.qs_core_parts.specs.LaneStates.{lane_at}
+use Rattle.qs_core_parts.proofs.CoreMinds.{whole_mind}
 use Rattle.qs_core.specs.CoreShown.{TurnsTo, core_in, object_at}
 use Rattle.qs_core.specs.CoreState.{side_at}
-use Rattle.qs_core.specs.HandlerSeats.{HandlerSeatState, IsHandlerSeat, handler_of, seat_at, turns_to}
-use Rattle.qs_core.specs.LaneStates.{lane_at}
-use Rattle.qs_core.proofs.CoreMinds.{whole_mind}
-use Rattle.qs_core.proofs.Lists.{range_more}
 
 and_true : (b : Bool) → (b && true) ≡ b
 and_true true = refl
@@ -36,7 +37,7 @@ all_more is n =
     ∙ all_push is (range_with_len 0 n) n
 
 -- at most 64 blocks, and in each at most as many Syncs as a walk has nodes
-pub few_syncs : (s : ClientSeatState) → IsClientSeat s → IsMind (mind_of s.mind) → (whole_of s).syncs ≤ 192000128
+pub few_syncs : (s : CoreClientState) → IsCoreClient s → IsMind (mind_of s.mind) → (whole_of s).syncs ≤ 192000128
 unfolding limit
 few_syncs s kept ok =
     let m = whole_mind s kept ok in
@@ -71,22 +72,22 @@ never_lost (away t) e turned = cc
 never_lost (closed x) e turned = cc
 
 -- where a handler's object is, by its seat
-module _ (cs : List ClientSeatState) (hs : List HandlerSeatState) (h : ℕ) (s : HandlerSeatState) (is : s ≡ seat_at hs h) where
+module _ (cs : List CoreClientState) (hs : List CoreHandlerState) (h : ℕ) (s : CoreHandlerState) (is : s ≡ seat_at hs h) where
   pub object_here : (x : HeldState) → Some x ≡ held_of (handler_of s) → Some x ≡ object_at cs hs h
   unfolding object_at
-  object_here x e = sym (found_here (core_in cs hs) h (handler_of (seat_at hs h)) x (ap (λ (z : HandlerSeatState). held_of (handler_of z)) (sym is) ∙ sym e))
+  object_here x e = sym (found_here (core_in cs hs) h (handler_of (seat_at hs h)) x (ap (λ (z : CoreHandlerState). held_of (handler_of z)) (sym is) ∙ sym e))
 
-  pub object_away : IsHandlerSeat s → None ≡ held_of (handler_of s) → (c : ℕ) → Some c ≡ turns_to s.act
+  pub object_away : IsCoreHandler s → None ≡ held_of (handler_of s) → (c : ℕ) → Some c ≡ turns_to s.act
       → object_at cs hs h ≡ away_at (lane_at (side_at cs c).lanes h).up (lane_at (side_at cs c).lanes h).down ((side_at cs c).mind.client.held h)
   unfolding object_at
   object_away kept e c turned =
       found_away (core_in cs hs) h (handler_of (seat_at hs h)) c
-      (ap (λ (z : HandlerSeatState). held_of (handler_of z)) (sym is) ∙ sym e)
-      (ap (λ (z : HandlerSeatState). turns_to (act_of (handler_of z))) (sym is) ∙ ap turns_to (sym kept.act) ∙ sym turned)
+      (ap (λ (z : CoreHandlerState). held_of (handler_of z)) (sym is) ∙ sym e)
+      (ap (λ (z : CoreHandlerState). turns_to (act_of (handler_of z))) (sym is) ∙ ap turns_to (sym kept.act) ∙ sym turned)
 
   -- the client to which it turns
-  pub turned_inside : IsHandlerSeat s → TurnsTo cs (seat_at hs h) → (c : ℕ) → Some c ≡ turns_to s.act → c < length cs
-  turned_inside kept turns c e = turns c (ap (λ (z : HandlerSeatState). turns_to (act_of (handler_of z))) (sym is) ∙ ap turns_to (sym kept.act) ∙ sym e)
+  pub turned_inside : IsCoreHandler s → TurnsTo cs (seat_at hs h) → (c : ℕ) → Some c ≡ turns_to s.act → c < length cs
+  turned_inside kept turns c e = turns c (ap (λ (z : CoreHandlerState). turns_to (act_of (handler_of z))) (sym is) ∙ ap turns_to (sym kept.act) ∙ sym e)
 
-  pub object_never_lost : IsHandlerSeat s → None ≡ held_of (handler_of s) → None ≡ turns_to s.act → ⊥
+  pub object_never_lost : IsCoreHandler s → None ≡ held_of (handler_of s) → None ≡ turns_to s.act → ⊥
   object_never_lost kept e turned = never_lost (handler_of s) (sym e) (ap turns_to (sym kept.act) ∙ sym turned)

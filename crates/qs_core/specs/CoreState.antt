@@ -1,52 +1,53 @@
 -- The code of the optimised machine: what it holds, which state of the machine that is, and what it keeps.
-use Rattle.std.specs.Prelude.{◌≡◌, ◌<◌, ◌≤◌, ℕ, Bool, false, List, [], length, map, replicate, slice_index_or, sum_by, Some, refl}
+use Rattle.std.specs.Prelude.{◌≡◌, ◌<◌, ◌≤◌, ℕ, false, List, [], length, map, replicate, slice_index_or, sum_by, Some, refl}
 use Rattle.std.specs.Coded.{Coded, codes, code_by, coded×, coded_list, coded_ℕ}
 use Rattle.std.specs.List.{AllByRecursion, range_with_len}
-use Rattle.qs_check.specs.Shapes.{program_code}
-use Rattle.qs_core.specs.Rules.{ticket_code}
 use Rattle.qs_objects.specs.declared.held.Ticket.{Ticket}
+use Rattle.qs_check.specs.Shapes.{program_code}
 use Rattle.qs_check.specs.Program.{ProgramShape, blocks_of}
-use Rattle.qs_handler.specs.Handler.{Handler, free}
 use Rattle.qs_syncset.specs.declared.mode.Mode.{Mode}
 use Rattle.qs_syncset.specs.Codes.{ClientCode, IsCodeOf}
+use Rattle.qs_handler.specs.Handler.{Handler, free}
 use Rattle.qs_client.specs.Mind.{Mind, fresh_mind}
-use Rattle.qs_core.specs.ClientSeats.{AreStocked, ClientSeatState, whole_of}
-use Rattle.qs_core.specs.Core.{AreCodes, Core, core_begin, core_step, fresh_held}
-use Rattle.qs_core.specs.CoreReached.{ReachedCore}
-use Rattle.qs_core.specs.CoreSchedule.{core_played, core_plays, core_scheduled, on_way}
-use Rattle.qs_core.specs.HandlerSeats.{HandlerSeatState, handler_of, handler_seat}
-use Rattle.qs_core.specs.Isolation.{IsIsolated}
-use Rattle.qs_core.specs.LaneStates.{LaneState, fresh_lane, lane_at}
-use Rattle.qs_core.specs.declared.actor.Actor.{Actor}
-use Rattle.qs_core.specs.declared.played.Played.{Played}
+use Rattle.qs_played.specs.Isolation.{IsIsolated}
+use Rattle.qs_played.specs.declared.actor.Actor.{Actor}
+use Rattle.qs_played.specs.declared.played.Played.{Played}
+use Rattle.qs_played.specs.SyncSums.{AreSyncsCounted}
+use Rattle.qs_plain.specs.Rules.{ticket_code}
+use Rattle.qs_core_laws.specs.Core.{AreCodes, Core, core_begin, core_step, fresh_held}
+use Rattle.qs_core_laws.specs.CoreReached.{ReachedCore}
+use Rattle.qs_core_laws.specs.CoreSchedule.{core_played, core_plays, core_scheduled, on_way}
+use Rattle.qs_core_parts.specs.CoreClients.{AreStocked, CoreClientState, whole_of}
+use Rattle.qs_core_parts.specs.CoreHandlers.{CoreHandlerState, handler_of, handler_seat}
+use Rattle.qs_core_parts.specs.LaneStates.{LaneState, fresh_lane, lane_at}
 
 pub record CoreState : Type 0 where
   pub program : ProgramShape
   pub size : ℕ
   pub order : List Ticket
-  pub clients : List ClientSeatState
-  pub handlers : List HandlerSeatState
+  pub clients : List CoreClientState
+  pub handlers : List CoreHandlerState
 
 -- a client's mind with what its act carries, and its lanes
 pub record Side : Type 0 where
   pub mind : Mind
   pub lanes : List LaneState
 
-abbrev pub side_of : ClientSeatState → Side
+abbrev pub side_of : CoreClientState → Side
 side_of s = record { mind = whole_of s; lanes = s.lanes }
 
 -- no client: it has no block
 abbrev pub no_side : Side
 no_side = record { mind = fresh_mind (record { dynamic = false; blocks = [] }) 0; lanes = [] }
 
-abbrev pub side_at : List ClientSeatState → ℕ → Side
+abbrev pub side_at : List CoreClientState → ℕ → Side
 side_at cs c = slice_index_or (map side_of cs) c no_side
 
-abbrev pub handler_at : ProgramShape → List HandlerSeatState → ℕ → Handler
+abbrev pub handler_at : ProgramShape → List CoreHandlerState → ℕ → Handler
 handler_at p hs h = slice_index_or (map handler_of hs) h (free (fresh_held p h))
 
-abbrev pub tickets_at : List HandlerSeatState → ℕ → List Ticket
-tickets_at hs h = slice_index_or (map (λ (s : HandlerSeatState). s.tickets) hs) h []
+abbrev pub tickets_at : List CoreHandlerState → ℕ → List Ticket
+tickets_at hs h = slice_index_or (map (λ (s : CoreHandlerState). s.tickets) hs) h []
 
 -- the machine of these clients and handlers
 abbrev pub core_from : List Ticket → (ℕ → Side) → (ℕ → Handler) → (ℕ → List Ticket) → Core
@@ -93,25 +94,25 @@ pub record IsCoreState (s : CoreState) : Type 0 where
   pub handlers : length s.handlers ≡ length s.program.objects
   pub sides : (c : ℕ) → c < length s.clients → IsSide s.program s.size c (side_at s.clients c)
   pub stocked : AllByRecursion AreStocked s.clients
-  pub rooms : AllByRecursion (λ (h : HandlerSeatState). all_blocks s.program ≤ h.room) s.handlers
+  pub rooms : AllByRecursion (λ (h : CoreHandlerState). all_blocks s.program ≤ h.room) s.handlers
   pub mode : Mode
   pub codes : AreCodes s.program mode (codes_of s)
 
 -- a client before its first block, that runs its code with lanes to all handlers
-pub record IsFreshClient (p : ProgramShape) (mode : Mode) (chunk c : ℕ) (s : ClientSeatState) : Type 0 where
+pub record IsFreshClient (p : ProgramShape) (mode : Mode) (chunk c : ℕ) (s : CoreClientState) : Type 0 where
   pub code : ClientCode
   pub of : IsCodeOf p mode c code
   pub mind : whole_of s ≡ fresh_mind code chunk
   pub lanes : s.lanes ≡ replicate (length p.objects) (fresh_lane chunk)
 
-pub record AreFreshClients (p : ProgramShape) (mode : Mode) (chunk : ℕ) (cs : List ClientSeatState) : Type 0 where
+pub record AreFreshClients (p : ProgramShape) (mode : Mode) (chunk : ℕ) (cs : List CoreClientState) : Type 0 where
   pub many : length cs ≡ length p.clients
-  pub each : (c : ℕ) (d : ClientSeatState) → c < length p.clients → IsFreshClient p mode chunk c (slice_index_or cs c d)
+  pub each : (c : ℕ) (d : CoreClientState) → c < length p.clients → IsFreshClient p mode chunk c (slice_index_or cs c d)
 
 -- handlers that are free, each with its object as declared and room for so many tickets
-pub record AreFreshHandlers (p : ProgramShape) (room : ℕ) (hs : List HandlerSeatState) : Type 0 where
+pub record AreFreshHandlers (p : ProgramShape) (room : ℕ) (hs : List CoreHandlerState) : Type 0 where
   pub many : length hs ≡ length p.objects
-  pub each : (h : ℕ) (d : HandlerSeatState) → h < length p.objects → slice_index_or hs h d ≡ handler_seat (free (fresh_held p h)) [] room
+  pub each : (h : ℕ) (d : CoreHandlerState) → h < length p.objects → slice_index_or hs h d ≡ handler_seat (free (fresh_held p h)) [] room
 
 -- the machine of a program before its first step, with its clients' codes in this mode
 pub record IsFreshCore (p : ProgramShape) (mode : Mode) (chunk : ℕ) (s : CoreState) : Type 0 where
@@ -143,15 +144,15 @@ GoesOn s = (a : Actor) (x : Core) → core_step (codes_of s) s.size (core_of s) 
 abbrev pub CoreIsIsolated : CoreState → Type 0
 CoreIsIsolated s = IsIsolated s.program (core_played s.program (core_of s)) (on_way (core_of s))
 
-pub client_code : Coded ClientSeatState
+pub client_code : Coded CoreClientState
 client_code = hlevel codes
 
-pub handler_code : Coded HandlerSeatState
+pub handler_code : Coded CoreHandlerState
 handler_code = hlevel codes
 
 abbrev pub core_code : Coded CoreState
 core_code =
-    code_by (ProgramShape × (ℕ × (List Ticket × (List ClientSeatState × List HandlerSeatState))))
+    code_by (ProgramShape × (ℕ × (List Ticket × (List CoreClientState × List CoreHandlerState))))
     (coded× program_code (coded× coded_ℕ (coded× (coded_list ticket_code) (coded× (coded_list client_code) (coded_list handler_code)))))
     (λ s. (s.program, (s.size, (s.order, (s.clients, s.handlers)))))
     (λ p. record { program = p.0; size = p.1.0; order = p.1.1.0; clients = p.1.1.1.0; handlers = p.1.1.1.1 })
@@ -161,3 +162,7 @@ core_code =
 unfoldable pub IsShownIsolated : ProgramShape → Mode → ℕ → List Actor → ℕ → Played → Type 0
 IsShownIsolated p mode chunk picks rounds played =
     (code : ℕ → ClientCode) × AreCodes p mode code × (played ≡ core_played p (core_scheduled p code chunk picks rounds)) × IsIsolated p played (on_way (core_scheduled p code chunk picks rounds))
+
+-- what the optimised machine has shown is counted, in each mode whose codes it runs
+abbrev pub CoreIsCounted : CoreState → Type 0
+CoreIsCounted s = (mode : Mode) → AreCodes s.program mode (codes_of s) → AreSyncsCounted s.program mode (core_played s.program (core_of s))

@@ -2,23 +2,20 @@
 
 ghost use Rattle.std.specs.Prelude.{◌≡◌, ◌<◌, None, Some, false, length, slice_index_or, vec_len, IfOk};
 ghost use Rattle.std.specs.Bool.{OnTrue};
-ghost use Rattle.qs_core.specs.Core.{core_step};
-ghost use Rattle.qs_core.specs.CoreSchedule.{core_played};
+ghost use Rattle.qs_core_laws.specs.Core.{core_step};
+ghost use Rattle.qs_core_laws.specs.CoreSchedule.{core_played};
 ghost use Rattle.qs_core.specs.CoreState.{AreFreshClients, AreFreshHandlers, CoreKeeps, CoreSteps, GoesOn, IsCoreState, IsFreshClient, IsFreshCore, core_of, codes_of};
-ghost use Rattle.qs_core.specs.ClientSeats.{ClientSeatState};
-ghost use Rattle.qs_core.specs.HandlerSeats.{CanEnterAll, HandlerSeatState, entered_all, entered_at, seat_at, turns_to};
-ghost use Rattle.qs_client.specs.declared.act.Act.TheVariants as wants;
-ghost use Rattle.qs_core.specs.declared.actor.Actor.TheVariants as actors;
+ghost use Rattle.qs_core_parts.specs.CoreClients.{CoreClientState};
+ghost use Rattle.qs_core_parts.specs.CoreHandlers.{CanEnterAll, CoreHandlerState, entered_all, entered_at, seat_at, turns_to};
+ghost use Rattle.qs_client_run.specs.declared.act.Act.TheVariants as wants;
+ghost use Rattle.qs_played.specs.declared.actor.Actor.TheVariants as actors;
 
-use crate::actor::Actor;
-use crate::client_seat::ClientSeat;
 use crate::core_showing;
-use crate::hall::declared_held;
-use crate::handler_seat::HandlerSeat;
-use crate::played::Played;
 use qs_check::Program;
 use qs_chunk::ChunkSize;
+use qs_core_parts::{CoreClient, CoreHandler};
 use qs_objects::Ticket;
+use qs_played::{Actor, Played, declared_held};
 use qs_syncset::{Mode, compile};
 use std::alloc::{AllocError, Global};
 use std::marker::Model;
@@ -30,8 +27,8 @@ pub(crate) struct CoreMachine<'p> {
     program: &'p Program,
     size: ChunkSize,
     order: Vec<Ticket>,
-    clients: Vec<ClientSeat>,
-    handlers: Vec<HandlerSeat>,
+    clients: Vec<CoreClient>,
+    handlers: Vec<CoreHandler>,
 }
 
 impl<'p> Model for CoreMachine<'p> {
@@ -50,7 +47,7 @@ impl<'p> Model for CoreMachine<'p> {
 }
 
 // A ticket comes to each handler of a list.
-fn enter_all(handlers: &mut Vec<HandlerSeat>, objects: &[u8], ticket: Ticket)
+fn enter_all(handlers: &mut Vec<CoreHandler>, objects: &[u8], ticket: Ticket)
     requires { CanEnterAll ticket handlers.old.items objects.now }
     ensures entered { handlers.new.items ≡ entered_all ticket handlers.old.items objects.now }
 {
@@ -59,7 +56,7 @@ fn enter_all(handlers: &mut Vec<HandlerSeat>, objects: &[u8], ticket: Ticket)
     }
 }
 
-fn enter_at(handlers: &mut Vec<HandlerSeat>, object: u8, ticket: Ticket)
+fn enter_at(handlers: &mut Vec<CoreHandler>, object: u8, ticket: Ticket)
     requires object { object < length handlers.old.items }
     requires room { length (seat_at handlers.old.items object).tickets < (seat_at handlers.old.items object).room }
     ensures entered { handlers.new.items ≡ entered_at ticket handlers.old.items object }
@@ -75,7 +72,7 @@ fn fresh_clients(
     program: &Program,
     mode: Mode,
     size: ChunkSize,
-) -> Result<Vec<ClientSeat>, AllocError>
+) -> Result<Vec<CoreClient>, AllocError>
     ensures fresh { IfOk result (λ clients. AreFreshClients program.now mode size clients.items) }
 {
     program.is_sound();
@@ -92,12 +89,12 @@ fn fresh_client(
     mode: Mode,
     size: ChunkSize,
     number: u8,
-) -> Result<ClientSeat, AllocError>
+) -> Result<CoreClient, AllocError>
     requires { number < length program.now.clients }
     ensures fresh { IfOk result (λ client. IsFreshClient program.now mode size number client) }
 {
     let code = compile(alloc, program, mode, number)?;
-    ClientSeat::new(alloc, code, size, program.objects())
+    CoreClient::new(alloc, code, size, program.objects())
 }
 
 // The handlers of a program, each with its object as declared and room for so many tickets.
@@ -105,20 +102,20 @@ fn fresh_handlers(
     alloc: Global,
     program: &Program,
     room: usize,
-) -> Result<Vec<HandlerSeat>, AllocError>
+) -> Result<Vec<CoreHandler>, AllocError>
     ensures fresh { IfOk result (λ handlers. AreFreshHandlers program.now room handlers.items) }
 {
     program.is_sound();
     let mut handlers = Vec::new(alloc);
     for object in 0..program.objects() as u8 {
         let held = declared_held(alloc, program, object)?;
-        handlers.push(HandlerSeat::new(alloc, held, room)?)?;
+        handlers.push(CoreHandler::new(alloc, held, room)?)?;
     }
     Ok(handlers)
 }
 
 impl<'p> CoreMachine<'p> {
-    /// A program before its first step. It takes all the memory that the run will need, by the loads; a refused growth leaves nothing.
+    /// A program before its first step. It takes all the memory that the run will need, by the loads; an allocation that fails leaves nothing.
     pub(crate) fn new(
         alloc: Global,
         program: &'p Program,
@@ -191,7 +188,7 @@ impl<'p> CoreMachine<'p> {
     // A client reserves the objects of its next block.
     fn reserve(&mut self, number: u8)
         requires number { number < length self.old.clients }
-        requires asked { (d : ClientSeatState) → (slice_index_or self.old.clients number d).act ≡ wants.Reserve }
+        requires asked { (d : CoreClientState) → (slice_index_or self.old.clients number d).act ≡ wants.Reserve }
         requires keeps { CoreKeeps self.old }
         requires on { GoesOn self.old }
         ensures steps { CoreSteps self.old (actors.Client number) self.new }
@@ -213,7 +210,7 @@ impl<'p> CoreMachine<'p> {
     // A client goes on at a lane.
     fn go_on(&mut self, number: u8) -> bool
         requires number { number < length self.old.clients }
-        requires other { (d : ClientSeatState) → (slice_index_or self.old.clients number d).act ≡ wants.Reserve → ⊥ }
+        requires other { (d : CoreClientState) → (slice_index_or self.old.clients number d).act ≡ wants.Reserve → ⊥ }
         requires keeps { CoreKeeps self.old }
         ensures steps { OnTrue result (CoreSteps self.old (actors.Client number) self.new) }
         ensures none { result ≡ false → core_step (codes_of self.old) self.old.size (core_of self.old) (actors.Client number) ≡ None }
@@ -240,7 +237,7 @@ impl<'p> CoreMachine<'p> {
     // A handler takes the next ticket of its queue.
     fn take_ticket(&mut self, number: u8) -> bool
         requires number { number < length self.old.handlers }
-        requires asked { (d : HandlerSeatState) → turns_to (slice_index_or self.old.handlers number d).act ≡ None }
+        requires asked { (d : CoreHandlerState) → turns_to (slice_index_or self.old.handlers number d).act ≡ None }
         requires keeps { CoreKeeps self.old }
         ensures steps { OnTrue result (CoreSteps self.old (actors.Handler number) self.new) }
         ensures none { result ≡ false → core_step (codes_of self.old) self.old.size (core_of self.old) (actors.Handler number) ≡ None }
@@ -254,7 +251,7 @@ impl<'p> CoreMachine<'p> {
     // A handler does what it does next at the lane of its client.
     fn meet(&mut self, number: u8, client: u8) -> bool
         requires number { number < length self.old.handlers }
-        requires asked { (d : HandlerSeatState) → turns_to (slice_index_or self.old.handlers number d).act ≡ Some client }
+        requires asked { (d : CoreHandlerState) → turns_to (slice_index_or self.old.handlers number d).act ≡ Some client }
         requires keeps { CoreKeeps self.old }
         ensures steps { OnTrue result (CoreSteps self.old (actors.Handler number) self.new) }
         ensures none { result ≡ false → core_step (codes_of self.old) self.old.size (core_of self.old) (actors.Handler number) ≡ None }

@@ -1,24 +1,21 @@
 //! Schedules of the optimised machine.
 
 ghost use Rattle.std.specs.Prelude.{IfOk};
-ghost use Rattle.qs_core.specs.CoreSchedule.{IsPlayedIn, IsShown};
+ghost use Rattle.qs_core_laws.specs.CoreSchedule.{IsPlayedIn, IsShown};
 ghost use Rattle.qs_core.specs.CoreState.{IsShownIsolated};
-ghost use Rattle.qs_core.specs.SyncSums.{AreSyncsCounted};
+ghost use Rattle.qs_played.specs.SyncSums.{AreSyncsCounted};
 
-use crate::actor::Actor;
-use crate::fault::PlayFault;
 use crate::optimised::Core;
-use crate::played::Played;
-use crate::schedules::are_named;
 use qs_check::Program;
 use qs_chunk::ChunkSize;
+use qs_played::{Actor, PlayFault, Played, are_named};
 use qs_syncset::Mode;
 use std::alloc::{AllocError, Global};
 
 /// What a program shows in the optimised machine after a schedule: first the picks, one step each, then so many rounds, each of them one
 /// step of every client and then of every handler in text order; an actor without a step changes nothing. The mode says how
 /// synchronisations with objects that are held are left out, and chunks have this size. `Rounds` comes for more than 1,000,000 rounds,
-/// `Actor` for a pick that names no actor of the program, both before any growth; `Memory` where one is refused. What is shown is
+/// `Actor` for a pick that names no actor of the program, both before any allocation; `Memory` where one fails. What is shown is
 /// isolated, as under the plain rules, and its Syncs are counted, reservation by reservation and object by object.
 pub fn play(
     alloc: Global,

@@ -3,21 +3,21 @@
 ghost use Rattle.std.specs.Prelude.{◌≡◌, ◌≤◌, ◌<◌, ◌&&◌, IfOk, length, map, sum_by, slice_index_or, [], IsSome, Some, option_copied};
 ghost use Rattle.std.specs.List.{range_with_len};
 ghost use Rattle.qs_objects.specs.declared.held.Ticket.{Ticket as TicketShape};
-ghost use Rattle.qs_core.specs.ClientSeats.{whole_of};
-ghost use Rattle.qs_core.specs.CoreSchedule.{has_ended};
-ghost use Rattle.qs_core.specs.CoreShown.{AreBegunBy, AreShowable, AreSomewhere, HaveLane, HaveLanes, IsBegunBy, TurnTo, TurnsTo, are_clear, are_through, are_waiting, held_at, is_waiting, object_at, shown_by};
+ghost use Rattle.qs_core_parts.specs.CoreClients.{whole_of};
+ghost use Rattle.qs_client.specs.Mind.{has_ended};
+ghost use Rattle.qs_core_parts.specs.CoreHandlers.{is_waiting};
+ghost use Rattle.qs_core.specs.CoreShown.{AreBegunBy, AreShowable, AreSomewhere, HaveLane, HaveLanes, IsBegunBy, TurnTo, TurnsTo, are_clear, are_through, are_waiting, held_at, object_at, shown_by};
 ghost use Rattle.qs_core.specs.CoreState.{side_at};
-ghost use Rattle.qs_core.specs.HandlerSeats.{IsHandlerSeat, seat_at};
+ghost use Rattle.qs_core_parts.specs.CoreHandlers.{IsCoreHandler, seat_at};
 
-use crate::client_seat::ClientSeat;
-use crate::handler_seat::HandlerSeat;
-use crate::played::{Played, Row, Traces};
 use qs_check::Locals;
+use qs_core_parts::{CoreClient, CoreHandler};
 use qs_objects::{Held, Journal, Object, Ticket};
+use qs_played::{Played, Row, Traces};
 use std::alloc::{AllocError, Global};
 
 // A client by its number.
-fn seat(clients: &[ClientSeat], number: usize) -> &ClientSeat
+fn seat(clients: &[CoreClient], number: usize) -> &CoreClient
     requires number { number < length clients.now }
     ensures mind { whole_of result.now ≡ (side_at clients.now number).mind }
     ensures lanes { result.now.lanes ≡ (side_at clients.now number).lanes }
@@ -26,7 +26,7 @@ fn seat(clients: &[ClientSeat], number: usize) -> &ClientSeat
 }
 
 // The client of a ticket, which has the block's variables at entry and its trace.
-fn seat_of<'a>(clients: &'a [ClientSeat], ticket: &Ticket) -> &'a ClientSeat
+fn seat_of<'a>(clients: &'a [CoreClient], ticket: &Ticket) -> &'a CoreClient
     requires begun { IsBegunBy clients.now ticket.now }
     ensures mind { whole_of result.now ≡ (side_at clients.now ticket.now.client).mind }
     ensures entries { ticket.now.index < length (whole_of result.now).entries }
@@ -40,7 +40,7 @@ fn seat_of<'a>(clients: &'a [ClientSeat], ticket: &Ticket) -> &'a ClientSeat
 /// For each ticket whether its block has ended.
 pub(crate) fn endings(
     alloc: Global,
-    clients: &[ClientSeat],
+    clients: &[CoreClient],
     order: &[Ticket],
 ) -> Result<Row<bool>, AllocError>
     requires begun { AreBegunBy clients.now order.now }
@@ -56,7 +56,7 @@ pub(crate) fn endings(
 /// For each ticket its client's variables at entry.
 pub(crate) fn entries(
     alloc: Global,
-    clients: &[ClientSeat],
+    clients: &[CoreClient],
     order: &[Ticket],
 ) -> Result<Row<Locals>, AllocError>
     requires begun { AreBegunBy clients.now order.now }
@@ -72,7 +72,7 @@ pub(crate) fn entries(
 /// For each ticket its block's trace.
 pub(crate) fn traces(
     alloc: Global,
-    clients: &[ClientSeat],
+    clients: &[CoreClient],
     order: &[Ticket],
 ) -> Result<Traces, AllocError>
     requires begun { AreBegunBy clients.now order.now }
@@ -86,7 +86,7 @@ pub(crate) fn traces(
 }
 
 // How many Syncs a client has sent: at most so many in each of its blocks.
-fn syncs_of(client: &ClientSeat) -> u64
+fn syncs_of(client: &CoreClient) -> u64
     ensures value { result ≡ (whole_of client.now).syncs }
     ensures few { result ≤ 192000128 }
 {
@@ -95,7 +95,7 @@ fn syncs_of(client: &ClientSeat) -> u64
 }
 
 /// How many Syncs the clients have sent.
-pub(crate) fn syncs(clients: &[ClientSeat]) -> u64
+pub(crate) fn syncs(clients: &[CoreClient]) -> u64
     requires few { length clients.now ≤ 8 }
     ensures value { result ≡ sum_by (λ c. (side_at clients.now c).mind.syncs) (range_with_len 0 (length clients.now)) }
 {
@@ -108,7 +108,7 @@ pub(crate) fn syncs(clients: &[ClientSeat]) -> u64
 
 /// Whether each client stands between two blocks with none to come.
 #[tactic(auto, using(crate::proofs::CoreShowing::all_more))]
-pub(crate) fn are_done(clients: &[ClientSeat]) -> bool
+pub(crate) fn are_done(clients: &[CoreClient]) -> bool
     ensures value { result ≡ are_through clients.now }
 {
     let mut done = true;
@@ -120,7 +120,7 @@ pub(crate) fn are_done(clients: &[ClientSeat]) -> bool
 
 // Whether nothing lies in any client's lane to this handler.
 #[tactic(auto, using(crate::proofs::CoreShowing::all_more))]
-fn is_clear_to(clients: &[ClientSeat], handler: usize) -> bool
+fn is_clear_to(clients: &[CoreClient], handler: usize) -> bool
     requires lanes { HaveLane clients.now handler }
     ensures value { result ≡ are_clear clients.now handler }
 {
@@ -132,7 +132,7 @@ fn is_clear_to(clients: &[ClientSeat], handler: usize) -> bool
 }
 
 // Whether a handler waits, and nothing lies in the lanes to it.
-fn is_idle(clients: &[ClientSeat], handlers: &[HandlerSeat], number: usize) -> bool
+fn is_idle(clients: &[CoreClient], handlers: &[CoreHandler], number: usize) -> bool
     requires number { number < length handlers.now }
     requires lanes { HaveLane clients.now number }
     ensures value { result ≡ (is_waiting (seat_at handlers.now number) && are_clear clients.now number) }
@@ -142,7 +142,7 @@ fn is_idle(clients: &[ClientSeat], handlers: &[HandlerSeat], number: usize) -> b
 
 /// Whether no handler serves anybody or has tickets, and nothing lies in the lanes to them.
 #[tactic(auto, using(crate::proofs::CoreShowing::all_more))]
-pub(crate) fn are_idle(clients: &[ClientSeat], handlers: &[HandlerSeat]) -> bool
+pub(crate) fn are_idle(clients: &[CoreClient], handlers: &[CoreHandler]) -> bool
     requires lanes { HaveLanes clients.now handlers.now }
     ensures value { result ≡ are_waiting clients.now handlers.now }
 {
@@ -154,7 +154,7 @@ pub(crate) fn are_idle(clients: &[ClientSeat], handlers: &[HandlerSeat]) -> bool
 }
 
 // Whether the run is finished.
-fn are_finished(clients: &[ClientSeat], handlers: &[HandlerSeat]) -> bool
+fn are_finished(clients: &[CoreClient], handlers: &[CoreHandler]) -> bool
     requires lanes { HaveLanes clients.now handlers.now }
     ensures value { result ≡ (are_through clients.now && are_waiting clients.now handlers.now) }
 {
@@ -162,10 +162,10 @@ fn are_finished(clients: &[ClientSeat], handlers: &[HandlerSeat]) -> bool
 }
 
 // A handler by its number.
-fn handler_at(handlers: &[HandlerSeat], number: u8) -> &HandlerSeat
+fn handler_at(handlers: &[CoreHandler], number: u8) -> &CoreHandler
     requires number { number < length handlers.now }
     ensures seat { result.now ≡ seat_at handlers.now number }
-    ensures kept { IsHandlerSeat result.now }
+    ensures kept { IsCoreHandler result.now }
 {
     let handler = &handlers[usize::from(number)];
     handler.is_seat();
@@ -174,8 +174,8 @@ fn handler_at(handlers: &[HandlerSeat], number: u8) -> &HandlerSeat
 
 // The object of a handler, wherever it is.
 fn object<'a>(
-    clients: &'a [ClientSeat],
-    handlers: &'a [HandlerSeat],
+    clients: &'a [CoreClient],
+    handlers: &'a [CoreHandler],
     number: u8,
 ) -> Option<&'a Held>
     requires number { number < length handlers.now }
@@ -197,8 +197,8 @@ fn object<'a>(
 // The object of a handler once more.
 fn copied(
     alloc: Global,
-    clients: &[ClientSeat],
-    handlers: &[HandlerSeat],
+    clients: &[CoreClient],
+    handlers: &[CoreHandler],
     number: u8,
 ) -> Result<Held, AllocError>
     requires number { number < length handlers.now }
@@ -217,8 +217,8 @@ fn copied(
 /// For each handler its object's journal and its object.
 pub(crate) fn parts(
     alloc: Global,
-    clients: &[ClientSeat],
-    handlers: &[HandlerSeat],
+    clients: &[CoreClient],
+    handlers: &[CoreHandler],
 ) -> Result<(Row<Journal>, Row<Object>), AllocError>
     requires few { length handlers.now ≤ 8 }
     requires lanes { HaveLanes clients.now handlers.now }
@@ -241,8 +241,8 @@ pub(crate) fn parts(
 pub(crate) fn shown(
     alloc: Global,
     order: &[Ticket],
-    clients: &[ClientSeat],
-    handlers: &[HandlerSeat],
+    clients: &[CoreClient],
+    handlers: &[CoreHandler],
 ) -> Result<Played, AllocError>
     requires showable { AreShowable order.now clients.now handlers.now }
     ensures shown { IfOk result (λ played. played ≡ shown_by order.now clients.now handlers.now) }

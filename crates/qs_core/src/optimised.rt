@@ -3,19 +3,18 @@
 ghost use Rattle.std.specs.Prelude.{◌≡◌, ◌++◌, ℕ, List, None, false, IfOk};
 ghost use Rattle.qs_check.specs.Program.{ProgramShape};
 ghost use Rattle.qs_syncset.specs.declared.mode.Mode.{Mode as ModeShape};
-ghost use Rattle.qs_core.specs.CoreSchedule.{core_played};
-ghost use Rattle.qs_core.specs.Schedule.{actors_of};
-ghost use Rattle.qs_core.specs.declared.actor.Actor.{Actor as ActorShape};
+ghost use Rattle.qs_core_laws.specs.CoreSchedule.{core_played};
+ghost use Rattle.qs_played.specs.Schedule.{actors_of};
+ghost use Rattle.qs_played.specs.declared.actor.Actor.{Actor as ActorShape};
 ghost use Rattle.std.specs.Bool.{OnTrue};
-ghost use Rattle.qs_core.specs.Core.{core_step};
-ghost use Rattle.qs_core.specs.SyncSums.{CoreIsCounted};
+ghost use Rattle.qs_core_laws.specs.Core.{core_step};
+ghost use Rattle.qs_core.specs.CoreState.{CoreIsCounted};
 ghost use Rattle.qs_core.specs.CoreState.{CoreIsIsolated, CoreSteps, IsFreshCore, IsPlayedOn, codes_of, core_of};
 
-use crate::actor::Actor;
 use crate::core_machine::CoreMachine;
-use crate::played::Played;
 use qs_check::Program;
 use qs_chunk::ChunkSize;
+use qs_played::{Actor, Played};
 use qs_syncset::Mode;
 use std::alloc::{AllocError, Global};
 use std::marker::Model;
@@ -41,7 +40,7 @@ impl<'p> Model for Core<'p> {
 
 impl<'p> Core<'p> {
     /// A program before its first step, in this mode and with chunks of this size. It takes all the memory that the run will need, by the
-    /// loads; a refused growth leaves nothing.
+    /// loads; an allocation that fails leaves nothing.
     pub fn new(
         alloc: Global,
         program: &'p Program,

@@ -3,8 +3,8 @@ use Rattle.std.proofs.Common.{◌≡◌, ℕ, zero, suc, ◌+◌, ◌<◌, ◌�
 use Rattle.std.specs.List.{AllByRecursion}
 use Rattle.qs_objects.specs.declared.held.Ticket.{Ticket}
 use Rattle.qs_check.specs.Program.{ClientShape, ProgramShape, no_client, blocks_of}
-use Rattle.qs_check.specs.Serial.{LegalFrom, IsLegal}
-use Rattle.qs_check.specs.Solo.{put}
+use Rattle.qs_meaning.specs.Serial.{LegalFrom, IsLegal}
+use Rattle.qs_meaning.specs.Solo.{put}
 use Rattle.qs_check.specs.Sound.{IsSound, IsSoundClient}
 use Rattle.qs_check.specs.declared.program.Declared.{Declared}
 use Rattle.qs_desk.specs.Tickets.{of_client}

@@ -4,7 +4,7 @@ use Rattle.qs_objects.specs.declared.held.Ticket as held
 use Rattle.qs_objects.specs.declared.held.Next.{Next}
 use Rattle.qs_objects.specs.declared.held.Next.TheVariants.{Ticket, Closed}
 use Rattle.qs_check.specs.Program.{ProgramShape}
-use Rattle.qs_check.specs.Following.{reserves}
+use Rattle.qs_meaning.specs.Following.{reserves}
 
 abbrev pub ticket : ℕ → ℕ → held.Ticket
 ticket client index = record { client = client; index = index }

@@ -1,7 +1,7 @@
 //! Which handlers each block reserves.
 
 ghost use Rattle.std.specs.Prelude.{◌≡◌, ◌<◌, length, map, IfOk, slice_index_or, []};
-ghost use Rattle.qs_check.specs.Following.{reserves};
+ghost use Rattle.qs_meaning.specs.Following.{reserves};
 ghost use Rattle.qs_check.specs.Program.{ProgramShape, blocks_of, client_at, block_at};
 ghost use Rattle.qs_check.specs.Sound.{is_in};
 ghost use Rattle.qs_desk.specs.Plans.{list_of, lists_of_client, lists_of};

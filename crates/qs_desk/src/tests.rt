@@ -1,9 +1,9 @@
-//! Bookings one by one and from two threads, and what the handlers find.
+//! All blocks of two clients, reserved one client after the other and from two threads, and what the handlers find.
 
 ghost use Rattle.std.specs.Prelude.{◌≡◌};
 
 use crate::laws::{booked, follows};
-use crate::{DeskName, DeskParts, Front, RawDesk, Share, Tickets};
+use crate::{Desk, DeskName, DeskParts, Front, RawDesk, Share, Tickets};
 use qs_check::Program;
 use qs_objects::{Next, Ticket};
 use std::alloc::Global;
@@ -24,92 +24,6 @@ fn program(alloc: Global, text: &str) -> Result<Program, Fail> {
     Ok(qs_check::check(alloc, script)?)
 }
 
-fn ticket(client: u8, index: u8) -> Ticket {
-    Ticket { client, index }
-}
-
-// All that a handler finds, up to the closing mark.
-fn all_of<D: DeskName, R: Wait>(
-    rt: &R,
-    alloc: Global,
-    tickets: &mut Tickets<D>,
-) -> Result<Vec<Ticket>, Fail>
-    ensures { tickets.new.handler ≡ tickets.old.handler }
-{
-    let mut all = Vec::new(alloc);
-    for _ in 0..513u16 {
-        match tickets.take(rt) {
-            Next::Ticket(ticket) => all.push(ticket)?,
-            Next::Closed => return Ok(all),
-        }
-    }
-    Err("no closing mark")?
-}
-
-// How many blocks the clients booked and whether one is left, and the orders at the desk, at a and at b.
-#[derive(Drop)]
-struct Day {
-    counts: [u8; 2],
-    left: [bool; 2],
-    order: Vec<Ticket>,
-    at_a: Vec<Ticket>,
-    at_b: Vec<Ticket>,
-}
-
-fn one_by_one<D: DeskName, R: Wait>(rt: &R, alloc: Global, raw: RawDesk) -> Result<Day, Fail>
-    requires { (D.program ≡ raw.program) × (D.queues ≡ raw.queues) × (D.ledgers ≡ raw.ledgers) }
-{
-    let DeskParts {
-        mut desk,
-        mut shares,
-        mut tickets,
-    } = raw.open::<D>();
-    let mut ann = shares[0].take().ok_or("no share of ann")?;
-    let mut bob = shares[1].take().ok_or("no share of bob")?;
-    let mut a = tickets[0].take().ok_or("no tickets of a")?;
-    let mut b = tickets[1].take().ok_or("no tickets of b")?;
-    if shares[2].is_some() || tickets[2].is_some() || !ann.left() || !bob.left() {
-        Err("other clients and handlers")?;
-    }
-    let first = desk.book(rt, &mut ann);
-    let second = desk.book(rt, &mut bob);
-    if !bob.left() {
-        Err("no second block")?;
-    }
-    let third = desk.book(rt, &mut bob);
-    desk.close(rt);
-    let at_a = all_of(rt, alloc, &mut a)?;
-    let at_b = all_of(rt, alloc, &mut b)?;
-    booked(&mut desk, &mut ann);
-    booked(&mut desk, &mut bob);
-    follows(&mut desk, a);
-    follows(&mut desk, b);
-    if [first, second, third] != [ticket(0, 0), ticket(1, 0), ticket(1, 1)] {
-        Err("other tickets")?;
-    }
-    Ok(Day {
-        counts: [ann.count(), bob.count()],
-        left: [ann.left(), bob.left()],
-        order: desk.into_order(),
-        at_a,
-        at_b,
-    })
-}
-
-#[test]
-fn bookings_come_in_their_order(rt: HostRuntime) -> Result<(), Fail> {
-    let program = program(rt.alloc(), TRANSFER)?;
-    let raw = RawDesk::new(rt.alloc(), &program)?;
-    let day = one_by_one::<Brand, HostRuntime>(&rt, rt.alloc(), raw)?;
-    let all = [ticket(0, 0), ticket(1, 0), ticket(1, 1)];
-    assert_eq!(rt; day.counts, [1, 2]);
-    assert_eq!(rt; day.left, [false, false]);
-    assert_eq!(rt; day.order.as_slice(), &all[..]);
-    assert_eq!(rt; day.at_a.as_slice(), &[ticket(0, 0), ticket(1, 0)][..]);
-    assert_eq!(rt; day.at_b.as_slice(), &[ticket(0, 0), ticket(1, 1)][..]);
-    Ok(())
-}
-
 // Two clients with 64 blocks each, all on the same two objects.
 fn crowd(alloc: Global) -> Result<Program, Fail> {
     let mut text = String::new(alloc);
@@ -124,6 +38,33 @@ fn crowd(alloc: Global) -> Result<Program, Fail> {
     program(alloc, &text)
 }
 
+// A desk with the shares of two clients and the tickets of two handlers.
+struct Opened<D: DeskName> {
+    front: Front<D>,
+    ann: Share<D>,
+    bob: Share<D>,
+    a: Tickets<D>,
+    b: Tickets<D>,
+}
+
+fn open_two<D: DeskName>(raw: RawDesk) -> Option<Opened<D>>
+    requires { (D.program ≡ raw.program) × (D.queues ≡ raw.queues) × (D.ledgers ≡ raw.ledgers) }
+{
+    let DeskParts {
+        desk,
+        mut shares,
+        mut tickets,
+    } = raw.open::<D>();
+    Some(Opened {
+        front: Front::new(desk),
+        ann: shares[0].take()?,
+        bob: shares[1].take()?,
+        a: tickets[0].take()?,
+        b: tickets[1].take()?,
+    })
+}
+
+// Books all blocks of a client.
 fn reserve_all<D: DeskName, R: Wait>(rt: &R, front: &Front<D>, share: Share<D>) -> Share<D> {
     let mut share = share;
     for _ in 0..64u8 {
@@ -134,43 +75,128 @@ fn reserve_all<D: DeskName, R: Wait>(rt: &R, front: &Front<D>, share: Share<D>) 
     share
 }
 
-fn from_two_threads<D: DeskName + Send + Sync, R: Threads + Wait + Sync>(
+fn reserve_both<D: DeskName + Send + Sync, R: Threads + Wait + Sync>(
+    rt: &R,
+    front: &Front<D>,
+    ann: Share<D>,
+    bob: Share<D>,
+    at_once: bool,
+) -> (Share<D>, Share<D>) {
+    if at_once {
+        thread::join(
+            rt,
+            move || reserve_all(rt, front, ann),
+            move || reserve_all(rt, front, bob),
+        )
+    } else {
+        (reserve_all(rt, front, ann), reserve_all(rt, front, bob))
+    }
+}
+
+// How many blocks a client booked; none where one is left.
+fn count_of<D: DeskName>(desk: &mut Desk<D>, share: Share<D>) -> Option<u8> {
+    let mut share = share;
+    booked(desk, &mut share);
+    (!share.left()).then_some(share.count())
+}
+
+// All that a handler finds, up to the closing mark, where that comes and memory is left.
+fn found<D: DeskName, R: Wait>(
     rt: &R,
     alloc: Global,
-    raw: RawDesk,
-) -> Result<Day, Fail>
-    requires { (D.program ≡ raw.program) × (D.queues ≡ raw.queues) × (D.ledgers ≡ raw.ledgers) }
-{
-    let DeskParts {
-        desk,
-        mut shares,
-        mut tickets,
-    } = raw.open::<D>();
-    let ann = shares[0].take().ok_or("no share of ann")?;
-    let bob = shares[1].take().ok_or("no share of bob")?;
-    let mut a = tickets[0].take().ok_or("no tickets of a")?;
-    let mut b = tickets[1].take().ok_or("no tickets of b")?;
-    let front = Front::new(desk);
-    let shared = &front;
-    let (mut ann, mut bob) = thread::join(
-        rt,
-        move || reserve_all(rt, shared, ann),
-        move || reserve_all(rt, shared, bob),
-    );
+    tickets: &mut Tickets<D>,
+) -> Option<Vec<Ticket>> {
+    let mut found = Vec::new(alloc);
+    for _ in 0..513u16 {
+        match tickets.take(rt) {
+            Next::Ticket(ticket) => found.push(ticket).ok()?,
+            Next::Closed => return Some(found),
+        }
+    }
+    None
+}
+
+fn found_at<D: DeskName, R: Wait>(
+    rt: &R,
+    alloc: Global,
+    desk: &mut Desk<D>,
+    tickets: Tickets<D>,
+) -> Option<Vec<Ticket>> {
+    let mut tickets = tickets;
+    let found = found(rt, alloc, &mut tickets);
+    follows(desk, tickets);
+    found
+}
+
+// How many blocks the clients booked, and the orders at the desk, at a and at b.
+#[derive(Drop)]
+struct Day {
+    counts: [Option<u8>; 2],
+    order: Vec<Ticket>,
+    at_a: Option<Vec<Ticket>>,
+    at_b: Option<Vec<Ticket>>,
+}
+
+fn day_of<D: DeskName + Send + Sync, R: Threads + Wait + Sync>(
+    rt: &R,
+    alloc: Global,
+    opened: Opened<D>,
+    at_once: bool,
+) -> Day {
+    let Opened {
+        front,
+        ann,
+        bob,
+        a,
+        b,
+    } = opened;
+    let (ann, bob) = reserve_both(rt, &front, ann, bob, at_once);
     let mut desk = front.close(rt);
-    let at_a = all_of(rt, alloc, &mut a)?;
-    let at_b = all_of(rt, alloc, &mut b)?;
-    booked(&mut desk, &mut ann);
-    booked(&mut desk, &mut bob);
-    follows(&mut desk, a);
-    follows(&mut desk, b);
-    Ok(Day {
-        counts: [ann.count(), bob.count()],
-        left: [ann.left(), bob.left()],
+    let at_a = found_at(rt, alloc, &mut desk, a);
+    let at_b = found_at(rt, alloc, &mut desk, b);
+    let counts = [count_of(&mut desk, ann), count_of(&mut desk, bob)];
+    Day {
+        counts,
         order: desk.into_order(),
         at_a,
         at_b,
-    })
+    }
+}
+
+fn spend<D: DeskName + Send + Sync, R: Threads + Wait + Sync>(
+    rt: &R,
+    alloc: Global,
+    raw: RawDesk,
+    at_once: bool,
+) -> Option<Day>
+    requires { (D.program ≡ raw.program) × (D.queues ≡ raw.queues) × (D.ledgers ≡ raw.ledgers) }
+{
+    let opened = open_two::<D>(raw)?;
+    Some(day_of(rt, alloc, opened, at_once))
+}
+
+fn is_found(found: &Option<Vec<Ticket>>, due: &[Ticket]) -> bool {
+    match found {
+        Some(found) => found.as_slice() == due,
+        None => false,
+    }
+}
+
+const fn ticket(client: u8, index: u8) -> Ticket {
+    Ticket { client, index }
+}
+
+#[test]
+fn bookings_come_in_their_order(rt: HostRuntime) -> Result<(), Fail> {
+    let program = program(rt.alloc(), TRANSFER)?;
+    let raw = RawDesk::new(rt.alloc(), &program)?;
+    let day = spend::<Brand, HostRuntime>(&rt, rt.alloc(), raw, false).ok_or("no day")?;
+    let [ann, bob, late] = [ticket(0, 0), ticket(1, 0), ticket(1, 1)];
+    assert_eq!(rt; day.counts, [Some(1), Some(2)]);
+    assert_eq!(rt; day.order.as_slice(), [ann, bob, late].as_slice());
+    assert!(rt; is_found(&day.at_a, &[ann, bob]));
+    assert!(rt; is_found(&day.at_b, &[ann, late]));
+    Ok(())
 }
 
 // Whether a client's tickets are 0, 1, .., 63 in this order.
@@ -191,13 +217,10 @@ fn all_in_order(order: &[Ticket], client: u8) -> bool {
 fn two_threads_reserve_in_one_order(rt: HostRuntime) -> Result<(), Fail> {
     let program = crowd(rt.alloc())?;
     let raw = RawDesk::new(rt.alloc(), &program)?;
-    let day = from_two_threads::<Brand, HostRuntime>(&rt, rt.alloc(), raw)?;
+    let day = spend::<Brand, HostRuntime>(&rt, rt.alloc(), raw, true).ok_or("no day")?;
+    assert_eq!(rt; day.counts, [Some(64), Some(64)]);
     assert_eq!(rt; day.order.len(), 128);
-    assert_eq!(rt; day.counts, [64, 64]);
-    assert!(rt; all_in_order(&day.order, 0));
-    assert!(rt; all_in_order(&day.order, 1));
-    assert_eq!(rt; day.left, [false, false]);
-    assert_eq!(rt; day.at_a.as_slice(), day.order.as_slice());
-    assert_eq!(rt; day.at_b.as_slice(), day.order.as_slice());
+    assert!(rt; all_in_order(&day.order, 0) && all_in_order(&day.order, 1));
+    assert!(rt; is_found(&day.at_a, &day.order) && is_found(&day.at_b, &day.order));
     Ok(())
 }

@@ -4,10 +4,10 @@ use Rattle.std.proofs.Math.Path.{fun_ext}
 use Rattle.qs_objects.specs.Journals.{answer}
 use Rattle.qs_check.specs.Statements.{Statements, end, command, query, assign, choose, again, leave}
 use Rattle.qs_check.specs.Values.{Locals, test_value, request_of}
-use Rattle.qs_check.specs.Solo.{States, Outcome, changed, value_of, event, solo}
-use Rattle.qs_check.specs.Interaction.{Interaction, noted, run, tree_of}
-use Rattle.qs_check.specs.Interaction as tree
-use Rattle.qs_check.proofs.Trees.{trees_agree}
+use Rattle.qs_meaning.specs.Solo.{States, Outcome, changed, value_of, event, solo}
+use Rattle.qs_meaning.specs.Interaction.{Interaction, noted, run, tree_of}
+use Rattle.qs_meaning.specs.Interaction as tree
+use Rattle.qs_meaning.proofs.Trees.{trees_agree}
 use Rattle.qs_graph.specs.Nodes.{Place}
 use Rattle.qs_graph.specs.Synced.{Synced, Done, Next, turns, meaning, synced_of, erased}
 use Rattle.qs_graph.specs.Walk.{Spot, Move, Ends, Goes, Calls, Syncs, Queries, move, said, walk}

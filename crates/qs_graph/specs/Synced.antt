@@ -3,8 +3,8 @@ use Rattle.std.specs.Prelude.{ℕ, zero, suc, ℤ, if◌then◌else◌, slice_se
 use Rattle.qs_objects.specs.declared.Request.{Request}
 use Rattle.qs_check.specs.Statements.{Statements, end, command, query, assign, choose, again, leave}
 use Rattle.qs_check.specs.Values.{Locals, expr_value, test_value, request_of}
-use Rattle.qs_check.specs.Interaction.{Interaction}
-use Rattle.qs_check.specs.Interaction as tree
+use Rattle.qs_meaning.specs.Interaction.{Interaction}
+use Rattle.qs_meaning.specs.Interaction as tree
 
 -- over, with these variables; a command, and the rest; a synchronisation, and the rest; a query, and for each reply the rest
 pub data Synced : Type 0 where

@@ -2,8 +2,8 @@
 use Rattle.std.specs.Prelude.{ℕ, zero, suc, List, [], None}
 use Rattle.qs_objects.specs.Journals.{answer}
 use Rattle.qs_check.specs.Values.{Locals}
-use Rattle.qs_check.specs.Solo.{States, Outcome, changed, value_of, event}
-use Rattle.qs_check.specs.Interaction.{noted}
+use Rattle.qs_meaning.specs.Solo.{States, Outcome, changed, value_of, event}
+use Rattle.qs_meaning.specs.Interaction.{noted}
 use Rattle.qs_graph.specs.Nodes.{Place}
 use Rattle.qs_graph.specs.Walk.{Spot, Move, Ends, Goes, Calls, Syncs, Queries, move}
 

@@ -2,8 +2,8 @@
 use Rattle.std.specs.Prelude.{◌≡◌, ◌<◌, ◌≤◌, ℕ, ◌*◌, List, ◌∷◌, length}
 use Rattle.qs_check.specs.Statements.{Statements}
 use Rattle.qs_check.specs.Values.{Locals}
-use Rattle.qs_check.specs.Solo.{States, solo}
-use Rattle.qs_check.specs.Interaction.{tree_of}
+use Rattle.qs_meaning.specs.Solo.{States, solo}
+use Rattle.qs_meaning.specs.Interaction.{tree_of}
 use Rattle.qs_check.specs.Loads.{weight_of}
 use Rattle.qs_check.specs.Program.{ProgramShape, block_at}
 use Rattle.qs_check.specs.Sound.{IsSound}

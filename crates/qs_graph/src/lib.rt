@@ -7,8 +7,6 @@ mod counts;
 mod flow;
 pub mod laws;
 mod node;
-#[cfg(test)]
-mod tests;
 
 pub use build::graph;
 pub use flow::Graph;

@@ -1,5 +1,5 @@
 -- What a handler does next.
-use Rattle.std.specs.Prelude.{ℕ, Bool, true, false, [], Option, Some, None}
+use Rattle.std.specs.Prelude.{ℕ, Bool, true, false, List, [], ◌∷◌, Option, Some, None}
 use Rattle.qs_objects.specs.Journals.{HeldState}
 use Rattle.qs_objects.specs.declared.held.Next.{Next}
 use Rattle.qs_objects.specs.declared.held.Next.TheVariants as nexts
@@ -67,3 +67,20 @@ held_of (spares t x n) = Some x
 held_of (gives t x) = Some x
 held_of (away t) = None
 held_of (closed x) = Some x
+
+-- the ticket that a handler serves, if there is one
+abbrev pub serving : Handler → List Ticket
+serving (free x) = []
+serving (serves t x) = t ∷ []
+serving (spares t x n) = t ∷ []
+serving (gives t x) = t ∷ []
+serving (away t) = t ∷ []
+serving (closed x) = []
+
+abbrev pub is_free : Handler → Bool
+is_free (free x) = true
+is_free (serves t x) = false
+is_free (spares t x n) = false
+is_free (gives t x) = false
+is_free (away t) = false
+is_free (closed x) = false

@@ -3,7 +3,5 @@
 
 pub mod laws;
 mod mind;
-#[cfg(test)]
-mod tests;
 
 pub use mind::{Act, Mind};

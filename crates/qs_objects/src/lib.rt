@@ -11,8 +11,6 @@ mod held;
 pub mod laws;
 mod object;
 mod operation;
-#[cfg(test)]
-mod tests;
 
 pub use args::Args;
 pub use held::{Entry, Event, Held, Journal, Next, Ticket};

@@ -24,7 +24,7 @@ pub enum ObjectFault {
     /// A number of the kind is out of its range.
     #[error("a number of the kind is out of its range")]
     Range,
-    /// A growth was refused.
+    /// An allocation failed.
     #[error("out of memory")]
     Memory,
 }
@@ -107,8 +107,8 @@ const LARGEST_SIDE: i64 = 16;
 
 impl Object {
     /// A new object, with all the memory that it will need: no later call takes any. `Range` comes
-    /// exactly where a number of the kind is out of range, before any growth; `Memory` where a growth
-    /// was refused, never at an account. After an error nothing is left.
+    /// exactly where a number of the kind is out of range, before any allocation; `Memory` where an allocation
+    /// failed, never at an account. After an error nothing is left.
     pub fn new(alloc: Global, kind: Kind) -> Result<Object, ObjectFault>
         ensures ok { IfOk result (λ object. starts kind ≡ Some object) }
         ensures range { IsErrOf result ObjectFault.Range ↔ (starts kind ≡ None) }

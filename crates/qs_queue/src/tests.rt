@@ -1,4 +1,4 @@
-//! Queues that are full and empty, and values from thread to thread.
+//! A queue that is full and empty, and values from thread to thread through a queue of one.
 
 ghost use Rattle.std.specs.Prelude.{◌≡◌, ◌<◌, IfOk, ⊤};
 ghost use Rattle.atomic_table.specs.Seated.{TableId};
@@ -57,27 +57,6 @@ fn a_full_queue_hands_the_value_back(rt: HostRuntime) -> Result<(), Fail> {
     Ok(())
 }
 
-#[test]
-fn a_queue_of_one_takes_turns(rt: HostRuntime) -> Result<(), Fail> {
-    let (mut sender, mut taker) = make_free(rt.alloc(), 1)?;
-    for value in 0..5u8 {
-        sender.send(&rt, value);
-        assert_eq!(rt; sender.try_send(&rt, 9), Err(9));
-        assert_eq!(rt; taker.take(&rt), value);
-    }
-    assert_eq!(rt; taker.try_take(&rt), None);
-    Ok(())
-}
-
-#[test]
-fn a_queue_with_room_is_pushed_to(rt: HostRuntime) -> Result<(), Fail> {
-    let (mut sender, mut taker) = make_ends::<u8, (), Anything, NoKey>(rt.alloc(), 2)?;
-    sender.push(&rt, 7);
-    sender.push(&rt, 8);
-    assert_eq!(rt; (taker.take(&rt), taker.take(&rt)), (7, 8));
-    Ok(())
-}
-
 fn send_all<R: Wait>(rt: &R, sender: FreeSender) -> FreeSender
     ensures { result.name ≡ sender.name }
 {
@@ -101,7 +80,7 @@ fn take_all<R: Wait>(rt: &R, taker: FreeTaker) -> (FreeTaker, bool)
 
 #[test]
 fn another_thread_takes_all_in_order(rt: HostRuntime) -> Result<(), Fail> {
-    let (sender, taker) = make_free(rt.alloc(), 3)?;
+    let (sender, taker) = make_free(rt.alloc(), 1)?;
     let wait = &rt;
     let (mut sender, (mut taker, in_order)) = thread::join(
         &rt,

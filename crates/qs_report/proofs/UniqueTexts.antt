@@ -4,7 +4,7 @@ use Rattle.std.specs.List.{AllByRecursion, filter}
 use Rattle.qs_check.specs.Program.{ProgramShape, block_at, blocks_of}
 use Rattle.qs_check.specs.Sound.{IsSound}
 use Rattle.qs_check.proofs.Bounds.{AllByRecursion-get_or, sound_block}
-use Rattle.qs_check.proofs.Each.{each_map}
+use Rattle.qs_meaning.proofs.Each.{each_map}
 use Rattle.qs_graph.specs.declared.node.Node.{Node}
 use Rattle.qs_graph.specs.declared.node.Node.TheVariants.{Entry, Local, Branch, Sync, Query, Call, Exit}
 use Rattle.qs_graph.specs.Graphs.{block_graph}

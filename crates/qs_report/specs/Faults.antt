@@ -4,8 +4,8 @@ use Rattle.qs_script.specs.declared.fault.ReadFault.{ReadFault}
 use Rattle.qs_script.specs.declared.fault.ReadFault.TheVariants as read
 use Rattle.qs_check.specs.declared.fault.CheckFault.{CheckFault}
 use Rattle.qs_check.specs.declared.fault.CheckFault.TheVariants as check
-use Rattle.qs_core.specs.declared.fault.PlayFault.{PlayFault}
-use Rattle.qs_core.specs.declared.fault.PlayFault.TheVariants as play
+use Rattle.qs_played.specs.declared.fault.PlayFault.{PlayFault}
+use Rattle.qs_played.specs.declared.fault.PlayFault.TheVariants as play
 use Rattle.qs_report.specs.declared.faults.Fault.{Fault}
 use Rattle.qs_report.specs.declared.faults.Fault.TheVariants.{CommandLine, Input, Read, Check, Play, Memory}
 
@@ -65,7 +65,7 @@ place_text (Some line) = codes " line " ++ decimal line
 abbrev pub fault_text : Fault → List ℕ
 fault_text fault = codes "refused: " ++ fault_words fault ++ place_text (fault_place fault) ++ codes "\n"
 
--- what is refused has 2, want of memory 3, the input 4
+-- what is refused has 2, out of memory 3, the input 4
 abbrev pub fault_status : Fault → ℕ
 fault_status CommandLine = 2
 fault_status Input = 4

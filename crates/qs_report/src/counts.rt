@@ -7,8 +7,8 @@ use crate::bytes::put_count;
 use qs_check::Program;
 use std::alloc::{AllocError, Global};
 
-/// The text of a program's counts: a line each for its objects, clients, blocks, load and weight. An error says that a growth was
-/// refused, and nothing is left.
+/// The text of a program's counts: a line each for its objects, clients, blocks, load and weight. An error says that an allocation
+/// failed, and nothing is left.
 pub fn check_text(alloc: Global, program: &Program) -> Result<Vec<u8>, AllocError>
     ensures text { IfOk result (λ bytes. bytes.items ≡ counts_text program.now) }
 {

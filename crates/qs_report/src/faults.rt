@@ -8,7 +8,7 @@ ghost use Rattle.qs_report.specs.Faults.{fault_place, fault_status, fault_text, 
 use crate::watching::{Watch, write_text};
 use itoa::Buffer;
 use qs_check::CheckFault;
-use qs_core::PlayFault;
+use qs_played::PlayFault;
 use qs_script::ReadFault;
 use std::io::Write;
 
@@ -25,7 +25,7 @@ pub enum Fault {
     Check(CheckFault),
     /// The run was not played.
     Play(PlayFault),
-    /// A growth was refused elsewhere: for the input or for a report.
+    /// An allocation failed elsewhere: for the input or for a report.
     Memory,
 }
 
@@ -147,7 +147,7 @@ pub fn fault_line<W: Write>(fault: &Fault, out: &mut W) -> bool
     fault_line_watched(fault, out, &mut watch)
 }
 
-/// The status that a refused run ends with: 2 for a command line, a script or a number that is refused, 3 for want of memory, 4 for the
+/// The status that a refused run ends with: 2 for a command line, a script or a number that is refused, 3 for out of memory, 4 for the
 /// input.
 pub fn status(fault: &Fault) -> u8
     ensures status { result ≡ fault_status fault.now }

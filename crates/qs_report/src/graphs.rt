@@ -209,7 +209,7 @@ fn put_blocks(
 }
 
 /// The text of a program's control-flow graphs: for each block its nodes as they are built, each with its number, what it does, the
-/// nodes that it leads to, and the objects that are held as it is reached. An error says that a growth was refused, and nothing is left.
+/// nodes that it leads to, and the objects that are held as it is reached. An error says that an allocation failed, and nothing is left.
 pub fn graph_text(alloc: Global, program: &Program) -> Result<Vec<u8>, AllocError>
     ensures text { IfOk result (λ bytes. IsGraphText program.now bytes.items) }
 {

@@ -9,8 +9,6 @@ pub mod laws;
 mod names;
 mod runs;
 mod states;
-#[cfg(test)]
-mod tests;
 mod tickets;
 mod watching;
 

@@ -7,7 +7,7 @@ use crate::bytes::{put, put_count};
 use crate::states::put_states;
 use crate::tickets::put_order;
 use qs_check::Program;
-use qs_core::Played;
+use qs_played::Played;
 use std::alloc::{AllocError, Global};
 
 fn finished_line(finished: bool) -> &'static [u8]
@@ -21,7 +21,7 @@ fn finished_line(finished: bool) -> &'static [u8]
 }
 
 /// The text of a run: the order of its tickets, each with its trace; the objects' states; the number of syncs; and whether it is
-/// finished. A number past the program's objects or clients has no name. An error says that a growth was refused, and nothing is left.
+/// finished. A number past the program's objects or clients has no name. An error says that an allocation failed, and nothing is left.
 pub fn report(alloc: Global, program: &Program, played: &Played) -> Result<Vec<u8>, AllocError>
     ensures text { IfOk result (λ bytes. bytes.items ≡ report_text program.now played.now) }
 {

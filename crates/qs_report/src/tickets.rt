@@ -8,8 +8,8 @@ use crate::bytes::{put, put_all, put_count, put_number};
 use crate::names::{client_name, object_name};
 use itoa::Buffer;
 use qs_check::Program;
-use qs_core::Played;
 use qs_objects::{Event, Op, Request, Ticket};
+use qs_played::Played;
 use std::alloc::AllocError;
 
 // The script's word of an operation.

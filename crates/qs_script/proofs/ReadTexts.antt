@@ -41,7 +41,7 @@ pub one_script : (text : List ℕ) (s u : List Item) → IsScriptText text s →
 one_script text s u g h =
     one_tree s u g.tokens g.tree (subst (IsScript u) (sym (same_tokens text g.tokens h.tokens g.cut h.cut)) h.tree)
 
--- a script's text is refused for want of memory alone
+-- a script's text is refused only where memory runs out
 pub only_memory : (text : List ℕ) (s : List Item) (fault : ReadFault) → IsScriptText text s → IsRefused fault text → fault ≡ f.Memory
 only_memory text s f.Size g h = absurd (omega (arith, g.short))
 only_memory text s (f.Byte line) g (m, q) = absurd (not_both (tokens_of text) g.tokens e.Byte g.cut q)

@@ -21,7 +21,7 @@ pub fn one_tree()
     ensures { (s u : List Item) (ts : List Token) → IsScript s ts → IsScript u ts → s ≡ u }
 {}
 
-/// A text is at most one script's, and what is a script's text is refused for want of memory alone: so what `read` answers is, but
+/// A text is at most one script's, and what is a script's text is refused only where memory runs out: so what `read` answers is, but
 /// for memory, settled by the text.
 pub fn one_answer()
     ensures one_script { (text : List ℕ) (s u : List Item) → IsScriptText text s → IsScriptText text u → s ≡ u }
@@ -32,16 +32,3 @@ pub fn one_answer()
 pub fn fewer_statements()
     ensures { (text : List ℕ) (s : List Item) → IsScriptText text s → 0 < statements s → statements s < length text }
 {}
-
-#[cfg(test)]
-mod tests {
-    use super::*;
-
-    #[test]
-    fn laws() {
-        examples();
-        one_tree();
-        one_answer();
-        fewer_statements();
-    }
-}

@@ -75,7 +75,7 @@ impl Args {
         }
     }
 
-    /// Adds an argument at the end. An error is want of memory, and leaves the arguments as they were.
+    /// Adds an argument at the end. An error means out of memory, and leaves the arguments as they were.
     pub fn push(&mut self, atom: Atom) -> Result<(), AllocError>
         ensures added { OnOk result (self.new ≡ self.old ++ atom ∷ []) }
         ensures kept { OnErr result (self.new ≡ self.old) }
@@ -149,7 +149,7 @@ impl Body {
         }
     }
 
-    /// Adds a statement at the end. An error is want of memory, and leaves the list as it was.
+    /// Adds a statement at the end. An error means out of memory, and leaves the list as it was.
     pub fn push(&mut self, stmt: Stmt) -> Result<(), AllocError>
         ensures added { OnOk result (self.new ≡ joined self.old (single stmt)) }
         ensures kept { OnErr result (self.new ≡ self.old) }
@@ -190,7 +190,7 @@ impl NameList {
         }
     }
 
-    /// Adds a name at the end. An error is want of memory, and leaves the list as it was.
+    /// Adds a name at the end. An error means out of memory, and leaves the list as it was.
     pub fn push(&mut self, name: Name) -> Result<(), AllocError>
         ensures added { OnOk result (self.new ≡ self.old ++ name ∷ []) }
         ensures kept { OnErr result (self.new ≡ self.old) }
@@ -243,7 +243,7 @@ impl Blocks {
         }
     }
 
-    /// Adds a block at the end. An error is want of memory, and leaves the list as it was.
+    /// Adds a block at the end. An error means out of memory, and leaves the list as it was.
     pub fn push(&mut self, block: Block) -> Result<(), AllocError>
         ensures added { OnOk result (self.new ≡ self.old ++ block ∷ []) }
         ensures kept { OnErr result (self.new ≡ self.old) }
@@ -318,7 +318,7 @@ impl Script {
         }
     }
 
-    /// Adds an item at the end. An error is want of memory, and leaves the list as it was.
+    /// Adds an item at the end. An error means out of memory, and leaves the list as it was.
     pub fn push(&mut self, item: Item) -> Result<(), AllocError>
         ensures added { OnOk result (self.new ≡ self.old ++ item ∷ []) }
         ensures kept { OnErr result (self.new ≡ self.old) }

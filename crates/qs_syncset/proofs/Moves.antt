@@ -1,8 +1,8 @@
 -- What a move of a walk does to what is held, and what is said after it.
 use Rattle.std.proofs.Common.{◌≡◌, ℕ, true, false, List, refl, ap}
 use Rattle.std.proofs.Math.Path.{fun_ext}
-use Rattle.qs_check.specs.Solo.{put}
-use Rattle.qs_check.specs.Interaction as tree
+use Rattle.qs_meaning.specs.Solo.{put}
+use Rattle.qs_meaning.specs.Interaction as tree
 use Rattle.qs_check.specs.Values.{Locals}
 use Rattle.qs_graph.specs.declared.node.Node.{Node}
 use Rattle.qs_graph.specs.declared.node.Node.TheVariants.{Entry, Local, Branch, Sync, Query, Call, Exit}

@@ -7,14 +7,14 @@ use Rattle.std.proofs.lemmas.Bool.{cases_eq}
 use Rattle.std.proofs.lemmas.List.{get_or-set_same, get_or-set_other, get_or-replicate, get_or_past, length-map, length-replicate}
 use Rattle.std.proofs.lemmas.List.FromFn.{get_or-map-range_with_len, length-range_with_len}
 use Rattle.qs_objects.specs.declared.held.Event.{Event}
-use Rattle.qs_check.specs.Following.{AsksOnly, Leads, reserves}
-use Rattle.qs_check.specs.Interaction.{Interaction, tree_of}
+use Rattle.qs_meaning.specs.Following.{AsksOnly, Leads, reserves}
+use Rattle.qs_meaning.specs.Interaction.{Interaction, tree_of}
 use Rattle.qs_check.specs.Program.{ProgramShape, block_at, blocks_of}
-use Rattle.qs_check.specs.Solo.{value_of}
+use Rattle.qs_meaning.specs.Solo.{value_of}
 use Rattle.qs_check.specs.Sound.{IsSound}
 use Rattle.qs_check.specs.Statements.{Statements}
 use Rattle.qs_check.specs.Values.{Locals, expr_value, test_value}
-use Rattle.qs_check.proofs.SoundTrees.{blocks_ask_only}
+use Rattle.qs_meaning.proofs.SoundTrees.{blocks_ask_only}
 use Rattle.qs_graph.specs.declared.node.Node.{Node}
 use Rattle.qs_graph.specs.declared.node.Node.TheVariants.{Entry, Local, Branch, Sync, Query, Call, Exit}
 use Rattle.qs_graph.specs.declared.node.Action.TheVariants.{Assign, SetCount, Nothing}

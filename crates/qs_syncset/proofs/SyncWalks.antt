@@ -2,7 +2,7 @@
 use Rattle.std.proofs.Common.{◌≡◌, inl, inr, ℕ, zero, suc, ◌+◌, ◌<◌, Bool, true, false, ◌==◌, ◌&&◌, if◌then◌else◌, List, [], ◌∷◌, length, refl, sym, ap, ◌∙◌, subst, arith}
 use Rattle.std.specs.Prelude.{not}
 use Rattle.qs_objects.specs.declared.held.Event.{Event}
-use Rattle.qs_check.specs.Solo.{value_of}
+use Rattle.qs_meaning.specs.Solo.{value_of}
 use Rattle.qs_check.specs.Values.{Locals}
 use Rattle.qs_check.proofs.Bounds.{AllByRecursion-get_or}
 use Rattle.qs_graph.specs.declared.node.Node.{Node}

@@ -1,6 +1,6 @@
 -- What a client's walks through its code do.
 use Rattle.std.specs.Prelude.{◌≡◌, ◌<◌, ◌≤◌, ℕ, List, length}
-use Rattle.qs_check.specs.Interaction.{tree_of}
+use Rattle.qs_meaning.specs.Interaction.{tree_of}
 use Rattle.qs_check.specs.Program.{BlockShape, ProgramShape, block_at, blocks_of}
 use Rattle.qs_check.specs.Sound.{IsSound}
 use Rattle.qs_check.specs.Values.{Locals}

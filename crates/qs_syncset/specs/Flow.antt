@@ -1,6 +1,6 @@
 -- How what is held goes along paths, and from node to node.
 use Rattle.std.specs.Prelude.{◌≡◌, ℕ, ◌<◌, Bool, true, false, List, [], ◌∷◌}
-use Rattle.qs_check.specs.Solo.{put}
+use Rattle.qs_meaning.specs.Solo.{put}
 use Rattle.qs_graph.specs.declared.node.Node.{Node}
 use Rattle.qs_graph.specs.declared.node.Node.TheVariants.{Sync, Call}
 use Rattle.qs_graph.specs.Nodes.{Place, place_at}

@@ -3,10 +3,10 @@ use Rattle.std.specs.Prelude.{◌≡◌, ◌<◌, ◌≤◌, ◌↔◌, ℕ, zer
 use Rattle.qs_objects.specs.Operations.{is_query}
 use Rattle.qs_objects.specs.Parts.{part}
 use Rattle.qs_objects.specs.declared.held.Event.{Event}
-use Rattle.qs_check.specs.Following.{Leads}
-use Rattle.qs_check.specs.Interaction.{Interaction, tree_of}
+use Rattle.qs_meaning.specs.Following.{Leads}
+use Rattle.qs_meaning.specs.Interaction.{Interaction, tree_of}
 use Rattle.qs_check.specs.Program.{ProgramShape, block_at, blocks_of}
-use Rattle.qs_check.specs.Solo.{value_of}
+use Rattle.qs_meaning.specs.Solo.{value_of}
 use Rattle.qs_check.specs.Sound.{IsSound}
 use Rattle.qs_check.specs.Statements.{Statements}
 use Rattle.qs_check.specs.Values.{Locals}

@@ -4,7 +4,7 @@ use Rattle.qs_objects.specs.Act.{account}
 use Rattle.qs_objects.specs.Objects.{fresh}
 use Rattle.qs_objects.specs.declared.held.Event.{Event}
 use Rattle.qs_script.specs.declared.tree.Relation.TheVariants.{Unequal}
-use Rattle.qs_check.specs.Solo.{solo}
+use Rattle.qs_meaning.specs.Solo.{solo}
 use Rattle.qs_check.specs.Statements.{Statements, end, command, query, choose, again}
 use Rattle.qs_check.specs.Values.{Locals}
 use Rattle.qs_check.specs.declared.code.Atom.TheVariants.{Variable, Number}

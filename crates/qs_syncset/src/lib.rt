@@ -7,8 +7,6 @@ pub mod laws;
 mod mode;
 mod removal;
 mod rows;
-#[cfg(test)]
-mod tests;
 
 pub use code::{Code, compile};
 pub use mode::Mode;

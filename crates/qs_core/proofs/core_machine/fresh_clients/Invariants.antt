@@ -1,10 +1,10 @@
 use Rattle.std.proofs.Common.{◌≡◌, ◌<◌, ℕ, length, get_or}
-use Rattle.qs_core.specs.ClientSeats.{ClientSeatState}
+use Rattle.qs_core_parts.specs.CoreClients.{CoreClientState}
 use Rattle.qs_core.specs.CoreState.{IsFreshClient}
 use Rattle.qs_core.proofs.core_machine.fresh_clients.Given as goal
 
 abbrev pub invariant-loop-number : goal.invariant-loop-number
 invariant-loop-number l = record {
   many : length l.clients.items ≡ l.number;
-  each : (c : ℕ) (d : ClientSeatState) → c < l.number → IsFreshClient l.program l.mode l.size c (get_or l.clients.items c d);
+  each : (c : ℕ) (d : CoreClientState) → c < l.number → IsFreshClient l.program l.mode l.size c (get_or l.clients.items c d);
 }

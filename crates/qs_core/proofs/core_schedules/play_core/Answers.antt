@@ -1,10 +1,11 @@
 use Rattle.std.proofs.Common.{◌≡◌, take, sym, subst, arith}
-use Rattle.qs_core.specs.CoreSchedule.{IsShown, core_played}
+use Rattle.qs_played.specs.Schedule.{schedule}
+use Rattle.qs_played.specs.SyncSums.{AreSyncsCounted}
+use Rattle.qs_played.proofs.ShownRuns.{if_shown}
+use Rattle.qs_core_laws.specs.CoreSchedule.{IsShown, core_played}
 use Rattle.qs_core.specs.CoreState.{IsPlayedOn, IsShownIsolated, core_of}
-use Rattle.qs_core.specs.Schedule.{schedule}
-use Rattle.qs_core.specs.SyncSums.{AreSyncsCounted}
 use Rattle.qs_core.proofs.CoreCounted.{schedule_counted}
-use Rattle.qs_core.proofs.CorePlaying.{if_shown, played_more, round_more, schedule_isolated, schedule_shown, take_more}
+use Rattle.qs_core.proofs.CorePlaying.{played_more, round_more, schedule_isolated, schedule_shown, take_more}
 use Rattle.qs_core.proofs.core_schedules.play_core.Goals as goal
 
 pub loop-pick-preserved : goal.loop-pick-preserved

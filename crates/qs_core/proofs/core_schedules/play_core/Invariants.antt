@@ -1,6 +1,6 @@
 use Rattle.std.proofs.Common.{take}
+use Rattle.qs_played.specs.Schedule.{schedule}
 use Rattle.qs_core.specs.CoreState.{IsPlayedOn}
-use Rattle.qs_core.specs.Schedule.{schedule}
 use Rattle.qs_core.proofs.core_schedules.play_core.Given as goal
 
 abbrev pub invariant-loop-pick : goal.invariant-loop-pick

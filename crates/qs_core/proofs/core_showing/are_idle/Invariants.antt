@@ -1,8 +1,8 @@
 use Rattle.std.proofs.Common.{◌≡◌, ◌&&◌}
 use Rattle.std.specs.List.{range_with_len}
-use Rattle.qs_core.specs.CoreSchedule.{all_of}
-use Rattle.qs_core.specs.CoreShown.{are_clear, is_waiting}
-use Rattle.qs_core.specs.HandlerSeats.{seat_at}
+use Rattle.qs_core_laws.specs.CoreSchedule.{all_of}
+use Rattle.qs_core_parts.specs.CoreHandlers.{is_waiting, seat_at}
+use Rattle.qs_core.specs.CoreShown.{are_clear}
 use Rattle.qs_core.proofs.core_showing.are_idle.Given as goal
 
 abbrev pub invariant-loop-number : goal.invariant-loop-number

@@ -1,8 +1,8 @@
 use Rattle.std.proofs.Common.{◌+◌, ℕ, ap, sym, ◌∙◌, sum_by, arith}
 use Rattle.std.specs.List.{range_with_len}
 use Rattle.qs_client.specs.Mind.{Mind}
+use Rattle.qs_played.proofs.Lists.{sum_by-range_more}
 use Rattle.qs_core.specs.CoreState.{side_at}
-use Rattle.qs_core.proofs.Lists.{sum_by-range_more}
 use Rattle.qs_core.proofs.core_showing.syncs.Goals as goal
 
 pub loop-number-preserved : goal.loop-number-preserved

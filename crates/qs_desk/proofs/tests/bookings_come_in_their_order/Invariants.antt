@@ -1,4 +1,4 @@
 use Rattle.qs_desk.proofs.tests.bookings_come_in_their_order.Given as goal
 
-abbrev pub ghosts-one_by_one : goal.ghosts-one_by_one
-ghosts-one_by_one g a = record { program = a.raw.program; queues = a.raw.queues; ledgers = a.raw.ledgers }
+abbrev pub ghosts-spend : goal.ghosts-spend
+ghosts-spend g a = record { program = a.raw.program; queues = a.raw.queues; ledgers = a.raw.ledgers }

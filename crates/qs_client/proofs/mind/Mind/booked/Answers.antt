@@ -1,12 +1,12 @@
 use Rattle.std.proofs.Common.{◌≡◌, List, [], ◌∷◌, ◌++◌, refl, sym, ap, ◌∙◌, subst, length, arith}
 use Rattle.qs_check.specs.Values.{Locals}
 use Rattle.qs_graph.specs.Steps.{limit}
-use Rattle.qs_client.specs.Client.{between}
+use Rattle.qs_client_run.specs.Client.{between}
+use Rattle.qs_client_run.specs.declared.act.Act.TheVariants as acts
 use Rattle.qs_client.specs.Kept.{IsKept}
 use Rattle.qs_client.specs.Mind.{Asks, booked_mind}
 use Rattle.qs_client.specs.MindState.{MindState, mind_of, settings_in}
 use Rattle.qs_client.specs.contracts.mind.Mind.{the_view}
-use Rattle.qs_client.specs.declared.act.Act.TheVariants as acts
 use Rattle.qs_client.proofs.Booking.{booked_is, entered, entered_comes, entered_kept, entered_running, next_ticket, reserves}
 use Rattle.qs_client.proofs.mind.Mind.booked.Goals as goal
 

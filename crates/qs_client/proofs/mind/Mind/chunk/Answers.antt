@@ -1,12 +1,12 @@
 use Rattle.std.proofs.Common.{◌≡◌, [], refl, sym, ap, ◌∙◌, subst, length, arith}
 use Rattle.qs_objects.specs.declared.Request.{Request}
 use Rattle.qs_chunk.specs.Batch.{Batch, batch}
-use Rattle.qs_client.specs.Client.{took_chunk}
+use Rattle.qs_client_run.specs.Client.{took_chunk}
+use Rattle.qs_client_run.specs.declared.act.Act.TheVariants as acts
 use Rattle.qs_client.specs.Kept.{IsKept}
 use Rattle.qs_client.specs.Mind.{Asks, chunk_mind}
 use Rattle.qs_client.specs.MindState.{MindState, block_of, client_in, mind_of, settings_in}
 use Rattle.qs_client.specs.contracts.mind.Mind.{the_view}
-use Rattle.qs_client.specs.declared.act.Act.TheVariants as acts
 use Rattle.qs_client.proofs.Keeping.{asks_nothing, needs_begun, block_inside, come_kept, taken_is, nothing_left, steady, wants_of}
 use Rattle.qs_client.proofs.mind.Mind.chunk.Goals as goal
 

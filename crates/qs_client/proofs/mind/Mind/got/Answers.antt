@@ -1,10 +1,10 @@
 use Rattle.std.proofs.Common.{refl, sym, ap, ◌∙◌, subst, length}
-use Rattle.qs_client.specs.Client.{got}
+use Rattle.qs_client_run.specs.Client.{got}
+use Rattle.qs_client_run.specs.declared.act.Act.TheVariants as acts
 use Rattle.qs_client.specs.Kept.{IsKept}
 use Rattle.qs_client.specs.Mind.{Asks, got_mind}
 use Rattle.qs_client.specs.MindState.{MindState, block_of, client_in, mind_of, settings_in}
 use Rattle.qs_client.specs.contracts.mind.Mind.{the_view}
-use Rattle.qs_client.specs.declared.act.Act.TheVariants as acts
 use Rattle.qs_client.proofs.Keeping.{asks_nothing, awaits_begun, block_inside, come_kept, got_is, nothing_left, steady, wants_of}
 use Rattle.qs_client.proofs.mind.Mind.got.Goals as goal
 

@@ -1,5 +1,5 @@
 use Rattle.std.proofs.Common.{◌≡◌, ◌≤◌, sym, ◌∙◌, subst, arith}
-use Rattle.qs_client.specs.Beginning.{fresh_run}
+use Rattle.qs_client_run.specs.Beginning.{fresh_run}
 use Rattle.qs_client.specs.Kept.{IsKept}
 use Rattle.qs_client.specs.MindState.{mind_of}
 use Rattle.qs_client.proofs.Fresh.{fresh_is, fresh_kept, fresh_with}

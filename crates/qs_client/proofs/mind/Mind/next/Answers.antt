@@ -1,10 +1,10 @@
 use Rattle.std.proofs.Common.{◌≡◌, sym, ap, ◌∙◌, subst, length, arith}
-use Rattle.qs_client.specs.Acting.{HasActed}
+use Rattle.qs_client_run.specs.Acting.{HasActed}
+use Rattle.qs_client_run.specs.declared.stage.Handed.{Handed}
 use Rattle.qs_client.specs.Kept.{IsKept}
 use Rattle.qs_client.specs.Mind.{Asks, Mind, asked_of, done, hands_out}
 use Rattle.qs_client.specs.MindState.{MindState, block_of, mind_of, settings_in}
 use Rattle.qs_client.specs.contracts.mind.Mind.{the_view}
-use Rattle.qs_client.specs.declared.stage.Handed.{Handed}
 use Rattle.qs_client.proofs.Keeping.{acts_asked, acts_is, acts_kept, hands_over, quiet_asks}
 use Rattle.qs_client.proofs.mind.Mind.next.Goals as goal
 

@@ -1,7 +1,7 @@
 use Rattle.std.proofs.Common.{ap, ◌∙◌}
-use Rattle.qs_core.specs.ClientSeats.{ClientSeatState}
+use Rattle.qs_core_parts.specs.CoreClients.{CoreClientState}
 use Rattle.qs_core.specs.CoreState.{CoreState}
-use Rattle.qs_core.proofs.CoreViews.{go_kept, go_none, go_steps, has_lane, seat_is}
+use Rattle.qs_core.proofs.CoreFieldLemmas.{go_kept, go_none, go_steps, has_lane, seat_is}
 use Rattle.qs_core.proofs.core_machine.CoreMachine.go_on.Goals as goal
 
 pub go_on-requires-clause-lane : goal.go_on-requires-clause-lane
@@ -31,4 +31,4 @@ returns-clause-none c =
     c.is_seat.ensures.seat c.is_seat.ensures.mind in
     go_none r c.args.self.now c.self.view_is c.self.invariant.0 c.requires.keeps c.args.number c.from.result c.from.ensures c.requires.number c.index_mut-client.result.now c.index_mut-client.ensures.value
     c.is_seat.ensures.seat c.is_seat.ensures.mind c.go_on.new.self c.go_on.result c.go_on.ensures.steps c.go_on.ensures.stays c.go_on.ensures.unchanged
-    (λ e. c.requires.other c.index_mut-client.result.now (ap (λ (x : ClientSeatState). x.act) same ∙ e))
+    (λ e. c.requires.other c.index_mut-client.result.now (ap (λ (x : CoreClientState). x.act) same ∙ e))

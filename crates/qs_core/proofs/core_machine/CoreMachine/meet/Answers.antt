@@ -1,14 +1,14 @@
 use Rattle.std.proofs.Common.{ap, sym, ◌∙◌, arith}
+use Rattle.qs_core_parts.specs.CoreHandlers.{CoreHandlerState, turns_to}
 use Rattle.qs_core.specs.CoreState.{CoreState}
-use Rattle.qs_core.specs.HandlerSeats.{HandlerSeatState, turns_to}
-use Rattle.qs_core.proofs.CoreServes.{lane_there, may_come, meet_kept, meet_none, meet_steps, seat_is, there}
+use Rattle.qs_core.proofs.ServiceFieldLemmas.{lane_there, may_come, meet_kept, meet_none, meet_steps, seat_is, there}
 use Rattle.qs_core.proofs.core_machine.CoreMachine.meet.Goals as goal
 
 pub index_mut-client-requires : goal.index_mut-client-requires
 index_mut-client-requires c =
     let r : CoreState = record { program = c.self.inside.program.now; size = c.self.inside.size; order = c.self.inside.order.items; clients = c.self.inside.clients.items; handlers = c.self.inside.handlers.items } in
     let d = c.index_mut-handler.result.now in
-    let turned = ap (λ (x : HandlerSeatState). turns_to x.act) (sym (seat_is r c.args.self.now c.self.view_is c.self.invariant.0 c.requires.keeps c.args.number c.from.result c.from.ensures c.requires.number d c.index_mut-handler.ensures.value c.is_seat.ensures.seat)) ∙ c.requires.asked d in
+    let turned = ap (λ (x : CoreHandlerState). turns_to x.act) (sym (seat_is r c.args.self.now c.self.view_is c.self.invariant.0 c.requires.keeps c.args.number c.from.result c.from.ensures c.requires.number d c.index_mut-handler.ensures.value c.is_seat.ensures.seat)) ∙ c.requires.asked d in
     let less = there r c.args.self.now c.self.view_is c.self.invariant.0 c.requires.keeps c.args.number c.from.result c.from.ensures c.requires.number d c.index_mut-handler.ensures.value c.is_seat.ensures.seat c.args.client turned in
     omega (arith, less, c.from-2.ensures, c.self.inside.clients.ok)
 
@@ -16,33 +16,33 @@ pub meet-requires-clause-lane : goal.meet-requires-clause-lane
 meet-requires-clause-lane c =
     let r : CoreState = record { program = c.self.inside.program.now; size = c.self.inside.size; order = c.self.inside.order.items; clients = c.self.inside.clients.items; handlers = c.self.inside.handlers.items } in
     let d = c.index_mut-handler.result.now in
-    let turned = ap (λ (x : HandlerSeatState). turns_to x.act) (sym (seat_is r c.args.self.now c.self.view_is c.self.invariant.0 c.requires.keeps c.args.number c.from.result c.from.ensures c.requires.number d c.index_mut-handler.ensures.value c.is_seat.ensures.seat)) ∙ c.requires.asked d in
+    let turned = ap (λ (x : CoreHandlerState). turns_to x.act) (sym (seat_is r c.args.self.now c.self.view_is c.self.invariant.0 c.requires.keeps c.args.number c.from.result c.from.ensures c.requires.number d c.index_mut-handler.ensures.value c.is_seat.ensures.seat)) ∙ c.requires.asked d in
     lane_there r c.args.self.now c.self.view_is c.self.invariant.0 c.requires.keeps c.args.number c.from.result c.from.ensures c.requires.number d c.index_mut-handler.ensures.value c.is_seat.ensures.seat c.args.client turned c.from-2.result c.from-2.ensures c.index_mut-client.result.now c.index_mut-client.ensures.value
 
 pub meet-requires-clause-comes : goal.meet-requires-clause-comes
 meet-requires-clause-comes c =
     let r : CoreState = record { program = c.self.inside.program.now; size = c.self.inside.size; order = c.self.inside.order.items; clients = c.self.inside.clients.items; handlers = c.self.inside.handlers.items } in
     let d = c.index_mut-handler.result.now in
-    let turned = ap (λ (x : HandlerSeatState). turns_to x.act) (sym (seat_is r c.args.self.now c.self.view_is c.self.invariant.0 c.requires.keeps c.args.number c.from.result c.from.ensures c.requires.number d c.index_mut-handler.ensures.value c.is_seat.ensures.seat)) ∙ c.requires.asked d in
+    let turned = ap (λ (x : CoreHandlerState). turns_to x.act) (sym (seat_is r c.args.self.now c.self.view_is c.self.invariant.0 c.requires.keeps c.args.number c.from.result c.from.ensures c.requires.number d c.index_mut-handler.ensures.value c.is_seat.ensures.seat)) ∙ c.requires.asked d in
     may_come r c.args.self.now c.self.view_is c.self.invariant.0 c.requires.keeps c.args.number c.from.result c.from.ensures c.requires.number d c.index_mut-handler.ensures.value c.is_seat.ensures.seat c.args.client turned c.from-2.result c.from-2.ensures c.index_mut-client.result.now c.index_mut-client.ensures.value
 
 pub invariant_of-self : goal.invariant_of-self
 invariant_of-self c =
     let r : CoreState = record { program = c.self.inside.program.now; size = c.self.inside.size; order = c.self.inside.order.items; clients = c.self.inside.clients.items; handlers = c.self.inside.handlers.items } in
     let d = c.index_mut-handler.result.now in
-    let turned = ap (λ (x : HandlerSeatState). turns_to x.act) (sym (seat_is r c.args.self.now c.self.view_is c.self.invariant.0 c.requires.keeps c.args.number c.from.result c.from.ensures c.requires.number d c.index_mut-handler.ensures.value c.is_seat.ensures.seat)) ∙ c.requires.asked d in
+    let turned = ap (λ (x : CoreHandlerState). turns_to x.act) (sym (seat_is r c.args.self.now c.self.view_is c.self.invariant.0 c.requires.keeps c.args.number c.from.result c.from.ensures c.requires.number d c.index_mut-handler.ensures.value c.is_seat.ensures.seat)) ∙ c.requires.asked d in
     (meet_kept r c.args.self.now c.self.view_is c.self.invariant.0 c.requires.keeps c.args.number c.from.result c.from.ensures c.requires.number d c.index_mut-handler.ensures.value c.is_seat.ensures.seat c.args.client turned c.from-2.result c.from-2.ensures c.index_mut-client.result.now c.index_mut-client.ensures.value c.meet.new.handler c.meet.new.self c.meet.result c.meet.ensures.steps c.meet.ensures.none c.meet.ensures.unchanged c.meet.ensures.handler, c.self.invariant.1)
 
 pub returns-clause-steps : goal.returns-clause-steps
 returns-clause-steps c =
     let r : CoreState = record { program = c.self.inside.program.now; size = c.self.inside.size; order = c.self.inside.order.items; clients = c.self.inside.clients.items; handlers = c.self.inside.handlers.items } in
     let d = c.index_mut-handler.result.now in
-    let turned = ap (λ (x : HandlerSeatState). turns_to x.act) (sym (seat_is r c.args.self.now c.self.view_is c.self.invariant.0 c.requires.keeps c.args.number c.from.result c.from.ensures c.requires.number d c.index_mut-handler.ensures.value c.is_seat.ensures.seat)) ∙ c.requires.asked d in
+    let turned = ap (λ (x : CoreHandlerState). turns_to x.act) (sym (seat_is r c.args.self.now c.self.view_is c.self.invariant.0 c.requires.keeps c.args.number c.from.result c.from.ensures c.requires.number d c.index_mut-handler.ensures.value c.is_seat.ensures.seat)) ∙ c.requires.asked d in
     meet_steps r c.args.self.now c.self.view_is c.self.invariant.0 c.requires.keeps c.args.number c.from.result c.from.ensures c.requires.number d c.index_mut-handler.ensures.value c.is_seat.ensures.seat c.args.client turned c.from-2.result c.from-2.ensures c.index_mut-client.result.now c.index_mut-client.ensures.value c.meet.new.handler c.meet.new.self c.meet.result c.meet.ensures.steps c.meet.ensures.none c.meet.ensures.unchanged c.meet.ensures.handler
 
 pub returns-clause-none : goal.returns-clause-none
 returns-clause-none c =
     let r : CoreState = record { program = c.self.inside.program.now; size = c.self.inside.size; order = c.self.inside.order.items; clients = c.self.inside.clients.items; handlers = c.self.inside.handlers.items } in
     let d = c.index_mut-handler.result.now in
-    let turned = ap (λ (x : HandlerSeatState). turns_to x.act) (sym (seat_is r c.args.self.now c.self.view_is c.self.invariant.0 c.requires.keeps c.args.number c.from.result c.from.ensures c.requires.number d c.index_mut-handler.ensures.value c.is_seat.ensures.seat)) ∙ c.requires.asked d in
+    let turned = ap (λ (x : CoreHandlerState). turns_to x.act) (sym (seat_is r c.args.self.now c.self.view_is c.self.invariant.0 c.requires.keeps c.args.number c.from.result c.from.ensures c.requires.number d c.index_mut-handler.ensures.value c.is_seat.ensures.seat)) ∙ c.requires.asked d in
     meet_none r c.args.self.now c.self.view_is c.self.invariant.0 c.requires.keeps c.args.number c.from.result c.from.ensures c.requires.number d c.index_mut-handler.ensures.value c.is_seat.ensures.seat c.args.client turned c.from-2.result c.from-2.ensures c.index_mut-client.result.now c.index_mut-client.ensures.value c.meet.new.handler c.meet.new.self c.meet.result c.meet.ensures.steps c.meet.ensures.none c.meet.ensures.unchanged c.meet.ensures.handler

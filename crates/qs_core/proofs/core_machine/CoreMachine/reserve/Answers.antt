@@ -1,11 +1,11 @@
 use Rattle.std.proofs.Common.{◌≡◌, ap, sym, subst, ◌∙◌, arith}
 use Rattle.qs_objects.specs.declared.held.Ticket.{Ticket}
 use Rattle.qs_check.specs.Program.{BlockShape, block_at}
-use Rattle.qs_core.specs.ClientSeats.{ClientSeatState, whole_of}
+use Rattle.qs_played.specs.Played.{ticket}
+use Rattle.qs_core_parts.specs.CoreClients.{CoreClientState, whole_of}
+use Rattle.qs_core_parts.specs.CoreHandlers.{CanEnterAll}
 use Rattle.qs_core.specs.CoreState.{CoreState}
-use Rattle.qs_core.specs.HandlerSeats.{CanEnterAll}
-use Rattle.qs_core.specs.Plain.{ticket}
-use Rattle.qs_core.proofs.CoreViews.{enters, in_blocks, made_kept, made_steps, order_roomy, seat_is}
+use Rattle.qs_core.proofs.CoreFieldLemmas.{enters, in_blocks, made_kept, made_steps, order_roomy, seat_is}
 use Rattle.qs_core.proofs.core_machine.CoreMachine.reserve.Goals as goal
 
 pub push_reserved-requires : goal.push_reserved-requires
@@ -13,7 +13,7 @@ push_reserved-requires c =
     let r : CoreState = record { program = c.self.inside.program.now; size = c.self.inside.size; order = c.self.inside.order.items; clients = c.self.inside.clients.items; handlers = c.self.inside.handlers.items } in
     let d = c.index-client.result.now in
     let same = seat_is r c.args.self.now c.self.view_is c.self.invariant.0 c.requires.keeps c.args.number c.from.result c.from.ensures c.requires.number d c.index-client.ensures c.is_seat.ensures.seat c.is_seat.ensures.mind in
-    let asked = ap (λ (x : ClientSeatState). x.act) (sym same) ∙ c.requires.asked d in
+    let asked = ap (λ (x : CoreClientState). x.act) (sym same) ∙ c.requires.asked d in
     let room = order_roomy r c.args.self.now c.self.view_is c.self.invariant.0 c.requires.keeps c.args.number c.from.result c.from.ensures c.requires.number d c.index-client.ensures c.is_seat.ensures.seat c.is_seat.ensures.mind
     c.is_sound.ensures.sound c.requires.on asked in
     omega (arith, room, c.self.invariant.1, c.self.inside.order.ok)
@@ -23,7 +23,7 @@ block-block-requires-clause-block c =
     let r : CoreState = record { program = c.self.inside.program.now; size = c.self.inside.size; order = c.self.inside.order.items; clients = c.self.inside.clients.items; handlers = c.self.inside.handlers.items } in
     let d = c.index-client.result.now in
     let same = seat_is r c.args.self.now c.self.view_is c.self.invariant.0 c.requires.keeps c.args.number c.from.result c.from.ensures c.requires.number d c.index-client.ensures c.is_seat.ensures.seat c.is_seat.ensures.mind in
-    let asked = ap (λ (x : ClientSeatState). x.act) (sym same) ∙ c.requires.asked d in
+    let asked = ap (λ (x : CoreClientState). x.act) (sym same) ∙ c.requires.asked d in
     let less = in_blocks r c.args.self.now c.self.view_is c.self.invariant.0 c.requires.keeps c.args.number c.from.result c.from.ensures c.requires.number d c.index-client.ensures c.is_seat.ensures.seat c.is_seat.ensures.mind
     c.is_sound.ensures.sound c.requires.on asked in
     omega (arith, less, c.begun.ensures.value)
@@ -33,7 +33,7 @@ enter_all-requires c =
     let r : CoreState = record { program = c.self.inside.program.now; size = c.self.inside.size; order = c.self.inside.order.items; clients = c.self.inside.clients.items; handlers = c.self.inside.handlers.items } in
     let d = c.index-client.result.now in
     let same = seat_is r c.args.self.now c.self.view_is c.self.invariant.0 c.requires.keeps c.args.number c.from.result c.from.ensures c.requires.number d c.index-client.ensures c.is_seat.ensures.seat c.is_seat.ensures.mind in
-    let asked = ap (λ (x : ClientSeatState). x.act) (sym same) ∙ c.requires.asked d in
+    let asked = ap (λ (x : CoreClientState). x.act) (sym same) ∙ c.requires.asked d in
     let u : Ticket = record { client = c.args.number; index = c.begun.result } in
     let u_is : u ≡ ticket c.args.number (whole_of d).client.begun = λ k. record { client = c.args.number; index = c.begun.ensures.value k } in
     let xs_are : c.reserved.result.now ≡ (block_at r.program c.args.number (whole_of d).client.begun).reserved =
@@ -47,7 +47,7 @@ invariant_of-self c =
     let r : CoreState = record { program = c.self.inside.program.now; size = c.self.inside.size; order = c.self.inside.order.items; clients = c.self.inside.clients.items; handlers = c.self.inside.handlers.items } in
     let d = c.index-client.result.now in
     let same = seat_is r c.args.self.now c.self.view_is c.self.invariant.0 c.requires.keeps c.args.number c.from.result c.from.ensures c.requires.number d c.index-client.ensures c.is_seat.ensures.seat c.is_seat.ensures.mind in
-    let asked = ap (λ (x : ClientSeatState). x.act) (sym same) ∙ c.requires.asked d in
+    let asked = ap (λ (x : CoreClientState). x.act) (sym same) ∙ c.requires.asked d in
     let u : Ticket = record { client = c.args.number; index = c.begun.result } in
     let u_is : u ≡ ticket c.args.number (whole_of d).client.begun = λ k. record { client = c.args.number; index = c.begun.ensures.value k } in
     let xs_are : c.reserved.result.now ≡ (block_at r.program c.args.number (whole_of d).client.begun).reserved =
@@ -63,7 +63,7 @@ returns c =
     let r : CoreState = record { program = c.self.inside.program.now; size = c.self.inside.size; order = c.self.inside.order.items; clients = c.self.inside.clients.items; handlers = c.self.inside.handlers.items } in
     let d = c.index-client.result.now in
     let same = seat_is r c.args.self.now c.self.view_is c.self.invariant.0 c.requires.keeps c.args.number c.from.result c.from.ensures c.requires.number d c.index-client.ensures c.is_seat.ensures.seat c.is_seat.ensures.mind in
-    let asked = ap (λ (x : ClientSeatState). x.act) (sym same) ∙ c.requires.asked d in
+    let asked = ap (λ (x : CoreClientState). x.act) (sym same) ∙ c.requires.asked d in
     let u : Ticket = record { client = c.args.number; index = c.begun.result } in
     let u_is : u ≡ ticket c.args.number (whole_of d).client.begun = λ k. record { client = c.args.number; index = c.begun.ensures.value k } in
     let xs_are : c.reserved.result.now ≡ (block_at r.program c.args.number (whole_of d).client.begun).reserved =

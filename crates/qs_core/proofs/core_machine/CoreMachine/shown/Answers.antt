@@ -1,11 +1,11 @@
 use Rattle.std.proofs.Common.{◌≡◌, List, ap, sym, subst, ◌∙◌, IfOk}
 use Rattle.qs_objects.specs.declared.held.Ticket.{Ticket}
 use Rattle.qs_check.specs.Sound.{IsSound}
-use Rattle.qs_core.specs.ClientSeats.{ClientSeatState}
+use Rattle.qs_played.specs.declared.played.Played.{Played}
+use Rattle.qs_core_parts.specs.CoreClients.{CoreClientState}
+use Rattle.qs_core_parts.specs.CoreHandlers.{CoreHandlerState}
 use Rattle.qs_core.specs.CoreShown.{AreShowable, shown_by}
 use Rattle.qs_core.specs.CoreState.{CoreState, IsCoreState}
-use Rattle.qs_core.specs.HandlerSeats.{HandlerSeatState}
-use Rattle.qs_core.specs.declared.played.Played.{Played}
 use Rattle.qs_core.proofs.CoreReadings.{shown_is, showable}
 use Rattle.qs_core.proofs.core_machine.CoreMachine.shown.Goals as goal
 
@@ -18,8 +18,8 @@ shown-requires c =
     let sound = subst IsSound (ap (λ (r : CoreState). r.program) c.self.view_is) c.is_sound.ensures.sound in
     let whole = showable s (subst IsCoreState c.self.view_is c.self.invariant.0) c.requires.keeps sound in
     let of_order = subst (λ (ts : List Ticket). AreShowable ts s.clients s.handlers) (sym order) whole in
-    let of_clients = subst (λ (cs : List ClientSeatState). AreShowable c.deref.result.now cs s.handlers) (sym clients) of_order in
-    record { showable = subst (λ (hs : List HandlerSeatState). AreShowable c.deref.result.now c.deref-2.result.now hs) (sym handlers) of_clients }
+    let of_clients = subst (λ (cs : List CoreClientState). AreShowable c.deref.result.now cs s.handlers) (sym clients) of_order in
+    record { showable = subst (λ (hs : List CoreHandlerState). AreShowable c.deref.result.now c.deref-2.result.now hs) (sym handlers) of_clients }
 
 pub returns : goal.returns
 returns c =

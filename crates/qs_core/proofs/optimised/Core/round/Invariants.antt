@@ -2,9 +2,9 @@ use Rattle.std.proofs.Common.{ℕ, List, ◌++◌, map}
 use Rattle.std.specs.List.{range_with_len}
 use Rattle.qs_check.specs.Program.{ProgramShape}
 use Rattle.qs_syncset.specs.declared.mode.Mode.{Mode}
+use Rattle.qs_played.specs.declared.actor.Actor.{Actor}
+use Rattle.qs_played.specs.declared.actor.Actor.TheVariants as actor
 use Rattle.qs_core.specs.CoreState.{IsPlayedOn}
-use Rattle.qs_core.specs.declared.actor.Actor.{Actor}
-use Rattle.qs_core.specs.declared.actor.Actor.TheVariants as actor
 use Rattle.qs_core.proofs.optimised.Core.round.Given as goal
 
 abbrev pub invariant-loop-client : goal.invariant-loop-client

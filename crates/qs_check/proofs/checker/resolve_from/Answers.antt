@@ -1,0 +1,34 @@
+use Rattle.std.proofs.Common.{◌≡◌, ◌∙◌, ◌++◌, ◌≤◌, List, length, ap, sym, subst, None}
+use Rattle.std.specs.List.{AllByRecursion}
+use Rattle.qs_objects.specs.declared.object.Kind.{Kind}
+use Rattle.qs_check.specs.Numbering.{Name}
+use Rattle.qs_check.specs.Places.{met, start, script_places}
+use Rattle.qs_check.specs.Resolve.{clients_of, lists_of, names_of}
+use Rattle.qs_check.specs.Checked.{first_fault}
+use Rattle.qs_check.proofs.Soundness.{walked}
+use Rattle.qs_check.proofs.checker.resolve_from.Goals as goal
+
+pub numbered-requires-clause-objects : goal.numbered-requires-clause-objects
+numbered-requires-clause-objects c =
+    let w = walked c.args.items.now c.check_items.new.scope (rw c.requires.start at c.in_ok-check_items.ensures.meets) in
+    w.few_objects
+
+pub numbered-requires-clause-variables : goal.numbered-requires-clause-variables
+numbered-requires-clause-variables c =
+    c.in_ok-check_items.ensures.variables ∙ ap (λ (ls : List (List Name)). ls ++ lists_of c.args.items.now) c.new-variables.ensures.items
+
+pub numbered-requires-clause-limit : goal.numbered-requires-clause-limit
+numbered-requires-clause-limit c =
+    let w = walked c.args.items.now c.check_items.new.scope (rw c.requires.start at c.in_ok-check_items.ensures.meets) in
+    let lists : c.check_items.new.variables.items ≡ lists_of c.args.items.now =
+    c.in_ok-check_items.ensures.variables ∙ ap (λ (ls : List (List Name)). ls ++ lists_of c.args.items.now) c.new-variables.ensures.items in
+    let P : List (List Name) → Type 0 = λ ls. AllByRecursion (λ v. length v ≤ 16) ls in
+    subst P (sym lists) w.few_variables
+
+pub returns : goal.returns
+returns c =
+    let w = walked c.args.items.now c.check_items.new.scope (rw c.requires.start at c.in_ok-check_items.ensures.meets) in
+    let none : first_fault (met start (script_places c.args.items.now)) None ≡ None = ap (λ m. first_fault m None) w.met_all in
+    let clients =
+    c.in_ok-numbered.ensures.clients ∙ ap (λ (ns : List Name). clients_of ns c.check_items.new.scope.kinds c.args.items.now) w.objects ∙ ap (λ (ks : List Kind). clients_of (names_of c.args.items.now) ks c.args.items.now) w.kinds in
+    record { text = (none, λ i. record { objects = c.in_ok-numbered.ensures.objects i; clients = clients i }) }

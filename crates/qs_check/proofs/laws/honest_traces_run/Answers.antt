@@ -1,5 +1,0 @@
-use Rattle.qs_check.proofs.TreeWalks.{honest_traces_run}
-use Rattle.qs_check.proofs.laws.honest_traces_run.Goals as goal
-
-pub returns : goal.returns
-returns c = record { run = honest_traces_run }

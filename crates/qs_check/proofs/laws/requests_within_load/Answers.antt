@@ -1,5 +1,0 @@
-use Rattle.qs_check.proofs.RequestPaths.{requests_within}
-use Rattle.qs_check.proofs.laws.requests_within_load.Goals as goal
-
-pub returns : goal.returns
-returns c = record { within = requests_within }

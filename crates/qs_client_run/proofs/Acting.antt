@@ -1,0 +1,171 @@
+-- The next act of a client's data is the client's.
+use Rattle.std.proofs.Common.{◌≡◌, ℕ, zero, suc, ◌<◌, ◌≤◌, false, Option, Some, None, List, length, get_or, refl, sym, ap, ◌∙◌, subst, arith}
+use Rattle.std.proofs.lemmas.List.{get_or-set_same}
+use Rattle.qs_objects.specs.Journals.{HeldState}
+use Rattle.qs_objects.specs.declared.Request.{Request}
+use Rattle.qs_meaning.specs.Solo.{put}
+use Rattle.qs_graph.specs.Steps.{limit}
+use Rattle.qs_graph.specs.Walk.{Move, Ends, Goes, Calls, Syncs, Queries, move, said, walk}
+use Rattle.qs_graph.specs.WellFormed.{IsGraph}
+use Rattle.qs_graph.proofs.Saying.{walk_up}
+use Rattle.qs_graph.specs.Nodes as places
+use Rattle.qs_syncset.specs.Codes.{BlockCode}
+use Rattle.qs_syncset.specs.SoundSynced.{IsSoundSynced}
+use Rattle.qs_chunk.specs.Batch.{Batch}
+use Rattle.qs_chunk.specs.declared.parcel.Parcel.TheVariants as parcels
+use Rattle.qs_client_run.specs.Acting.{HasActed, act_by, hands_by, cleared, cleared_by, full_by, with_hands, without, without_by}
+use Rattle.qs_client_run.specs.Client.{Settings, act_at, act_of, rest_act}
+use Rattle.qs_client_run.specs.Hand.{held_at, chunk_at, with_chunk}
+use Rattle.qs_client_run.specs.Minds.{client_of, place_by}
+use Rattle.qs_client_run.specs.Running.{IsOver, IsFull, IsRunning, IsLoud}
+use Rattle.qs_client_run.specs.Standing.{IsGone, IsStanding, IsSyncing, gave, handed_of}
+use Rattle.qs_client_run.specs.declared.act.Act.{Act}
+use Rattle.qs_client_run.specs.declared.act.Act.TheVariants.{Send, NeedChunk}
+use Rattle.qs_client_run.specs.declared.run.Run.{Run}
+use Rattle.qs_client_run.proofs.Going.{IsAmongEight, among_eight, sized_of}
+use Rattle.qs_client_run.proofs.Hold.{holding}
+use Rattle.qs_client_run.proofs.Clearing.{clears_sized, calls_sized, gave_cleared, full_sized, gave_full, away_at_call, away_at_sync, cleared_running, cleared_over, emptied}
+use Rattle.qs_client_run.specs.Client as clients
+use Rattle.qs_client_run.specs.declared.stage.Stage.TheVariants as stages
+
+-- what is handed out leaves nothing else to be known
+gone_at_node : (g : List places.Place) (s : Run) (h : ℕ) (x : Option HeldState) (c : Option (Batch Request)) (other : Act)
+    → IsGone g (handed_of other) s stages.Runs → IsGone g (handed_of (cleared_by h x c other)) s stages.Runs
+gone_at_node g s h (Some x) c other w = tt
+gone_at_node g s h None (Some b) other w = tt
+gone_at_node g s h None None other w = w
+
+gone_at_end : (g : List places.Place) (s : Run) (h i : ℕ) (x : Option HeldState) (c : Option (Batch Request))
+    → IsGone g (handed_of (cleared_by h x c (Send h parcels.End))) s (stages.Leaves i)
+gone_at_end g s h i (Some x) c = tt
+gone_at_end g s h i None (Some b) = tt
+gone_at_end g s h i None None = tt
+
+gone_full : (g : List places.Place) (s : Run) (h : ℕ) (c : Option (Batch Request)) → chunk_at s.hands h ≡ None
+    → IsGone g (handed_of (full_by h c)) s (stages.Full h)
+gone_full g s h (Some b) w = w
+gone_full g s h None w = tt
+
+module _ (b : BlockCode) (settings : Settings) (blocks k begun most : ℕ) where
+  -- at a call or a synchronisation with this handler
+  at_node : (n h : ℕ) (s : Run) (m : Move) (other : Act) → suc n ≤ most → s.stage ≡ stages.Runs → move b.graph s.way ≡ m → h < 8 → IsLoud m
+      → IsSoundSynced (put (holding s.hands) h false) (said (walk b.graph n) s.way.locals m)
+      → IsRunning b.graph settings.size k (suc n) s
+      → cleared_by h (held_at s.hands h) (chunk_at s.hands h) other
+      ≡ rest_act settings (client_of b.graph b.reserved begun s) (said (walk b.graph n) s.way.locals m)
+      → ((c : clients.Client) → gave c other ≡ c)
+      → IsGone b.graph (handed_of other) (with_hands s (without_by s.hands h (held_at s.hands h))) stages.Runs
+      → HasActed b settings blocks k begun most (cleared_by h (held_at s.hands h) (chunk_at s.hands h) other) s
+      (with_hands s (without_by s.hands h (held_at s.hands h)))
+  at_node n h s m other few stands is eight loud sound w act same gone =
+      let x = held_at s.hands h in
+      let c = chunk_at s.hands h in
+      let given = cleared_by h x c other in
+      let new = with_hands s (without_by s.hands h x) in
+      let tree : walk b.graph limit s.way ≡ said (walk b.graph n) s.way.locals m =
+      walk_up b.graph (suc n) limit s.way w.few w.within ∙ ap (λ (q : Move). said (walk b.graph n) s.way.locals q) is in
+      record {
+        act =
+            act
+            ∙ sym (λ i. act_at settings blocks (client_of b.graph b.reserved begun s) (place_by (stands i) b.reserved (tree i) s.way.locals));
+        rest =
+            gave_cleared begun (place_by s.stage b.reserved (walk b.graph limit s.way) s.way.locals) s.hands h other
+            (same _) (omega (arith, eight, w.held)) (omega (arith, eight, w.chunks)) x c refl refl;
+        way = refl;
+        traces = refl;
+        stage = refl;
+        standing =
+            subst (IsStanding b settings.size k most new) (sym stands)
+            ((
+              suc n,
+              few,
+              cleared_running b.graph settings.size k (suc n) h s x eight
+                  (subst (λ (q : Move). IsSoundSynced (put (holding s.hands) h false) (said (walk b.graph n) s.way.locals q)) (sym is) sound) w,
+              subst IsLoud (sym is) loud,
+            )
+            );
+        gone = subst (IsGone b.graph (handed_of given) new) (sym stands) (gone_at_node b.graph new h x c other gone);
+      }
+
+  acts_by : (n : ℕ) (s : Run) (m : Move) → suc n ≤ most → s.stage ≡ stages.Runs → move b.graph s.way ≡ m → IsAmongEight m → IsLoud m
+      → IsSoundSynced (holding s.hands) (said (walk b.graph n) s.way.locals m)
+      → IsRunning b.graph settings.size k (suc n) s
+      → HasActed b settings blocks k begun most (act_by s.hands m) s (with_hands s (hands_by s.hands m))
+  acts_by n s Ends few stands is eight loud sound w = absurd loud
+  acts_by n s (Goes t) few stands is eight loud sound w = absurd loud
+  acts_by n s (Queries r t) few stands is eight loud sound w = absurd loud
+  acts_by n s (Calls r t) few stands is eight loud sound w =
+      at_node n r.object s (Calls r t) (NeedChunk r.object) few stands is eight loud (away_at_call (holding s.hands) r (walk b.graph n t) sound) w
+      (calls_sized settings r.object (held_at s.hands r.object) (chunk_at s.hands r.object)
+      (sized_of settings.size (chunk_at s.hands r.object) (w.opened r.object)))
+      (λ c. refl) tt
+  acts_by n s (Syncs h t) few stands is eight loud sound w =
+      at_node n h s (Syncs h t) (Send h parcels.Sync) few stands is eight loud (away_at_sync (holding s.hands) h (walk b.graph n t) sound) w
+      (clears_sized settings h (held_at s.hands h) (chunk_at s.hands h) (Send h parcels.Sync)
+      (sized_of settings.size (chunk_at s.hands h) (w.opened h)))
+      (λ c. refl) (subst IsSyncing (sym is) tt)
+
+  pub acts_at_node : (n : ℕ) (s : Run) → IsGraph b.graph → n ≤ most → s.stage ≡ stages.Runs → IsLoud (move b.graph s.way)
+      → IsRunning b.graph settings.size k n s
+      → HasActed b settings blocks k begun most (act_by s.hands (move b.graph s.way)) s (with_hands s (hands_by s.hands (move b.graph s.way)))
+  acts_at_node zero s ok few stands loud w = absurd w.within
+  acts_at_node (suc n) s ok few stands loud w =
+      acts_by n s (move b.graph s.way) few stands refl (among_eight b.graph s.way ok w.within.0) loud w.sound w
+
+  pub acts_full : (n h : ℕ) (s : Run) → n ≤ most → s.stage ≡ stages.Full h → IsFull b.graph settings.size k n h s
+      → HasActed b settings blocks k begun most (full_by h (chunk_at s.hands h)) s (with_hands s (with_chunk s.hands h None))
+  acts_full n h s few stands w =
+      let c = chunk_at s.hands h in
+      let new = with_hands s (with_chunk s.hands h None) in
+      let room : h < length s.hands.chunks = omega (arith, w.handler, w.chunks) in
+      record {
+        act =
+            full_sized settings h c (w.sized h)
+            ∙ sym (λ i. act_at settings blocks (client_of b.graph b.reserved begun s) (place_by (stands i) b.reserved (walk b.graph limit s.way) s.way.locals));
+        rest = gave_full begun (place_by s.stage b.reserved (walk b.graph limit s.way) s.way.locals) s.hands h room c refl;
+        way = refl;
+        traces = refl;
+        stage = refl;
+        standing = subst (IsStanding b settings.size k most new) (sym stands) ((n, few, emptied b.graph settings.size k n h s w));
+        gone =
+            subst (IsGone b.graph (handed_of (full_by h c)) new) (sym stands)
+            (gone_full b.graph new h c (get_or-set_same s.hands.chunks h None None room));
+      }
+
+  pub acts_leaving : (i : ℕ) (s : Run) → s.stage ≡ stages.Leaves i → i < length b.reserved → get_or b.reserved i 0 < 8 → IsOver b.graph settings.size s
+      → HasActed b settings blocks k begun most (cleared s.hands (get_or b.reserved i 0) (Send (get_or b.reserved i 0) parcels.End)) s
+      (with_hands s (without s.hands (get_or b.reserved i 0)))
+  acts_leaving i s stands inside eight w =
+      let h = get_or b.reserved i 0 in
+      let x = held_at s.hands h in
+      let c = chunk_at s.hands h in
+      let given = cleared_by h x c (Send h parcels.End) in
+      let new = with_hands s (without_by s.hands h x) in
+      record {
+        act =
+            clears_sized settings h x c (Send h parcels.End) (sized_of settings.size c (w.opened h))
+            ∙ sym (λ j. act_at settings blocks (client_of b.graph b.reserved begun s) (place_by (stands j) b.reserved (walk b.graph limit s.way) s.way.locals));
+        rest =
+            gave_cleared begun (place_by s.stage b.reserved (walk b.graph limit s.way) s.way.locals) s.hands h (Send h parcels.End)
+            refl (omega (arith, eight, w.held)) (omega (arith, eight, w.chunks)) x c refl refl;
+        way = refl;
+        traces = refl;
+        stage = refl;
+        standing = subst (IsStanding b settings.size k most new) (sym stands) ((cleared_over b.graph settings.size h s x eight w, inside));
+        gone = subst (IsGone b.graph (handed_of given) new) (sym stands) (gone_at_end b.graph new h i x c);
+      }
+
+  -- an act that carries nothing
+  pub acts_empty : (s : Run) (given : Act) → given ≡ act_of settings blocks (client_of b.graph b.reserved begun s)
+      → gave (client_of b.graph b.reserved begun s) given ≡ client_of b.graph b.reserved begun s
+      → IsStanding b settings.size k most s s.stage → IsGone b.graph (handed_of given) s s.stage
+      → HasActed b settings blocks k begun most given s s
+  acts_empty s given act same w gone = record {
+    act = act;
+    rest = sym same;
+    way = refl;
+    traces = refl;
+    stage = refl;
+    standing = w;
+    gone = gone;
+  }

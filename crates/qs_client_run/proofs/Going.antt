@@ -1,0 +1,545 @@
+-- A quiet move of the data is what the client does, and keeps what it relies on.
+use Rattle.std.proofs.Common.{◌≡◌, ℕ, zero, suc, ◌+◌, ◌<◌, ◌≤◌, Bool, true, false, not, ◌==◌, ◌&&◌, if◌then◌else◌, List, [], ◌∷◌, ◌++◌, ℤ, Option, Some, None, is_some, length, get_or, refl, sym, ap, ◌∙◌, subst, arith, append-nil, append_assoc, ⊎_elim, length-append, length-set}
+use Rattle.std.proofs.lemmas.List.{get_or-set_same, get_or-set_other}
+use Rattle.qs_objects.specs.Journals.{HeldState, ran}
+use Rattle.qs_objects.specs.Parts.{logged}
+use Rattle.qs_objects.specs.declared.held.Event.{Event}
+use Rattle.qs_objects.specs.declared.Request.{Request}
+use Rattle.qs_objects.specs.declared.held.Ticket.{Ticket}
+use Rattle.qs_objects.proofs.Choices.{eqb_self, apart_eqb, and_cases, num_cases}
+use Rattle.qs_check.proofs.Bounds.{AllByRecursion-get_or}
+use Rattle.qs_meaning.specs.Solo.{put, event, value_of}
+use Rattle.qs_graph.specs.declared.node.Node.{Node}
+use Rattle.qs_graph.specs.declared.node.Action.TheVariants.{Assign, SetCount, Nothing}
+use Rattle.qs_graph.specs.declared.node.Choice.TheVariants.{If, Repeat}
+use Rattle.qs_graph.specs.WellFormed.{IsGraph, IsPlace, IsInRange}
+use Rattle.qs_graph.specs.Nodes.{Place, place_at, first_target, second_target, exit}
+use Rattle.qs_graph.specs.Steps.{limit}
+use Rattle.qs_graph.specs.Synced.{Synced, Done, Call, Sync, Query}
+use Rattle.qs_graph.specs.Walk.{Spot, Move, Ends, Goes, Calls, Syncs, Queries, move, move_by, turned, said, walk, EachNext, Within}
+use Rattle.qs_graph.proofs.Saying.{walk_up}
+use Rattle.qs_graph.specs.declared.node.Node.TheVariants as nodes
+use Rattle.qs_syncset.specs.SoundSynced.{IsSoundSynced}
+use Rattle.qs_syncset.specs.Codes.{BlockCode}
+use Rattle.qs_chunk.specs.Batch.{Batch, batch}
+use Rattle.qs_client_run.specs.Client.{Client, Settings, Settled, settle, leaving, calls, queries, stays, with_event, runs, full}
+use Rattle.qs_client_run.specs.Hand.{HandsState, held_at, chunk_at, with_held, with_chunk}
+use Rattle.qs_client_run.specs.Trail.{TraceState, trace_state, trace_at, noted, noted_at}
+use Rattle.qs_client_run.specs.Minds.{items_of, client_with, client_of, place_of, place_by, outcome, coming, reached, HasSettled}
+use Rattle.qs_client_run.specs.Standing.{IsStanding, HasSent, resumed}
+use Rattle.qs_client_run.specs.Running.{IsRunning, IsFull, IsStopped, IsLoud, IsOpen, IsSized, KeepsRows, Fits, goes_to, called_by, called, asked_by, asked, synced, ended, moved_by, moved}
+use Rattle.qs_client_run.specs.declared.run.Run.{Run}
+use Rattle.qs_client_run.specs.declared.run.Terms.{Terms}
+use Rattle.qs_client_run.specs.declared.stage.Stage.{Stage}
+use Rattle.qs_client_run.proofs.Hold.{held_put, items_put, holding, holding_put, put_same, chunk_each}
+use Rattle.qs_client_run.specs.Client as clients
+use Rattle.qs_client_run.specs.declared.stage.Handed.TheVariants as handeds
+use Rattle.qs_client_run.specs.declared.stage.Stage.TheVariants as stages
+
+-- the handlers that a move names are among the 8
+abbrev pub IsAmongEight : Move → Type 0
+IsAmongEight (Calls r t) = r.object < 8
+IsAmongEight (Syncs h t) = h < 8
+IsAmongEight (Queries r t) = r.object < 8
+IsAmongEight m = Unit {0}
+
+pub sized_of : (size : ℕ) (c : Option (Batch Request)) → IsOpen size c → IsSized size c
+sized_of size None h = tt
+sized_of size (Some b) h = h.0
+
+below : (n capacity size : ℕ) → (n == capacity) ≡ false → capacity ≡ size → n ≤ size → n < size
+below n capacity size e same h = let apart = apart_eqb n capacity e in omega (arith, apart)
+
+-- an event that enters a trace before the others
+noted_on : (tr : List Event) (e : Event) (z : Settled) (t : TraceState) → t.events ≡ tr ++ e ∷ [] → outcome tr (with_event e z) ≡ outcome t.events z
+noted_on tr e z t same =
+    (λ i. record { client = z.client; trace = sym (append_assoc tr (e ∷ []) z.events) i })
+    ∙ (λ i. record { client = z.client; trace = sym same i ++ z.events })
+
+eight_by : (v : Node) (s : Spot) (a b : ℕ) → IsInRange v → IsAmongEight (move_by v s a b)
+eight_by nodes.Entry s a b h = tt
+eight_by (nodes.Local x) s a b h = tt
+eight_by (nodes.Branch x) s a b h = tt
+eight_by (nodes.Sync o) s a b h = h
+eight_by (nodes.Query x c) s a b h = h.1.0
+eight_by (nodes.Call c) s a b h = h.0
+eight_by nodes.Exit s a b h = tt
+
+pub among_eight : (g : List Place) (s : Spot) → IsGraph g → s.node < length g → IsAmongEight (move g s)
+unfolding move
+among_eight g s ok inside =
+    let here : IsPlace (length g) (place_at g s.node) = AllByRecursion-get_or (IsPlace (length g)) g s.node exit ok.places inside in
+    eight_by (place_at g s.node).node s (first_target (place_at g s.node)) (second_target (place_at g s.node)) here.in_range
+
+turned_counts : (k : ℕ) (s : Spot) (a b : ℕ) → length (turned k s a b).counts ≡ length s.counts
+turned_counts zero s a b = refl
+turned_counts (suc k) s a b = length-set s.counts s.node k
+
+counts_by : (v : Node) (s : Spot) (a b : ℕ) → EachNext (λ t. length t.counts ≡ length s.counts) (move_by v s a b)
+counts_by nodes.Entry s a b = refl
+counts_by (nodes.Local (Assign x e)) s a b = refl
+counts_by (nodes.Local (SetCount k)) s a b = length-set s.counts a k
+counts_by (nodes.Local Nothing) s a b = refl
+counts_by (nodes.Branch (If t)) s a b = refl
+counts_by (nodes.Branch Repeat) s a b = turned_counts (get_or s.counts s.node 0) s a b
+counts_by (nodes.Sync o) s a b = refl
+counts_by (nodes.Query x c) s a b = λ v. refl
+counts_by (nodes.Call c) s a b = refl
+counts_by nodes.Exit s a b = tt
+
+-- a move leaves as many counts
+pub counts_kept : (g : List Place) (s : Spot) → EachNext (λ t. length t.counts ≡ length s.counts) (move g s)
+unfolding move
+counts_kept g s = counts_by (place_at g s.node).node s (first_target (place_at g s.node)) (second_target (place_at g s.node))
+
+enough_counts : (m k : ℕ) (x : Move) → m ≤ k → EachNext (λ t. length t.counts ≡ k) x → EachNext (λ t. m ≤ length t.counts) x
+enough_counts m k Ends h w = tt
+enough_counts m k (Goes t) h w = omega (arith, h, w)
+enough_counts m k (Calls r t) h w = omega (arith, h, w)
+enough_counts m k (Syncs o t) h w = omega (arith, h, w)
+enough_counts m k (Queries r t) h w = λ v. omega (arith, h, w v)
+
+pub keeps_rows : (k : ℕ) (ts : List TraceState) → KeepsRows k ts ts
+keeps_rows k ts = record { count = refl; others = λ j other. refl }
+
+pub keeps_both : (k : ℕ) (a b c : List TraceState) → KeepsRows k a b → KeepsRows k b c → KeepsRows k a c
+keeps_both k a b c v w = record { count = w.count ∙ v.count; others = λ j other. w.others j other ∙ v.others j other }
+
+keeps_noted : (k : ℕ) (ts : List TraceState) (e : Event) → KeepsRows k ts (noted_at ts k e)
+keeps_noted k ts e = record {
+  count = length-set ts k (noted (trace_at ts k) e);
+  others = λ j other. get_or-set_other ts k j (noted (trace_at ts k) e) (trace_state [] 0) (λ same. apart_eqb k j other (sym same));
+}
+
+called_rows : (k : ℕ) (r : Request) (t : Spot) (s : Run) (x : Option HeldState) (b : Option (Batch Request)) → KeepsRows k s.traces (called_by k r t s x b).0.traces
+called_rows k r t s (Some x) b = keeps_rows k s.traces
+called_rows k r t s None None = keeps_rows k s.traces
+called_rows k r t s None (Some b) = keeps_noted k s.traces (logged r)
+
+asked_rows : (u : Ticket) (r : Request) (t : ℤ → Spot) (s : Run) (x : Option HeldState) → KeepsRows u.index s.traces (asked_by u r t s x).0.traces
+asked_rows u r t s None = keeps_rows u.index s.traces
+asked_rows u r t s (Some x) = keeps_noted u.index s.traces (event r (ran x u r).1)
+
+synced_rows : (k : ℕ) (b : Bool) (s : Run) (t : Spot) → KeepsRows k s.traces (let z : Run × Bool = if b then (goes_to s t, true) else (s, false) in z).0.traces
+synced_rows k true s t = keeps_rows k s.traces
+synced_rows k false s t = keeps_rows k s.traces
+
+called_counts : (m k : ℕ) (r : Request) (t : Spot) (s : Run) (x : Option HeldState) (b : Option (Batch Request)) → length s.way.counts ≡ m → length t.counts ≡ m
+    → length (called_by k r t s x b).0.way.counts ≡ m
+called_counts m k r t s (Some x) b h w = h
+called_counts m k r t s None None h w = h
+called_counts m k r t s None (Some b) h w = w
+
+asked_counts : (m : ℕ) (u : Ticket) (r : Request) (t : ℤ → Spot) (s : Run) (x : Option HeldState) → length s.way.counts ≡ m → ((v : ℤ) → length (t v).counts ≡ m)
+    → length (asked_by u r t s x).0.way.counts ≡ m
+asked_counts m u r t s None h w = h
+asked_counts m u r t s (Some x) h w = w (value_of (ran x u r).1)
+
+synced_counts : (m : ℕ) (b : Bool) (s : Run) (t : Spot) → length s.way.counts ≡ m → length t.counts ≡ m
+    → length (let z : Run × Bool = if b then (goes_to s t, true) else (s, false) in z).0.way.counts ≡ m
+synced_counts m true s t h w = w
+synced_counts m false s t h w = h
+
+moved_counts : (terms : Terms) (reserved : List ℕ) (m : ℕ) (x : Move) (s : Run) → length s.way.counts ≡ m → EachNext (λ t. length t.counts ≡ m) x
+    → length (moved_by terms reserved x s).0.way.counts ≡ m
+moved_counts terms reserved m Ends s h w = h
+moved_counts terms reserved m (Goes t) s h w = w
+moved_counts terms reserved m (Calls r t) s h w = called_counts m terms.ticket.index r t s (held_at s.hands r.object) (chunk_at s.hands r.object) h w
+moved_counts terms reserved m (Syncs o t) s h w = synced_counts m (terms.dynamic && is_some (held_at s.hands o)) s t h w
+moved_counts terms reserved m (Queries r t) s h w = asked_counts m terms.ticket r t s (held_at s.hands r.object) h w
+
+all_counts : (g : List Place) (terms : Terms) (reserved : List ℕ) (s : Run) → length (moved g terms reserved s).0.way.counts ≡ length s.way.counts
+all_counts g terms reserved s = moved_counts terms reserved (length s.way.counts) (move g s.way) s refl (counts_kept g s.way)
+
+rows_by : (terms : Terms) (reserved : List ℕ) (m : Move) (s : Run) → KeepsRows terms.ticket.index s.traces (moved_by terms reserved m s).0.traces
+rows_by terms reserved Ends s = keeps_rows terms.ticket.index s.traces
+rows_by terms reserved (Goes t) s = keeps_rows terms.ticket.index s.traces
+rows_by terms reserved (Calls r t) s = called_rows terms.ticket.index r t s (held_at s.hands r.object) (chunk_at s.hands r.object)
+rows_by terms reserved (Syncs h t) s = synced_rows terms.ticket.index (terms.dynamic && is_some (held_at s.hands h)) s t
+rows_by terms reserved (Queries r t) s = asked_rows terms.ticket r t s (held_at s.hands r.object)
+
+rows_kept : (g : List Place) (terms : Terms) (reserved : List ℕ) (s : Run) → KeepsRows terms.ticket.index s.traces (moved g terms reserved s).0.traces
+rows_kept g terms reserved s = rows_by terms reserved (move g s.way) s
+
+-- within fewer nodes, within more
+pub stopped_up : (g : List Place) (reserved : List ℕ) (size k a b : ℕ) (s : Run) (stage : Stage) → a ≤ b → IsStopped g reserved size k a s stage → IsStopped g reserved size k b s stage
+stopped_up g reserved size k a b s stages.Runs h w = (w.0, omega (arith, h, w.1), w.2, w.3)
+stopped_up g reserved size k a b s (stages.Full x) h w = (w.0, omega (arith, h, w.1), w.2)
+stopped_up g reserved size k a b s (stages.Awaits x) h w = w
+stopped_up g reserved size k a b s (stages.Leaves i) h w = w
+stopped_up g reserved size k a b s stages.Between h w = w
+
+module _ (g : List Place) (settings : Settings) (terms : Terms) (reserved : List ℕ) (begun : ℕ) (p : clients.Place) where
+  -- what a quiet move leaves of the tree: it goes on, or the client has come to its next act
+  abbrev pub Leaves : ℕ → Synced → Run → Run × Bool → Type 0
+  Leaves n tree s (s', true) = IsRunning g settings.size terms.ticket.index n s' × (s'.stage ≡ s.stage) × (coming settings terms.ticket reserved begun p tree s ≡ coming settings terms.ticket reserved begun p (walk g n s'.way) s')
+  Leaves n tree s (s', false) = IsStopped g reserved settings.size terms.ticket.index (suc n) s' s'.stage × (coming settings terms.ticket reserved begun p tree s ≡ reached g reserved begun terms.ticket.index s')
+
+  -- what is known of a client before a move m, within n nodes after it
+  pub record Ready (n : ℕ) (s : Run) (m : Move) : Type 0 where
+    pub whole : IsRunning g settings.size terms.ticket.index (suc n) s
+    pub is : move g s.way ≡ m
+    pub next : EachNext (Within g n) m
+    pub sound : IsSoundSynced (holding s.hands) (said (walk g n) s.way.locals m)
+    pub fits : Fits (trace_at s.traces terms.ticket.index).room (said (walk g n) s.way.locals m)
+    pub counted : EachNext (λ t. length g ≤ length t.counts) m
+    pub eight : IsAmongEight m
+    pub stands : s.stage ≡ stages.Runs
+    pub tree : walk g limit s.way ≡ said (walk g n) s.way.locals m
+    pub dynamic : settings.dynamic ≡ terms.dynamic
+
+  -- the client stays, and its next act is the move's
+  pub stays_here : (n : ℕ) (s : Run) (m : Move) → Ready n s m → IsLoud m
+      → IsStopped g reserved settings.size terms.ticket.index (suc n) s s.stage
+      × (outcome (trace_at s.traces terms.ticket.index).events (stays (client_with begun p s.hands) (runs (said (walk g n) s.way.locals m)))
+      ≡ reached g reserved begun terms.ticket.index s)
+  stays_here n s m w loud = (
+    subst (IsStopped g reserved settings.size terms.ticket.index (suc n) s) (sym w.stands) (suc n, omega arith, w.whole, subst IsLoud (sym w.is) loud),
+    λ i. record {
+      client = client_with begun (place_by (sym w.stands i) reserved (sym w.tree i) s.way.locals) s.hands;
+      trace = append-nil (trace_at s.traces terms.ticket.index).events i;
+    },
+  )
+
+  goes_case : (n : ℕ) (s : Run) (t : Spot) → Ready n s (Goes t) → Leaves n (walk g n t) s (goes_to s t, true)
+  goes_case n s t w = (
+    record {
+      few = omega (arith, w.whole.few);
+      within = w.next;
+      counted = w.counted;
+      sound = w.sound;
+      fits = w.fits;
+      row = w.whole.row;
+      held = w.whole.held;
+      chunks = w.whole.chunks;
+      opened = w.whole.opened;
+    },
+    refl,
+    refl,
+  )
+
+  ends_case : (n : ℕ) (s : Run) → Ready n s Ends → Leaves n (Done s.way.locals) s (ended reserved s)
+  ends_case n s w = by_list reserved
+    where
+      by_list : (hs : List ℕ) → IsStopped g hs settings.size terms.ticket.index (suc n) (ended hs s).0 (ended hs s).0.stage
+          × (outcome (trace_at s.traces terms.ticket.index).events (leaving settings terms.ticket hs (client_with begun p s.hands) hs s.way.locals) ≡ reached g hs begun terms.ticket.index (ended hs s).0)
+      by_list [] = (record { held = w.whole.held; chunks = w.whole.chunks; opened = w.whole.opened }, λ i. record { client = client_with begun (clients.between s.way.locals) s.hands; trace = append-nil (trace_at s.traces terms.ticket.index).events i })
+      by_list (h ∷ hs) = ((record { held = w.whole.held; chunks = w.whole.chunks; opened = w.whole.opened }, omega arith), λ i. record { client = client_with begun (clients.leaves h hs s.way.locals) s.hands; trace = append-nil (trace_at s.traces terms.ticket.index).events i })
+
+  syncs_case : (n : ℕ) (s : Run) (h : ℕ) (t : Spot) → Ready n s (Syncs h t) → Leaves n (Sync h (walk g n t)) s (synced terms.dynamic h t s)
+  syncs_case n s h t w = by_test (terms.dynamic && is_some (held_at s.hands h)) refl
+    where
+      tr : List Event
+      tr = (trace_at s.traces terms.ticket.index).events
+
+      c : Client
+      c = client_with begun p s.hands
+
+      by_test : (b : Bool) → (terms.dynamic && is_some (held_at s.hands h)) ≡ b
+          → Leaves n (Sync h (walk g n t)) s (if b then (goes_to s t, true) else (s, false))
+      by_test true e = (
+        record {
+          few = omega (arith, w.whole.few);
+          within = w.next;
+          counted = w.counted;
+          sound = subst (λ f. IsSoundSynced f (walk g n t)) (put_same (holding s.hands) h true (and_cases terms.dynamic (is_some (held_at s.hands h)) e).1) w.sound;
+          fits = w.fits;
+          row = w.whole.row;
+          held = w.whole.held;
+          chunks = w.whole.chunks;
+          opened = w.whole.opened;
+        },
+        refl,
+        ap (λ (b : Bool). outcome tr (if b then settle settings terms.ticket reserved (walk g n t) c else stays c (runs (Sync h (walk g n t)))))
+            (ap (λ (d : Bool). d && is_some (held_at s.hands h)) w.dynamic ∙ e),
+      )
+      by_test false e =
+          let here = stays_here n s (Syncs h t) w tt in (
+            here.0,
+            ap (λ (b : Bool). outcome tr (if b then settle settings terms.ticket reserved (walk g n t) c else stays c (runs (Sync h (walk g n t)))))
+                (ap (λ (d : Bool). d && is_some (held_at s.hands h)) w.dynamic ∙ e) ∙ here.1,
+          )
+
+  calls_case : (n : ℕ) (s : Run) (r : Request) (t : Spot) → Ready n s (Calls r t) → Leaves n (Call r (walk g n t)) s (called terms.ticket.index r t s)
+  calls_case n s r t w = by_hands (held_at s.hands r.object) (chunk_at s.hands r.object) refl refl
+    where
+      k : ℕ
+      k = terms.ticket.index
+
+      tr : List Event
+      tr = (trace_at s.traces k).events
+
+      go : Client → Settled
+      go m = settle settings terms.ticket reserved (walk g n t) m
+
+      c : Client
+      c = client_with begun p s.hands
+
+      does : Option HeldState → Option (Batch Request) → Settled
+      does x b = calls settings terms.ticket reserved c r (walk g n t) go x (items_of b)
+
+      by_hands : (x : Option HeldState) (b : Option (Batch Request)) → held_at s.hands r.object ≡ x → chunk_at s.hands r.object ≡ b
+          → Leaves n (Call r (walk g n t)) s (called_by k r t s x b)
+      by_hands (Some x) b e f =
+          let here = stays_here n s (Calls r t) w tt in (here.0, (λ i. outcome tr (does (e i) (f i))) ∙ here.1)
+      by_hands None None e f =
+          let here = stays_here n s (Calls r t) w tt in (here.0, (λ i. outcome tr (does (e i) (f i))) ∙ here.1)
+      by_hands None (Some b) e f = by_full (length items == b.capacity) refl
+        where
+          items : List Request
+          items = b.items ++ r ∷ []
+
+          more : Batch Request
+          more = batch items b.capacity
+
+          hands : HandsState
+          hands = with_chunk s.hands r.object (Some more)
+
+          inside : r.object < length s.hands.chunks
+          inside = omega (arith, w.eight, w.whole.chunks)
+
+          open_b : IsOpen settings.size (Some b)
+          open_b = subst (IsOpen settings.size) f (w.whole.opened r.object)
+
+          ts : List TraceState
+          ts = noted_at s.traces k (logged r)
+
+          row : trace_at ts k ≡ noted (trace_at s.traces k) (logged r)
+          row = get_or-set_same s.traces k (noted (trace_at s.traces k) (logged r)) (trace_state [] 0) w.whole.row
+
+          sound : IsSoundSynced (holding s.hands) (walk g n t)
+          sound = subst (λ q. IsSoundSynced q (walk g n t)) (put_same (holding s.hands) r.object false (ap (λ (y : Option HeldState). is_some y) e)) w.sound
+
+          fits : Fits (trace_at ts k).room (walk g n t)
+          fits = subst (λ (y : TraceState). Fits y.room (walk g n t)) (sym row) w.fits.1
+
+          new : Bool → Run
+          new d = record { way = t; hands = hands; traces = ts; stage = if d then stages.Full r.object else s.stage }
+
+          after : (ℕ → Option (List Request)) → Client
+          after chunk = record { begun = begun; place = p; held = held_at s.hands; chunk = chunk }
+
+          ends : Client → Bool → Settled
+          ends m d = if d then stays m (full r.object (walk g n t)) else go m
+
+          begins : (d : Bool) → (length items == b.capacity) ≡ d → coming settings terms.ticket reserved begun p (Call r (walk g n t)) s ≡ outcome (trace_at ts k).events (ends (client_with begun p hands) d)
+          begins d i_full =
+              (λ i. outcome tr (does (e i) (f i)))
+              ∙ ap (λ z. outcome tr (with_event (logged r) (ends (after (put (λ h. items_of (chunk_at s.hands h)) r.object (Some items))) (length items == z)))) (sym open_b.0)
+              ∙ ap (λ d. outcome tr (with_event (logged r) (ends (after (put (λ h. items_of (chunk_at s.hands h)) r.object (Some items))) d))) i_full
+              ∙ ap (λ q. outcome tr (with_event (logged r) (ends (after q) d))) (sym (items_put s.hands r.object (Some more) inside))
+              ∙ noted_on tr (logged r) (ends (client_with begun p hands) d) (trace_at ts k) (ap (λ (y : TraceState). y.events) row)
+
+          by_full : (d : Bool) → (length items == b.capacity) ≡ d → Leaves n (Call r (walk g n t)) s (new d, not d)
+          by_full true i_full = (
+            (
+              n,
+              omega arith,
+              record {
+                few = omega (arith, w.whole.few);
+                within = w.next;
+                counted = w.counted;
+                sound = sound;
+                fits = fits;
+                row = omega (arith, w.whole.row, length-set s.traces k (noted (trace_at s.traces k) (logged r)));
+                held = w.whole.held;
+                chunks = length-set s.hands.chunks r.object (Some more) ∙ w.whole.chunks;
+                handler = w.eight;
+                sized = chunk_each (λ j c. IsSized settings.size c) s.hands r.object (Some more) inside open_b.0 (λ j other. sized_of settings.size (chunk_at s.hands j) (w.whole.opened j));
+                others = λ j other. chunk_each (λ j c. (r.object == j) ≡ false → IsOpen settings.size c) s.hands r.object (Some more) inside
+                    (λ no. absurd (let yes = eqb_self r.object in cc)) (λ j other no. w.whole.opened j) j other;
+              },
+            ),
+            begins true i_full
+                ∙ (λ i. record {
+                  client = client_with begun (full r.object (sym (walk_up g n limit t (omega (arith, w.whole.few)) w.next) i)) hands;
+                  trace = append-nil (trace_at ts k).events i;
+                }),
+          )
+          by_full false i_full = (
+            record {
+              few = omega (arith, w.whole.few);
+              within = w.next;
+              counted = w.counted;
+              sound = sound;
+              fits = fits;
+              row = omega (arith, w.whole.row, length-set s.traces k (noted (trace_at s.traces k) (logged r)));
+              held = w.whole.held;
+              chunks = length-set s.hands.chunks r.object (Some more) ∙ w.whole.chunks;
+              opened = chunk_each (λ j c. IsOpen settings.size c) s.hands r.object (Some more) inside
+                  (open_b.0, below (length items) b.capacity settings.size i_full open_b.0 (omega (arith, length-append b.items (r ∷ []), open_b.1))) (λ j other. w.whole.opened j);
+            },
+            refl,
+            begins false i_full,
+          )
+
+  queries_case : (n : ℕ) (s : Run) (r : Request) (t : ℤ → Spot) → Ready n s (Queries r t)
+      → Leaves n (Query r (λ v. walk g n (t v))) s (asked terms.ticket r t s)
+  queries_case n s r t w = by_held (held_at s.hands r.object) refl
+    where
+      k : ℕ
+      k = terms.ticket.index
+
+      tr : List Event
+      tr = (trace_at s.traces k).events
+
+      after : (ℕ → Option HeldState) → Client
+      after held = record { begun = begun; place = p; held = held; chunk = λ h. items_of (chunk_at s.hands h) }
+
+      by_held : (x : Option HeldState) → held_at s.hands r.object ≡ x → Leaves n (Query r (λ v. walk g n (t v))) s (asked_by terms.ticket r t s x)
+      by_held None e = absurd (let no : is_some (held_at s.hands r.object) ≡ false = ap (λ (y : Option HeldState). is_some y) e in let yes = w.sound.0 in cc)
+      by_held (Some x) e =
+          let o : HeldState × Option ℤ = ran x terms.ticket r in
+          let put_in : r.object < length s.hands.held = omega (arith, w.eight, w.whole.held) in
+          let hands : HandsState = with_held s.hands r.object (Some o.0) in
+          let row : trace_at (noted_at s.traces k (event r o.1)) k ≡ noted (trace_at s.traces k) (event r o.1) =
+          get_or-set_same s.traces k (noted (trace_at s.traces k) (event r o.1)) (trace_state [] 0) w.whole.row in
+          let same : holding hands ≡ holding s.hands =
+          holding_put s.hands r.object (Some o.0) put_in ∙ put_same (holding s.hands) r.object true (ap (λ (y : Option HeldState). is_some y) e) in (
+            record {
+              few = omega (arith, w.whole.few);
+              within = w.next (value_of o.1);
+              counted = w.counted (value_of o.1);
+              sound = subst (λ f. IsSoundSynced f (walk g n (t (value_of o.1)))) (sym same) (w.sound.1 (value_of o.1));
+              fits = subst (λ (y : TraceState). Fits y.room (walk g n (t (value_of o.1)))) (sym row) (w.fits.1 (value_of o.1));
+              row = omega (arith, w.whole.row, length-set s.traces k (noted (trace_at s.traces k) (event r o.1)));
+              held = length-set s.hands.held r.object (Some o.0) ∙ w.whole.held;
+              chunks = w.whole.chunks;
+              opened = w.whole.opened;
+            },
+            refl,
+            ap (λ (y : Option HeldState). outcome tr (queries settings terms.ticket reserved (client_with begun p s.hands) r (λ v. walk g n (t v)) (λ v m. settle settings terms.ticket reserved (walk g n (t v)) m) y)) e
+                ∙ (λ i. outcome tr (with_event (event r o.1) (settle settings terms.ticket reserved (walk g n (t (value_of o.1))) (after (sym (held_put s.hands r.object (Some o.0) put_in) i)))))
+                ∙ noted_on tr (event r o.1) (settle settings terms.ticket reserved (walk g n (t (value_of o.1))) (client_with begun p hands)) (trace_at (noted_at s.traces k (event r o.1)) k) (ap (λ (y : TraceState). y.events) row),
+          )
+
+  by_move : (n : ℕ) (s : Run) (m : Move) → Ready n s m → Leaves n (said (walk g n) s.way.locals m) s (moved_by terms reserved m s)
+  by_move n s Ends w = ends_case n s w
+  by_move n s (Goes t) w = goes_case n s t w
+  by_move n s (Calls r t) w = calls_case n s r t w
+  by_move n s (Syncs h t) w = syncs_case n s h t w
+  by_move n s (Queries r t) w = queries_case n s r t w
+
+  pub ready : (n : ℕ) (s : Run) → IsGraph g → settings.dynamic ≡ terms.dynamic → s.stage ≡ stages.Runs → IsRunning g settings.size terms.ticket.index (suc n) s
+      → Ready n s (move g s.way)
+  ready n s ok dynamic stands w = record {
+    whole = w;
+    is = refl;
+    next = w.within.1;
+    sound = w.sound;
+    fits = w.fits;
+    counted = enough_counts (length g) (length s.way.counts) (move g s.way) w.counted (counts_kept g s.way);
+    eight = among_eight g s.way ok w.within.0;
+    stands = stands;
+    tree = walk_up g (suc n) limit s.way w.few w.within;
+    dynamic = dynamic;
+  }
+
+  pub quiet : (n : ℕ) (s : Run) → IsGraph g → settings.dynamic ≡ terms.dynamic → s.stage ≡ stages.Runs → IsRunning g settings.size terms.ticket.index (suc n) s
+      → Leaves n (walk g (suc n) s.way) s (moved g terms reserved s)
+  quiet n s ok dynamic stands w = by_move n s (move g s.way) (ready n s ok dynamic stands w)
+
+  leaves_on : (n : ℕ) (tree : Synced) (s : Run) (r : Run × Bool) → r.1 ≡ true → Leaves n tree s r → Leaves n tree s (r.0, true)
+  leaves_on n tree s (t, true) e w = w
+  leaves_on n tree s (t, false) e w = absurd (cc)
+
+  leaves_off : (n : ℕ) (tree : Synced) (s : Run) (r : Run × Bool) → r.1 ≡ false → Leaves n tree s r → Leaves n tree s (r.0, false)
+  leaves_off n tree s (t, true) e w = absurd (cc)
+  leaves_off n tree s (t, false) e w = w
+
+  -- the client went on from s to t
+  pub record WentOn (m turn : ℕ) (s t : Run) : Type 0 where
+    pub stands : t.stage ≡ stages.Runs
+    pub left : ℕ
+    pub few : left + turn ≤ limit
+    pub fewer : left ≤ m
+    pub rows : KeepsRows terms.ticket.index s.traces t.traces
+    pub counts : length t.way.counts ≡ length s.way.counts
+    pub running : IsRunning g settings.size terms.ticket.index left t
+    pub same : coming settings terms.ticket reserved begun p (walk g m s.way) s ≡ coming settings terms.ticket reserved begun p (walk g left t.way) t
+
+  pub goes_on : (m turn : ℕ) (s t : Run) → IsGraph g → settings.dynamic ≡ terms.dynamic → s.stage ≡ stages.Runs → IsRunning g settings.size terms.ticket.index m s
+      → m + turn ≤ limit → t ≡ (moved g terms reserved s).0 → (moved g terms reserved s).1 ≡ true → WentOn m (turn + 1) s t
+  goes_on zero turn s t ok dynamic stands w few new on = absurd w.within
+  goes_on (suc m) turn s t ok dynamic stands w few new on =
+      let done = leaves_on m (walk g (suc m) s.way) s (moved g terms reserved s) on (quiet m s ok dynamic stands w) in
+      subst (λ u. WentOn (suc m) (turn + 1) s u) (sym new) (record { stands = done.1 ∙ stands; left = m; few = omega (arith, few); fewer = omega arith; rows = rows_kept g terms reserved s; counts = all_counts g terms reserved s; running = done.0; same = done.2 })
+
+  pub stops : (m : ℕ) (s t : Run) → IsGraph g → settings.dynamic ≡ terms.dynamic → s.stage ≡ stages.Runs → IsRunning g settings.size terms.ticket.index m s
+      → t ≡ (moved g terms reserved s).0 → (moved g terms reserved s).1 ≡ false → HasSettled g settings terms.ticket reserved begun p m s t
+  stops zero s t ok dynamic stands w new off = absurd w.within
+  stops (suc m) s t ok dynamic stands w new off =
+      let done = leaves_off m (walk g (suc m) s.way) s (moved g terms reserved s) off (quiet m s ok dynamic stands w) in
+      subst (HasSettled g settings terms.ticket reserved begun p (suc m) s) (sym new) (record { stopped = done.0; rows = rows_kept g terms reserved s; counts = all_counts g terms reserved s; same = done.1 })
+
+-- where it stopped it may stand until its next act
+pub standing_of : (b : BlockCode) (size k less most : ℕ) (s : Run) (stage : Stage) → less ≤ most → IsStopped b.graph b.reserved size k less s stage
+    → IsStanding b size k most s stage
+standing_of b size k less most s stages.Runs h w = stopped_up b.graph b.reserved size k less most s stages.Runs h w
+standing_of b size k less most s (stages.Full x) h w = stopped_up b.graph b.reserved size k less most s (stages.Full x) h w
+standing_of b size k less most s (stages.Awaits x) h w = absurd w
+standing_of b size k less most s (stages.Leaves i) h w = w
+standing_of b size k less most s stages.Between h w = w
+
+room_again : (size h j : ℕ) (c : Option (Batch Request)) → ((h == j) ≡ false → IsOpen size c) → (h ≡ j → c ≡ None) → IsOpen size c
+room_again size h j c others gone =
+    ⊎_elim (λ (is : h ≡ j). subst (IsOpen size) (sym (gone is)) tt) (λ (other : (h == j) ≡ false). others other) (num_cases h j)
+
+-- once the full chunk went, the client may go on
+pub full_running : (g : List Place) (size k n h : ℕ) (s : Run) → chunk_at s.hands h ≡ None → IsFull g size k n h s → IsRunning g size k n s
+full_running g size k n h s gone w = record {
+  few = w.few;
+  within = w.within;
+  counted = w.counted;
+  sound = w.sound;
+  fits = w.fits;
+  row = w.row;
+  held = w.held;
+  chunks = w.chunks;
+  opened = λ j. room_again size h j (chunk_at s.hands j) (w.others j) (λ is. subst (λ m. chunk_at s.hands m ≡ None) is gone);
+}
+
+-- a client that goes on from here, with a stage that lets it
+pub resumes : (b : BlockCode) (settings : Settings) (ticket : Ticket) (begun n most : ℕ) (old new : Run) (stage : Stage) → old.stage ≡ stage → n ≤ most
+    → ((m : Client) (rest : Synced) → resumed settings ticket b.reserved m (place_by stage b.reserved rest old.way.locals) ≡ settle settings ticket b.reserved rest m)
+    → IsRunning b.graph settings.size ticket.index n old
+    → HasSettled b.graph settings ticket b.reserved begun (place_of b.graph b.reserved old) n old new → HasSent b settings ticket begun most handeds.Value old new
+resumes b settings ticket begun n most old new stage at few on w done = record {
+  standing = standing_of b settings.size ticket.index n most new new.stage few done.stopped;
+  rows = done.rows;
+  counts = done.counts;
+  same =
+      let tr = (trace_at old.traces ticket.index).events in
+      let rest = walk b.graph limit old.way in
+      let m = client_of b.graph b.reserved begun old in
+      (λ i. outcome tr (resumed settings ticket b.reserved m (place_by (at i) b.reserved rest old.way.locals)))
+      ∙ ap (outcome tr) (on m rest)
+      ∙ ap (λ tree. outcome tr (settle settings ticket b.reserved tree m)) (walk_up b.graph n limit old.way w.few w.within)
+      ∙ done.same;
+}
+
+-- where it stands does not matter to its quiet moves
+pub restaged : (g : List Place) (size k n : ℕ) (s : Run) (stage : Stage) → IsRunning g size k n s
+    → IsRunning g size k n (record { way = s.way; hands = s.hands; traces = s.traces; stage = stage })
+restaged g size k n s stage w = record {
+  few = w.few;
+  within = w.within;
+  counted = w.counted;
+  sound = w.sound;
+  fits = w.fits;
+  row = w.row;
+  held = w.held;
+  chunks = w.chunks;
+  opened = w.opened;
+}
+
+pub settled_at : (g q : List Place) (reserved list : List ℕ) (settings : Settings) (ticket : Ticket) (begun : ℕ) (p : clients.Place) (n : ℕ) (s new : Run) (stage : Stage)
+    → g ≡ q → reserved ≡ list
+    → HasSettled g settings ticket reserved begun p n (record { way = s.way; hands = s.hands; traces = s.traces; stage = stage }) new
+    → HasSettled q settings ticket list begun p n s new
+settled_at g q reserved list settings ticket begun p n s new stage e f w =
+    subst (λ x. HasSettled q settings ticket x begun p n s new) f
+    (
+    subst (λ x. HasSettled x settings ticket reserved begun p n s new) e
+    (record { stopped = w.stopped; rows = w.rows; counts = w.counts; same = w.same })
+    )

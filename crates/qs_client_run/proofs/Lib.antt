@@ -1,0 +1,11 @@
+pub mod Acting
+pub mod Clearing
+pub mod Codes
+pub mod Coming
+pub mod Going
+pub mod Hold
+pub mod Moves
+pub mod Parting
+pub mod Rooms
+pub mod Sending
+pub mod Steps

@@ -1,0 +1,52 @@
+use Rattle.std.proofs.Common.{◌≡◌, ℕ, refl, sym, ap, ◌∙◌, subst}
+use Rattle.qs_check.specs.declared.code.Call as calls
+use Rattle.qs_graph.specs.declared.node.Node.{Node}
+use Rattle.qs_graph.specs.Nodes.{place_at, first_target, second_target}
+use Rattle.qs_graph.specs.Walk.{Move, Spot, move_by}
+use Rattle.qs_graph.specs.declared.node.Node.TheVariants as nodes
+use Rattle.qs_client_run.specs.Acting.{act_by, hands_by, with_hands}
+use Rattle.qs_client_run.specs.Running.{IsLoud}
+use Rattle.qs_client_run.specs.declared.run.Run.{Run}
+use Rattle.qs_client_run.proofs.Moves.{moves}
+use Rattle.qs_client_run.proofs.run.Run.act_at_node.Goals as goal
+
+neither : (v : Node) (s : Spot) (a b : ℕ) → IsLoud (move_by v s a b) → ((x : ℕ) → v ≡ nodes.Sync x → ⊥) → ((x : calls.Call) → v ≡ nodes.Call x → ⊥) → ⊥
+neither nodes.Entry s a b loud sync call = loud
+neither (nodes.Local x) s a b loud sync call = loud
+neither (nodes.Branch x) s a b loud sync call = loud
+neither (nodes.Sync x) s a b loud sync call = sync x refl
+neither (nodes.Query x c) s a b loud sync call = loud
+neither (nodes.Call c) s a b loud sync call = call c refl
+neither nodes.Exit s a b loud sync call = loud
+
+pub unreachable-requires : goal.unreachable-requires
+unreachable-requires c =
+    let s : Run = c.args.self.now in
+    let g = c.args.graph.now in
+    let is : c.node-2.result.now ≡ (place_at g s.way.node).node = c.node-2.ensures.value ∙ ap (λ n. (place_at g n).node) c.node.ensures.value in
+    neither (place_at g s.way.node).node s.way (first_target (place_at g s.way.node)) (second_target (place_at g s.way.node))
+    (subst IsLoud (moves g s.way (place_at g s.way.node).node refl) c.requires.loud)
+    (λ x e. c.in_default.not-Sync x (is ∙ e))
+    (λ x e. c.in_default.not-Call x (is ∙ e))
+
+pub returns-in-Call : goal.returns-in-Call
+returns-in-Call c =
+    let s : Run = c.args.self.now in
+    let g = c.args.graph.now in
+    let is = ap (λ n. (place_at g n).node) (sym c.node.ensures.value) ∙ sym c.node-2.ensures.value ∙ c.in-Call.is in
+    let at = sym (moves g s.way (nodes.Call c.in-Call.call) is) in
+    record {
+      act = c.clear.ensures.act ∙ ap (λ (m : Move). act_by s.hands m) at;
+      rest = ap (with_hands s) (c.clear.ensures.rest ∙ ap (λ (m : Move). hands_by s.hands m) at);
+    }
+
+pub returns-in-Sync : goal.returns-in-Sync
+returns-in-Sync c =
+    let s : Run = c.args.self.now in
+    let g = c.args.graph.now in
+    let is = ap (λ n. (place_at g n).node) (sym c.node.ensures.value) ∙ sym c.node-2.ensures.value ∙ c.in-Sync.is in
+    let at = sym (moves g s.way (nodes.Sync c.in-Sync.handler) is) in
+    record {
+      act = c.clear-in-Sync.ensures.act ∙ ap (λ (m : Move). act_by s.hands m) at;
+      rest = ap (with_hands s) (c.clear-in-Sync.ensures.rest ∙ ap (λ (m : Move). hands_by s.hands m) at);
+    }

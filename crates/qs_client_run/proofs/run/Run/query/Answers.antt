@@ -1,0 +1,45 @@
+use Rattle.std.proofs.Common.{◌≡◌, arith, refl, sym, ap, ◌∙◌, set-set, Some, None, Option, ℤ, pos}
+use Rattle.std.specs.Prelude.{unwrap_or}
+use Rattle.std.proofs.lemmas.Int.{to_z-of_z, ints}
+use Rattle.qs_objects.specs.declared.Request.{Request}
+use Rattle.qs_objects.specs.Journals.{ran}
+use Rattle.qs_check.specs.Values.{request_of}
+use Rattle.qs_meaning.specs.Solo.{event, value_of}
+use Rattle.qs_graph.specs.Walk.{Spot, at_node, with_value}
+use Rattle.qs_client_run.specs.Hand.{HandsState, with_held}
+use Rattle.qs_client_run.specs.Trail.{noted_at}
+use Rattle.qs_client_run.specs.declared.run.Run.{Run}
+use Rattle.qs_client_run.proofs.Steps.{asked_runs}
+use Rattle.qs_client_run.proofs.run.Run.query.Goals as goal
+use mir.Val.{to_z, of_z}
+use mir.Syntax.{w64}
+
+unwrapped : (v : Option ℤ) → unwrap_or v (pos 0) ≡ value_of v
+unwrapped None = refl
+unwrapped (Some v) = refl
+
+pub returns : goal.returns
+returns c =
+    let s : Run = c.args.self.now in
+    let h = c.args.call.now.object in
+    let u = c.args.ticket in
+    let r : Request = request_of s.way.locals c.args.call.now in
+    let same : c.request-request.result ≡ r = c.request-request.ensures.value in
+    let hands : c.put_held.new.self ≡ with_held s.hands h (Some c.run-reply.new.self) =
+    c.put_held.ensures.value ∙ ap (λ (x : HandsState). with_held x h (Some c.run-reply.new.self)) c.take_held.ensures.rest
+    ∙ ap (λ xs. record { held = xs; chunks = s.hands.chunks }) (set-set s.hands.held h None (Some c.run-reply.new.self)) in
+    let done : (c.run-reply.new.self, c.run-reply.result) ≡ ran c.in-Some.held u r =
+    c.run-reply.ensures.ran ∙ ap (λ (q : Request). ran c.in-Some.held u q) (c.copied.ensures.same ∙ same) in
+    let spot = λ (v : ℤ). at_node (with_value s.way c.args.variable v) c.args.next in
+    let kept : to_z w64 (of_z w64 c.unwrap_or.result) ≡ unwrap_or c.run-reply.result (pos 0) = search (arith, ints, to_z-of_z, c.unwrap_or.ensures) in
+    let reply : to_z w64 (of_z w64 c.unwrap_or.result) ≡ value_of c.run-reply.result = kept ∙ unwrapped c.run-reply.result in
+    let way : c.go_to.new.self ≡ spot (value_of c.run-reply.result) =
+    c.go_to.ensures.value ∙ ap (λ (w : Spot). at_node w c.args.next) (c.assign.ensures.value ∙ ap (λ v. with_value s.way c.args.variable v) reply) in
+    let event : c.note.new.self ≡ noted_at s.traces u.index (event r c.run-reply.result) =
+    c.note.ensures.noted ∙ ap (λ k. noted_at s.traces k (event c.request-request.result c.run-reply.result)) c.from.ensures
+    ∙ ap (λ (q : Request). noted_at s.traces u.index (event q c.run-reply.result)) same in
+    record {
+      new =
+          (λ i. record { way = way i; hands = c.put_held.new.self; traces = event i; stage = s.stage })
+          ∙ asked_runs u r spot s c.in-Some.held c.run-reply.new.self c.run-reply.result c.put_held.new.self (sym c.take_held.ensures.value ∙ c.in-Some.is) done hands;
+    }

@@ -1,0 +1,49 @@
+use Rattle.std.proofs.Common.{◌≡◌, Some, sym, subst}
+use Rattle.qs_syncset.specs.Codes.{BlockCode, code_at}
+use Rattle.qs_client_run.specs.Acting.{with_hands}
+use Rattle.qs_client_run.specs.Hand.{HandsState, with_held}
+use Rattle.qs_client_run.specs.Minds.{HasSettled, place_of}
+use Rattle.qs_client_run.specs.Running.{IsRunning}
+use Rattle.qs_client_run.specs.Standing.{IsStanding}
+use Rattle.qs_client_run.specs.declared.run.Run.{Run}
+use Rattle.qs_client_run.proofs.Coming.{awaits_here, held_running, got_comes}
+use Rattle.qs_client_run.proofs.run.Run.take_object.Goals as goal
+
+pub unreachable-requires : goal.unreachable-requires
+unreachable-requires c =
+    let w = c.requires.asked in
+    c.in_default.not-Awaits w.4 (awaits_here (code_at c.args.code.now c.args.ticket.index) w.0 c.args.ticket w.1 w.2 w.3 c.args.self.now w.4 w.5)
+
+pub resume-requires : goal.resume-requires
+resume-requires c =
+    let s : Run = c.args.self.now in
+    let b : BlockCode = code_at c.args.code.now c.args.ticket.index in
+    let h = c.in-Awaits.handler in
+    let w = c.requires.asked in
+    let at = subst (IsStanding b w.0.size c.args.ticket.index w.3 s) c.in-Awaits.is w.5.standing in
+    record {
+      block = c.requires.block;
+      running = (
+        w.0.size,
+        at.0,
+        subst (λ (x : HandsState). IsRunning b.graph w.0.size c.args.ticket.index at.0 (with_hands s x)) (sym c.put_held.ensures.value)
+            (held_running b w.0 c.args.ticket w.1 w.2 w.3 s at.0 h c.args.held at.2),
+      );
+    }
+
+pub returns : goal.returns
+returns c =
+    let s : Run = c.args.self.now in
+    let b : BlockCode = code_at c.args.code.now c.args.ticket.index in
+    let h = c.in-Awaits.handler in
+    record {
+      come = λ settings blocks begun most g dynamic w.
+          let at = subst (IsStanding b settings.size c.args.ticket.index most s) c.in-Awaits.is w.standing in
+          let hands : c.put_held.new.self ≡ with_held s.hands h (Some c.args.held) = c.put_held.ensures.value in
+          let running = held_running b settings c.args.ticket blocks begun most s at.0 h c.args.held at.2 in
+          let settled : HasSettled b.graph settings c.args.ticket b.reserved begun (place_of b.graph b.reserved s) at.0 (with_hands s (with_held s.hands h (Some c.args.held))) c.resume.new.self =
+          subst (λ (x : HandsState). HasSettled b.graph settings c.args.ticket b.reserved begun (place_of b.graph b.reserved s) at.0 (with_hands s x) c.resume.new.self) hands
+          (c.resume.ensures.settled settings begun (place_of b.graph b.reserved s) at.0 dynamic
+          (subst (λ (x : HandsState). IsRunning b.graph settings.size c.args.ticket.index at.0 (with_hands s x)) (sym hands) running)) in
+          got_comes b settings c.args.ticket blocks begun most s at.0 h c.args.held c.resume.new.self c.in-Awaits.is at.1 at.2 settled;
+    }

@@ -1,0 +1,22 @@
+-- What the blocks of a code need: room for the traces, and a count for each repeat of the longest graph.
+use Rattle.std.specs.Prelude.{ℕ, zero, suc, ◌+◌, List, [], map, ◌∷◌, length, max}
+use Rattle.qs_syncset.specs.Codes.{BlockCode, load_at}
+use Rattle.qs_client_run.specs.Trail.{TraceState, trace_state}
+
+-- the sum of f below n
+abbrev pub sum_below : ℕ → (ℕ → ℕ) → ℕ
+sum_below zero f = 0
+sum_below (suc n) f = f n + sum_below n f
+
+-- no more requests are made in the block
+abbrev pub room_for : BlockCode → ℕ
+room_for b = sum_below 8 (load_at b)
+
+-- the traces before the first block
+abbrev pub empty_rows : List BlockCode → List TraceState
+empty_rows blocks = map (λ (b : BlockCode). trace_state [] (room_for b)) blocks
+
+-- the nodes of the longest graph
+abbrev pub longest : List BlockCode → ℕ
+longest [] = 0
+longest (b ∷ bs) = max (length b.graph) (longest bs)

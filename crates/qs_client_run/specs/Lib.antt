@@ -1,0 +1,12 @@
+pub mod Acting
+pub mod Beginning
+pub mod Client
+pub mod ClientExamples
+pub mod ClientLaws
+pub mod Hand
+pub mod BlockSizes
+pub mod Standing
+pub mod Minds
+pub mod Restart
+pub mod Running
+pub mod Trail

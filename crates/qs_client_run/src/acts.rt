@@ -1,0 +1,152 @@
+//! The next act of a client in a block, and what comes to it.
+
+ghost use Rattle.std.specs.Prelude.{◌≡◌, ◌<◌, [], ℕ, None, length};
+ghost use Rattle.qs_chunk.specs.Batch.{batch};
+ghost use Rattle.qs_graph.specs.Walk.{move};
+ghost use Rattle.qs_syncset.specs.Codes.{code_at};
+ghost use Rattle.qs_client_run.specs.Acting.{HasActed, IsInside, Wants, act_by, cleared, full_by, hands_by, with_hands, without};
+ghost use Rattle.qs_client_run.specs.Client.{Settings};
+ghost use Rattle.qs_client_run.specs.Hand.{chunk_at, with_chunk};
+ghost use Rattle.qs_client_run.specs.Running.{IsLoud};
+ghost use Rattle.qs_client_run.specs.Standing.{HasGot, HasTaken, IsStanding, handed_of};
+
+use crate::act::Act;
+use crate::hands::Hands;
+use crate::run::Run;
+use crate::stage::{Handed, Stage};
+use qs_chunk::{Chunk, Parcel};
+use qs_graph::{Graph, Node};
+use qs_objects::{Held, Request, Ticket};
+use qs_syncset::Code;
+
+impl Act {
+    /// What is left to be done once the act was done.
+    pub fn leaves(&self) -> Handed
+        ensures value { result ≡ handed_of self.now }
+    {
+        let Act::Send(_, parcel) = self else {
+            return Handed::Nothing;
+        };
+        match parcel {
+            Parcel::Home(_) => Handed::Value,
+            Parcel::Work(_) => Handed::Value,
+            Parcel::Sync => Handed::Sync,
+            Parcel::End => Handed::End,
+        }
+    }
+}
+
+impl Hands {
+    // With the object, it goes home; else with an open chunk, the chunk goes; else this act is next.
+    fn clear(&mut self, handler: u8, other: Act) -> Act
+        requires handler { handler < 8 }
+        ensures act { result ≡ cleared self.old handler other }
+        ensures rest { self.new ≡ without self.old handler }
+    {
+        if let Some(held) = self.take_held(handler) {
+            return Act::Send(handler, Parcel::Home(held));
+        }
+        match self.take_chunk(handler) {
+            Some(chunk) => Act::Send(handler, Parcel::Work(chunk)),
+            None => other,
+        }
+    }
+
+    // A full chunk goes.
+    fn send_full(&mut self, handler: u8) -> Act
+        requires handler { handler < 8 }
+        ensures act { result ≡ full_by handler (chunk_at self.old handler) }
+        ensures rest { self.new ≡ with_chunk self.old handler None }
+    {
+        match self.take_chunk(handler) {
+            Some(chunk) => Act::Send(handler, Parcel::Work(chunk)),
+            None => Act::Finished,
+        }
+    }
+}
+
+impl Run {
+    // At a call or a synchronisation.
+    fn act_at_node(&mut self, graph: &Graph) -> Act
+        requires inside { self.old.way.node < length graph.now }
+        requires loud { IsLoud (move graph.now self.old.way) }
+        ensures act { result ≡ act_by self.old.hands (move graph.now self.old.way) }
+        ensures rest { self.new ≡ with_hands self.old (hands_by self.old.hands (move graph.now self.old.way)) }
+    {
+        graph.is_graph();
+        match graph.node(self.way.node()) {
+            Node::Call(call) => self.hands.clear(call.object, Act::NeedChunk(call.object)),
+            Node::Sync(handler) => self
+                .hands
+                .clear(*handler, Act::Send(*handler, Parcel::Sync)),
+            _ => unreachable!(),
+        }
+    }
+
+    /// The next act of a client that has begun so many blocks. What the act carries goes out.
+    pub fn act(&mut self, code: &Code, ticket: Ticket, begun: usize) -> Act
+        requires inside { IsInside self.old.stage ticket.index (length code.now.blocks) }
+        requires standing { (size : ℕ) × (most : ℕ) × IsStanding (code_at code.now ticket.index) size ticket.index most self.old self.old.stage }
+        ensures acted { (settings : Settings) (most : ℕ)
+            → IsStanding (code_at code.now ticket.index) settings.size ticket.index most self.old self.old.stage
+            → HasActed (code_at code.now ticket.index) settings (length code.now.blocks) ticket.index begun most result self.old self.new }
+    {
+        code.is_code();
+        let block = usize::from(ticket.index);
+        match self.stage {
+            Stage::Between => {
+                if begun < code.blocks() {
+                    Act::Reserve
+                } else {
+                    Act::Finished
+                }
+            }
+            Stage::Runs => {
+                let graph = code.graph(block);
+                graph.is_graph();
+                self.act_at_node(graph)
+            }
+            Stage::Full(handler) => self.hands.send_full(handler),
+            Stage::Awaits(handler) => Act::Await(handler),
+            Stage::Leaves(place) => {
+                let handler = code.reserved(block)[place];
+                self.hands.clear(handler, Act::Send(handler, Parcel::End))
+            }
+        }
+    }
+
+    /// The object came that the client waits for.
+    pub fn take_object(&mut self, code: &Code, ticket: Ticket, held: Held)
+        requires block { ticket.index < length code.now.blocks }
+        requires asked { (settings : Settings) × (blocks : ℕ) × (begun : ℕ) × (most : ℕ) × (h : ℕ)
+            × Wants (code_at code.now ticket.index) settings blocks ticket.index begun most self.old (Act.Await h) }
+        ensures come { (settings : Settings) (blocks begun most h : ℕ) → settings.dynamic ≡ code.now.dynamic
+            → Wants (code_at code.now ticket.index) settings blocks ticket.index begun most self.old (Act.Await h)
+            → HasGot (code_at code.now ticket.index) settings ticket begun most held self.old self.new }
+    {
+        let Stage::Awaits(handler) = self.stage else {
+            unreachable!();
+        };
+        self.hands.put_held(handler, held);
+        self.resume(code, ticket);
+    }
+
+    /// An empty chunk came for the call where the client stands.
+    pub fn take_chunk(&mut self, code: &Code, ticket: Ticket, chunk: Chunk<Request>)
+        requires block { ticket.index < length code.now.blocks }
+        requires room { 0 < chunk.capacity }
+        requires asked { (settings : Settings) × (blocks : ℕ) × (begun : ℕ) × (most : ℕ) × (h : ℕ) × (chunk ≡ batch [] settings.size)
+            × Wants (code_at code.now ticket.index) settings blocks ticket.index begun most self.old (Act.NeedChunk h) }
+        ensures come { (settings : Settings) (blocks begun most h : ℕ) → settings.dynamic ≡ code.now.dynamic → chunk ≡ batch [] settings.size
+            → Wants (code_at code.now ticket.index) settings blocks ticket.index begun most self.old (Act.NeedChunk h)
+            → HasTaken (code_at code.now ticket.index) settings ticket begun most h self.old self.new }
+    {
+        let graph = code.graph(usize::from(ticket.index));
+        graph.is_graph();
+        let Node::Call(call) = graph.node(self.way.node()) else {
+            unreachable!();
+        };
+        self.hands.put_chunk(call.object, chunk);
+        self.resume(code, ticket);
+    }
+}

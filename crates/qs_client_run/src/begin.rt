@@ -1,0 +1,82 @@
+//! All the memory of a client, and the beginning of a block.
+
+ghost use Rattle.std.specs.Prelude.{◌≡◌, ◌<◌, ℕ, IfOk, length};
+ghost use Rattle.qs_syncset.specs.Codes.{code_at};
+ghost use Rattle.qs_client_run.specs.Beginning.{begins_at, fresh_run};
+ghost use Rattle.qs_client_run.specs.Client.{Place, Settings};
+ghost use Rattle.qs_client_run.specs.BlockSizes.{empty_rows, room_for};
+ghost use Rattle.qs_client_run.specs.BlockSizes.{longest};
+ghost use Rattle.qs_client_run.specs.Minds.{HasSettled};
+ghost use Rattle.qs_client_run.specs.Running.{IsRunning};
+
+use crate::hands::Hands;
+use crate::run::Run;
+use crate::stage::Stage;
+use crate::traces::{Trace, Traces};
+use crate::way::Way;
+use qs_objects::Ticket;
+use qs_syncset::Code;
+use std::alloc::{AllocError, Global};
+
+// How many nodes the longest graph has.
+fn longest_graph(code: &Code) -> usize
+    ensures value { result ≡ longest code.now.blocks }
+{
+    let mut most = 0;
+    for block in 0..code.blocks() {
+        most = code.graph(block).len().max(most);
+    }
+    most
+}
+
+// How many requests a block can make.
+fn room_of(code: &Code, block: usize) -> usize
+    requires block { block < length code.now.blocks }
+    ensures value { result ≡ room_for (code_at code.now block) }
+{
+    let mut room = 0;
+    for handler in 0..8u8 {
+        room += code.load(block, handler) as usize;
+    }
+    room
+}
+
+// The empty traces of all blocks, with all the memory.
+fn empty_traces(alloc: Global, code: &Code) -> Result<Traces, AllocError>
+    ensures empty { IfOk result (λ traces. traces ≡ empty_rows code.now.blocks) }
+{
+    let count = code.blocks();
+    let mut rows = Vec::with_capacity(alloc, count)?;
+    for block in 0..count {
+        rows.push_reserved(Trace::new(alloc, room_of(code, block))?);
+    }
+    Ok(Traces::of_rows(rows))
+}
+
+impl Run {
+    /// Before the first block, with all variables 0 and all the memory.
+    pub fn new(alloc: Global, code: &Code) -> Result<Run, AllocError>
+        ensures fresh { IfOk result (λ run. run ≡ fresh_run code.now.blocks) }
+    {
+        let counts = vec![in alloc; 0; longest_graph(code)]?;
+        Ok(Run {
+            way: Way::new(0, [0; 16], counts),
+            hands: Hands::new(alloc)?,
+            traces: empty_traces(alloc, code)?,
+            stage: Stage::Between,
+        })
+    }
+
+    /// A block begins, at its first node with all counts 0.
+    pub fn begin(&mut self, code: &Code, ticket: Ticket)
+        requires block { ticket.index < length code.now.blocks }
+        requires running { (size : ℕ) × (n : ℕ) × IsRunning (code_at code.now ticket.index).graph size ticket.index n (begins_at self.old) }
+        ensures settled { (settings : Settings) (begun : ℕ) (p : Place) (n : ℕ) → settings.dynamic ≡ code.now.dynamic
+            → IsRunning (code_at code.now ticket.index).graph settings.size ticket.index n (begins_at self.old)
+            → HasSettled (code_at code.now ticket.index).graph settings ticket (code_at code.now ticket.index).reserved begun p n
+            (begins_at self.old) self.new }
+    {
+        self.way.restart();
+        self.resume(code, ticket);
+    }
+}

@@ -1,0 +1,101 @@
+//! The objects that a client holds, and its open chunks.
+
+ghost use Rattle.std.specs.Prelude.{◌≡◌, ◌<◌, IfOk, None, Some, is_some, length, option_copied};
+ghost use Rattle.qs_client_run.specs.Hand.{held_at, chunk_at, with_held, with_chunk, no_hands};
+
+use qs_chunk::Chunk;
+use qs_objects::{Held, Request};
+use std::alloc::{AllocError, Global};
+use std::marker::Model;
+use std::mem;
+
+/// For each of 8 handlers the object, where the client holds it, and the open chunk, where there is one.
+#[derive(Drop)]
+pub struct Hands {
+    held: Vec<Option<Held>>,
+    chunks: Vec<Option<Chunk<Request>>>,
+}
+
+impl Model for Hands {
+    ghost use Rattle.std.specs.Prelude.{◌≡◌, vec_len};
+    ghost use Rattle.qs_client_run.specs.Hand.{HandsState};
+
+    ghost Value = { HandsState };
+
+    ghost view = { λ h. record { held = h.held.items; chunks = h.chunks.items } };
+
+    ghost invariant = { λ h. (vec_len h.held ≡ 8) × (vec_len h.chunks ≡ 8) };
+}
+
+impl Hands {
+    /// No object and no open chunk, with all the memory.
+    pub fn new(alloc: Global) -> Result<Hands, AllocError>
+        ensures none { IfOk result (λ hands. hands ≡ no_hands) }
+    {
+        let mut held = Vec::with_capacity(alloc, 8)?;
+        let mut chunks = Vec::with_capacity(alloc, 8)?;
+        for _handler in 0..8usize {
+            held.push_reserved(None);
+            chunks.push_reserved(None);
+        }
+        Ok(Hands { held, chunks })
+    }
+
+    /// What holds of all hands: there are 8 places of each kind. It does nothing.
+    pub fn are_8(&self)
+        ensures held { length self.now.held ≡ 8 }
+        ensures chunks { length self.now.chunks ≡ 8 }
+    {
+        let _ = &self.held;
+    }
+
+    /// The object, where the client holds it.
+    pub fn held(&self, handler: u8) -> Option<&Held>
+        requires handler { handler < 8 }
+        ensures value { option_copied result ≡ held_at self.now handler }
+    {
+        self.held[usize::from(handler)].as_ref()
+    }
+
+    /// Whether the client holds the object.
+    pub fn holds(&self, handler: u8) -> bool
+        requires handler { handler < 8 }
+        ensures value { result ≡ is_some (held_at self.now handler) }
+    {
+        self.held[usize::from(handler)].is_some()
+    }
+
+    /// Takes the object out.
+    pub fn take_held(&mut self, handler: u8) -> Option<Held>
+        requires handler { handler < 8 }
+        ensures value { result ≡ held_at self.old handler }
+        ensures rest { self.new ≡ with_held self.old handler None }
+    {
+        mem::replace(&mut self.held[usize::from(handler)], None)
+    }
+
+    /// Keeps the object.
+    pub fn put_held(&mut self, handler: u8, held: Held)
+        requires handler { handler < 8 }
+        ensures value { self.new ≡ with_held self.old handler (Some held) }
+    {
+        self.held[usize::from(handler)] = Some(held);
+    }
+
+    /// Takes the open chunk out.
+    pub fn take_chunk(&mut self, handler: u8) -> Option<Chunk<Request>>
+        requires handler { handler < 8 }
+        ensures value { result ≡ chunk_at self.old handler }
+        ensures rest { self.new ≡ with_chunk self.old handler None }
+    {
+        mem::replace(&mut self.chunks[usize::from(handler)], None)
+    }
+
+    /// Keeps a chunk open.
+    pub fn put_chunk(&mut self, handler: u8, chunk: Chunk<Request>)
+        requires handler { handler < 8 }
+        ensures value { self.new ≡ with_chunk self.old handler (Some chunk) }
+    {
+        self.chunks[usize::from(handler)] = Some(chunk);
+    }
+}

@@ -1,0 +1,186 @@
+//! A client within a block: what it does to its own values.
+
+ghost use Rattle.std.specs.Prelude.{◌≡◌, ◌<◌, ◌≤◌, ℕ, IsSome, length};
+ghost use Rattle.qs_check.specs.Values.{request_of};
+ghost use Rattle.qs_graph.specs.Walk.{at_node, with_value};
+ghost use Rattle.qs_client_run.specs.Hand.{chunk_at, held_at};
+ghost use Rattle.qs_client_run.specs.Running.{IsOpen, IsRunning, asked, called, ended, moved, synced};
+ghost use Rattle.qs_client_run.specs.Trail.{trace_at};
+ghost use Rattle.qs_client_run.specs.Client.{Settings, Place};
+ghost use Rattle.qs_client_run.specs.Minds.{HasSettled};
+ghost use Rattle.qs_client_run.specs.declared.stage.Stage.TheVariants as stages;
+
+use crate::hands::Hands;
+use crate::stage::Stage;
+use crate::traces::Traces;
+use crate::way::Way;
+use qs_check::Call;
+use qs_graph::{Graph, Node};
+use qs_objects::{Event, Ticket};
+
+/// A client's place in its block's graph, its objects and open chunks, its traces, and where it stands.
+#[derive(Drop)]
+pub struct Run {
+    pub way: Way,
+    pub hands: Hands,
+    pub traces: Traces,
+    pub stage: Stage,
+}
+
+// No walk through a block of a checked program takes more nodes.
+const LIMIT: u32 = 3_000_002;
+
+/// What a client goes by in a block: whether it tests what it holds as it comes to a synchronisation, and the block's ticket.
+#[derive(Clone, Copy)]
+pub struct Terms {
+    pub dynamic: bool,
+    pub ticket: Ticket,
+}
+
+impl Run {
+    /// The traces of all blocks, by move.
+    pub fn into_traces(self) -> Traces
+        ensures value { result ≡ self.traces }
+    {
+        let Run {
+            way: _,
+            hands: _,
+            traces,
+            stage: _,
+        } = self;
+        traces
+    }
+
+    // A command: into the open chunk, where the object is not held.
+    fn call(&mut self, block: usize, call: &Call, next: usize) -> bool
+        requires object { call.now.object < 8 }
+        requires few { length call.now.args ≤ 3 }
+        requires block { block < length self.old.traces }
+        requires room { 0 < (trace_at self.old.traces block).room }
+        requires opened { (size : ℕ) × IsOpen size (chunk_at self.old.hands call.now.object) }
+        ensures new { self.new ≡ (called block (request_of self.old.way.locals call.now) (at_node self.old.way next) self.old).0 }
+        ensures on { result ≡ (called block (request_of self.old.way.locals call.now) (at_node self.old.way next) self.old).1 }
+    {
+        if self.hands.holds(call.object) {
+            return false;
+        }
+        let Some(mut chunk) = self.hands.take_chunk(call.object) else {
+            return false;
+        };
+        let request = self.way.request(call);
+        let event = Event {
+            request: request.copied(),
+            reply: None,
+        };
+        let Ok(()) = chunk.push(request) else {
+            unreachable!();
+        };
+        let is_full = chunk.len() == chunk.capacity();
+        self.hands.put_chunk(call.object, chunk);
+        self.traces.note(block, event);
+        self.way.go_to(next);
+        if is_full {
+            self.stage = Stage::Full(call.object);
+        }
+        !is_full
+    }
+
+    // A query on an object that is held.
+    fn query(&mut self, ticket: Ticket, variable: u8, call: &Call, next: usize)
+        requires object { call.now.object < 8 }
+        requires few { length call.now.args ≤ 3 }
+        requires block { ticket.index < length self.old.traces }
+        requires room { 0 < (trace_at self.old.traces ticket.index).room }
+        requires held { IsSome (held_at self.old.hands call.now.object) }
+        ensures new { self.new
+            ≡ (asked ticket (request_of self.old.way.locals call.now) (λ v. at_node (with_value self.old.way variable v) next) self.old).0 }
+    {
+        let Some(mut held) = self.hands.take_held(call.object) else {
+            unreachable!();
+        };
+        let request = self.way.request(call);
+        let reply = held.run(ticket, request.copied());
+        self.hands.put_held(call.object, held);
+        self.traces
+            .note(usize::from(ticket.index), Event { request, reply });
+        self.way.assign(variable, reply.unwrap_or(0));
+        self.way.go_to(next);
+    }
+
+    // A synchronisation, skipped where the object is held and the client tests that.
+    fn sync(&mut self, dynamic: bool, handler: u8, next: usize) -> bool
+        requires handler { handler < 8 }
+        ensures new { self.new ≡ (synced dynamic handler (at_node self.old.way next) self.old).0 }
+        ensures on { result ≡ (synced dynamic handler (at_node self.old.way next) self.old).1 }
+    {
+        if dynamic && self.hands.holds(handler) {
+            self.way.go_to(next);
+            return true;
+        }
+        false
+    }
+
+    // The end of the block.
+    fn leave(&mut self, reserved: &[u8])
+        ensures new { self.new ≡ (ended reserved.now self.old).0 }
+    {
+        self.stage = if reserved.is_empty() {
+            Stage::Between
+        } else {
+            Stage::Leaves(0)
+        };
+    }
+
+    /// One quiet move; answers whether another may follow.
+    fn step(&mut self, graph: &Graph, reserved: &[u8], terms: Terms) -> bool
+        requires running { (size : ℕ) × (n : ℕ) × IsRunning graph.now size terms.ticket.index n self.old }
+        ensures new { self.new ≡ (moved graph.now terms reserved.now self.old).0 }
+        ensures on { result ≡ (moved graph.now terms reserved.now self.old).1 }
+    {
+        graph.is_graph();
+        self.hands.are_8();
+        let node = self.way.node();
+        let next = graph.first_target(node);
+        match graph.node(node) {
+            Node::Call(call) => self.call(usize::from(terms.ticket.index), call, next),
+            Node::Query(variable, call) => {
+                self.query(terms.ticket, *variable, call, next);
+                true
+            }
+            Node::Sync(handler) => self.sync(terms.dynamic, *handler, next),
+            Node::Exit => {
+                self.leave(reserved);
+                false
+            }
+            Node::Entry => {
+                self.way.go_to(next);
+                true
+            }
+            Node::Local(action) => {
+                self.way.act(*action, next);
+                true
+            }
+            Node::Branch(choice) => {
+                self.way.choose(*choice, next, graph.second_target(node));
+                true
+            }
+        }
+    }
+
+    /// All quiet moves, up to the next act.
+    pub fn settle(&mut self, graph: &Graph, reserved: &[u8], terms: Terms)
+        requires stands { self.old.stage ≡ stages.Runs }
+        requires running { (size : ℕ) × (n : ℕ) × IsRunning graph.now size terms.ticket.index n self.old }
+        ensures settled { (settings : Settings) (begun : ℕ) (p : Place) (n : ℕ) → settings.dynamic ≡ terms.dynamic
+            → IsRunning graph.now settings.size terms.ticket.index n self.old
+            → HasSettled graph.now settings terms.ticket reserved.now begun p n self.old self.new }
+    {
+        graph.is_graph();
+        for _turn in 0..LIMIT {
+            if !self.step(graph, reserved, terms) {
+                return;
+            }
+        }
+        unreachable!()
+    }
+}

@@ -1,0 +1,36 @@
+//! Where a client stands.
+
+ghost use Rattle.std.specs.Prelude.{◌≡◌};
+ghost use Rattle.qs_client_run.specs.Standing.{count_sync};
+
+/// Between blocks; in a block; there with a full chunk for a handler; waiting for an object; or at the block's end, leaving the handler
+/// at this place of the block's list.
+#[derive(Clone, Copy)]
+pub enum Stage {
+    Between,
+    Runs,
+    Full(u8),
+    Awaits(u8),
+    Leaves(usize),
+}
+
+/// What the last act carried: nothing that is sent, an object or a chunk, a wish for the object, or the end of the block.
+#[derive(Clone, Copy)]
+pub enum Handed {
+    Nothing,
+    Value,
+    Sync,
+    End,
+}
+
+impl Handed {
+    /// How many Syncs were sent.
+    pub fn syncs(self) -> u64
+        ensures value { result ≡ count_sync self }
+    {
+        match self {
+            Handed::Sync => 1,
+            Handed::Nothing | Handed::Value | Handed::End => 0,
+        }
+    }
+}

@@ -1,0 +1,161 @@
+-- From the fields of the code to what the lemmas on steps speak of.
+use Rattle.std.proofs.Common.{◌≡◌, ◌<◌, ℕ, Bool, true, false, List, [], ◌∷◌, ◌++◌, length, get_or, Option, Some, None, refl, sym, ap, subst, ◌∙◌, arith}
+use Rattle.std.specs.Bool.{OnTrue}
+use Rattle.std.proofs.Math.ListN.{set}
+use Rattle.std.proofs.lemmas.List.{set-get_or}
+use Rattle.qs_objects.specs.declared.held.Ticket.{Ticket}
+use Rattle.qs_check.specs.Program.{block_at, blocks_of}
+use Rattle.qs_check.specs.Sound.{IsSound}
+use Rattle.qs_client_run.specs.Client.{act_of as client_act}
+use Rattle.qs_client.specs.Mind.{asked_of, booked_mind}
+use Rattle.qs_client.specs.MindState.{IsMind, mind_of}
+use Rattle.qs_client_run.specs.declared.act.Act.{Act}
+use Rattle.qs_client_run.specs.declared.act.Act.TheVariants as wants
+use Rattle.qs_played.specs.Played.{ticket}
+use Rattle.qs_played.proofs.Lists.{get_or-any}
+use Rattle.qs_played.specs.declared.actor.Actor.TheVariants as actor
+use Rattle.qs_core_laws.specs.Core.{blocks, core_step, settings_of}
+use Rattle.qs_core_laws.specs.CoreReached.{ReachedCore}
+use Rattle.qs_core_parts.specs.CoreClients.{AreStocked, CoreClientState, HasLane, IsCoreClient, LaneStays, LaneSteps, turns_to, whole_of}
+use Rattle.qs_core_parts.specs.CoreHandlers.{CanEnterAll, CoreHandlerState, entered_all}
+use Rattle.qs_core_parts.proofs.ClientModels.{IsSeatOf}
+use Rattle.qs_core.specs.CoreState.{CoreKeeps, CoreState, CoreSteps, GoesOn, IsCoreState, Side, all_blocks, codes_of, core_of, no_side, side_at, side_of}
+use Rattle.qs_core.proofs.CoreLists.{all_here, map_here}
+use Rattle.qs_core.proofs.CoreMoves.{client_kept, client_rests, client_steps, with_clients}
+use Rattle.qs_core.proofs.CoreBooking as booking
+
+pub client_here : (cs : List CoreClientState) (c n : ℕ) (d : CoreClientState) → n ≡ c → c < length cs → d ≡ get_or cs n d → side_at cs c ≡ side_of d
+client_here cs c n d number less value = map_here side_of cs c d no_side less ∙ ap side_of (sym (value ∙ ap (λ m. get_or cs m d) number))
+
+module _ (r s : CoreState) (view : r ≡ s) (kept : IsCoreState r) (keeps : CoreKeeps s) (c n : ℕ) (number : n ≡ c) (less : c < length s.clients)
+    (d : CoreClientState) (value : d ≡ get_or r.clients n d) (seat : IsCoreClient d) (ok : IsMind (mind_of d.mind)) where
+  inside : c < length r.clients
+  inside = subst (λ (x : CoreState). c < length x.clients) (sym view) less
+
+  here : side_at r.clients c ≡ side_of d
+  here = client_here r.clients c n d number inside value
+
+  pub stocked : AreStocked d
+  stocked = subst AreStocked (sym (value ∙ ap (λ m. get_or r.clients m d) number)) (all_here AreStocked r.clients c d kept.stocked inside)
+
+  keeps_here : CoreKeeps r
+  keeps_here = subst CoreKeeps (sym view) keeps
+
+  machine_act : client_act (settings_of (codes_of r) r.size c) (blocks (codes_of r) r.size c) ((core_of r).client c) ≡ d.act
+  unfolding core_of
+  machine_act =
+      (λ k. client_act (record { dynamic = (side_at r.clients c).mind.code.dynamic; size = sym (kept.sides c inside).size k }) (length (side_at r.clients c).mind.code.blocks) (side_at r.clients c).mind.client)
+      ∙ ap (λ (x : Side). asked_of x.mind) here
+      ∙ sym seat.act
+
+  lanes_are : length d.lanes ≡ length r.program.objects
+  lanes_are = ap (λ (x : Side). length x.lanes) (sym here) ∙ (kept.sides c inside).lanes
+
+  number_of : Option ℕ → ℕ
+  number_of None = 0
+  number_of (Some m) = m
+
+  by_act : (a : Act) → d.act ≡ a → (h : ℕ) → turns_to a ≡ Some h → h < length r.program.objects
+  unfolding ReachedCore number_of
+  by_act wants.Reserve e h turned = cc
+  by_act (wants.Send g p) e h turned = subst (λ m. m < length r.program.objects) (ap number_of turned) (keeps_here.clients.sends c g p (machine_act ∙ e))
+  by_act (wants.Await g) e h turned = subst (λ m. m < length r.program.objects) (ap number_of turned) (keeps_here.clients.awaits c g (machine_act ∙ e))
+  by_act (wants.NeedChunk g) e h turned = subst (λ m. m < length r.program.objects) (ap number_of turned) (keeps_here.clients.needs c g (machine_act ∙ e))
+  by_act wants.Finished e h turned = cc
+
+  pub has_lane : HasLane d
+  has_lane h turned = let in_program = by_act d.act refl h turned in omega (arith, in_program, lanes_are)
+
+  -- after a step at a lane, or without one
+  module _ (new : CoreClientState) (b : Bool) (steps : OnTrue b (LaneSteps d new)) (stays : b ≡ false → LaneStays d) (unchanged : b ≡ false → new ≡ d) where
+    abbrev after : CoreState
+    after = with_clients r (set r.clients n new)
+
+    at_number : (P : CoreState → Type 0) → P (with_clients r (set r.clients c new)) → P after
+    at_number P h = subst (λ m. P (with_clients r (set r.clients m new))) (sym number) h
+
+    pub go_kept : IsCoreState after
+    go_kept = by_case b refl steps
+      where
+        by_case : (x : Bool) → b ≡ x → OnTrue x (LaneSteps d new) → IsCoreState after
+        by_case true e moves = at_number IsCoreState (client_kept r kept c inside d here seat stocked ok has_lane new moves)
+        by_case false e moves = subst (λ cs. IsCoreState (with_clients r cs)) (sym (ap (set r.clients n) (unchanged e ∙ value) ∙ set-get_or r.clients n d)) kept
+
+    pub go_steps : OnTrue b (CoreSteps s (actor.Client c) after)
+    go_steps = by_case b steps
+      where
+        by_case : (x : Bool) → OnTrue x (LaneSteps d new) → OnTrue x (CoreSteps s (actor.Client c) after)
+        by_case true moves = subst (λ y. CoreSteps y (actor.Client c) after) view (at_number (CoreSteps r (actor.Client c)) (client_steps r kept c inside d here seat stocked ok has_lane new moves))
+        by_case false moves = tt
+
+    pub go_none : (d.act ≡ wants.Reserve → ⊥) → b ≡ false → core_step (codes_of s) s.size (core_of s) (actor.Client c) ≡ None
+    go_none other e = subst (λ y. core_step (codes_of y) y.size (core_of y) (actor.Client c) ≡ None) view (client_rests r kept c inside d here seat ok has_lane (stays e) other)
+
+  -- the seat is the one in the list
+  pub seat_is : get_or s.clients c d ≡ d
+  seat_is = ap (λ (x : CoreState). get_or x.clients c d) (sym view) ∙ sym (value ∙ ap (λ m. get_or r.clients m d) number)
+
+  -- where it reserves its next block
+  module _ (sound : IsSound r.program) (on : GoesOn s) (asked : d.act ≡ wants.Reserve) where
+    on_here : GoesOn r
+    on_here = subst GoesOn (sym view) on
+
+    pub order_roomy : length r.order < all_blocks r.program
+    order_roomy = booking.order_room r kept sound keeps_here on_here c inside d here seat stocked ok asked
+
+    pub in_blocks : (whole_of d).client.begun < blocks_of r.program c
+    in_blocks = booking.in_blocks r kept sound keeps_here on_here c inside d here seat stocked ok asked
+
+    abbrev pub list : List ℕ
+    list = (block_at r.program c (whole_of d).client.begun).reserved
+
+    abbrev pub now : Ticket
+    now = ticket c (whole_of d).client.begun
+
+    pub enters : CanEnterAll now r.handlers list
+    enters = booking.can_enter_all r kept sound keeps_here on_here c inside d here seat stocked ok asked
+
+    -- once it did
+    module _ (new : CoreClientState) (booked : whole_of new ≡ booked_mind (whole_of d) now) (seated : IsCoreClient new) (lanes : new.lanes ≡ d.lanes) where
+      came : IsSeatOf (booked_mind (whole_of d) now) new
+      came = record { whole_is = booked; seat = seated }
+
+      abbrev pub booked_state : CoreState
+      booked_state = record { program = r.program; size = r.size; order = r.order ++ now ∷ []; clients = set r.clients c new; handlers = entered_all now r.handlers list }
+
+      pub booked_kept : IsCoreState booked_state
+      booked_kept = booking.reserve_kept r kept sound keeps_here on_here c inside d here seat stocked ok asked new came lanes
+
+      pub booked_steps : CoreSteps s (actor.Client c) booked_state
+      booked_steps = subst (λ y. CoreSteps y (actor.Client c) booked_state) view (booking.reserve_steps r kept sound keeps_here on_here c inside d here seat stocked ok asked new came lanes)
+
+    -- as the code says it
+    module _ (n' : ℕ) (number' : n' ≡ c) (d' : CoreClientState) (value' : d' ≡ get_or r.clients n' d') (u : Ticket) (u_is : u ≡ now) (xs : List ℕ) (xs_are : xs ≡ list)
+        (new : CoreClientState) (booked : whole_of new ≡ booked_mind (whole_of d') u) (seated : IsCoreClient new) (lanes : new.lanes ≡ d'.lanes)
+        (order : List Ticket) (longer : order ≡ r.order ++ u ∷ []) (hs : List CoreHandlerState) (entered : hs ≡ entered_all u r.handlers xs) where
+      same_seat : d' ≡ d
+      same_seat = value' ∙ ap (λ m. get_or r.clients m d') number' ∙ get_or-any r.clients c d' d inside ∙ sym (value ∙ ap (λ m. get_or r.clients m d) number)
+
+      booked_here : whole_of new ≡ booked_mind (whole_of d) now
+      booked_here = booked ∙ (λ k. booked_mind (whole_of (same_seat k)) (u_is k))
+
+      lanes_here : new.lanes ≡ d.lanes
+      lanes_here = lanes ∙ ap (λ (x : CoreClientState). x.lanes) same_seat
+
+      abbrev pub made : CoreState
+      made = record { program = r.program; size = r.size; order = order; clients = set r.clients n' new; handlers = hs }
+
+      made_is : booked_state new booked_here seated lanes_here ≡ made
+      made_is = sym (λ k. record {
+        program = r.program;
+        size = r.size;
+        order = (longer ∙ ap (λ (t : Ticket). r.order ++ t ∷ []) u_is) k;
+        clients = set r.clients (number' k) new;
+        handlers = (entered ∙ (λ i. entered_all (u_is i) r.handlers (xs_are i))) k;
+      })
+
+      pub made_kept : IsCoreState made
+      made_kept = subst IsCoreState made_is (booked_kept new booked_here seated lanes_here)
+
+      pub made_steps : CoreSteps s (actor.Client c) made
+      made_steps = subst (CoreSteps s (actor.Client c)) made_is (booked_steps new booked_here seated lanes_here)

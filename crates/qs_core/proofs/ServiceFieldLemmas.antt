@@ -1,0 +1,190 @@
+-- From the fields of the code to what the lemmas on handlers' steps speak of.
+use Rattle.std.proofs.Common.{◌≡◌, ◌<◌, ◌≤◌, ℕ, Bool, true, false, List, [], ◌∷◌, length, get_or, Option, Some, None, refl, sym, ap, subst, ◌∙◌, arith}
+use Rattle.std.specs.Bool.{OnTrue}
+use Rattle.std.proofs.Math.ListN.{set}
+use Rattle.std.proofs.lemmas.List.{set-get_or}
+use Rattle.std.specs.Prelude.{IsTrue}
+use Rattle.qs_objects.specs.declared.Request.{Request}
+use Rattle.qs_chunk.specs.Batch.{Batch, batch}
+use Rattle.qs_chunk.specs.Lanes.{may_stand}
+use Rattle.qs_handler.specs.Handler.{Handler, act_of, away, closed, free, gives, is_away, serves, spares}
+use Rattle.qs_handler.specs.declared.mind.Act.{Act}
+use Rattle.qs_handler.specs.declared.mind.Act.TheVariants as acts
+use Rattle.qs_played.specs.declared.actor.Actor.TheVariants as actor
+use Rattle.qs_core_laws.specs.Core.{core_step}
+use Rattle.qs_core_laws.specs.CoreReached.{ReachedCore}
+use Rattle.qs_core_parts.specs.CoreClients.{AreStocked, CoreClientState, Meets, whole_of}
+use Rattle.qs_core_parts.specs.CoreHandlers.{CoreHandlerState, IsCoreHandler, MayCome, TakesTicket, handler_of, lane_step, turns_to}
+use Rattle.qs_core_parts.specs.LaneStates.{lane_at}
+use Rattle.qs_core.specs.CoreState.{CoreKeeps, CoreState, CoreSteps, IsCoreState, Side, all_blocks, codes_of, core_of, handler_at, side_at, side_of, tickets_at}
+use Rattle.qs_core.proofs.CoreBooking.{ticket_kept, ticket_rests, ticket_steps}
+use Rattle.qs_core.proofs.CoreLists.{all_here, map_here}
+use Rattle.qs_core.proofs.CoreMoves.{handler_kept, handler_rests, handler_steps, with_handlers}
+use Rattle.qs_core.proofs.CoreFieldLemmas.{client_here}
+
+module _ (r s : CoreState) (view : r ≡ s) (kept : IsCoreState r) (keeps : CoreKeeps s) (h n : ℕ) (number : n ≡ h) (less : h < length s.handlers)
+    (d : CoreHandlerState) (value : d ≡ get_or r.handlers n d) (seat : IsCoreHandler d) where
+  pub inside : h < length r.handlers
+  inside = subst (λ (x : CoreState). h < length x.handlers) (sym view) less
+
+  in_list : get_or r.handlers h d ≡ d
+  in_list = sym (value ∙ ap (λ m. get_or r.handlers m d) number)
+
+  pub seat_is : get_or s.handlers h d ≡ d
+  seat_is = ap (λ (x : CoreState). get_or x.handlers h d) (sym view) ∙ in_list
+
+  here : handler_at r.program r.handlers h ≡ handler_of d
+  here = map_here handler_of r.handlers h d _ inside ∙ ap handler_of in_list
+
+  queue : tickets_at r.handlers h ≡ d.tickets
+  queue = map_here (λ (x : CoreHandlerState). x.tickets) r.handlers h d [] inside ∙ ap (λ (x : CoreHandlerState). x.tickets) in_list
+
+  roomy : all_blocks r.program ≤ d.room
+  roomy = subst (λ (x : CoreHandlerState). all_blocks r.program ≤ x.room) in_list (all_here (λ (x : CoreHandlerState). all_blocks r.program ≤ x.room) r.handlers h d kept.rooms inside)
+
+  keeps_here : CoreKeeps r
+  keeps_here = subst CoreKeeps (sym view) keeps
+
+  -- its act is the machine's
+  machine_act : act_of (handler_at r.program r.handlers h) ≡ d.act
+  machine_act = ap act_of here ∙ sym seat.act
+
+  -- where it turns to no lane it wants a ticket
+  pub wants_ticket : turns_to d.act ≡ None → d.act ≡ acts.TakeTicket
+  unfolding core_of ReachedCore
+  wants_ticket none = by_handler (handler_of d) refl
+    where
+      act_is : (x : Handler) → handler_of d ≡ x → d.act ≡ act_of x
+      act_is x is = seat.act ∙ ap act_of is
+
+      by_handler : (x : Handler) → handler_of d ≡ x → d.act ≡ acts.TakeTicket
+      by_handler (free y) is = act_is (free y) is
+      by_handler (serves t y) is = let bad : turns_to (act_of (serves t y)) ≡ None = ap turns_to (sym (act_is (serves t y) is)) ∙ none in cc
+      by_handler (spares t y m) is = let bad : turns_to (act_of (spares t y m)) ≡ None = ap turns_to (sym (act_is (spares t y m) is)) ∙ none in cc
+      by_handler (gives t y) is = let bad : turns_to (act_of (gives t y)) ≡ None = ap turns_to (sym (act_is (gives t y) is)) ∙ none in cc
+      by_handler (away t) is = let bad : turns_to (act_of (away t)) ≡ None = ap turns_to (sym (act_is (away t) is)) ∙ none in cc
+      by_handler (closed y) is = absurd (keeps_here.handlers.opened h y (here ∙ is))
+
+  -- after it took a ticket, or where there is none
+  module _ (asked : d.act ≡ acts.TakeTicket) (new : CoreHandlerState) (b : Bool) (takes : OnTrue b (TakesTicket d new)) (none : b ≡ false → d.tickets ≡ []) (unchanged : b ≡ false → new ≡ d) where
+    abbrev taken : CoreState
+    taken = with_handlers r (set r.handlers n new)
+
+    pub take_kept : IsCoreState taken
+    take_kept = by_case b refl takes
+      where
+        by_case : (x : Bool) → b ≡ x → OnTrue x (TakesTicket d new) → IsCoreState taken
+        by_case true e took = subst (λ m. IsCoreState (with_handlers r (set r.handlers m new))) (sym number) (ticket_kept r kept h inside d here queue seat roomy asked new took)
+        by_case false e took = subst (λ hs. IsCoreState (with_handlers r hs)) (sym (ap (set r.handlers n) (unchanged e ∙ value) ∙ set-get_or r.handlers n d)) kept
+
+    pub take_steps : OnTrue b (CoreSteps s (actor.Handler h) taken)
+    take_steps = by_case b takes
+      where
+        by_case : (x : Bool) → OnTrue x (TakesTicket d new) → OnTrue x (CoreSteps s (actor.Handler h) taken)
+        by_case true took =
+            subst (λ y. CoreSteps y (actor.Handler h) taken) view
+            (subst (λ m. CoreSteps r (actor.Handler h) (with_handlers r (set r.handlers m new))) (sym number) (ticket_steps r kept h inside d here queue seat roomy asked new took))
+        by_case false took = tt
+
+    pub take_none : b ≡ false → core_step (codes_of s) s.size (core_of s) (actor.Handler h) ≡ None
+    take_none e = subst (λ y. core_step (codes_of y) y.size (core_of y) (actor.Handler h) ≡ None) view (ticket_rests r kept h inside d here queue seat roomy asked (none e))
+
+  -- it turns to the lane of client c
+  module _ (c : ℕ) (turned : turns_to d.act ≡ Some c) where
+    number_of : Option ℕ → ℕ
+    number_of None = 0
+    number_of (Some m) = m
+
+    by_act : (a : Act) → d.act ≡ a → turns_to a ≡ Some c → c < length r.program.clients
+    unfolding core_of ReachedCore number_of
+    by_act acts.TakeTicket e t = cc
+    by_act (acts.TakeParcel g) e t = subst (λ m. m < length r.program.clients) (ap number_of t) (keeps_here.handlers.takes h g (machine_act ∙ e))
+    by_act (acts.Give g x) e t = subst (λ m. m < length r.program.clients) (ap number_of t) (keeps_here.handlers.gives h g x (machine_act ∙ e))
+    by_act (acts.Spare g k) e t = subst (λ m. m < length r.program.clients) (ap number_of t) (keeps_here.handlers.spares h g k (machine_act ∙ e)).0
+    by_act acts.Closed e t = cc
+
+    pub there : c < length r.clients
+    there = let in_program = by_act d.act refl turned in omega (arith, in_program, kept.clients)
+
+    module _ (n' : ℕ) (number' : n' ≡ c) (g : CoreClientState) (value' : g ≡ get_or r.clients n' g) where
+      found : side_at r.clients c ≡ side_of g
+      found = client_here r.clients c n' g number' there value'
+
+      stocked : AreStocked g
+      stocked = subst AreStocked (sym (value' ∙ ap (λ m. get_or r.clients m g) number')) (all_here AreStocked r.clients c g kept.stocked there)
+
+      pub lane_there : h < length g.lanes
+      lane_there =
+          let lanes : length g.lanes ≡ length r.program.objects = ap (λ (x : Side). length x.lanes) (sym found) ∙ (kept.sides c there).lanes in
+          omega (arith, lanes, inside, kept.handlers)
+
+      pub may_come : MayCome d (lane_at g.lanes h)
+      unfolding core_of ReachedCore number_of
+      may_come c' p ps asked first =
+          let same : c' ≡ c = ap number_of (ap turns_to (sym asked) ∙ turned) in
+          let down : (lane_at (side_at r.clients c').lanes h).down ≡ p ∷ ps = ap (λ m. (lane_at (side_at r.clients m).lanes h).down) same ∙ ap (λ (x : Side). (lane_at x.lanes h).down) found ∙ first in
+          subst (λ (x : Handler). IsTrue (may_stand (is_away x) p)) here (keeps_here.next c' h p ps (machine_act ∙ asked) down)
+
+      size_is : (whole_of g).size ≡ r.size
+      size_is = ap (λ (x : Side). x.mind.size) (sym found) ∙ (kept.sides c there).size
+
+      spare_empty : (x : Handler) (k : Batch Request) → act_of x ≡ acts.Spare c k → k.items ≡ []
+      spare_empty (free y) k e = cc
+      spare_empty (serves t y) k e = cc
+      spare_empty (spares t y m) k e = sym (ap chunk_items e)
+        where
+          chunk_items : Act → List Request
+          chunk_items acts.TakeTicket = []
+          chunk_items (acts.TakeParcel i) = []
+          chunk_items (acts.Give i z) = []
+          chunk_items (acts.Spare i z) = z.items
+          chunk_items acts.Closed = []
+      spare_empty (gives t y) k e = cc
+      spare_empty (away t) k e = cc
+      spare_empty (closed y) k e = cc
+
+      fits : (k : Batch Request) → d.act ≡ acts.Spare c k → k ≡ batch [] (whole_of g).size
+      unfolding core_of ReachedCore
+      fits k e =
+          let sized : k.capacity ≡ r.size = (keeps_here.handlers.spares h c k (machine_act ∙ e)).1 in
+          λ i. record { items = spare_empty (handler_of d) k (sym seat.act ∙ e) i; capacity = (sized ∙ sym size_is) i }
+
+      -- after a step at that lane, or without one
+      module _ (later : CoreHandlerState) (new : CoreClientState) (b : Bool) (meets : OnTrue b (Meets h g d new later))
+          (none : b ≡ false → lane_step (handler_of d) d.act (lane_at g.lanes h) ≡ None) (same_seat : b ≡ false → new ≡ g) (same_handler : b ≡ false → later ≡ d) where
+        abbrev met : CoreState
+        met = record { program = r.program; size = r.size; order = r.order; clients = set r.clients n' new; handlers = set r.handlers n later }
+
+        abbrev at_numbers : CoreClientState → CoreState
+        at_numbers x = record { program = r.program; size = r.size; order = r.order; clients = set r.clients c x; handlers = set r.handlers h later }
+
+        met_is : (x : CoreClientState) → new ≡ x → at_numbers x ≡ met
+        met_is x is = λ i. record { program = r.program; size = r.size; order = r.order; clients = set r.clients (sym number' i) (sym is i); handlers = set r.handlers (sym number i) later }
+
+        pub meet_kept : IsCoreState met
+        meet_kept = by_case b refl meets
+          where
+            by_case : (x : Bool) → b ≡ x → OnTrue x (Meets h g d new later) → IsCoreState met
+            by_case true e m = subst IsCoreState (met_is _ m.seat) (handler_kept r kept h inside d here queue seat roomy c turned there g found stocked fits later m.lane m.steps)
+            by_case false e m =
+                subst IsCoreState (λ i. record {
+                  program = r.program;
+                  size = r.size;
+                  order = r.order;
+                  clients = sym (ap (set r.clients n') (same_seat e ∙ value') ∙ set-get_or r.clients n' g) i;
+                  handlers = sym (ap (set r.handlers n) (same_handler e ∙ value) ∙ set-get_or r.handlers n d) i;
+                }) kept
+
+        pub meet_steps : OnTrue b (CoreSteps s (actor.Handler h) met)
+        meet_steps = by_case b meets
+          where
+            by_case : (x : Bool) → OnTrue x (Meets h g d new later) → OnTrue x (CoreSteps s (actor.Handler h) met)
+            by_case true m =
+                subst (λ y. CoreSteps y (actor.Handler h) met) view
+                (subst (CoreSteps r (actor.Handler h)) (met_is _ m.seat) (handler_steps r kept h inside d here queue seat roomy c turned there g found stocked fits later m.lane m.steps))
+            by_case false m = tt
+
+        pub meet_none : b ≡ false → core_step (codes_of s) s.size (core_of s) (actor.Handler h) ≡ None
+        meet_none e =
+            subst (λ y. core_step (codes_of y) y.size (core_of y) (actor.Handler h) ≡ None) view
+            (handler_rests r kept h inside d here queue seat roomy c turned there g found stocked (none e))

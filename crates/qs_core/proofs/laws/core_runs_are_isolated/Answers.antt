@@ -1,5 +1,0 @@
-use Rattle.qs_core.proofs.CoreIsolating.{core_isolated}
-use Rattle.qs_core.proofs.laws.core_runs_are_isolated.Goals as goal
-
-pub returns : goal.returns
-returns c = record { isolated = core_isolated }

@@ -1,5 +1,0 @@
-use Rattle.qs_core.proofs.Isolating.{runs_isolated}
-use Rattle.qs_core.proofs.laws.plain_runs_are_isolated.Goals as goal
-
-pub returns : goal.returns
-returns c = record { isolated = runs_isolated }

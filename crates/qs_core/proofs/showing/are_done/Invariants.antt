@@ -1,9 +1,0 @@
-use Rattle.std.proofs.Common.{◌≡◌, ◌&&◌, map, drop}
-use Rattle.qs_check.specs.Program.{ProgramShape}
-use Rattle.qs_core.specs.Clients.{client_of}
-use Rattle.qs_core.specs.Schedule.{all_done}
-use Rattle.qs_core.specs.Begun.{AreOwn}
-use Rattle.qs_core.proofs.showing.are_done.Given as goal
-
-abbrev pub invariant-loop-client : goal.invariant-loop-client
-invariant-loop-client l = (p : ProgramShape) → AreOwn p l.clients → (l.done && all_done p l.client-index (map client_of (drop l.client-index l.clients))) ≡ all_done p 0 (map client_of l.clients)

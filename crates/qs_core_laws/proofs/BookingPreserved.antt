@@ -1,0 +1,213 @@
+-- A reservation keeps the machine's invariant: it adds one ticket to the order, to its handlers' queues and to its client.
+use Rattle.std.proofs.Common.{◌≡◌, ◌<◌, ◌≤◌, arith, ℕ, zero, suc, Bool, true, false, if◌then◌else◌, ◌==◌, List, [], ◌∷◌, ◌++◌, filter, refl, sym, ap, ◌∙◌, subst, ⊎_elim, append-nil, None}
+use Rattle.std.specs.List.{AllByRecursion}
+use Rattle.std.proofs.Math.Path.{fun_ext}
+use Rattle.std.proofs.lemmas.List.Elements.{filter-append}
+use Rattle.qs_objects.specs.Journals.{HeldState}
+use Rattle.qs_objects.specs.Parts.{same}
+use Rattle.qs_objects.specs.declared.held.Ticket.{Ticket}
+use Rattle.qs_objects.proofs.Choices.{apart_eqb, num_cases, ticket_cases}
+use Rattle.qs_meaning.specs.Solo.{put}
+use Rattle.qs_meaning.proofs.Each.{each_map, each_both, each_snoc, each_front, each_kept}
+use Rattle.qs_meaning.proofs.TreeWalks.{put_here, put_there}
+use Rattle.qs_meaning.specs.Following.{reserves, block_tree, AsksOnly}
+use Rattle.qs_check.specs.Program.{ProgramShape, blocks_of}
+use Rattle.qs_meaning.specs.Serial.{zeros}
+use Rattle.qs_check.specs.Values.{Locals}
+use Rattle.qs_meaning.proofs.Histories.{Page, Begins}
+use Rattle.qs_graph.specs.Synced.{Synced, erased}
+use Rattle.qs_syncset.specs.SoundSynced.{IsSoundSynced, IsOnReserved}
+use Rattle.qs_chunk.specs.LaneViews.{Standing, sends, gone}
+use Rattle.qs_chunk.specs.declared.parcel.Parcel.{Parcel}
+use Rattle.qs_client_run.specs.Client.{Client, Settings, Settled, between, booked}
+use Rattle.qs_played.proofs.FunctionUpdate.{put_at, put_at_here, put_at_there, put_all, put_field, put_at_field}
+use Rattle.qs_played.specs.Played.{ticket}
+use Rattle.qs_played.proofs.Orders.{legal-more, counts-more}
+use Rattle.qs_protocol.proofs.ObjectViews.{as_list, HandlerLog, ahead, IsObject}
+use Rattle.qs_protocol.proofs.ClientInvariants.{listed, Lined, Leaving, PlaceOk, standing_at}
+use Rattle.qs_protocol.proofs.ClientLogs.{books_ok}
+use Rattle.qs_protocol.proofs.ObjectSteps.{enter_ok}
+use Rattle.qs_protocol.proofs.ActObjects.{settle_begun}
+use Rattle.qs_core_laws.specs.Core.{Core, fresh_held}
+use Rattle.qs_core_laws.proofs.CoreInvariant.{LaneHistory, post, deeds, TicketOk, CoreInvariant}
+use Rattle.qs_core_laws.proofs.HandlerSteps.{of_ahead}
+use Rattle.qs_core_laws.proofs.ClientSteps.{place_page, place_lane, place_gone}
+use Rattle.qs_core_laws.proofs.SendingPreserved.{object_deeds, grown_there}
+use Rattle.qs_core_laws.proofs.LaneHistoryMoves.{begins_kept, none_after, told_here, told_there}
+
+module _ (program : ProgramShape) (fine : (t : Ticket) (l : Locals) → AsksOnly (reserves program t) (block_tree program t l)) (lined : (t : Ticket) → Lined (reserves program t) (listed program t))
+    (s : Core) (y : LaneHistory) (g : ℕ → HandlerLog) (k : CoreInvariant program s y g) (settings : Settings)
+    (c n : ℕ) (begun : (s.client c).begun ≡ n) (some : n < blocks_of program c) (l : Locals) (place : (s.client c).place ≡ between l)
+    (code : Synced) (is_tree : erased code ≡ block_tree program (ticket c n) l) (sound : IsSoundSynced (λ h. false) code) (on : IsOnReserved (listed program (ticket c n)) code) where
+  abbrev t : Ticket
+  t = ticket c n
+
+  abbrev r : Settled
+  r = booked settings t (listed program t) (s.client c) code
+
+  new_begun : r.client.begun ≡ suc n
+  new_begun = settle_begun settings t (listed program t) code (record (s.client c) { begun = suc (s.client c).begun }) ∙ ap suc begun
+
+  pub nothing : (n : ℕ) → (s.client c).begun ≡ n → (h : ℕ) → ((s.client c).held h ≡ None) × ((s.client c).chunk h ≡ None)
+  nothing zero b h = (k.idle c b).1 h
+  nothing (suc j) b h =
+      let ok : Leaving program (ticket c j) (y.sent (ticket c j)) (y.got (ticket c j)) (s.client c) (y.page (ticket c j)) [] l = subst (PlaceOk program (ticket c j) (y.sent (ticket c j)) (y.got (ticket c j)) (s.client c) (y.page (ticket c j))) place (k.places c j b) in
+      ok.empty h refl
+
+  before_it : (n : ℕ) → (s.client c).begun ≡ n → Begins y.page c n l
+  before_it zero b = cc (sym place ∙ (k.idle c b).0)
+  before_it (suc j) b =
+      let ok : Leaving program (ticket c j) (y.sent (ticket c j)) (y.got (ticket c j)) (s.client c) (y.page (ticket c j)) [] l = subst (PlaceOk program (ticket c j) (y.sent (ticket c j)) (y.got (ticket c j)) (s.client c) (y.page (ticket c j))) place (k.places c j b) in
+      ok.rest
+
+  abbrev ends : (pg' : Page) × (pg'.entry ≡ l) × (pg'.trace ≡ r.events) × PlaceOk program t (λ h. []) (λ h. []) r.client pg' r.client.place
+  ends = books_ok program t (λ h. []) (λ h. []) settings (lined t) 0 (s.client c) l code (λ h. (nothing n begun h).0) (λ h. (nothing n begun h).1) (λ h. refl) (λ h. refl)
+      is_tree (fine t l) sound on
+
+  abbrev pg : Page
+  pg = ends.0
+
+  abbrev Y : LaneHistory
+  Y = record { page = put_at y.page t pg; sent = put_at y.sent t (λ h. []); got = put_at y.got t (λ h. []); stands = put_at y.stands t (standing_at program t r.client r.client.place) }
+
+  abbrev G : ℕ → HandlerLog
+  G h = if reserves program t h then record (g h) { received = put_at (g h).received t []; way = put_at (g h).way t [] } else g h
+
+  abbrev pub reserved_core : Core
+  reserved_core = record {
+    order = s.order ++ t ∷ [];
+    client = put s.client c r.client;
+    syncs = s.syncs;
+    down = s.down;
+    up = s.up;
+    spare = s.spare;
+    handler = s.handler;
+    tickets = λ h. if reserves program t h then s.tickets h ++ t ∷ [] else s.tickets h;
+    entry = put_at s.entry t l;
+    trace = put_at s.trace t r.events;
+  }
+
+  fresh : AllByRecursion (λ u. same t u ≡ false) s.order
+  fresh = each_map (λ u b.
+      ⊎_elim
+      (λ (e : t ≡ u). let lt : suc n ≤ (s.client c).begun = subst (λ (u : Ticket). suc u.index ≤ (s.client u.client).begun) (sym e) b in absurd (omega (arith, lt, begun)))
+      (λ (other : same t u ≡ false). other)
+      (ticket_cases t u)) s.order k.below
+
+  begun_up : (d : ℕ) → (s.client d).begun ≤ (put s.client c r.client d).begun
+  begun_up d =
+      ⊎_elim
+      (λ (is : c ≡ d). subst (λ d. (s.client d).begun ≤ (put s.client c r.client d).begun) is (subst (λ (m : Client). (s.client c).begun ≤ m.begun) (sym (put_here s.client c r.client)) (let b = new_begun in omega (arith, begun, b))))
+      (λ (other : (c == d) ≡ false). subst (λ (m : Client). (s.client d).begun ≤ m.begun) (sym (put_there s.client c r.client d other)) (omega arith))
+      (num_cases c d)
+
+  old_page : (u : Ticket) → same t u ≡ false → Y.page u ≡ y.page u
+  old_page u e = put_at_there y.page t pg u e
+
+  told_new : TicketOk program Y t
+  told_new =
+      told_here program y t pg (λ h. []) (λ h. []) (standing_at program t r.client r.client.place) (place_page program t (λ h. []) (λ h. []) r.client pg r.client.place ends.3)
+      (begins_kept program y t pg (λ h. []) (λ h. []) (standing_at program t r.client r.client.place) c n l pg.entry (sym ends.1) own_index (before_it n begun))
+      (place_lane program t (λ h. []) (λ h. []) r.client pg r.client.place ends.3) (place_gone program t (λ h. []) (λ h. []) r.client pg r.client.place ends.3)
+    where
+      own_index : (i : ℕ) → n ≡ suc i → t ≡ ticket c i → ⊥
+      own_index i next is = let index : n ≡ i = ap (λ (t : Ticket). t.index) is in omega (arith, next, index)
+
+  told_old : (u : Ticket) → same t u ≡ false → suc u.index ≤ (s.client u.client).begun → TicketOk program y u → TicketOk program Y u
+  told_old u e low old =
+      told_there program y t pg (λ h. []) (λ h. []) (standing_at program t r.client r.client.place) u e
+      (none_after (λ d. (s.client d).begun) t (omega (arith, begun)) u.client u.index low) old
+
+  not_this : (d j : ℕ) → (c == d) ≡ false → same t (ticket d j) ≡ false
+  not_this d j e = rw e
+
+  of_past : (P : Ticket → Type 0) (h : ℕ) → AllByRecursion P s.order → AllByRecursion P (g h).past
+  of_past P h all = each_front P (g h).past (ahead (post s h)) (subst (AllByRecursion P) (k.objects h).split (each_kept P (λ t. reserves program t h) s.order all))
+
+  one_more : (h : ℕ) (b : Bool) → reserves program t h ≡ b → filter (λ t. reserves program t h) (s.order ++ t ∷ []) ≡ filter (λ t. reserves program t h) s.order ++ (if b then t ∷ [] else [])
+  one_more h b e = filter-append (λ t. reserves program t h) s.order (t ∷ []) ∙ ap (λ b. filter (λ t. reserves program t h) s.order ++ (if b then t ∷ [] else [])) e
+
+  object : (h : ℕ) (b : Bool) → reserves program t h ≡ b → IsObject (filter (λ t. reserves program t h) (s.order ++ t ∷ [])) (fresh_held program h)
+      (record { handler = s.handler h; tickets = (if b then s.tickets h ++ t ∷ [] else s.tickets h); down = λ c. s.down c h; up = λ c. as_list (s.up c h) }) (deeds Y h)
+      (if b then record (g h) { received = put_at (g h).received t []; way = put_at (g h).way t [] } else g h)
+  object h true e =
+      subst (λ q. IsObject q (fresh_held program h) (record { handler = s.handler h; tickets = s.tickets h ++ t ∷ []; down = λ c. s.down c h; up = λ c. as_list (s.up c h) }) (deeds Y h) (record (g h) { received = put_at (g h).received t []; way = put_at (g h).way t [] })) (sym (one_more h true e))
+      (object_deeds (filter (λ t. reserves program t h) s.order ++ t ∷ []) (fresh_held program h) (record (post s h) { tickets = s.tickets h ++ t ∷ [] }) (record (deeds y h) { sent = put_at (λ u. y.sent u h) t []; got = put_at (λ u. y.got u h) t [] }) (deeds Y h) (record (g h) { received = put_at (g h).received t []; way = put_at (g h).way t [] })
+      (λ u. sent_is (same t u) u) (λ u. got_is (same t u) u)
+      (enter_ok (filter (λ t. reserves program t h) s.order) (fresh_held program h) (post s h) (deeds y h) (g h) t (of_past (λ u. same t u ≡ false) h fresh) (of_ahead program s y g k (λ u. same t u ≡ false) h fresh)
+      (of_ahead program s y g k (λ (u : Ticket). u.client ≡ c → u.index < n) h (each_map {Q = λ (u : Ticket). u.client ≡ c → u.index < n} (λ (u : Ticket) (lt : suc u.index ≤ (s.client u.client).begun) (e : u.client ≡ c). let lt' : suc u.index ≤ (s.client c).begun = subst (λ d. suc u.index ≤ (s.client d).begun) e lt in omega (arith, lt', begun)) s.order k.below))
+      (k.objects h)))
+    where
+      sent_is : (b : Bool) (u : Ticket) → (if b then [] else y.sent u h) ≡ (if b then (λ h. []) else y.sent u) h
+      sent_is true u = refl
+      sent_is false u = refl
+
+      got_is : (b : Bool) (u : Ticket) → (if b then [] else y.got u h) ≡ (if b then (λ h. []) else y.got u) h
+      got_is true u = refl
+      got_is false u = refl
+  object h false e =
+      let o = k.outside t h e in
+      subst (λ q. IsObject q (fresh_held program h) (post s h) (deeds Y h) (g h)) (sym (one_more h false e ∙ append-nil (filter (λ t. reserves program t h) s.order)))
+      (object_deeds (filter (λ t. reserves program t h) s.order) (fresh_held program h) (post s h) (deeds y h) (deeds Y h) (g h)
+      (λ u. sym (grown_there y.sent t (λ h. []) h (sym o.0) u)) (λ u. sym (grown_there y.got t (λ h. []) h (sym o.1) u)) (k.objects h))
+
+  last_gone : (j h : ℕ) → (s.client c).begun ≡ suc j → reserves program (ticket c j) h ≡ true → y.stands (ticket c j) h ≡ gone
+  last_gone j h b m = k.stands c j b h ∙ (ap (λ p. standing_at program (ticket c j) (s.client c) p h) place ∙ ap (λ b. (if b then gone else sends [])) m)
+
+  older_now : (j h : ℕ) → suc j < suc n → reserves program (ticket c j) h ≡ true → y.stands (ticket c j) h ≡ gone
+  older_now j h lt m =
+      ⊎_elim
+      (λ (is : n ≡ suc j). last_gone j h (begun ∙ is) m)
+      (λ (other : (n == suc j) ≡ false). let ne = apart_eqb n (suc j) other in k.older c j (omega (arith, ne, lt, begun)) h m)
+      (num_cases n (suc j))
+
+  all_kept : CoreInvariant program reserved_core Y G
+  all_kept = record {
+    legal = legal-more program (λ _. 0) s.order t k.legal (sym (k.counts c ∙ begun)) some;
+    counts = λ d.
+        ap (λ (f : ℕ → ℕ). f d) (counts-more (λ _. 0) s.order t)
+        ∙ ap (λ (f : ℕ → ℕ). put f c (suc n) d) (fun_ext k.counts)
+        ∙ sym (put_field (λ (m : Client). m.begun) s.client (λ c. (s.client c).begun) c r.client (suc n) (λ m. refl) new_begun d);
+    below = each_snoc (λ (u : Ticket). suc u.index ≤ (put s.client c r.client u.client).begun) s.order t
+        (each_map (λ (u : Ticket) (lt : suc u.index ≤ (s.client u.client).begun). let up = begun_up u.client in omega (arith, lt, up)) s.order k.below)
+        (subst (λ (m : Client). suc n ≤ m.begun) (sym (put_here s.client c r.client)) (let b = new_begun in omega (arith, b)));
+    told = each_snoc (TicketOk program Y) s.order t
+        (each_both (λ u (n : same t u ≡ false) (h : (suc u.index ≤ (s.client u.client).begun) × TicketOk program y u). told_old u n h.0 h.1) s.order fresh
+        (each_both (λ u a b. (a, b)) s.order k.below k.told))
+        told_new;
+    entry = put_at_field (λ (p : Page). p.entry) y.page s.entry t pg l k.entry ends.1;
+    trace = put_at_field (λ (p : Page). p.trace) y.page s.trace t pg r.events k.trace ends.2;
+    idle = put_all (λ d (m : Client). m.begun ≡ 0 → (m.place ≡ between zeros) × ((h : ℕ) → (m.held h ≡ None) × (m.chunk h ≡ None))) s.client c r.client (λ e. let b = new_begun in absurd (omega (arith, b, e))) (λ d other e. k.idle d e);
+    places = λ d j. put_all (λ d (m : Client). (j : ℕ) → m.begun ≡ suc j → PlaceOk program (ticket d j) (Y.sent (ticket d j)) (Y.got (ticket d j)) m (Y.page (ticket d j)) m.place) s.client c r.client
+        (λ j e. let b = new_begun in let i : n ≡ j = omega (arith, b, e) in subst (λ j. PlaceOk program (ticket c j) (Y.sent (ticket c j)) (Y.got (ticket c j)) r.client (Y.page (ticket c j)) r.client.place) i
+        (subst (λ (f : ℕ → List Parcel). PlaceOk program t f (Y.got t) r.client (Y.page t) r.client.place) (sym (put_at_here y.sent t (λ h. [])))
+        (subst (λ (f : ℕ → List HeldState). PlaceOk program t (λ h. []) f r.client (Y.page t) r.client.place) (sym (put_at_here y.got t (λ h. [])))
+        (subst (λ (p : Page). PlaceOk program t (λ h. []) (λ h. []) r.client p r.client.place) (sym (put_at_here y.page t pg)) ends.3))))
+        (λ d other j e.
+        let n = not_this d j other in
+        subst (λ (f : ℕ → List Parcel). PlaceOk program (ticket d j) f (Y.got (ticket d j)) (s.client d) (Y.page (ticket d j)) (s.client d).place) (sym (put_at_there y.sent t (λ h. []) (ticket d j) n))
+        (subst (λ (f : ℕ → List HeldState). PlaceOk program (ticket d j) (y.sent (ticket d j)) f (s.client d) (Y.page (ticket d j)) (s.client d).place) (sym (put_at_there y.got t (λ h. []) (ticket d j) n))
+        (subst (λ (p : Page). PlaceOk program (ticket d j) (y.sent (ticket d j)) (y.got (ticket d j)) (s.client d) p (s.client d).place) (sym (old_page (ticket d j) n)) (k.places d j e)))) d j;
+    stands = λ d j. put_all (λ d (m : Client). (j : ℕ) → m.begun ≡ suc j → (h : ℕ) → Y.stands (ticket d j) h ≡ standing_at program (ticket d j) m m.place h) s.client c r.client
+        (λ j e h. let b = new_begun in let i : n ≡ j = omega (arith, b, e) in subst (λ j. Y.stands (ticket c j) h ≡ standing_at program (ticket c j) r.client r.client.place h) i (ap (λ (f : ℕ → Standing). f h) (put_at_here y.stands t (standing_at program t r.client r.client.place))))
+        (λ d other j e h. ap (λ (f : ℕ → Standing). f h) (put_at_there y.stands t (standing_at program t r.client r.client.place) (ticket d j) (not_this d j other)) ∙ k.stands d j e h) d j;
+    older = λ d j. put_all (λ d (m : Client). (j : ℕ) → suc j < m.begun → (h : ℕ) → reserves program (ticket d j) h ≡ true → Y.stands (ticket d j) h ≡ gone) s.client c r.client
+        (λ j lt h m.
+        let b = new_begun in
+        let lt' : suc j < suc n = omega (arith, b, lt) in
+        ⊎_elim
+        (λ (is : t ≡ ticket c j). let p : n ≡ j = ap (λ (t : Ticket). t.index) is in absurd (omega (arith, p, lt')))
+        (λ (other : same t (ticket c j) ≡ false). ap (λ (f : ℕ → Standing). f h) (put_at_there y.stands t (standing_at program t r.client r.client.place) (ticket c j) other) ∙ older_now j h lt' m)
+        (ticket_cases t (ticket c j)))
+        (λ d other j lt h m. ap (λ (f : ℕ → Standing). f h) (put_at_there y.stands t (standing_at program t r.client r.client.place) (ticket d j) (not_this d j other)) ∙ k.older d j lt h m) d j;
+    outside = λ u h none. ⊎_elim
+        (λ (is : t ≡ u). subst (λ u. (Y.sent u h ≡ []) × (Y.got u h ≡ [])) is
+        (ap (λ (f : ℕ → List Parcel). f h) (put_at_here y.sent t (λ h. [])), ap (λ (f : ℕ → List HeldState). f h) (put_at_here y.got t (λ h. []))))
+        (λ (other : same t u ≡ false). let o = k.outside u h none in
+        (ap (λ (f : ℕ → List Parcel). f h) (put_at_there y.sent t (λ h. []) u other) ∙ o.0, ap (λ (f : ℕ → List HeldState). f h) (put_at_there y.got t (λ h. []) u other) ∙ o.1))
+        (ticket_cases t u);
+    objects = λ h. object h (reserves program t h) refl;
+  }
+
+  pub reserve_kept : (y' : LaneHistory) × (g' : ℕ → HandlerLog) × CoreInvariant program reserved_core y' g'
+  reserve_kept = (Y, G, all_kept)

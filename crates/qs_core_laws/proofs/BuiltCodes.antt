@@ -1,0 +1,26 @@
+-- The graphs as they are built are codes of the modes that remove no synchronisations.
+use Rattle.std.proofs.Common.{◌≡◌, Bool, false, map, refl, sym, ap, subst, arith}
+use Rattle.std.proofs.lemmas.List.{get_or-map, get_or_past, length-map}
+use Rattle.std.proofs.lemmas.List.FromFn.{get_or-map-range_with_len}
+use Rattle.qs_check.specs.Loads.{load_of}
+use Rattle.qs_check.specs.Program.{BlockShape, ProgramShape, block_at, client_at, no_block, no_client}
+use Rattle.qs_syncset.specs.declared.mode.Mode.{Mode}
+use Rattle.qs_syncset.specs.Codes.{IsBlockCode, no_code}
+use Rattle.qs_syncset.specs.Modes.{is_dynamic, is_static}
+use Rattle.qs_core_laws.specs.Core.{AreCodes}
+use Rattle.qs_core_laws.specs.CoreExamples.{built, built_block}
+
+module _ (p : ProgramShape) (dynamic : Bool) (mode : Mode) (tests : dynamic ≡ is_dynamic mode) (removes_none : is_static mode ≡ false) where
+  block_code : (b : BlockShape) → IsBlockCode (is_static mode) b (built_block b)
+  block_code b = subst (λ static. IsBlockCode static b (built_block b)) (sym removes_none)
+      (record { reserved = refl; graph = refl; loads = λ h few. get_or-map-range_with_len (load_of b.body) 0 8 h h 0 few (omega arith) })
+
+  pub built_codes : AreCodes p mode (built dynamic p)
+  built_codes = record {
+    own = λ c inside. record {
+      dynamic = tests;
+      count = length-map (client_at p c).blocks built_block;
+      blocks = λ k few. subst (IsBlockCode (is_static mode) (block_at p c k)) (sym (get_or-map built_block (client_at p c).blocks k no_block no_code few)) (block_code (block_at p c k));
+    };
+    none = λ c out. ap (λ k. map built_block k.blocks) (get_or_past p.clients c no_client out);
+  }

@@ -1,0 +1,133 @@
+-- A client's act keeps all but its objects, of which it says which.
+use Rattle.std.proofs.Common.{◌≡◌, ◌<◌, ◌≤◌, arith, ℕ, suc, Bool, true, false, if◌then◌else◌, ◌==◌, List, [], ◌++◌, filter, sym, ap, ◌∙◌, subst, ⊎_elim, Option, None}
+use Rattle.qs_objects.specs.Journals.{HeldState}
+use Rattle.qs_objects.specs.Parts.{part, same}
+use Rattle.qs_objects.specs.declared.held.Event.{Event}
+use Rattle.qs_objects.specs.declared.held.Ticket.{Ticket}
+use Rattle.qs_objects.specs.declared.Request.{Request}
+use Rattle.qs_objects.proofs.Choices.{ticket_cases}
+use Rattle.qs_meaning.specs.Solo.{put}
+use Rattle.qs_meaning.proofs.Each.{each_map, each_both}
+use Rattle.qs_meaning.specs.Following.{reserves}
+use Rattle.qs_check.specs.Program.{ProgramShape}
+use Rattle.qs_meaning.specs.Serial.{zeros}
+use Rattle.qs_meaning.proofs.Histories.{Page, IsDone}
+use Rattle.qs_chunk.specs.LaneViews.{Standing, asks, gone, ClientLane}
+use Rattle.qs_chunk.specs.declared.parcel.Parcel.{Parcel}
+use Rattle.qs_client_run.specs.Client.{Client, Place, between, runs, full, awaits, leaves}
+use Rattle.qs_played.proofs.FunctionUpdate.{put_at, put_at_here, put_at_there, put_all, put_at_field, put_at_kept, put_kept}
+use Rattle.qs_played.specs.Played.{ticket}
+use Rattle.qs_protocol.proofs.ObjectViews.{HandlerLog, IsObject}
+use Rattle.qs_protocol.proofs.ClientInvariants.{in_hand, IsOpenPage, PlaceOk, standing_at}
+use Rattle.qs_protocol.proofs.ActKinds.{in_hand_gone}
+use Rattle.qs_core_laws.specs.Core.{Core, fresh_held}
+use Rattle.qs_core_laws.proofs.CoreInvariant.{LaneHistory, post, deeds, TicketOk, CoreInvariant}
+use Rattle.qs_core_laws.proofs.LaneHistoryMoves.{begins_kept, none_after, told_here, told_there}
+
+module _ (program : ProgramShape) (t : Ticket) (snt : ℕ → List Parcel) (got : ℕ → List HeldState) where
+  pub place_page : (m : Client) (pg : Page) (pl : Place) → PlaceOk program t snt got m pg pl → IsOpenPage program t pg
+  place_page m pg (between l) k = k.page
+  place_page m pg (runs code) k = k.0.page
+  place_page m pg (full h code) k = k.page
+  place_page m pg (awaits h code) k = k.page
+  place_page m pg (leaves h hs l) k = k.page
+
+  pub place_lane : (m : Client) (pg : Page) (pl : Place) → PlaceOk program t snt got m pg pl → (h : ℕ) → ClientLane t false (snt h) (got h) (part h pg.trace) (standing_at program t m pl h)
+  place_lane m pg (between l) k h = k.lanes h
+  place_lane m pg (runs code) k h = k.0.lanes h
+  place_lane m pg (full g code) k h = k.lanes h
+  place_lane m pg (awaits g code) k h = k.lanes h
+  place_lane m pg (leaves g hs l) k h = k.lanes h
+
+  awaits_gone : (b : Bool) (o : Option HeldState) (c : Option (List Request)) → (if b then asks else in_hand o c) ≡ gone → ⊥
+  awaits_gone true o c e = cc
+  awaits_gone false o c e = in_hand_gone o c e
+
+  pub place_gone : (m : Client) (pg : Page) (pl : Place) → PlaceOk program t snt got m pg pl → (h : ℕ) → standing_at program t m pl h ≡ gone → IsDone pg.rest
+  place_gone m pg (between l) k h e = subst IsDone (sym k.rest) tt
+  place_gone m pg (runs code) k h e = absurd (in_hand_gone (m.held h) (m.chunk h) e)
+  place_gone m pg (full g code) k h e = absurd (in_hand_gone (m.held h) (m.chunk h) e)
+  place_gone m pg (awaits g code) k h e = absurd (awaits_gone (g == h) (m.held h) (m.chunk h) e)
+  place_gone m pg (leaves g hs l) k h e = subst IsDone (sym k.rest) tt
+
+module _ (program : ProgramShape) (s : Core) (y : LaneHistory) (g : ℕ → HandlerLog) (kept : CoreInvariant program s y g)
+    (c k : ℕ) (begun : (s.client c).begun ≡ suc k) (m : Client) (same_begun : m.begun ≡ (s.client c).begun) (events : List Event)
+    (snt : ℕ → List Parcel) (got : ℕ → List HeldState) (pg : Page) (entry : pg.entry ≡ (y.page (ticket c k)).entry) (trace : pg.trace ≡ (y.page (ticket c k)).trace ++ events)
+    (ok : PlaceOk program (ticket c k) snt got m pg m.place) (out : (h : ℕ) → reserves program (ticket c k) h ≡ false → (snt h ≡ []) × (got h ≡ [])) where
+  abbrev pub t : Ticket
+  t = ticket c k
+
+  abbrev pub story : LaneHistory
+  story = record { page = put_at y.page t pg; sent = put_at y.sent t snt; got = put_at y.got t got; stands = put_at y.stands t (standing_at program t m m.place) }
+
+  abbrev pub moved : (ℕ → ℕ → List Parcel) → (ℕ → ℕ → Option HeldState) → (ℕ → ℕ → ℕ) → (ℕ → ℕ) → Core
+  moved down up spare syncs = record s { client = put s.client c m; trace = put_at s.trace t (s.trace t ++ events); down = down; up = up; spare = spare; syncs = syncs }
+
+  begun_kept : (d : ℕ) → (put s.client c m d).begun ≡ (s.client d).begun
+  begun_kept d = put_kept (λ (m : Client). m.begun) s.client c m same_begun d
+
+  old_page : (u : Ticket) → same t u ≡ false → story.page u ≡ y.page u
+  old_page u n = put_at_there y.page t pg u n
+
+  -- no later ticket of the client is there
+  apart_from_this : (u : Ticket) → suc u.index ≤ (s.client u.client).begun → (i : ℕ) → u.index ≡ suc i → t ≡ ticket u.client i → ⊥
+  apart_from_this u low = none_after (λ d. (s.client d).begun) t (omega (arith, begun)) u.client u.index low
+
+  told_new : TicketOk program y t → suc k ≤ (s.client c).begun → TicketOk program story t
+  told_new old low =
+      told_here program y t pg snt got (standing_at program t m m.place) (place_page program t snt got m pg m.place ok)
+      (begins_kept program y t pg snt got (standing_at program t m m.place) c k (y.page t).entry pg.entry (sym entry) (apart_from_this t low) old.begins)
+      (place_lane program t snt got m pg m.place ok) (place_gone program t snt got m pg m.place ok)
+
+  told_old : (u : Ticket) → same t u ≡ false → suc u.index ≤ (s.client u.client).begun → TicketOk program y u → TicketOk program story u
+  told_old u n low old = told_there program y t pg snt got (standing_at program t m m.place) u n (apart_from_this u low) old
+
+  not_this : (d j : ℕ) → (c == d) ≡ false → same t (ticket d j) ≡ false
+  not_this d j n = rw n
+
+  pub client_moves : (down : ℕ → ℕ → List Parcel) (up : ℕ → ℕ → Option HeldState) (spare : ℕ → ℕ → ℕ) (syncs : ℕ → ℕ) (g' : ℕ → HandlerLog)
+      → ((h : ℕ) → IsObject (filter (λ t. reserves program t h) s.order) (fresh_held program h) (post (moved down up spare syncs) h) (deeds story h) (g' h))
+      → CoreInvariant program (moved down up spare syncs) story g'
+  client_moves down up spare syncs g' objects = record {
+    legal = kept.legal;
+    counts = λ d. kept.counts d ∙ sym (begun_kept d);
+    below = each_map (λ u (lt : suc u.index ≤ (s.client u.client).begun). subst (λ n. suc u.index ≤ n) (sym (begun_kept u.client)) lt) s.order kept.below;
+    told = each_both (λ u (lt : suc u.index ≤ (s.client u.client).begun) (old : TicketOk program y u).
+        ⊎_elim
+        (λ (is : t ≡ u). subst (TicketOk program story) is (told_new (subst (TicketOk program y) (sym is) old) (omega arith)))
+        (λ (other : same t u ≡ false). told_old u other lt old)
+        (ticket_cases t u)) s.order kept.below kept.told;
+    entry = λ u. put_at_kept (λ (p : Page). p.entry) y.page t pg entry u ∙ kept.entry u;
+    trace = put_at_field (λ (p : Page). p.trace) y.page s.trace t pg (s.trace t ++ events) kept.trace (trace ∙ ap (λ es. es ++ events) (kept.trace t));
+    idle = put_all (λ d (m : Client). m.begun ≡ 0 → (m.place ≡ between zeros) × ((h : ℕ) → (m.held h ≡ None) × (m.chunk h ≡ None))) s.client c m (λ e. absurd (omega arith)) (λ d other e. kept.idle d e);
+    places = λ d j. put_all (λ d (m : Client). (j : ℕ) → m.begun ≡ suc j → PlaceOk program (ticket d j) (story.sent (ticket d j)) (story.got (ticket d j)) m (story.page (ticket d j)) m.place) s.client c m
+        (λ j e. let i : k ≡ j = omega arith in subst (λ j. PlaceOk program (ticket c j) (story.sent (ticket c j)) (story.got (ticket c j)) m (story.page (ticket c j)) m.place) i
+        (subst (λ (f : ℕ → List Parcel). PlaceOk program t f (story.got t) m (story.page t) m.place) (sym (put_at_here y.sent t snt))
+        (subst (λ (f : ℕ → List HeldState). PlaceOk program t snt f m (story.page t) m.place) (sym (put_at_here y.got t got))
+        (subst (λ (p : Page). PlaceOk program t snt got m p m.place) (sym (put_at_here y.page t pg)) ok))))
+        (λ d other j e.
+        let n = not_this d j other in
+        subst (λ (f : ℕ → List Parcel). PlaceOk program (ticket d j) f (story.got (ticket d j)) (s.client d) (story.page (ticket d j)) (s.client d).place) (sym (put_at_there y.sent t snt (ticket d j) n))
+        (subst (λ (f : ℕ → List HeldState). PlaceOk program (ticket d j) (y.sent (ticket d j)) f (s.client d) (story.page (ticket d j)) (s.client d).place) (sym (put_at_there y.got t got (ticket d j) n))
+        (subst (λ (p : Page). PlaceOk program (ticket d j) (y.sent (ticket d j)) (y.got (ticket d j)) (s.client d) p (s.client d).place) (sym (old_page (ticket d j) n)) (kept.places d j e)))) d j;
+    stands = λ d j. put_all (λ d (m : Client). (j : ℕ) → m.begun ≡ suc j → (h : ℕ) → story.stands (ticket d j) h ≡ standing_at program (ticket d j) m m.place h) s.client c m
+        (λ j e h. let i : k ≡ j = omega arith in subst (λ j. story.stands (ticket c j) h ≡ standing_at program (ticket c j) m m.place h) i (ap (λ (f : ℕ → Standing). f h) (put_at_here y.stands t (standing_at program t m m.place))))
+        (λ d other j e h. ap (λ (f : ℕ → Standing). f h) (put_at_there y.stands t (standing_at program t m m.place) (ticket d j) (not_this d j other)) ∙ kept.stands d j e h) d j;
+    older = λ d j lt h reserved.
+        ⊎_elim
+        (λ (is : t ≡ ticket d j).
+        let p : k ≡ j = ap (λ (t : Ticket). t.index) is in
+        let q : (s.client c).begun ≡ (s.client d).begun = ap (λ (t : Ticket). (s.client t.client).begun) is in
+        let b = begun_kept d in
+        absurd (omega (arith, b)))
+        (λ (other : same t (ticket d j) ≡ false). ap (λ (f : ℕ → Standing). f h) (put_at_there y.stands t (standing_at program t m m.place) (ticket d j) other) ∙ kept.older d j (subst (λ n. suc j < n) (begun_kept d) lt) h reserved)
+        (ticket_cases t (ticket d j));
+    outside = λ u h none. ⊎_elim
+        (λ (is : t ≡ u). subst (λ u. (story.sent u h ≡ []) × (story.got u h ≡ [])) is
+        (let o = out h (subst (λ u. reserves program u h ≡ false) (sym is) none) in
+        (ap (λ (f : ℕ → List Parcel). f h) (put_at_here y.sent t snt) ∙ o.0, ap (λ (f : ℕ → List HeldState). f h) (put_at_here y.got t got) ∙ o.1)))
+        (λ (other : same t u ≡ false). let o = kept.outside u h none in
+        (ap (λ (f : ℕ → List Parcel). f h) (put_at_there y.sent t snt u other) ∙ o.0, ap (λ (f : ℕ → List HeldState). f h) (put_at_there y.got t got u other) ∙ o.1))
+        (ticket_cases t u);
+    objects = objects;
+  }

@@ -1,0 +1,260 @@
+-- What is on the way to an object, ticket by ticket.
+use Rattle.std.proofs.Common.{◌≡◌, ◌<◌, ◌≤◌, arith, ℕ, suc, Bool, true, false, true≢false, if◌then◌else◌, ◌==◌, List, [], ◌∷◌, ◌++◌, map, filter, refl, sym, ap, ap₂, ◌∙◌, subst, ◌⊎◌, inl, inr, ⊎_elim, append-nil, Option, Some, None}
+use Rattle.std.specs.List.{AllByRecursion}
+use Rattle.qs_objects.specs.Journals.{HeldState}
+use Rattle.qs_objects.specs.Parts.{logged, part, same}
+use Rattle.qs_objects.specs.declared.held.Event.{Event}
+use Rattle.qs_objects.specs.declared.held.Ticket.{Ticket}
+use Rattle.qs_objects.specs.declared.Request.{Request}
+use Rattle.qs_objects.proofs.Choices.{apart_eqb, eqb_self, eqb_true, num_cases, not_same}
+use Rattle.qs_meaning.specs.Following.{reserves, block_tree}
+use Rattle.qs_check.specs.Program.{ProgramShape}
+use Rattle.qs_check.specs.Sound.{IsSound, is_in}
+use Rattle.qs_meaning.proofs.Each.{each_map, each_both, each_join, each_front, each_back, each_kept, each_passes}
+use Rattle.qs_meaning.proofs.Histories.{Among, Apart, parts_of}
+use Rattle.qs_meaning.proofs.SerialRuns.{legal_apart}
+use Rattle.qs_meaning.proofs.SoundTrees.{blocks_ask_only}
+use Rattle.qs_meaning.proofs.TreeWalks.{unnamed}
+use Rattle.qs_chunk.specs.LaneViews.{Standing, sends, asks, gone, ClientLane, HandlerLane}
+use Rattle.qs_chunk.specs.declared.parcel.Parcel.{Parcel}
+use Rattle.qs_chunk.specs.LaneParts.{commands_in, lane_of}
+use Rattle.qs_chunk.specs.LaneViews as views
+use Rattle.qs_handler.specs.Handler.{Handler, free, serves, spares, gives, away, closed, serving}
+use Rattle.qs_client_run.specs.Client.{Client, Place, between, runs, full, awaits, leaves}
+use Rattle.qs_played.proofs.Orders.{each_among, apart_kept, apart_both}
+use Rattle.qs_protocol.proofs.ClientInvariants.{in_hand, PlaceOk, standing_at}
+use Rattle.qs_protocol.proofs.ObjectViews.{stance, Rising, HandlerLog, ahead}
+use Rattle.qs_protocol.proofs.LaneParts.{IsEnded, AreCut, ended_back, gone_ended, lane_of_other, lane_of_own}
+use Rattle.qs_protocol.proofs.LaneWays.{gone_over}
+use Rattle.qs_protocol.proofs.LaneWholes.{IsCut, chunk_of, cut_back, sent_cut}
+use Rattle.qs_core_laws.specs.Core.{Core, fresh_held}
+use Rattle.qs_core_laws.specs.CoreSchedule.{in_chunk, on_way, or_none}
+use Rattle.qs_core_laws.proofs.CoreInvariant.{LaneHistory, post, TicketOk, CoreInvariant}
+use Rattle.qs_core_laws.proofs.HandlerSteps.{deeds_ok, may_ahead}
+use Rattle.qs_core_laws.proofs.SendingPreserved.{among_kept, past_gone}
+
+-- the open chunk, by the place
+
+hand_chunk : (o : Option HeldState) (c : Option (List Request)) → (o ≡ None) ⊎ (c ≡ None) → chunk_of (in_hand o c) ≡ or_none c
+hand_chunk (Some x) None n = refl
+hand_chunk (Some x) (Some rs) (inl n) = absurd (cc)
+hand_chunk (Some x) (Some rs) (inr n) = absurd (cc)
+hand_chunk None None n = refl
+hand_chunk None (Some rs) n = refl
+
+awaits_chunk : (b : Bool) (o : Option HeldState) (c : Option (List Request)) → (b ≡ true → c ≡ None) → (o ≡ None) ⊎ (c ≡ None) → chunk_of (if b then asks else in_hand o c) ≡ or_none c
+awaits_chunk true o c e n = sym (ap or_none (e refl))
+awaits_chunk false o c e n = hand_chunk o c n
+
+gone_chunk : (b : Bool) → chunk_of (if b then gone else sends []) ≡ []
+gone_chunk true = refl
+gone_chunk false = refl
+
+leaves_chunk : (a b : Bool) (o : Option HeldState) (c : Option (List Request)) → (a ≡ false → c ≡ None) → (o ≡ None) ⊎ (c ≡ None)
+    → chunk_of (if a then in_hand o c else (if b then gone else sends [])) ≡ or_none c
+leaves_chunk true b o c e n = hand_chunk o c n
+leaves_chunk false b o c e n = gone_chunk b ∙ sym (ap or_none (e refl))
+
+open_chunk : (program : ProgramShape) (t : Ticket) (snt : ℕ → List Parcel) (got : ℕ → List HeldState) (m : Client) (pg : _) (pl : Place) → PlaceOk program t snt got m pg pl
+    → (h : ℕ) → chunk_of (standing_at program t m pl h) ≡ or_none (m.chunk h)
+open_chunk program t snt got m pg (between l) k h = leaves_chunk false (reserves program t h) (m.held h) (m.chunk h) (λ e. (k.empty h refl).1) (k.not_both h)
+open_chunk program t snt got m pg (runs code) k h = hand_chunk (m.held h) (m.chunk h) (k.0.not_both h)
+open_chunk program t snt got m pg (full g code) k h = hand_chunk (m.held h) (m.chunk h) (k.not_both h)
+open_chunk program t snt got m pg (awaits g code) k h =
+    awaits_chunk (g == h) (m.held h) (m.chunk h) (λ e. subst (λ h. m.chunk h ≡ None) (eqb_true g h e) k.chunk) (k.not_both h)
+open_chunk program t snt got m pg (leaves g hs l) k h =
+    leaves_chunk (is_in (g ∷ hs) h) (reserves program t h) (m.held h) (m.chunk h) (λ e. (k.empty h e).1) (k.not_both h)
+
+-- a handler serves one ticket or none
+pub serving_shape : (v : Handler) → (serving v ≡ []) ⊎ ((u : Ticket) × (serving v ≡ u ∷ []))
+serving_shape (free z) = inl refl
+serving_shape (serves u z) = inr (u, refl)
+serving_shape (spares u z n) = inr (u, refl)
+serving_shape (gives u z) = inr (u, refl)
+serving_shape (away u) = inr (u, refl)
+serving_shape (closed z) = inl refl
+
+stance_not_over : (v : Handler) (lent z : HeldState) (t : Ticket) → serving v ≡ t ∷ [] → stance v lent ≡ views.over z → ⊥
+stance_not_over (free x) lent z t one e = cc one
+stance_not_over (serves u x) lent z t one e = cc e
+stance_not_over (spares u x n) lent z t one e = cc e
+stance_not_over (gives u x) lent z t one e = cc e
+stance_not_over (away u) lent z t one e = cc e
+stance_not_over (closed x) lent z t one e = cc one
+
+first_of : (c : ℕ) (us : List Ticket) → (filter (λ (u : Ticket). u.client == c) us ≡ [] → ⊥) → (v : Ticket) × Among v us × ((v.client == c) ≡ true)
+first_of c [] some = absurd (some refl)
+first_of c (u ∷ us) some = by_case (u.client == c) refl some (first_of c us)
+  where
+    by_case : (b : Bool) → (u.client == c) ≡ b → ((if b then u ∷ filter (λ (u : Ticket). u.client == c) us else filter (λ (u : Ticket). u.client == c) us) ≡ [] → ⊥)
+        → ((filter (λ (u : Ticket). u.client == c) us ≡ [] → ⊥) → (v : Ticket) × Among v us × ((v.client == c) ≡ true))
+        → (v : Ticket) × Among v (u ∷ us) × ((v.client == c) ≡ true)
+    by_case true e some ih = (u, inl refl, e)
+    by_case false e some ih = let r = ih some in (r.0, inr r.1, r.2)
+
+module _ (program : ProgramShape) (sound : IsSound program) (s : Core) (y : LaneHistory) (g : ℕ → HandlerLog) (k : CoreInvariant program s y g) (h : ℕ) where
+  abbrev pub way : Ticket → List Parcel
+  way = (g h).way
+
+  -- of a ticket that reserves the object
+  abbrev pub IsMine : Ticket → Type 0
+  IsMine t = (reserves program t h ≡ true) × (suc t.index ≤ (s.client t.client).begun) × TicketOk program y t
+
+  pub mine : AllByRecursion IsMine (filter (λ t. reserves program t h) s.order)
+  mine =
+      each_both (λ t a (b : (suc t.index ≤ (s.client t.client).begun) × TicketOk program y t). (a, b.0, b.1))
+      (filter (λ t. reserves program t h) s.order) (each_passes (λ t. reserves program t h) s.order)
+      (each_kept (λ (t : Ticket). (suc t.index ≤ (s.client t.client).begun) × TicketOk program y t) (λ t. reserves program t h) s.order (each_both (λ t a b. (a, b)) s.order k.below k.told))
+
+  pub mine_past : AllByRecursion IsMine (g h).past
+  mine_past = each_front IsMine (g h).past (ahead (post s h)) (subst (AllByRecursion IsMine) (k.objects h).split mine)
+
+  pub mine_ahead : AllByRecursion IsMine (ahead (post s h))
+  mine_ahead = each_back IsMine (g h).past (ahead (post s h)) (subst (AllByRecursion IsMine) (k.objects h).split mine)
+
+  -- those that were served are none of those that are to be
+  past_apart : AllByRecursion (λ t. AllByRecursion (λ u. same t u ≡ false) (ahead (post s h))) (g h).past
+  past_apart = apart_both (g h).past (ahead (post s h)) (subst Apart (k.objects h).split (apart_kept (λ t. reserves program t h) s.order (legal_apart program (λ _. 0) s.order k.legal)))
+
+  -- who was served has left
+  pub past_left : AllByRecursion (λ t. y.stands t h ≡ gone) (g h).past
+  past_left =
+      past_gone (λ u. y.sent u h) (λ u. y.got u h) (λ u. part h (y.page u).trace) (λ u. y.stands u h) (g h).past (fresh_held program h) (g h).found (k.objects h).served
+      (each_map (λ u (m : IsMine u). m.2.lane h) (g h).past mine_past)
+
+  chunk_last : (t : Ticket) → (s.client t.client).begun ≡ suc t.index → chunk_of (y.stands t h) ≡ in_chunk (s.client t.client) t.index h
+  chunk_last t is =
+      ap chunk_of (k.stands t.client t.index is h)
+      ∙ (open_chunk program t (y.sent t) (y.got t) (s.client t.client) (y.page t) (s.client t.client).place (k.places t.client t.index is) h
+      ∙ ap (λ b. if b then or_none ((s.client t.client).chunk h) else []) (sym (eqb_self (suc t.index)) ∙ ap (λ n. n == suc t.index) (sym is)))
+
+  chunk_none : (t : Ticket) → ((s.client t.client).begun == suc t.index) ≡ false → in_chunk (s.client t.client) t.index h ≡ []
+  chunk_none t other = ap (λ b. if b then or_none ((s.client t.client).chunk h) else []) other
+
+  chunk_is : (t : Ticket) → IsMine t → chunk_of (y.stands t h) ≡ in_chunk (s.client t.client) t.index h
+  chunk_is t m =
+      ⊎_elim
+      (λ (is : (s.client t.client).begun ≡ suc t.index). chunk_last t is)
+      (λ (other : ((s.client t.client).begun == suc t.index) ≡ false).
+      let ne = apart_eqb (s.client t.client).begun (suc t.index) other in let lt = m.1 in
+      ap chunk_of (k.older t.client t.index (omega (arith, ne, lt)) h m.0) ∙ sym (chunk_none t other))
+      (num_cases (s.client t.client).begun (suc t.index))
+
+  -- what an object's part of a page is where the block doesn't reserve it
+  pub part_out : (t : Ticket) → TicketOk program y t → reserves program t h ≡ false → parts_of y.page h t ≡ []
+  part_out t told out = unnamed (reserves program t) (block_tree program t (y.page t).entry) (y.page t).trace (y.page t).rest h (blocks_ask_only program sound t (y.page t).entry) told.page.path out
+
+  empty_chunk : (t : Ticket) (events : List Event) (c : Standing) → ClientLane t false [] [] events c → events ≡ [] → chunk_of c ≡ []
+  empty_chunk t events c lane none = ap chunk_of lane.1 ∙ no_events lane.0 (sym lane.3 ∙ none)
+    where
+      no_events : (rs : List Request) → map logged rs ≡ [] → rs ≡ []
+      no_events [] e = refl
+      no_events (r ∷ rs) e = absurd (cc)
+
+  chunk_out : (t : Ticket) → TicketOk program y t → reserves program t h ≡ false → in_chunk (s.client t.client) t.index h ≡ []
+  chunk_out t told out =
+      let o = k.outside t h out in
+      let none : chunk_of (y.stands t h) ≡ [] =
+      empty_chunk t (part h (y.page t).trace) (y.stands t h)
+      (subst (λ ps. ClientLane t false ps [] (part h (y.page t).trace) (y.stands t h)) o.0 (subst (λ gs. ClientLane t false (y.sent t h) gs (part h (y.page t).trace) (y.stands t h)) o.1 (told.lane h)))
+      (part_out t told out) in
+      ⊎_elim
+      (λ (is : (s.client t.client).begun ≡ suc t.index). sym (chunk_last t is) ∙ none)
+      (λ (other : ((s.client t.client).begun == suc t.index) ≡ false). chunk_none t other)
+      (num_cases (s.client t.client).begun (suc t.index))
+
+  -- what lies in a lane, ticket by ticket
+
+  abbrev IsCutTo : Ticket → Type 0
+  IsCutTo u = IsCut (way u) × (y.stands u h ≡ gone → IsEnded (way u))
+
+  cut_serving : (t : Ticket) → serving (s.handler h) ≡ t ∷ [] → IsCutTo t
+  cut_serving t one =
+      let o = k.objects h in
+      let here : ahead (post s h) ≡ t ∷ s.tickets h = ap (λ q. q ++ s.tickets h) one in
+      let m = (subst (AllByRecursion IsMine) here mine_ahead).0 in
+      let sent = (subst (AllByRecursion (λ t. y.sent t h ≡ (g h).received t ++ way t)) here o.sent).0 in
+      let lane = (subst (AllByRecursion (λ t. HandlerLane t false (g h).found ((g h).received t) ((g h).gave t) (stance (s.handler h) (g h).lent))) one o.lane).0 in (
+        cut_back ((g h).received t) (way t) (subst IsCut sent (sent_cut t false (y.sent t h) (y.got t h) (part h (y.page t).trace) (y.stands t h) (m.2.lane h))),
+        λ left.
+            let client : ClientLane t false (y.sent t h) (y.got t h) (part h (y.page t).trace) gone = subst (ClientLane t false (y.sent t h) (y.got t h) (part h (y.page t).trace)) left (m.2.lane h) in
+            ended_back ((g h).received t) (way t) (subst IsEnded sent (gone_ended t false (y.sent t h) (y.got t h) (part h (y.page t).trace) client))
+            (λ none.
+            let all : y.sent t h ≡ (g h).received t = sent ∙ (ap (λ w. (g h).received t ++ w) none ∙ append-nil ((g h).received t)) in
+            let over = gone_over t (g h).found ((g h).received t) (y.got t h) ((g h).gave t) (part h (y.page t).trace) (stance (s.handler h) (g h).lent)
+            (subst (λ ps. ClientLane t false ps (y.got t h) (part h (y.page t).trace) gone) all client) lane in
+            stance_not_over (s.handler h) (g h).lent over.0 t one over.1),
+      )
+
+  -- of a ticket that the handler has not begun, nothing was got, and all that was sent is on its way
+  abbrev pub IsLater : Ticket → Type 0
+  IsLater u = IsMine u × (y.got u h ≡ []) × (y.sent u h ≡ way u)
+
+  pub later : AllByRecursion IsLater (s.tickets h)
+  later =
+      each_both (λ u (a : IsMine u × (y.sent u h ≡ (g h).received u ++ way u)) (b : (y.got u h ≡ []) × ((g h).received u ≡ [])). (a.0, b.0, a.1 ∙ ap (λ r. r ++ way u) b.1)) (s.tickets h)
+      (each_both (λ u a b. (a, b)) (s.tickets h) (each_back IsMine (serving (s.handler h)) (s.tickets h) mine_ahead)
+      (each_back (λ t. y.sent t h ≡ (g h).received t ++ way t) (serving (s.handler h)) (s.tickets h) (k.objects h).sent))
+      (k.objects h).later
+
+  cut_later : (u : Ticket) → IsLater u → IsCutTo u
+  cut_later u l = (
+    subst IsCut l.2 (sent_cut u false (y.sent u h) (y.got u h) (part h (y.page u).trace) (y.stands u h) (l.0.2.lane h)),
+    λ left.
+        subst IsEnded l.2
+        (gone_ended u false (y.sent u h) (y.got u h) (part h (y.page u).trace) (subst (ClientLane u false (y.sent u h) (y.got u h) (part h (y.page u).trace)) left (l.0.2.lane h))),
+  )
+
+  cut_ahead : AllByRecursion IsCutTo (ahead (post s h))
+  cut_ahead = each_join IsCutTo (serving (s.handler h)) (s.tickets h)
+      (⊎_elim
+      (λ (none : serving (s.handler h) ≡ []). subst (AllByRecursion IsCutTo) (sym none) tt)
+      (λ (one : (u : Ticket) × (serving (s.handler h) ≡ u ∷ [])). subst (AllByRecursion IsCutTo) (sym one.1) (cut_serving one.0 one.1, tt))
+      (serving_shape (s.handler h)))
+      (each_map cut_later (s.tickets h) later)
+
+  cut_list : (c : ℕ) (q : List Ticket) → Rising q → AllByRecursion IsCutTo q
+      → ((u v : Ticket) → Among u q → Among v q → u.client ≡ v.client → u.index < v.index → y.stands u h ≡ gone) → AreCut way (filter (λ (u : Ticket). u.client == c) q)
+  cut_list c [] rising cut older = tt
+  cut_list c (u ∷ us) rising cut older = by_case (u.client == c) refl (cut_list c us rising.1 cut.1 (λ a b i j. older a b (inr i) (inr j)))
+    where
+      by_case : (b : Bool) → (u.client == c) ≡ b → AreCut way (filter (λ (u : Ticket). u.client == c) us)
+          → AreCut way (if b then u ∷ filter (λ (u : Ticket). u.client == c) us else filter (λ (u : Ticket). u.client == c) us)
+      by_case false e ih = ih
+      by_case true e ih = (
+        cut.0.0,
+        (λ some.
+            let v = first_of c us some in
+            let client : u.client ≡ (v.0).client = eqb_true u.client c e ∙ sym (eqb_true (v.0).client c v.2) in
+            cut.0.1 (older u v.0 (inl refl) (inr v.1) client (each_among (λ (v : Ticket). u.client ≡ v.client → u.index < v.index) v.0 us rising.0 v.1 client))),
+        ih,
+      )
+
+  abbrev mates : Ticket → List Ticket
+  mates t = filter (λ (u : Ticket). u.client == t.client) (ahead (post s h))
+
+  lane_own : (t : Ticket) → Among t (ahead (post s h)) → lane_of t (mates t) (s.down t.client h) ≡ way t
+  lane_own t a =
+      ap (lane_of t (mates t)) ((k.objects h).down t.client)
+      ∙ lane_of_own t way (mates t)
+      (cut_list t.client (ahead (post s h)) (k.objects h).rising cut_ahead (deeds_ok program s y g k h).older)
+      (among_kept (λ (u : Ticket). u.client == t.client) t (ahead (post s h)) (eqb_self t.client) a)
+
+  lane_other : (t : Ticket) → AllByRecursion (λ u. same t u ≡ false) (ahead (post s h)) → lane_of t (mates t) (s.down t.client h) ≡ []
+  lane_other t other = lane_of_other t (mates t) (s.down t.client h) (each_kept (λ u. same t u ≡ false) (λ (u : Ticket). u.client == t.client) (ahead (post s h)) other)
+
+  -- of a ticket that is to be served, or is: what lies in the lane, and then what is in the open chunk
+  pub waits_ahead : (t : Ticket) → Among t (ahead (post s h)) → IsMine t → on_way s h t ≡ commands_in (way t) ++ chunk_of (y.stands t h)
+  waits_ahead t a m = ap₂ (λ ps rs. commands_in ps ++ rs) (lane_own t a) (sym (chunk_is t m))
+
+  -- of one that was served
+  pub waits_past : AllByRecursion (λ t. on_way s h t ≡ []) (g h).past
+  waits_past =
+      each_both {P = λ t. IsMine t × (y.stands t h ≡ gone)} (λ t a other. ap₂ (λ ps rs. commands_in ps ++ rs) (lane_other t other) (sym (chunk_is t a.0) ∙ ap chunk_of a.1)) (g h).past
+      (each_both (λ t a b. (a, b)) (g h).past mine_past past_left) past_apart
+
+  -- of one that doesn't reserve the object
+  pub waits_out : (t : Ticket) → TicketOk program y t → reserves program t h ≡ false → on_way s h t ≡ []
+  waits_out t told out = ap₂ (λ ps rs. commands_in ps ++ rs)
+      (lane_other t (each_map (λ u (m : reserves program u h ≡ true). not_same t u (λ is. true≢false (sym m ∙ (ap (λ t. reserves program t h) (sym is) ∙ out)))) (ahead (post s h)) (may_ahead program s y g k h)))
+      (chunk_out t told out)

@@ -1,0 +1,316 @@
+-- Chunks keep their size, clients beyond the program rest, and nothing is known of blocks that were not begun.
+use Rattle.std.proofs.Common.{◌≡◌, ◌<◌, ◌≤◌, ◌-◌, ℕ, zero, suc, nat_lt, ◌==◌, Bool, true, false, if◌then◌else◌, List, [], ◌∷◌, ◌++◌, length, refl, sym, ap, ◌∙◌, subst, ⊎_elim, Option, Some, None, arith}
+use Rattle.std.specs.List.{AllByRecursion}
+use Rattle.qs_objects.specs.Journals.{HeldState}
+use Rattle.qs_objects.specs.Parts.{same}
+use Rattle.qs_objects.specs.declared.held.Event.{Event}
+use Rattle.qs_objects.specs.declared.held.Ticket.{Ticket}
+use Rattle.qs_objects.specs.declared.Request.{Request}
+use Rattle.qs_objects.proofs.Choices.{num_cases, ticket_cases}
+use Rattle.qs_objects.specs.declared.held.Next.TheVariants as nexts
+use Rattle.qs_check.specs.Program.{ProgramShape}
+use Rattle.qs_meaning.specs.Serial.{zeros}
+use Rattle.qs_meaning.specs.Solo.{put}
+use Rattle.qs_check.specs.Sound.{IsSound}
+use Rattle.qs_check.specs.Values.{Locals}
+use Rattle.qs_meaning.proofs.Each.{each_snoc}
+use Rattle.qs_meaning.proofs.TreeWalks.{put_here, put_there}
+use Rattle.qs_graph.specs.Synced.{Done, Call, Sync, Query}
+use Rattle.qs_syncset.specs.declared.mode.Mode.{Mode}
+use Rattle.qs_syncset.specs.Codes.{ClientCode}
+use Rattle.qs_chunk.specs.Lanes.{HasSize}
+use Rattle.qs_chunk.specs.declared.parcel.Parcel.{Parcel}
+use Rattle.qs_chunk.specs.declared.parcel.Parcel.TheVariants as parcels
+use Rattle.qs_handler.specs.Handler.{Handler, free, serves, spares, gives, away, closed, taken, received, gave}
+use Rattle.qs_handler.specs.Handler as handlers
+use Rattle.qs_client_run.specs.Client.{Client, Place, Settings, Settled, act_at, act_of, between, runs, full, awaits, leaves, booked, call_act, clears, first_client, got, sent, took_chunk, work}
+use Rattle.qs_client_run.specs.declared.act.Act.{Act}
+use Rattle.qs_client_run.specs.declared.act.Act.TheVariants.{Reserve, Send, Await, NeedChunk, Finished}
+use Rattle.qs_played.specs.Played.{ticket}
+use Rattle.qs_played.specs.declared.actor.Actor.{Actor}
+use Rattle.qs_played.proofs.ReservedObjects.{none_beyond}
+use Rattle.qs_played.proofs.FunctionUpdate.{put_all, put_at, put_at_there, put_kept}
+use Rattle.qs_played.specs.declared.actor.Actor.TheVariants as actor
+use Rattle.qs_protocol.proofs.ActKinds.{outside_not_send}
+use Rattle.qs_protocol.proofs.ActObjects.{sent_begun, got_begun, chunk_begun, settle_begun, not_send, not_await, not_need}
+use Rattle.qs_core_laws.specs.Core.{Core, AreCodes, blocks, client_step, core_begin, core_step, gets, gives_chunk, handled, handler_step, lane_room, put_lane, reserved_of, reserves_from, settings_of, spare_room, takes_chunk, takes_parcel, takes_ticket, tree_of, with_down, with_tickets}
+use Rattle.qs_core_laws.specs.CoreSchedule.{core_or_stay, core_plays}
+use Rattle.qs_core_laws.proofs.CoreCodes.{blocks_are}
+use Rattle.qs_core_laws.proofs.HandlerSteps.{some_is}
+use Rattle.qs_core_laws.proofs.CoreSteps.{Kept, begin_kept, begun_by, is_between, step_kept}
+use Rattle.qs_core_laws.specs.Core as core
+
+-- what a client sends has the chunks' size
+
+call_sizes : (settings : Settings) (g : ℕ) (hd : Option HeldState) (ck : Option (List Request)) (h : ℕ) (parcel : Parcel) → call_act settings g hd ck ≡ Send h parcel → HasSize settings.size parcel
+call_sizes settings g (Some x) ck h parcel e = let is : parcels.Home x ≡ parcel = cc in subst (HasSize settings.size) is tt
+call_sizes settings g None None h parcel e = absurd (cc)
+call_sizes settings g None (Some rs) h parcel e = let is : work settings rs ≡ parcel = cc in subst (HasSize settings.size) is refl
+
+clears_sizes : (settings : Settings) (g : ℕ) (hd : Option HeldState) (ck : Option (List Request)) (other : Act) (h : ℕ) (parcel : Parcel)
+    → (other ≡ Send h parcel → HasSize settings.size parcel) → clears settings g hd ck other ≡ Send h parcel → HasSize settings.size parcel
+clears_sizes settings g (Some x) ck other h parcel more e = let is : parcels.Home x ≡ parcel = cc in subst (HasSize settings.size) is tt
+clears_sizes settings g None (Some rs) other h parcel more e = let is : work settings rs ≡ parcel = cc in subst (HasSize settings.size) is refl
+clears_sizes settings g None None other h parcel more e = more e
+
+sync_sizes : (settings : Settings) (g h : ℕ) (parcel : Parcel) → Send g parcels.Sync ≡ Send h parcel → HasSize settings.size parcel
+sync_sizes settings g h parcel e = let is : parcels.Sync ≡ parcel = cc in subst (HasSize settings.size) is tt
+
+end_sizes : (settings : Settings) (g h : ℕ) (parcel : Parcel) → Send g parcels.End ≡ Send h parcel → HasSize settings.size parcel
+end_sizes settings g h parcel e = let is : parcels.End ≡ parcel = cc in subst (HasSize settings.size) is tt
+
+sends_sizes : (settings : Settings) (n : ℕ) (m : Client) (pl : Place) (h : ℕ) (parcel : Parcel) → act_at settings n m pl ≡ Send h parcel → HasSize settings.size parcel
+sends_sizes settings n m (between l) h parcel e = absurd (outside_not_send (nat_lt m.begun n) h parcel e)
+sends_sizes settings n m (runs (Done l)) h parcel e = absurd (cc)
+sends_sizes settings n m (runs (Call r next)) h parcel e = call_sizes settings r.object (m.held r.object) (m.chunk r.object) h parcel e
+sends_sizes settings n m (runs (Sync g next)) h parcel e = clears_sizes settings g (m.held g) (m.chunk g) (Send g parcels.Sync) h parcel (sync_sizes settings g h parcel) e
+sends_sizes settings n m (runs (Query r next)) h parcel e = absurd (cc)
+sends_sizes settings n m (full g rest) h parcel e = clears_sizes settings g None (m.chunk g) Finished h parcel (λ e. absurd (cc)) e
+sends_sizes settings n m (awaits g rest) h parcel e = absurd (cc)
+sends_sizes settings n m (leaves g hs l) h parcel e = clears_sizes settings g (m.held g) (m.chunk g) (Send g parcels.End) h parcel (end_sizes settings g h parcel) e
+
+-- an empty chunk that a handler gives back
+abbrev pub GivesBack : ℕ → Handler → Type 0
+GivesBack size v = (t : Ticket) (x : HeldState) (n : ℕ) → v ≡ spares t x n → n ≡ size
+
+received_back : (size : ℕ) (v w : Handler) (parcel : Parcel) → HasSize size parcel → received v parcel ≡ Some w → GivesBack size w
+received_back size (serves t x) w (parcels.Work chunk) sized e u z n is = let same_size : chunk.capacity ≡ n = cc (e, is) in sym same_size ∙ sized
+received_back size (serves t x) w parcels.Sync sized e u z n is = absurd (cc (e, is))
+received_back size (serves t x) w parcels.End sized e u z n is = absurd (cc (e, is))
+received_back size (serves t x) w (parcels.Home y) sized e u z n is = absurd (cc)
+received_back size (away t) w (parcels.Home y) sized e u z n is = absurd (cc (e, is))
+received_back size (away t) w (parcels.Work chunk) sized e u z n is = absurd (cc)
+received_back size (away t) w parcels.Sync sized e u z n is = absurd (cc)
+received_back size (away t) w parcels.End sized e u z n is = absurd (cc)
+received_back size (free x) w parcel sized e u z n is = absurd (cc)
+received_back size (spares t x m) w parcel sized e u z n is = absurd (cc)
+received_back size (gives t x) w parcel sized e u z n is = absurd (cc)
+received_back size (closed x) w parcel sized e u z n is = absurd (cc)
+
+taken_back : (size : ℕ) (v w : Handler) (t : Ticket) → taken v (nexts.Ticket t) ≡ Some w → GivesBack size w
+taken_back size (free x) w t e u z n is = absurd (cc (e, is))
+taken_back size (serves s x) w t e u z n is = absurd (cc)
+taken_back size (spares s x m) w t e u z n is = absurd (cc)
+taken_back size (gives s x) w t e u z n is = absurd (cc)
+taken_back size (away s) w t e u z n is = absurd (cc)
+taken_back size (closed x) w t e u z n is = absurd (cc)
+
+gave_back : (size : ℕ) (v : Handler) → GivesBack size v → GivesBack size (gave v)
+gave_back size (free x) b u z n is = absurd (cc)
+gave_back size (serves t x) b u z n is = absurd (cc)
+gave_back size (spares t x m) b u z n is = absurd (cc)
+gave_back size (gives t x) b u z n is = absurd (cc)
+gave_back size (away t) b u z n is = absurd (cc)
+gave_back size (closed x) b u z n is = absurd (cc)
+
+-- each lane of a client and a handler
+lane_holds : {A : Type 0} (P : A → Type 0) (f : ℕ → ℕ → A) (c h : ℕ) (a : A) → P a → ((d g : ℕ) → P (f d g)) → (d g : ℕ) → P (put_lane f c h a d g)
+lane_holds P f c h a new old d g = put_all (λ d (row : ℕ → _). (g : ℕ) → P (row g)) f c (put (f c) h a) (put_all (λ g b. P b) (f c) h a new (λ g other. old c g)) (λ d other. old d) d g
+
+module _ (program : ProgramShape) (sound : IsSound program) (mode : Mode) (code : ℕ → ClientCode) (codes : AreCodes program mode code) (size : ℕ) where
+  pub record CoreBounded (s : Core) : Type 0 where
+    pub sizes : (c h : ℕ) → AllByRecursion (HasSize size) (s.down c h)
+    pub back : (h : ℕ) → GivesBack size (s.handler h)
+    pub idle : (c : ℕ) → length program.clients ≤ c → s.client c ≡ first_client zeros
+    pub fresh : (t : Ticket) → (s.client t.client).begun ≤ t.index → (s.entry t ≡ []) × (s.trace t ≡ [])
+
+  abbrev KeptOf : Core → Type 0
+  KeptOf s = Kept program sound mode code codes size s
+
+  module _ (s : Core) (k : KeptOf s) (b : CoreBounded s) where
+    abbrev asks_for : ℕ → Act
+    asks_for c = act_of (settings_of code size c) (blocks code size c) (s.client c)
+
+    one_of : (test : Bool) (a s' : Core) → (if test then Some a else None) ≡ Some s' → CoreBounded a → CoreBounded s'
+    one_of true a s' e h = subst CoreBounded (some_is a s' e) h
+    one_of false a s' e h = absurd (cc)
+
+    -- a client that is in a block is the program's
+    client_inside : (c n : ℕ) → (s.client c).begun ≡ suc n → c < length program.clients
+    client_inside c n begun = by_test (nat_lt c (length program.clients)) refl
+      where
+        by_test : (z : Bool) → nat_lt c (length program.clients) ≡ z → c < length program.clients
+        by_test true e = grind (arith, e)
+        by_test false e =
+            let none : (s.client c).begun ≡ 0 = ap (λ (m : Client). m.begun) (b.idle c (grind (arith, e))) in
+            absurd (omega (arith, none, begun))
+
+    -- a client's act in a block
+    client_bounded : (c n : ℕ) (m : Client) (events : List Event) (down : ℕ → ℕ → List Parcel) (up : ℕ → ℕ → Option HeldState) (spare : ℕ → ℕ → ℕ) (syncs : ℕ → ℕ)
+        → (s.client c).begun ≡ suc n → m.begun ≡ (s.client c).begun → ((d h : ℕ) → AllByRecursion (HasSize size) (down d h))
+        → CoreBounded (record s { client = put s.client c m; trace = put_at s.trace (ticket c n) (s.trace (ticket c n) ++ events); down = down; up = up; spare = spare; syncs = syncs })
+    client_bounded c n m events down up spare syncs begun same_begun sizes = record {
+      sizes = sizes;
+      back = b.back;
+      idle = λ d out. put_there s.client c m d (apart_of d out) ∙ b.idle d out;
+      fresh = λ u few.
+          let few' : (s.client u.client).begun ≤ u.index = subst (λ k. k ≤ u.index) (put_kept (λ (m : Client). m.begun) s.client c m same_begun u.client) few in
+          let old = b.fresh u few' in (
+            old.0,
+            ⊎_elim
+                (λ (is : ticket c n ≡ u).
+                let own : (s.client c).begun ≤ n = subst (λ (u : Ticket). (s.client u.client).begun ≤ u.index) (sym is) few' in
+                absurd (omega (arith, own, begun)))
+                (λ (other : same (ticket c n) u ≡ false). put_at_there s.trace (ticket c n) (s.trace (ticket c n) ++ events) u other ∙ old.1)
+                (ticket_cases (ticket c n) u),
+          );
+    }
+      where
+        apart_of : (d : ℕ) → length program.clients ≤ d → (c == d) ≡ false
+        apart_of d out = ⊎_elim
+            (λ (is : c ≡ d). let in_it = client_inside c n begun in absurd (omega (arith, in_it, is, out)))
+            (λ (other : (c == d) ≡ false). other)
+            (num_cases c d)
+
+    abbrev now : ℕ → Ticket
+    now c = ticket c ((s.client c).begun - 1)
+
+    begun_of : (c : ℕ) (act : Act) → asks_for c ≡ act → ((l : Locals) → (s.client c).place ≡ between l → asks_for c ≡ act → ⊥) → (s.client c).begun ≡ suc ((s.client c).begun - 1)
+    begun_of c act e non = begun_by program sound mode code codes size s k.0 k.1 k.2 c act e non
+
+    send_bounded : (c h : ℕ) (parcel : Parcel) (s' : Core) → asks_for c ≡ Send h parcel → core.sends code size s c h parcel ≡ Some s' → CoreBounded s'
+    send_bounded c h parcel s' act e =
+        one_of (nat_lt (length (s.down c h)) lane_room) _ s' e
+        (client_bounded c ((s.client c).begun - 1) (sent (settings_of code size c) (now c) (reserved_of code size (now c)) (s.client c) h parcel).client
+        (sent (settings_of code size c) (now c) (reserved_of code size (now c)) (s.client c) h parcel).events
+        (put_lane s.down c h (s.down c h ++ parcel ∷ [])) s.up s.spare (core.synced code size s.syncs c parcel)
+        (begun_of c (Send h parcel) act (λ l i a. not_send (settings_of code size c) (blocks code size c) (s.client c) l h parcel i a))
+        (sent_begun (settings_of code size c) (now c) (reserved_of code size (now c)) (s.client c) h parcel)
+        (lane_holds (AllByRecursion (HasSize size)) s.down c h (s.down c h ++ parcel ∷ [])
+        (each_snoc (HasSize size) (s.down c h) parcel (b.sizes c h) (sends_sizes (settings_of code size c) (blocks code size c) (s.client c) (s.client c).place h parcel act)) b.sizes))
+
+    get_bounded : (c h : ℕ) (o : Option HeldState) (s' : Core) → asks_for c ≡ Await h → gets code size s c h o ≡ Some s' → CoreBounded s'
+    get_bounded c h None s' act e = absurd (cc)
+    get_bounded c h (Some x) s' act e =
+        subst CoreBounded (some_is _ s' e)
+        (client_bounded c ((s.client c).begun - 1) (got (settings_of code size c) (now c) (reserved_of code size (now c)) (s.client c) x (s.client c).place).client
+        (got (settings_of code size c) (now c) (reserved_of code size (now c)) (s.client c) x (s.client c).place).events
+        s.down (put_lane s.up c h None) s.spare s.syncs
+        (begun_of c (Await h) act (λ l i a. not_await (settings_of code size c) (blocks code size c) (s.client c) l h i a))
+        (got_begun (settings_of code size c) (now c) (reserved_of code size (now c)) (s.client c) h x (s.client c).place) b.sizes)
+
+    chunk_bounded : (c h n : ℕ) (s' : Core) → asks_for c ≡ NeedChunk h → takes_chunk code size s c h n ≡ Some s' → CoreBounded s'
+    chunk_bounded c h zero s' act e = absurd (cc)
+    chunk_bounded c h (suc n) s' act e =
+        subst CoreBounded (some_is _ s' e)
+        (client_bounded c ((s.client c).begun - 1) (took_chunk (settings_of code size c) (now c) (reserved_of code size (now c)) (s.client c) h (s.client c).place).client
+        (took_chunk (settings_of code size c) (now c) (reserved_of code size (now c)) (s.client c) h (s.client c).place).events
+        s.down s.up (put_lane s.spare c h n) s.syncs
+        (begun_of c (NeedChunk h) act (λ l i a. not_need (settings_of code size c) (blocks code size c) (s.client c) l h i a))
+        (chunk_begun (settings_of code size c) (now c) (reserved_of code size (now c)) (s.client c) h (s.client c).place) b.sizes)
+
+    -- a client beyond the program has ended
+    pub beyond_acts : (c : ℕ) → length program.clients ≤ c → asks_for c ≡ Finished
+    beyond_acts c out =
+        let none : blocks code size c ≡ 0 = blocks_are program sound mode code codes size c ∙ none_beyond program sound c out in
+        ap (λ (m : Client). act_of (settings_of code size c) (blocks code size c) m) (b.idle c out) ∙ ap (λ n. if nat_lt 0 n then Reserve else Finished) none
+
+    not_reserve : Finished ≡ Reserve → ⊥
+    not_reserve e = cc
+
+    reserve_bounded : (c : ℕ) (l : Locals) (s' : Core) → asks_for c ≡ Reserve → reserves_from code size s c (between l) ≡ Some s' → CoreBounded s'
+    reserve_bounded c l s' act e =
+        let t : Ticket = ticket c (s.client c).begun in
+        let r : Settled = booked (settings_of code size c) t (reserved_of code size t) (s.client c) (tree_of code size t l) in
+        let more : r.client.begun ≡ suc (s.client c).begun =
+        settle_begun (settings_of code size c) t (reserved_of code size t) (tree_of code size t l) (record (s.client c) { begun = suc (s.client c).begun }) in
+        subst CoreBounded (some_is _ s' e) (record {
+          sizes = b.sizes;
+          back = b.back;
+          idle = λ d out. put_there s.client c r.client d (apart_of d out) ∙ b.idle d out;
+          fresh = λ u few.
+              let few' : (s.client u.client).begun ≤ u.index = (let up = begun_up r.client more u.client in omega (arith, up, few)) in
+              let old = b.fresh u few' in
+              ⊎_elim
+              (λ (is : t ≡ u).
+              let own : (put s.client c r.client c).begun ≤ (s.client c).begun = subst (λ (u : Ticket). (put s.client c r.client u.client).begun ≤ u.index) (sym is) few in
+              let new : (put s.client c r.client c).begun ≡ suc (s.client c).begun = ap (λ (m : Client). m.begun) (put_here s.client c r.client) ∙ more in
+              absurd (omega (arith, own, new)))
+              (λ (other : same t u ≡ false). (put_at_there s.entry t l u other ∙ old.0, put_at_there s.trace t r.events u other ∙ old.1))
+              (ticket_cases t u);
+        })
+      where
+        apart_of : (d : ℕ) → length program.clients ≤ d → (c == d) ≡ false
+        apart_of d out = ⊎_elim
+            (λ (is : c ≡ d). absurd (not_reserve (sym (beyond_acts d out) ∙ subst (λ c. asks_for c ≡ Reserve) is act)))
+            (λ (other : (c == d) ≡ false). other)
+            (num_cases c d)
+
+        begun_up : (m : Client) → m.begun ≡ suc (s.client c).begun → (d : ℕ) → (s.client d).begun ≤ (put s.client c m d).begun
+        begun_up m more d = put_all (λ d (n : Client). (s.client d).begun ≤ n.begun) s.client c m (omega (arith, more)) (λ d other. omega arith) d
+
+    client_acts : (c : ℕ) (act : Act) (s' : Core) → asks_for c ≡ act → client_step code size s c act ≡ Some s' → CoreBounded s'
+    client_acts c Reserve s' act e =
+        let at = is_between program sound mode code codes size s k.0 k.1 k.2 c (s.client c).begun refl act in
+        reserve_bounded c at.0 s' act (sym (ap (reserves_from code size s c) at.1) ∙ e)
+    client_acts c (Send h parcel) s' act e = send_bounded c h parcel s' act e
+    client_acts c (Await h) s' act e = get_bounded c h (s.up c h) s' act e
+    client_acts c (NeedChunk h) s' act e = chunk_bounded c h (s.spare c h) s' act e
+    client_acts c Finished s' act e = absurd (cc)
+
+    -- a handler's step
+    handler_bounded : (h : ℕ) (v : Handler) (down : ℕ → ℕ → List Parcel) (up : ℕ → ℕ → Option HeldState) (spare : ℕ → ℕ → ℕ) (tickets : ℕ → List Ticket)
+        → GivesBack size v → ((d g : ℕ) → AllByRecursion (HasSize size) (down d g))
+        → CoreBounded (record s { handler = put s.handler h v; down = down; up = up; spare = spare; tickets = tickets })
+    handler_bounded h v down up spare tickets back sizes = record {
+      sizes = sizes;
+      back = put_all (λ g (w : Handler). GivesBack size w) s.handler h v back (λ g other. b.back g);
+      idle = b.idle;
+      fresh = b.fresh;
+    }
+
+    ticket_bounded : (h : ℕ) (ts : List Ticket) (s' : Core) → takes_ticket code size s h ts ≡ Some s' → CoreBounded s'
+    ticket_bounded h [] s' e = absurd (cc)
+    ticket_bounded h (t ∷ ts) s' e = by_next (taken (s.handler h) (nexts.Ticket t)) refl e
+      where
+        by_next : (o : Option Handler) → taken (s.handler h) (nexts.Ticket t) ≡ o → handled code size (with_tickets code size s h ts) h o ≡ Some s' → CoreBounded s'
+        by_next None o e = absurd (cc)
+        by_next (Some v) o e = subst CoreBounded (some_is _ s' e) (handler_bounded h v s.down s.up s.spare (put s.tickets h ts) (taken_back size (s.handler h) v t o) b.sizes)
+
+    parcel_bounded : (h c : ℕ) (ps : List Parcel) (s' : Core) → AllByRecursion (HasSize size) ps → takes_parcel code size s h c ps ≡ Some s' → CoreBounded s'
+    parcel_bounded h c [] s' sized e = absurd (cc)
+    parcel_bounded h c (parcel ∷ ps) s' sized e = by_next (received (s.handler h) parcel) refl e
+      where
+        by_next : (o : Option Handler) → received (s.handler h) parcel ≡ o → handled code size (with_down code size s c h ps) h o ≡ Some s' → CoreBounded s'
+        by_next None o e = absurd (cc)
+        by_next (Some v) o e =
+            subst CoreBounded (some_is _ s' e)
+            (handler_bounded h v (put_lane s.down c h ps) s.up s.spare s.tickets (received_back size (s.handler h) v parcel sized.0 o)
+            (lane_holds (AllByRecursion (HasSize size)) s.down c h ps sized.1 b.sizes))
+
+    give_bounded : (h c : ℕ) (x : HeldState) (o : Option HeldState) (s' : Core) → core.gives code size s h c x o ≡ Some s' → CoreBounded s'
+    give_bounded h c x None s' e = subst CoreBounded (some_is _ s' e) (handler_bounded h (gave (s.handler h)) s.down (put_lane s.up c h (Some x)) s.spare s.tickets (gave_back size (s.handler h) (b.back h)) b.sizes)
+    give_bounded h c x (Some y) s' e = absurd (cc)
+
+    spare_bounded : (h c : ℕ) (s' : Core) → gives_chunk code size s h c ≡ Some s' → CoreBounded s'
+    spare_bounded h c s' e =
+        one_of (nat_lt (s.spare c h) spare_room) _ s' e
+        (handler_bounded h (gave (s.handler h)) s.down s.up (put_lane s.spare c h (suc (s.spare c h))) s.tickets (gave_back size (s.handler h) (b.back h)) b.sizes)
+
+    handler_acts : (h : ℕ) (v : Handler) (s' : Core) → handler_step code size s h (handlers.act_of v) ≡ Some s' → CoreBounded s'
+    handler_acts h (free x) s' e = ticket_bounded h (s.tickets h) s' e
+    handler_acts h (serves t x) s' e = parcel_bounded h t.client (s.down t.client h) s' (b.sizes t.client h) e
+    handler_acts h (spares t x n) s' e = spare_bounded h t.client s' e
+    handler_acts h (gives t x) s' e = give_bounded h t.client x (s.up t.client h) s' e
+    handler_acts h (away t) s' e = parcel_bounded h t.client (s.down t.client h) s' (b.sizes t.client h) e
+    handler_acts h (closed x) s' e = absurd (cc)
+
+    pub step_bounded : (a : Actor) (s' : Core) → core_step code size s a ≡ Some s' → CoreBounded s'
+    step_bounded (actor.Client c) s' e = client_acts c (asks_for c) s' refl e
+    step_bounded (actor.Handler h) s' e = handler_acts h (s.handler h) s' e
+
+  stays_both : (s : Core) (o : Option Core) → ((s' : Core) → o ≡ Some s' → KeptOf s' × CoreBounded s') → KeptOf s × CoreBounded s → KeptOf (core_or_stay s o) × CoreBounded (core_or_stay s o)
+  stays_both s None step k = k
+  stays_both s (Some s') step k = step s' refl
+
+  pub plays_both : (actors : List Actor) (s : Core) → KeptOf s × CoreBounded s → KeptOf (core_plays code size actors s) × CoreBounded (core_plays code size actors s)
+  plays_both [] s k = k
+  plays_both (a ∷ rest) s k =
+      plays_both rest (core_or_stay s (core_step code size s a))
+      (stays_both s (core_step code size s a) (λ s' e. (step_kept program sound mode code codes size s k.0.0 k.0.1 k.0.2 a s' e, step_bounded s k.0 k.1 a s' e)) k)
+
+  begin_bounded : CoreBounded (core_begin program)
+  begin_bounded = record { sizes = λ c h. tt; back = λ h t x n e. absurd (cc); idle = λ c out. refl; fresh = λ t few. (refl, refl) }
+
+  pub run_both : (actors : List Actor) → KeptOf (core_plays code size actors (core_begin program)) × CoreBounded (core_plays code size actors (core_begin program))
+  run_both actors = plays_both actors (core_begin program) (begin_kept program sound mode code codes size, begin_bounded)

@@ -1,0 +1,54 @@
+-- The invariant of the optimised machine: a history of its lanes that its state goes on with.
+use Rattle.std.proofs.Common.{◌≡◌, ◌<◌, ◌≤◌, ℕ, suc, true, false, List, [], filter}
+use Rattle.std.specs.List.{AllByRecursion}
+use Rattle.qs_objects.specs.Journals.{HeldState}
+use Rattle.qs_objects.specs.Parts.{part}
+use Rattle.qs_objects.specs.declared.held.Ticket.{Ticket}
+use Rattle.qs_meaning.specs.Following.{reserves}
+use Rattle.qs_check.specs.Program.{ProgramShape}
+use Rattle.qs_meaning.specs.Serial.{IsLegal, zeros}
+use Rattle.qs_meaning.proofs.Histories.{Page, Begins, IsDone}
+use Rattle.qs_chunk.specs.LaneViews.{Standing, gone, ClientLane}
+use Rattle.qs_chunk.specs.declared.parcel.Parcel.{Parcel}
+use Rattle.qs_client_run.specs.Client.{between}
+use Rattle.qs_played.specs.Played.{ticket}
+use Rattle.qs_played.proofs.Orders.{counts_after}
+use Rattle.qs_protocol.proofs.ClientInvariants.{HasNone, IsOpenPage, PlaceOk, standing_at}
+use Rattle.qs_protocol.proofs.ObjectViews.{as_list, ObjectView, ClientLog, HandlerLog, IsObject}
+use Rattle.qs_core_laws.specs.Core.{Core, fresh_held}
+
+-- of each ticket its page, and for each object what its client sent and got, and how it stands
+pub record LaneHistory : Type 0 where
+  pub page : Ticket → Page
+  pub sent : Ticket → ℕ → List Parcel
+  pub got : Ticket → ℕ → List HeldState
+  pub stands : Ticket → ℕ → Standing
+
+abbrev pub post : Core → ℕ → ObjectView
+post s h = record { handler = s.handler h; tickets = s.tickets h; down = λ c. s.down c h; up = λ c. as_list (s.up c h) }
+
+abbrev pub deeds : LaneHistory → ℕ → ClientLog
+deeds y h = record { sent = λ t. y.sent t h; got = λ t. y.got t h; events = λ t. part h (y.page t).trace; stands = λ t. y.stands t h }
+
+-- a ticket's page and lanes; where it has left an object, the block is over
+pub record TicketOk (program : ProgramShape) (y : LaneHistory) (t : Ticket) : Type 0 where
+  pub page : IsOpenPage program t (y.page t)
+  pub begins : Begins y.page t.client t.index (y.page t).entry
+  pub lane : (h : ℕ) → ClientLane t false (y.sent t h) (y.got t h) (part h (y.page t).trace) (y.stands t h)
+  pub gone : (h : ℕ) → y.stands t h ≡ gone → IsDone (y.page t).rest
+
+pub record CoreInvariant (program : ProgramShape) (s : Core) (y : LaneHistory) (g : ℕ → HandlerLog) : Type 0 where
+  pub legal : IsLegal program s.order
+  pub counts : (c : ℕ) → counts_after (λ _. 0) s.order c ≡ (s.client c).begun
+  pub below : AllByRecursion (λ (t : Ticket). suc t.index ≤ (s.client t.client).begun) s.order
+  pub told : AllByRecursion (TicketOk program y) s.order
+  pub entry : (t : Ticket) → (y.page t).entry ≡ s.entry t
+  pub trace : (t : Ticket) → (y.page t).trace ≡ s.trace t
+  pub idle : (c : ℕ) → (s.client c).begun ≡ 0 → ((s.client c).place ≡ between zeros) × ((h : ℕ) → HasNone (s.client c) h)
+  pub places : (c k : ℕ) → (s.client c).begun ≡ suc k
+      → PlaceOk program (ticket c k) (y.sent (ticket c k)) (y.got (ticket c k)) (s.client c) (y.page (ticket c k)) (s.client c).place
+  pub stands : (c k : ℕ) → (s.client c).begun ≡ suc k → (h : ℕ) → y.stands (ticket c k) h ≡ standing_at program (ticket c k) (s.client c) (s.client c).place h
+  pub older : (c k : ℕ) → suc k < (s.client c).begun → (h : ℕ) → reserves program (ticket c k) h ≡ true → y.stands (ticket c k) h ≡ gone
+  -- nothing passes between a block and an object that it doesn't reserve
+  pub outside : (t : Ticket) (h : ℕ) → reserves program t h ≡ false → (y.sent t h ≡ []) × (y.got t h ≡ [])
+  pub objects : (h : ℕ) → IsObject (filter (λ t. reserves program t h) s.order) (fresh_held program h) (post s h) (deeds y h) (g h)

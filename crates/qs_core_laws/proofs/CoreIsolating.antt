@@ -1,0 +1,180 @@
+-- Runs of the optimised machine are isolated: the histories of their lanes make up an abstract run, whose journals flow as the handlers served.
+use Rattle.std.proofs.Common.{◌≡◌, ◌<◌, ◌≤◌, ℕ, zero, suc, ◌+◌, ◌&&◌, ◌||◌, Bool, true, false, nat_lt, nat_eq, List, [], ◌∷◌, ◌++◌, map, length, refl, ap, ap₂, sym, subst, ◌∙◌, arith}
+use Rattle.std.proofs.lemmas.List.{get_or-map, get_or_past, length-map}
+use Rattle.std.proofs.lemmas.List.FromFn.{get_or-map-range_with_len, length-range_with_len}
+use Rattle.std.specs.List.{range_with_len}
+use Rattle.qs_objects.specs.Journals.{HeldState, replay, unstamped, IsHonest}
+use Rattle.qs_objects.specs.Parts.{HasEntry, same}
+use Rattle.qs_objects.specs.declared.held.Ticket.{Ticket}
+use Rattle.qs_objects.proofs.Choices.{and_cases}
+use Rattle.qs_meaning.specs.Following.{reserves}
+use Rattle.qs_check.specs.Program.{ProgramShape, blocks_of}
+use Rattle.qs_meaning.specs.Serial.{declared, no_state}
+use Rattle.qs_check.specs.Sound.{IsSound}
+use Rattle.qs_meaning.proofs.Each.{each_map}
+use Rattle.qs_meaning.proofs.Histories.{Among, Flow, IsDone, Line, done_of, parts_of}
+use Rattle.qs_meaning.proofs.SerialRuns.{line}
+use Rattle.qs_meaning.specs.Interaction as tree
+use Rattle.qs_handler.specs.Handler.{Handler, free, serves, spares, gives, away, closed, is_free, serving}
+use Rattle.qs_client_run.specs.Client.{Place, between, runs, full, awaits, leaves}
+use Rattle.qs_client.specs.Mind.{is_between, has_ended}
+use Rattle.qs_played.specs.Isolation.{IsIsolated, journal_of, state_of, ticket_at, trace_of}
+use Rattle.qs_played.specs.Played.{ticket}
+use Rattle.qs_played.specs.declared.played.Played.{Played}
+use Rattle.qs_played.proofs.Orders.{each_among, legal_among}
+use Rattle.qs_played.proofs.AbstractRun.{IsRun, run_isolated}
+use Rattle.qs_played.proofs.JournalRooms.{no_block_beyond}
+use Rattle.qs_protocol.proofs.ClientInvariants.{PlaceOk}
+use Rattle.qs_protocol.proofs.ObjectViews.{HandlerLog, ahead}
+use Rattle.qs_core_laws.specs.Core.{Core, core_begin}
+use Rattle.qs_core_laws.specs.CoreSchedule.{CoreRunsAreIsolated, all_of, core_played, core_plays, held_now, held_or_none, is_done, is_finished, is_idle, on_way}
+use Rattle.qs_core_laws.proofs.CoreCodes.{lined}
+use Rattle.qs_core_laws.proofs.JournalOrder.{goes}
+use Rattle.qs_core_laws.proofs.CoreInvariant.{LaneHistory, post, TicketOk, CoreInvariant}
+use Rattle.qs_core_laws.proofs.CoreObjects.{now, object_found}
+use Rattle.qs_core_laws.proofs.CoreSteps.{run_kept}
+
+-- what holds of all numbers of a range holds of each
+all_of_at : (is : ℕ → Bool) (a n i : ℕ) → all_of is (range_with_len a n) ≡ true → a ≤ i → i < a + n → is i ≡ true
+all_of_at is a zero i all low high = absurd (omega (arith, low, high))
+all_of_at is a (suc n) i all low high =
+    let both = and_cases (is a) (all_of is (range_with_len (a + 1) n)) all in
+    by_first (nat_lt a i) refl both.0 (λ above. all_of_at is (a + 1) n i both.1 above (omega (arith, high)))
+  where
+    by_first : (b : Bool) → nat_lt a i ≡ b → is a ≡ true → (a + 1 ≤ i → is i ≡ true) → is i ≡ true
+    by_first true e first rest = rest (let l : a < i = grind (arith, e) in omega (arith, l))
+    by_first false e first rest = let same : a ≡ i = (let l : i ≤ a = grind (arith, e) in omega (arith, l, low)) in subst (λ n. is n ≡ true) same first
+
+none_of_length : {X : Type 0} (xs : List X) → nat_eq (length xs) 0 ≡ true → xs ≡ []
+none_of_length [] e = refl
+none_of_length (x ∷ xs) e = absurd (let n : length (x ∷ xs) ≡ 0 = grind (arith, e) in omega (arith, n))
+
+free_serves_none : (v : Handler) → is_free v ≡ true → serving v ≡ []
+free_serves_none (free x) e = refl
+free_serves_none (serves t x) e = absurd (cc)
+free_serves_none (spares t x n) e = absurd (cc)
+free_serves_none (gives t x) e = absurd (cc)
+free_serves_none (away t) e = absurd (cc)
+free_serves_none (closed x) e = absurd (cc)
+
+module _ (program : ProgramShape) (sound : IsSound program) (s : Core) (y : LaneHistory) (g : ℕ → HandlerLog) (k : CoreInvariant program s y g) where
+  abbrev r : Played
+  r = core_played program s
+
+  -- the object as the run shows it
+  abbrev shown : ℕ → HeldState
+  shown h = held_now s h
+
+  shown_is : (h : ℕ) → shown h ≡ now program (lined program sound) s y g k h
+  shown_is h = ap held_or_none (object_found program (lined program sound) s y g k h)
+
+  abbrev Busy : ℕ → Type 0
+  Busy h = ahead (post s h) ≡ [] → ⊥
+
+  abbrev x : ℕ → Line
+  x = line program sound y.page (on_way s) (λ h. (shown h).object) Busy (λ h. (shown h).journal)
+
+  flows : (h : ℕ) → Flow (x h) (declared program h) (shown h).journal s.order × IsHonest (declared program h) (unstamped (shown h).journal) × (replay (declared program h) (unstamped (shown h).journal) ≡ (shown h).object)
+  flows h =
+      let f = goes program sound s y g k h in
+      let whole : (shown h).journal ≡ f.0 = ap (λ (o : HeldState). o.journal) (shown_is h) ∙ f.1 in
+      let object : (shown h).object ≡ (now program (lined program sound) s y g k h).object = ap (λ (o : HeldState). o.object) (shown_is h) in (
+        subst (λ j. Flow (x h) (declared program h) j s.order) (sym whole)
+            (subst (λ o. Flow (record { may = λ t. reserves program t h; parts = parts_of y.page h; done = done_of y.page; waits = on_way s h; busy = Busy h; present = o }) (declared program h) f.0 s.order) (sym object) f.2),
+        subst (λ j. IsHonest (declared program h) (unstamped j)) (sym whole) f.3,
+        ap (λ j. replay (declared program h) (unstamped j)) whole ∙ (f.4 ∙ sym object),
+      )
+
+  journal_is : (h : ℕ) → h < length program.objects → journal_of r h ≡ (shown h).journal
+  journal_is h inside = get_or-map-range_with_len (λ h. (shown h).journal) 0 (length program.objects) h h [] inside (omega arith)
+
+  state_is : (h : ℕ) → h < length program.objects → state_of r h ≡ (shown h).object
+  state_is h inside = get_or-map-range_with_len (λ h. (shown h).object) 0 (length program.objects) h h no_state inside (omega arith)
+
+  -- an object that the program doesn't have shows no journal
+  no_journal : (h : ℕ) → length program.objects ≤ h → journal_of r h ≡ []
+  no_journal h out =
+      let long : length (map (λ h. (shown h).journal) (range_with_len 0 (length program.objects))) ≡ length program.objects =
+      length-map (range_with_len 0 (length program.objects)) (λ h. (shown h).journal) ∙ length-range_with_len 0 (length program.objects) in
+      get_or_past (map (λ h. (shown h).journal) (range_with_len 0 (length program.objects))) h [] (omega (arith, long, out))
+
+  trace_is : (i : ℕ) → i < length s.order → trace_of r i ≡ (y.page (ticket_at r i)).trace
+  trace_is i inside = get_or-map s.trace s.order i (ticket 0 0) [] inside ∙ sym (k.trace (ticket_at r i))
+
+  -- an ended block has nothing left
+  ended_done : (t : Ticket) → has_ended (s.client t.client) t.index ≡ true → IsDone (y.page t).rest
+  ended_done t e = by_test (nat_lt (suc t.index) (s.client t.client).begun) refl e
+    where
+      by_place : (pl : Place) → PlaceOk program t (y.sent t) (y.got t) (s.client t.client) (y.page t) pl → is_between pl ≡ true → IsDone (y.page t).rest
+      by_place (between l) ok b = subst IsDone (sym ok.rest) tt
+      by_place (runs code) ok b = absurd (cc)
+      by_place (full h code) ok b = absurd (cc)
+      by_place (awaits h code) ok b = absurd (cc)
+      by_place (leaves h hs l) ok b = absurd (cc)
+
+      by_test : (b : Bool) → nat_lt (suc t.index) (s.client t.client).begun ≡ b → (b || (nat_eq (suc t.index) (s.client t.client).begun && is_between (s.client t.client).place)) ≡ true → IsDone (y.page t).rest
+      by_test true less e =
+          let lt : suc t.index < (s.client t.client).begun = grind (arith, less) in
+          let many = k.counts t.client in
+          let next : TicketOk program y (ticket t.client (suc t.index)) =
+          each_among (TicketOk program y) (ticket t.client (suc t.index)) s.order k.told
+          (legal_among program (λ _. 0) s.order t.client (suc t.index) k.legal (omega arith) (omega (arith, lt, many))) in
+          let b : (y.page t).rest ≡ tree.Done (y.page (ticket t.client (suc t.index))).entry = next.begins in
+          subst IsDone (sym b) tt
+      by_test false less e =
+          let both = and_cases (nat_eq (suc t.index) (s.client t.client).begun) (is_between (s.client t.client).place) e in
+          let last : (s.client t.client).begun ≡ suc t.index = (let b = both.0 in grind (arith, b)) in
+          by_place (s.client t.client).place (k.places t.client t.index last) both.1
+
+  -- where an object shows an entry, it is one of the program
+  written : (h : ℕ) (t : Ticket) (b : Bool) → nat_lt h (length program.objects) ≡ b → HasEntry t (journal_of r h) → journal_of r h ≡ (shown h).journal
+  written h t true e has = journal_is h (grind (arith, e))
+  written h t false e has = absurd (subst (HasEntry t) (no_journal h (grind (arith, e))) has)
+
+  -- a finished run has reserved each block
+  every : is_finished program s ≡ true → (u : Ticket) → u.index < blocks_of program u.client → Among u s.order
+  every e u some =
+      let both = and_cases (all_of (is_done program s) (range_with_len 0 (length program.clients))) (all_of (is_idle program s) (range_with_len 0 (length program.objects))) e in
+      let inside = no_block_beyond program u.client (omega (arith, some)) in
+      let done = all_of_at (is_done program s) 0 (length program.clients) u.client both.0 (omega arith) (omega (arith, inside)) in
+      let b = (and_cases (is_between (s.client u.client).place) (nat_eq (s.client u.client).begun (blocks_of program u.client)) done).1 in
+      let all_begun : (s.client u.client).begun ≡ blocks_of program u.client = grind (arith, b) in
+      let many = k.counts u.client in
+      legal_among program (λ _. 0) s.order u.client u.index k.legal (omega arith) (omega (arith, many, all_begun, some))
+
+  -- and then no handler has a reservation before it
+  none_left : is_finished program s ≡ true → (h : ℕ) → h < length program.objects → ahead (post s h) ≡ []
+  none_left e h own =
+      let both = and_cases (all_of (is_done program s) (range_with_len 0 (length program.clients))) (all_of (is_idle program s) (range_with_len 0 (length program.objects))) e in
+      let here = all_of_at (is_idle program s) 0 (length program.objects) h both.1 (omega arith) (omega (arith, own)) in
+      let lanes : Bool = all_of (λ c. nat_eq (length (s.down c h)) 0) (range_with_len 0 (length program.clients)) in
+      let first = and_cases (is_free (s.handler h) && nat_eq (length (s.tickets h)) 0) lanes here in
+      let second = and_cases (is_free (s.handler h)) (nat_eq (length (s.tickets h)) 0) first.0 in
+      ap₂ (λ a b. a ++ b) (free_serves_none (s.handler h) second.0) (none_of_length (s.tickets h) second.1)
+
+  run : IsRun program sound r y.page (on_way s) (λ h. (shown h).object) Busy (λ h. (shown h).journal)
+  run = record {
+    legal = k.legal;
+    pages = each_map (λ t (ok : TicketOk program y t). ok.page.path) s.order k.told;
+    begins = each_map (λ t (ok : TicketOk program y t). ok.begins) s.order k.told;
+    flows = λ h. (flows h).0;
+    honest = λ h own. (flows h).1;
+    replayed = λ h own. (flows h).2;
+    entry = λ i inside. get_or-map s.entry s.order i (ticket 0 0) [] inside ∙ sym (k.entry (ticket_at r i));
+    trace = trace_is;
+    ended = λ i inside e. ended_done (ticket_at r i) (sym (get_or-map (λ (t : Ticket). has_ended (s.client t.client) t.index) s.order i (ticket 0 0) false inside) ∙ e);
+    journals = journal_is;
+    written = λ h t has. written h t (nat_lt h (length program.objects)) refl has;
+    states = state_is;
+    all = every;
+    idle = λ e h own busy. busy (none_left e h own);
+  }
+
+  pub isolated : IsIsolated program r (on_way s)
+  isolated = run_isolated program sound r y.page (on_way s) (λ h. (shown h).object) Busy (λ h. (shown h).journal) run
+
+-- after every list of actors
+pub core_isolated : CoreRunsAreIsolated
+core_isolated program sound mode code codes size actors =
+    let r = run_kept program sound mode code codes size actors in
+    isolated program sound (core_plays code size actors (core_begin program)) r.0 r.1 r.2

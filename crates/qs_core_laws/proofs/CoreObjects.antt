@@ -1,0 +1,173 @@
+-- Each object is somewhere.
+use Rattle.std.proofs.Common.{◌≡◌, ◌≤◌, arith, ℕ, suc, Bool, true, false, true≢false, if◌then◌else◌, ◌==◌, ◌&&◌, List, [], ◌∷◌, ◌++◌, filter, flat_map, refl, sym, ap, ap₂, ◌∙◌, subst, ◌⊎◌, inl, inr, ⊎_elim, Option, Some, None}
+use Rattle.std.specs.List.{AllByRecursion}
+use Rattle.qs_objects.specs.Journals.{HeldState}
+use Rattle.qs_objects.specs.Parts.{part}
+use Rattle.qs_objects.specs.declared.held.Event.{Event}
+use Rattle.qs_objects.specs.declared.held.Ticket.{Ticket}
+use Rattle.qs_objects.specs.declared.Request.{Request}
+use Rattle.qs_objects.proofs.Choices.{eqb_self, apart_eqb, num_cases}
+use Rattle.qs_meaning.specs.Following.{reserves}
+use Rattle.qs_check.specs.Program.{ProgramShape}
+use Rattle.qs_check.specs.Sound.{is_in}
+use Rattle.qs_chunk.specs.LaneViews.{Standing, sends, asks, holds, gone, ClientLane, HandlerLane, HandlerGives, object_of}
+use Rattle.qs_chunk.specs.declared.parcel.Parcel.{Parcel}
+use Rattle.qs_chunk.specs.LaneParts.{away_at}
+use Rattle.qs_chunk.specs.LaneViews as views
+use Rattle.qs_chunk.specs.declared.parcel.Parcel.TheVariants as parcels
+use Rattle.qs_handler.specs.Handler.{Handler, free, serves, spares, gives, away, closed, serving}
+use Rattle.qs_client_run.specs.Client.{Client, Place, between, runs, full, awaits, leaves}
+use Rattle.qs_protocol.proofs.ObjectViews.{stance, as_list, HandlerLog, ahead}
+use Rattle.qs_protocol.proofs.ClientInvariants.{in_hand, listed, Lined, standing_at}
+use Rattle.qs_protocol.proofs.LaneWays.{LastOf, none_of}
+use Rattle.qs_core_laws.specs.Core.{Core}
+use Rattle.qs_core_laws.proofs.CoreInvariant.{LaneHistory, post, CoreInvariant}
+use Rattle.qs_core_laws.specs.CoreSchedule.{found_by}
+use Rattle.qs_core_laws.proofs.HandlerSteps.{deeds_ok, of_ahead, may_ahead}
+use Rattle.qs_core_laws.proofs.SendingPreserved.{newest}
+
+-- where an object is that was given: on its way up, in hand, or on its way home
+abbrev pub Where : List Parcel → List HeldState → Standing → HeldState → Type 0
+Where way up c z = ((way ≡ []) × (up ≡ z ∷ []) × (c ≡ asks)) ⊎ (((way ≡ []) × (up ≡ []) × ((y : HeldState) × (c ≡ holds y))) ⊎ ((y : HeldState) × (w : List Parcel) × (way ≡ parcels.Home y ∷ w) × (up ≡ [])))
+
+list_some : (o : Option HeldState) (x : HeldState) → as_list o ≡ x ∷ [] → o ≡ Some x
+list_some None x e = absurd (cc)
+list_some (Some z) x e = ap Some (cc)
+
+list_none : (o : Option HeldState) → as_list o ≡ [] → o ≡ None
+list_none None e = refl
+list_none (Some z) e = absurd (cc)
+
+tail_is : (a b : HeldState) (xs ys : List HeldState) → a ∷ xs ≡ b ∷ ys → xs ≡ ys
+tail_is a b xs ys e = cc
+
+no_more : (more up : List HeldState) → [] ≡ more ++ up → up ≡ []
+no_more [] up e = sym e
+no_more (m ∷ more) up e = absurd (cc)
+
+waits_where : (t : Ticket) (x z : HeldState) (way : List Parcel) (gots gave up : List HeldState) (es : List Event) (c : Standing)
+    → ClientLane t true way gots es c → HandlerGives x gave (views.lent z) → gave ≡ gots ++ up → Where way up c z
+waits_where t x z way gots [] up es c k l e = absurd (cc (l))
+waits_where t x z [] [] (g ∷ gave) up es c k l e =
+    let one : z ≡ x = cc (l.2) in
+    inl (refl, sym e ∙ (ap₂ (λ g gs. g ∷ gs) (l.0 ∙ sym one) l.1), k.1)
+waits_where t x z [] (o ∷ gots) (g ∷ gave) up es c k l e = inr (inl (refl, no_more gots up (sym l.1 ∙ tail_is g o gave (gots ++ up) e), (k.0, k.2)))
+waits_where t x z (parcels.Home y ∷ w) gots (g ∷ gave) up es c k l e =
+    inr (inr (y, w, refl, no_more k.1 up (sym l.1 ∙ tail_is g k.0 gave (k.1 ++ up) (e ∙ ap (λ gs. gs ++ up) k.4))))
+waits_where t x z (parcels.Work chunk ∷ w) gots (g ∷ gave) up es c k l e = absurd k
+waits_where t x z (parcels.Sync ∷ w) gots (g ∷ gave) up es c k l e = absurd k
+waits_where t x z (parcels.End ∷ w) gots (g ∷ gave) up es c k l e = absurd k
+
+pub lent_where : (t : Ticket) (x z : HeldState) (received way : List Parcel) (gots gave up : List HeldState) (es : List Event) (c : Standing)
+    → ClientLane t false (received ++ way) gots es c → HandlerLane t false x received gave (views.lent z) → gave ≡ gots ++ up → Where way up c z
+lent_where t x z [] way gots gave up es c k l e = absurd (cc (l.1))
+lent_where t x z (parcels.Work chunk ∷ received) way gots gave up es c k l e = lent_where t _ z received way gots gave up k.0 c k.3 l e
+lent_where t x z (parcels.Home y ∷ received) way gots gave up es c k l e = absurd k
+lent_where t x z (parcels.End ∷ received) way gots gave up es c k l e = absurd (cc (l.2))
+lent_where t x z (parcels.Sync ∷ []) way gots gave up es c k l e = waits_where t x z way gots gave up es c k l e
+lent_where t x z (parcels.Sync ∷ (parcels.Home y ∷ received)) way gots gave up es c k l e =
+    lent_where t y z received way k.1 l.0 up k.3 c k.7 l.2 (tail_is x k.0 l.0 (k.1 ++ up) (sym l.1 ∙ (e ∙ ap (λ gs. gs ++ up) k.4)))
+lent_where t x z (parcels.Sync ∷ (parcels.Work chunk ∷ received)) way gots gave up es c k l e = absurd k
+lent_where t x z (parcels.Sync ∷ (parcels.Sync ∷ received)) way gots gave up es c k l e = absurd k
+lent_where t x z (parcels.Sync ∷ (parcels.End ∷ received)) way gots gave up es c k l e = absurd k
+
+hand_holds : (o : Option HeldState) (c : Option (List Request)) (y : HeldState) → in_hand o c ≡ holds y → o ≡ Some y
+hand_holds (Some x) c y e = ap Some (cc)
+hand_holds None (Some rs) y e = absurd (cc)
+hand_holds None None y e = absurd (cc)
+
+awaits_holds : (b : Bool) (o : Option HeldState) (c : Option (List Request)) (y : HeldState) → (if b then asks else in_hand o c) ≡ holds y → o ≡ Some y
+awaits_holds true o c y e = absurd (cc)
+awaits_holds false o c y e = hand_holds o c y e
+
+gone_holds : (b : Bool) (y : HeldState) → (if b then gone else sends []) ≡ holds y → ⊥
+gone_holds true y e = cc
+gone_holds false y e = cc
+
+leaves_holds : (a b : Bool) (o : Option HeldState) (c : Option (List Request)) (y : HeldState) → (if a then in_hand o c else (if b then gone else sends [])) ≡ holds y → o ≡ Some y
+leaves_holds true b o c y e = hand_holds o c y e
+leaves_holds false b o c y e = absurd (gone_holds b y e)
+
+place_holds : (program : ProgramShape) (t : Ticket) (m : Client) (pl : Place) (h : ℕ) (y : HeldState) → standing_at program t m pl h ≡ holds y → m.held h ≡ Some y
+place_holds program t m (between l) h y e = absurd (gone_holds (reserves program t h) y e)
+place_holds program t m (runs code) h y e = hand_holds (m.held h) (m.chunk h) y e
+place_holds program t m (full g code) h y e = hand_holds (m.held h) (m.chunk h) y e
+place_holds program t m (awaits g code) h y e = awaits_holds (g == h) (m.held h) (m.chunk h) y e
+place_holds program t m (leaves g hs l) h y e = leaves_holds (is_in (g ∷ hs) h) (reserves program t h) (m.held h) (m.chunk h) y e
+
+-- the object, wherever it is, where the handler gave `lent` last
+abbrev pub object_now : LaneHistory → ℕ → Handler → HeldState → (Ticket → List Parcel) → HeldState
+object_now y h (free x) lent way = x
+object_now y h (serves t x) lent way = x
+object_now y h (spares t x n) lent way = x
+object_now y h (gives t x) lent way = x
+object_now y h (away t) lent way = object_of (views.lent lent) (y.stands t h) (way t)
+object_now y h (closed x) lent way = x
+
+module _ (program : ProgramShape) (lined : (t : Ticket) → Lined (reserves program t) (listed program t)) (s : Core) (y : LaneHistory) (g : ℕ → HandlerLog) (k : CoreInvariant program s y g) where
+  abbrev pub now : ℕ → HeldState
+  now h = object_now y h (s.handler h) (g h).lent (g h).way
+
+  -- who holds an object is in its client's last block
+  in_block : (t : Ticket) (h : ℕ) → reserves program t h ≡ true → suc t.index ≤ (s.client t.client).begun → (y.stands t h ≡ gone → ⊥) → (s.client t.client).begun ≡ suc t.index
+  in_block t h m lt non =
+      ⊎_elim
+      (λ (is : (s.client t.client).begun ≡ suc t.index). is)
+      (λ (other : ((s.client t.client).begun == suc t.index) ≡ false). let ne = apart_eqb (s.client t.client).begun (suc t.index) other in absurd (non (k.older t.client t.index (omega (arith, ne, lt)) h m)))
+      (num_cases (s.client t.client).begun (suc t.index))
+
+  away_found : (h : ℕ) (t : Ticket) → s.handler h ≡ away t → away_at (s.up t.client h) (s.down t.client h) ((s.client t.client).held h) ≡ Some (object_now y h (away t) (g h).lent (g h).way)
+  away_found h t v =
+      let o = k.objects h in
+      let one : serving (s.handler h) ≡ t ∷ [] = ap serving v in
+      let here : ahead (post s h) ≡ t ∷ s.tickets h = ap (λ q. q ++ s.tickets h) one in
+      let sent = (subst (AllByRecursion (λ t. y.sent t h ≡ (g h).received t ++ (g h).way t)) here o.sent).0 in
+      let lane = (subst (AllByRecursion (λ t. HandlerLane t false (g h).found ((g h).received t) ((g h).gave t) (stance (s.handler h) (g h).lent))) one o.lane).0 in
+      let lane' = subst (λ v. HandlerLane t false (g h).found ((g h).received t) ((g h).gave t) (stance v (g h).lent)) v lane in
+      let gots = (subst (AllByRecursion (λ (t : Ticket). (g h).gave t ≡ y.got t h ++ as_list (s.up t.client h))) one o.gots).0 in
+      let client = (subst (AllByRecursion (λ t. ClientLane t false (y.sent t h) (y.got t h) (part h (y.page t).trace) (y.stands t h))) here (deeds_ok program s y g k h).lane).0 in
+      let m = (subst (AllByRecursion (λ u. reserves program u h ≡ true)) here (may_ahead program s y g k h)).0 in
+      let lt = (subst (AllByRecursion (λ (u : Ticket). suc u.index ≤ (s.client u.client).begun)) here (of_ahead program s y g k (λ (u : Ticket). suc u.index ≤ (s.client u.client).begun) h k.below)).0 in
+      let down : s.down t.client h ≡ (g h).way t ++ flat_map (g h).way (filter (λ (u : Ticket). u.client == t.client) (s.tickets h)) = o.down t.client ∙ (ap (λ q. flat_map (g h).way (filter (λ (u : Ticket). u.client == t.client) q)) here ∙ first) in
+      by_case t m lt down (λ b e. subst (LastOf t) here (newest program lined (record { dynamic = false; size = 0 }) 0 s y g k t.client t.index h b m e))
+      (lent_where t (g h).found (g h).lent ((g h).received t) ((g h).way t) (y.got t h) ((g h).gave t) (as_list (s.up t.client h)) (part h (y.page t).trace) (y.stands t h)
+      (subst (λ ps. ClientLane t false ps (y.got t h) (part h (y.page t).trace) (y.stands t h)) sent client) lane' gots)
+    where
+      first : flat_map (g h).way (filter (λ (u : Ticket). u.client == t.client) (t ∷ s.tickets h)) ≡ (g h).way t ++ flat_map (g h).way (filter (λ (u : Ticket). u.client == t.client) (s.tickets h))
+      first = rw (eqb_self t.client) refl
+
+      holds_gone : (z : HeldState) → holds z ≡ gone → ⊥
+      holds_gone z e = cc
+
+      same_no : (t : Ticket) (us : List Ticket) → LastOf t (t ∷ us) → AllByRecursion (λ (v : Ticket). (v.client == t.client) ≡ false) us
+      same_no t us (inl l) = absurd (true≢false (sym (ap₂ (λ a b. a && b) (eqb_self t.client) (eqb_self t.index)) ∙ l.0))
+      same_no t us (inr l) = l.1
+
+      by_case : (t : Ticket) → reserves program t h ≡ true → suc t.index ≤ (s.client t.client).begun
+          → s.down t.client h ≡ (g h).way t ++ flat_map (g h).way (filter (λ (u : Ticket). u.client == t.client) (s.tickets h))
+          → ((s.client t.client).begun ≡ suc t.index → (y.stands t h ≡ gone → ⊥) → LastOf t (t ∷ s.tickets h))
+          → Where ((g h).way t) (as_list (s.up t.client h)) (y.stands t h) (g h).lent
+          → away_at (s.up t.client h) (s.down t.client h) ((s.client t.client).held h) ≡ Some (object_of (views.lent (g h).lent) (y.stands t h) ((g h).way t))
+      by_case t m lt down last (inl w) =
+          ap (λ u. away_at u (s.down t.client h) ((s.client t.client).held h)) (list_some (s.up t.client h) (g h).lent w.1) ∙ ap₂ (λ c way. Some (object_of (views.lent (g h).lent) c way)) (sym w.2) (sym w.0)
+      by_case t m lt down last (inr (inl w)) =
+          let non = λ (e : y.stands t h ≡ gone). holds_gone w.2.0 (sym w.2.1 ∙ e) in
+          let b = in_block t h m lt non in
+          let held : (s.client t.client).held h ≡ Some w.2.0 = place_holds program t (s.client t.client) (s.client t.client).place h w.2.0 (sym (k.stands t.client t.index b h) ∙ w.2.1) in
+          let none : s.down t.client h ≡ [] = down ∙ ap₂ (λ a b. a ++ b) w.0 (none_of t.client (g h).way (s.tickets h) (same_no t (s.tickets h) (last b non))) in
+          ap₂ (λ u d. away_at u d ((s.client t.client).held h)) (list_none (s.up t.client h) w.1) none ∙ (held ∙ ap₂ (λ c way. Some (object_of (views.lent (g h).lent) c way)) (sym w.2.1) (sym w.0))
+      by_case t m lt down last (inr (inr w)) =
+          ap₂ (λ u d. away_at u d ((s.client t.client).held h)) (list_none (s.up t.client h) w.3) (down ∙ ap (λ way. way ++ flat_map (g h).way (filter (λ (u : Ticket). u.client == t.client) (s.tickets h))) w.2)
+          ∙ ap (λ way. Some (object_of (views.lent (g h).lent) (y.stands t h) way)) (sym w.2)
+
+  is_found : (h : ℕ) (v : Handler) → s.handler h ≡ v → found_by s h v ≡ Some (object_now y h v (g h).lent (g h).way)
+  is_found h (free x) e = refl
+  is_found h (serves t x) e = refl
+  is_found h (spares t x n) e = refl
+  is_found h (gives t x) e = refl
+  is_found h (away t) e = away_found h t e
+  is_found h (closed x) e = refl
+
+  -- the object that the run shows
+  pub object_found : (h : ℕ) → found_by s h (s.handler h) ≡ Some (now h)
+  object_found h = is_found h (s.handler h) refl

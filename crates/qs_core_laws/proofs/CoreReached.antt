@@ -1,0 +1,320 @@
+-- What every run of the optimised machine comes to, for those who run it.
+use Rattle.std.proofs.Common.{◌≡◌, ◌≢◌, ◌<◌, ◌≤◌, ◌+◌, ◌-◌, arith, ℕ, suc, ◌==◌, Bool, true, false, if◌then◌else◌, List, [], ◌∷◌, ◌++◌, length, filter, sum_by, refl, sym, ap, ◌∙◌, subst, ⊎_elim, IsSome, IsTrue}
+use Rattle.std.specs.List.{AllByRecursion, range_with_len}
+use Rattle.std.proofs.lemmas.List.{length-append}
+use Rattle.qs_objects.specs.Journals.{HeldState}
+use Rattle.qs_objects.specs.Parts.{same}
+use Rattle.qs_objects.specs.declared.held.Ticket.{Ticket}
+use Rattle.qs_objects.specs.declared.Request.{Request}
+use Rattle.qs_objects.proofs.Choices.{eqb_self, num_cases, not_same, same_self, ticket_cases}
+use Rattle.qs_meaning.specs.Following.{reserves}
+use Rattle.qs_check.specs.Program.{ProgramShape, blocks_of}
+use Rattle.qs_meaning.specs.Serial.{LegalFrom}
+use Rattle.qs_meaning.specs.Solo.{put}
+use Rattle.qs_check.specs.Sound.{IsSound}
+use Rattle.qs_check.specs.Values.{Locals}
+use Rattle.qs_meaning.proofs.Each.{each_both}
+use Rattle.qs_meaning.proofs.Histories.{Apart}
+use Rattle.qs_meaning.proofs.SerialRuns.{legal_apart}
+use Rattle.qs_meaning.proofs.TreeWalks.{put_here, put_there}
+use Rattle.qs_syncset.specs.declared.mode.Mode.{Mode}
+use Rattle.qs_syncset.specs.Codes.{ClientCode}
+use Rattle.qs_chunk.specs.Batch.{Batch}
+use Rattle.qs_chunk.specs.Lanes.{may_stand}
+use Rattle.qs_chunk.specs.declared.parcel.Parcel.{Parcel}
+use Rattle.qs_chunk.specs.LaneViews as views
+use Rattle.qs_chunk.specs.declared.parcel.Parcel.TheVariants as parcels
+use Rattle.qs_handler.specs.Handler.{Handler, free, serves, spares, gives, away, closed, is_away, serving}
+use Rattle.qs_handler.specs.Handler as handlers
+use Rattle.qs_handler.specs.declared.mind.Act.TheVariants as acts
+use Rattle.qs_client_run.specs.Client.{act_of, between}
+use Rattle.qs_client_run.specs.declared.act.Act.{Act}
+use Rattle.qs_client_run.specs.declared.act.Act.TheVariants as wants
+use Rattle.qs_played.specs.Played.{ticket}
+use Rattle.qs_played.specs.declared.actor.Actor.{Actor}
+use Rattle.qs_played.proofs.ReservedObjects.{reserved_inside}
+use Rattle.qs_played.proofs.Orders.{apart_kept, counts_after}
+use Rattle.qs_played.proofs.JournalRooms.{no_block_beyond, sum_changed, sum_same}
+use Rattle.qs_protocol.proofs.ActObjects.{await_at, need_at, not_await, not_need, not_send, send_at}
+use Rattle.qs_protocol.proofs.LaneWays.{MayCome}
+use Rattle.qs_protocol.proofs.ObjectViews.{HandlerLog, PastOf}
+use Rattle.qs_core_laws.specs.Core.{Core, AreCodes, blocks, client_step, core_begin, fresh_held, settings_of}
+use Rattle.qs_core_laws.specs.CoreSchedule.{before_it, core_plays, found_by}
+use Rattle.qs_core_laws.specs.CoreReached.{NextStands, IsBegun, HandlersServe, ClientsAsk, TicketsStand, OthersRest, CoreStands, ReachedCore}
+use Rattle.qs_core_laws.proofs.CoreBounds.{CoreBounded, run_both}
+use Rattle.qs_core_laws.proofs.CoreCodes.{lined}
+use Rattle.qs_core_laws.proofs.CoreInvariant.{LaneHistory, CoreInvariant}
+use Rattle.qs_core_laws.proofs.CoreObjects.{object_found}
+use Rattle.qs_core_laws.proofs.CoreSteps.{begun_by}
+use Rattle.qs_core_laws.proofs.HandlerSteps.{away_first, of_ahead, serves_first}
+use Rattle.qs_core_laws.proofs.CoreBounds as bounds
+
+-- a legal order begins at most the blocks that there are
+counts_within : (p : ProgramShape) (b : ℕ → ℕ) (ts : List Ticket) → LegalFrom p b ts → ((c : ℕ) → b c ≤ blocks_of p c) → (c : ℕ) → counts_after b ts c ≤ blocks_of p c
+counts_within p b [] legal low = low
+counts_within p b (t ∷ ts) legal low = counts_within p (put b t.client (suc t.index)) ts legal.2 (λ c.
+    ⊎_elim
+    (λ (is : t.client ≡ c).
+    subst (λ c. put b t.client (suc t.index) c ≤ blocks_of p c) is (let l = legal.1 in let here = put_here b t.client (suc t.index) in omega (arith, l, here)))
+    (λ (other : (t.client == c) ≡ false). let there = put_there b t.client (suc t.index) c other in let old = low c in omega (arith, there, old))
+    (num_cases t.client c))
+
+-- a client's tickets are as many as its counts say
+counted_from : (p : ProgramShape) (b : ℕ → ℕ) (ts : List Ticket) (c : ℕ) → LegalFrom p b ts → length (filter (λ (t : Ticket). t.client == c) ts) + b c ≡ counts_after b ts c
+counted_from p b [] c legal = omega arith
+counted_from p b (t ∷ ts) c legal =
+    let ih = counted_from p (put b t.client (suc t.index)) ts c legal.2 in
+    ⊎_elim
+    (λ (is : t.client ≡ c).
+    let here : put b t.client (suc t.index) c ≡ suc t.index = subst (λ c. put b t.client (suc t.index) c ≡ suc t.index) is (put_here b t.client (suc t.index)) in
+    let at : t.index ≡ b c = legal.0 ∙ ap b is in
+    let own : (t.client == c) ≡ true = subst (λ c. (t.client == c) ≡ true) is (eqb_self t.client) in
+    rw own (omega (arith, ih, here, at)))
+    (λ (other : (t.client == c) ≡ false).
+    let there = put_there b t.client (suc t.index) c other in
+    rw other (omega (arith, ih, there)))
+    (num_cases t.client c)
+
+-- an order is no longer than the blocks that are to come
+abbrev left_of : ProgramShape → (ℕ → ℕ) → ℕ
+left_of p b = sum_by (λ c. blocks_of p c - b c) (range_with_len 0 (length p.clients))
+
+length_fits : (p : ProgramShape) (b : ℕ → ℕ) (ts : List Ticket) → LegalFrom p b ts → length ts ≤ left_of p b
+length_fits p b [] legal = omega arith
+length_fits p b (t ∷ ts) legal =
+    let c = t.client in
+    let at : t.index ≡ b c = legal.0 in
+    let less : b c < blocks_of p c = (let l = legal.1 in omega (arith, at, l)) in
+    let ih = length_fits p (put b c (suc t.index)) ts legal.2 in
+    let within : c < length p.clients = no_block_beyond p c (omega (arith, less)) in
+    let new : put b c (suc t.index) c ≡ suc (b c) = put_here b c (suc t.index) ∙ ap suc at in
+    let all = sum_changed (λ d. blocks_of p d - b d) (λ d. blocks_of p d - put b c (suc t.index) d) c 0 (length p.clients)
+    (λ d other. ap (λ n. blocks_of p d - n) (sym (put_there b c (suc t.index) d other))) (omega arith) (omega (arith, within)) in
+    let changed_one : blocks_of p c - put b c (suc t.index) c ≡ blocks_of p c - suc (b c) = ap (λ n. blocks_of p c - n) new in
+    omega (arith, ih, all, changed_one, less)
+
+all_left : (p : ProgramShape) → left_of p (λ _. 0) ≡ sum_by (blocks_of p) (range_with_len 0 (length p.clients))
+all_left p = sum_same (λ c. blocks_of p c - 0) (blocks_of p) 0 (length p.clients) (λ c le. omega arith)
+
+filter_shorter : {X : Type 0} (f : X → Bool) (xs : List X) → length (filter f xs) ≤ length xs
+filter_shorter f [] = omega arith
+filter_shorter f (x ∷ xs) = by_case (f x) (filter_shorter f xs)
+  where
+    by_case : (b : Bool) → length (filter f xs) ≤ length xs → length (if b then x ∷ filter f xs else filter f xs) ≤ suc (length xs)
+    by_case true ih = omega (arith, ih)
+    by_case false ih = omega (arith, ih)
+
+apart_back : (xs ys : List Ticket) → Apart (xs ++ ys) → Apart ys
+apart_back [] ys a = a
+apart_back (x ∷ xs) ys a = apart_back xs ys a.1
+
+-- a ticket stands at most once where none stands twice
+at_most_once : (t : Ticket) (ts : List Ticket) → Apart ts → length (filter (same t) ts) ≤ 1
+at_most_once t [] a = omega arith
+at_most_once t (u ∷ us) a =
+    ⊎_elim
+    (λ (is : t ≡ u).
+    let own : same t u ≡ true = subst (λ v. same t v ≡ true) is (same_self t) in
+    let rest : length (filter (same t) us) ≡ 0 = none us (subst (λ v. AllByRecursion (λ w. v ≢ w) us) (sym is) a.0) in
+    rw own (omega (arith, rest)))
+    (λ (other : same t u ≡ false). rw other (at_most_once t us a.1))
+    (ticket_cases t u)
+  where
+    none : (us : List Ticket) → AllByRecursion (λ w. t ≢ w) us → length (filter (same t) us) ≡ 0
+    none [] n = refl
+    none (w ∷ ws) n = rw (not_same t w n.0) (none ws n.1)
+
+no_filter : {X : Type 0} (f : X → Bool) (xs : List X) → ((x : X) → f x ≡ false) → filter f xs ≡ []
+no_filter f [] none = refl
+no_filter f (x ∷ xs) none = rw (none x) (no_filter f xs none)
+
+both_none : (xs ys : List Ticket) → [] ≡ xs ++ ys → (xs ≡ []) × (ys ≡ [])
+both_none [] ys e = (refl, sym e)
+both_none (x ∷ xs) ys e = absurd (cc)
+
+may_come_stands : (z : HeldState) (parcel : Parcel) (way : List Parcel) → MayCome (views.serves z) parcel way → may_stand false parcel ≡ true
+may_come_stands z (parcels.Home x) way m = absurd m
+may_come_stands z (parcels.Work chunk) way m = refl
+may_come_stands z parcels.Sync way m = refl
+may_come_stands z parcels.End way m = refl
+
+may_come_home : (z : HeldState) (parcel : Parcel) (way : List Parcel) → MayCome (views.lent z) parcel way → may_stand true parcel ≡ true
+may_come_home z (parcels.Home x) way m = refl
+may_come_home z (parcels.Work chunk) way m = absurd m
+may_come_home z parcels.Sync way m = absurd m
+may_come_home z parcels.End way m = absurd m
+
+module _ (program : ProgramShape) (sound : IsSound program) (mode : Mode) (code : ℕ → ClientCode) (codes : AreCodes program mode code) (size : ℕ)
+    (s : Core) (y : LaneHistory) (g : ℕ → HandlerLog) (k : CoreInvariant program s y g) (b : CoreBounded program sound mode code codes size s) where
+  next_stands : NextStands s
+  next_stands c h parcel ps act down = by_handler (s.handler h) refl act
+    where
+      by_handler : (v : Handler) → s.handler h ≡ v → handlers.act_of v ≡ acts.TakeParcel c → IsTrue (may_stand (is_away (s.handler h)) parcel)
+      by_handler (serves t x) e a =
+          let is : t.client ≡ c = cc in
+          let f = serves_first program s y g k h t x parcel ps e (ap (λ c. s.down c h) is ∙ down) in
+          subst (λ v. IsTrue (may_stand (is_away v) parcel)) (sym e) (may_come_stands x parcel f.0 f.3)
+      by_handler (away t) e a =
+          let is : t.client ≡ c = cc in
+          let f = away_first program s y g k h t parcel ps e (ap (λ c. s.down c h) is ∙ down) in
+          subst (λ v. IsTrue (may_stand (is_away v) parcel)) (sym e) (may_come_home (g h).lent parcel f.0 f.3)
+      by_handler (free x) e a = absurd (cc)
+      by_handler (spares t x n) e a = absurd (cc)
+      by_handler (gives t x) e a = absurd (cc)
+      by_handler (closed x) e a = absurd (cc)
+
+  -- tickets
+
+  inside_of : (n : ℕ → ℕ) (ts : List Ticket) → LegalFrom program n ts → AllByRecursion (λ (t : Ticket). t.client < length program.clients) ts
+  inside_of n [] legal = tt
+  inside_of n (t ∷ ts) legal = (no_block_beyond program t.client (let l = legal.1 in omega (arith, l)), inside_of (put n t.client (suc t.index)) ts legal.2)
+
+  order_begun : AllByRecursion (IsBegun program s) s.order
+  order_begun = each_both {R = IsBegun program s} (λ (t : Ticket) (i : t.client < length program.clients) (l : suc t.index ≤ (s.client t.client).begun). (i, omega (arith, l))) s.order (inside_of (λ _. 0) s.order k.legal) k.below
+
+  before_begun : (h : ℕ) → AllByRecursion (IsBegun program s) (before_it s h)
+  before_begun h = of_ahead program s y g k (IsBegun program s) h order_begun
+
+  apart_ahead : (h : ℕ) → Apart (before_it s h)
+  apart_ahead h = apart_back (g h).past (before_it s h) (subst Apart (k.objects h).split (apart_kept (λ t. reserves program t h) s.order (legal_apart program (λ _. 0) s.order k.legal)))
+
+  few_before : (h : ℕ) → length (before_it s h) ≤ sum_by (blocks_of program) (range_with_len 0 (length program.clients))
+  few_before h =
+      let part : length (filter (λ t. reserves program t h) s.order) ≡ length (g h).past + length (before_it s h) = ap length (k.objects h).split ∙ length-append (g h).past (before_it s h) in
+      let shorter = filter_shorter (λ t. reserves program t h) s.order in
+      let fits = length_fits program (λ _. 0) s.order k.legal in
+      let all = all_left program in
+      omega (arith, part, shorter, fits, all)
+
+  tickets_stand : TicketsStand program s
+  tickets_stand = record {
+    begun = λ c. let n = k.counts c in let w = counts_within program (λ _. 0) s.order k.legal (λ c. omega arith) c in omega (arith, n, w);
+    order = order_begun;
+    before = before_begun;
+    counted = λ c. let n = k.counts c in let f = counted_from program (λ _. 0) s.order c k.legal in omega (arith, n, f);
+    once = λ h t. at_most_once t (before_it s h) (apart_ahead h);
+    few = few_before;
+    fresh = b.fresh;
+  }
+
+  -- handlers
+
+  served_inside : (h : ℕ) (t : Ticket) → serving (s.handler h) ≡ t ∷ [] → t.client < length program.clients
+  served_inside h t one = (subst (AllByRecursion (IsBegun program s)) (ap (λ q. q ++ s.tickets h) one) (before_begun h)).0.0
+
+  handler_takes : (h c : ℕ) (v : Handler) → s.handler h ≡ v → handlers.act_of v ≡ acts.TakeParcel c → c < length program.clients
+  handler_takes h c (serves t x) e a = let is : t.client ≡ c = cc in subst (λ c. c < length program.clients) is (served_inside h t (ap serving e))
+  handler_takes h c (away t) e a = let is : t.client ≡ c = cc in subst (λ c. c < length program.clients) is (served_inside h t (ap serving e))
+  handler_takes h c (free x) e a = absurd (cc)
+  handler_takes h c (spares t x n) e a = absurd (cc)
+  handler_takes h c (gives t x) e a = absurd (cc)
+  handler_takes h c (closed x) e a = absurd (cc)
+
+  handler_gives : (h c : ℕ) (x : HeldState) (v : Handler) → s.handler h ≡ v → handlers.act_of v ≡ acts.Give c x → c < length program.clients
+  handler_gives h c x (gives t z) e a = let is : t.client ≡ c = cc in subst (λ c. c < length program.clients) is (served_inside h t (ap serving e))
+  handler_gives h c x (free z) e a = absurd (cc)
+  handler_gives h c x (serves t z) e a = absurd (cc)
+  handler_gives h c x (spares t z n) e a = absurd (cc)
+  handler_gives h c x (away t) e a = absurd (cc)
+  handler_gives h c x (closed z) e a = absurd (cc)
+
+  handler_spares : (h c : ℕ) (chunk : Batch Request) (v : Handler) → s.handler h ≡ v → handlers.act_of v ≡ acts.Spare c chunk → (c < length program.clients) × (chunk.capacity ≡ size)
+  handler_spares h c chunk (spares t z n) e a =
+      let is : t.client ≡ c = cc in
+      let same_size : n ≡ chunk.capacity = cc in
+      (subst (λ c. c < length program.clients) is (served_inside h t (ap serving e)), sym same_size ∙ b.back h t z n e)
+  handler_spares h c chunk (free z) e a = absurd (cc)
+  handler_spares h c chunk (serves t z) e a = absurd (cc)
+  handler_spares h c chunk (gives t z) e a = absurd (cc)
+  handler_spares h c chunk (away t) e a = absurd (cc)
+  handler_spares h c chunk (closed z) e a = absurd (cc)
+
+  handlers_serve : HandlersServe program size s
+  handlers_serve = record {
+    takes = λ h c a. handler_takes h c (s.handler h) refl a;
+    gives = λ h c x a. handler_gives h c x (s.handler h) refl a;
+    spares = λ h c chunk a. handler_spares h c chunk (s.handler h) refl a;
+    opened = λ h x e. (k.objects h).opened x e;
+  }
+
+  -- clients
+
+  abbrev n_of : ℕ → ℕ
+  n_of c = (s.client c).begun - 1
+
+  abbrev asks_for : ℕ → Act
+  asks_for c = act_of (settings_of code size c) (blocks code size c) (s.client c)
+
+  begun_of : (c : ℕ) (act : Act) → asks_for c ≡ act → ((l : Locals) → (s.client c).place ≡ between l → asks_for c ≡ act → ⊥) → (s.client c).begun ≡ suc (n_of c)
+  begun_of c act e non = begun_by program sound mode code codes size s y g k c act e non
+
+  clients_ask : ClientsAsk program code size s
+  clients_ask = record {
+    sends = λ c h parcel a.
+        reserved_inside program sound (ticket c (n_of c)) h
+        (send_at program (ticket c (n_of c)) (y.sent (ticket c (n_of c))) (y.got (ticket c (n_of c))) (settings_of code size c) (blocks code size c) (s.client c) (y.page (ticket c (n_of c))) (s.client c).place
+        (k.places c (n_of c) (begun_of c (wants.Send h parcel) a (λ l i a. not_send (settings_of code size c) (blocks code size c) (s.client c) l h parcel i a))) h parcel a).0;
+    awaits = λ c h a.
+        reserved_inside program sound (ticket c (n_of c)) h
+        (await_at program (ticket c (n_of c)) (y.sent (ticket c (n_of c))) (y.got (ticket c (n_of c))) (settings_of code size c) (blocks code size c) (s.client c) (y.page (ticket c (n_of c))) (s.client c).place
+        (k.places c (n_of c) (begun_of c (wants.Await h) a (λ l i a. not_await (settings_of code size c) (blocks code size c) (s.client c) l h i a))) h a).0;
+    needs = λ c h a.
+        reserved_inside program sound (ticket c (n_of c)) h
+        (need_at program (ticket c (n_of c)) (y.sent (ticket c (n_of c))) (y.got (ticket c (n_of c))) (settings_of code size c) (blocks code size c) (s.client c) (y.page (ticket c (n_of c))) (s.client c).place
+        (k.places c (n_of c) (begun_of c (wants.NeedChunk h) a (λ l i a. not_need (settings_of code size c) (blocks code size c) (s.client c) l h i a))) h a);
+  }
+
+  -- beyond the program
+
+  none_reserve : (h : ℕ) → length program.objects ≤ h → (t : Ticket) → reserves program t h ≡ false
+  none_reserve h out t = by_test (reserves program t h) refl
+    where
+      by_test : (z : Bool) → reserves program t h ≡ z → z ≡ false
+      by_test false e = refl
+      by_test true e = absurd (let i = reserved_inside program sound t h e in omega (arith, i, out))
+
+  nobody : (h : ℕ) → length program.objects ≤ h → ((g h).past ≡ []) × (before_it s h ≡ [])
+  nobody h out = both_none (g h).past (before_it s h) (sym (no_filter (λ t. reserves program t h) s.order (none_reserve h out)) ∙ (k.objects h).split)
+
+  rests : (h : ℕ) → (g h).past ≡ [] → (v : Handler) → s.handler h ≡ v → serving v ++ s.tickets h ≡ [] → (s.tickets h ≡ []) × (s.handler h ≡ free (fresh_held program h))
+  rests h none (free x) e q =
+      let first : fresh_held program h ≡ (g h).found = subst (λ ts. PastOf (λ t. y.sent t h) (λ t. y.got t h) (fresh_held program h) ts (g h).found) none (k.objects h).served in
+      (q, e ∙ ap free ((k.objects h).free x e ∙ sym first))
+  rests h none (serves t x) e q = absurd (cc)
+  rests h none (spares t x n) e q = absurd (cc)
+  rests h none (gives t x) e q = absurd (cc)
+  rests h none (away t) e q = absurd (cc)
+  rests h none (closed x) e q = absurd ((k.objects h).opened x e)
+
+  others_rest : OthersRest program code size s
+  others_rest = record {
+    tickets = λ h out. let n = nobody h out in (rests h n.0 (s.handler h) refl n.1).0;
+    handler = λ h out. let n = nobody h out in (rests h n.0 (s.handler h) refl n.1).1;
+    client = b.idle;
+    steps = λ c out. ap (client_step code size s c) (bounds.beyond_acts program sound mode code codes size s (y, g, k) b c out);
+  }
+
+  object_somewhere : (h : ℕ) → IsSome (found_by s h (s.handler h))
+  object_somewhere h = subst IsSome (sym (object_found program (lined program sound) s y g k h)) refl
+
+  stands : CoreStands program code size s
+  stands = record {
+    next = next_stands;
+    sizes = b.sizes;
+    handlers = handlers_serve;
+    clients = clients_ask;
+    tickets = tickets_stand;
+    others = others_rest;
+    found = object_somewhere;
+  }
+
+  pub stands_reached : ReachedCore program code size s
+  unfolding ReachedCore
+  stands_reached = stands
+
+-- after every list of actors
+pub reached_keeps : (program : ProgramShape) → IsSound program → (mode : Mode) (code : ℕ → ClientCode) → AreCodes program mode code → (size : ℕ) (actors : List Actor)
+    → ReachedCore program code size (core_plays code size actors (core_begin program))
+reached_keeps program sound mode code codes size actors =
+    let r = run_both program sound mode code codes size actors in
+    stands_reached program sound mode code codes size (core_plays code size actors (core_begin program)) r.0.0 r.0.1 r.0.2 r.1

@@ -1,0 +1,155 @@
+-- The Syncs of the optimised machine, counted by the traces.
+use Rattle.std.proofs.Common.{◌≡◌, ◌<◌, ◌≤◌, ℕ, suc, ◌+◌, ◌==◌, ◌&&◌, nat_lt, nat_eq, Bool, true, false, if◌then◌else◌, List, [], length, refl, sym, ap, ◌∙◌, subst, inl, inr, arith}
+use Rattle.std.proofs.lemmas.List.{get_or-map}
+use Rattle.qs_objects.specs.declared.held.Event.{Event}
+use Rattle.qs_objects.specs.declared.held.Ticket.{Ticket}
+use Rattle.qs_meaning.specs.Following.{Leads, block_tree}
+use Rattle.qs_check.specs.Program.{ProgramShape, blocks_of, text_of}
+use Rattle.qs_check.specs.Sound.{IsSound}
+use Rattle.qs_check.proofs.Bounds.{AllByRecursion-get_or}
+use Rattle.qs_syncset.specs.declared.mode.Mode.{Mode}
+use Rattle.qs_syncset.specs.Codes.{ClientCode, code_at}
+use Rattle.qs_syncset.specs.Modes.{is_dynamic}
+use Rattle.qs_syncset.specs.SyncCounts.{AreOrdered, IsSentBy, queries, syncs_along}
+use Rattle.qs_syncset.proofs.SyncCounts.{syncs_are_counted}
+use Rattle.qs_syncset.specs.SyncCounts as counts
+use Rattle.qs_client_run.specs.Client.{Client, Place, between, runs, full, awaits, leaves}
+use Rattle.qs_client_run.specs.BlockSizes.{longest}
+use Rattle.qs_client.specs.Mind.{is_between, has_ended}
+use Rattle.qs_played.specs.Isolation.{ended_of, entry_of, ticket_at, trace_of}
+use Rattle.qs_played.specs.Played.{ticket}
+use Rattle.qs_played.specs.SyncSums.{AreSent, AreSyncsCounted, IsCounted}
+use Rattle.qs_played.specs.declared.played.Played.{Played}
+use Rattle.qs_played.proofs.JournalRooms.{no_block_beyond}
+use Rattle.qs_played.proofs.SyncLists.{legal_blocks}
+use Rattle.qs_protocol.proofs.ClientCounts.{CountAt, even_now}
+use Rattle.qs_protocol.proofs.ClientInvariants.{holding}
+use Rattle.qs_protocol.proofs.ObjectViews.{HandlerLog}
+use Rattle.qs_core_laws.specs.Core.{AreCodes, Core, core_begin, reserved_of, settings_of, tree_of}
+use Rattle.qs_core_laws.specs.CoreSchedule.{core_played, core_plays}
+use Rattle.qs_core_laws.specs.CoreSyncSums.{CoreSyncsAreCounted}
+use Rattle.qs_core_laws.proofs.CoreCodes.{longest_covers}
+use Rattle.qs_core_laws.proofs.CoreCounting.{CountedBy, run_counted}
+use Rattle.qs_core_laws.proofs.CoreInvariant.{LaneHistory, CoreInvariant, TicketOk}
+
+-- the same counts, said otherwise
+pub sent_as : (ended : Bool) (sent counts others : ℕ → ℕ) → ((h : ℕ) → counts h ≡ others h) → AreSent ended sent counts → AreSent ended sent others
+sent_as ended sent counts others same (inl exact) = inl (λ h. exact h ∙ same h)
+sent_as ended sent counts others same (inr one) = inr (one.0, one.1, λ h. one.2 h ∙ ap (λ k. (if one.1 == h then 1 else 0) + k) (same h))
+
+module _ (program : ProgramShape) (sound : IsSound program) (mode : Mode) (code : ℕ → ClientCode) (codes : AreCodes program mode code) (size : ℕ)
+    (s : Core) (y : LaneHistory) (g : ℕ → HandlerLog) (kept : CoreInvariant program s y g) (n : Ticket → ℕ → ℕ)
+    (counted : CountedBy program sound mode code codes size s n) where
+  -- what a block's tree says of a trace so far
+  abbrev told : Ticket → ℕ → ℕ
+  told t h = syncs_along (code t.client).dynamic h false (tree_of code size t (s.entry t)) (s.trace t)
+
+  -- the block that a client is in, or was in last
+  newest_sent : (t : Ticket) → (s.client t.client).begun ≡ suc t.index → AreSent (has_ended (s.client t.client) t.index) (n t) (told t)
+  newest_sent t b = by_place (s.client t.client).place refl (counted.newest t.client t.index b)
+    where
+      m : Client
+      m = s.client t.client
+
+      open_yet : (pl : Place) → m.place ≡ pl → is_between pl ≡ false → has_ended m t.index ≡ false
+      open_yet pl at inside =
+          let less : nat_lt (suc t.index) m.begun ≡ false = grind (arith, b) in
+          rw less (ap (λ p. nat_eq (suc t.index) m.begun && is_between p) at ∙ both (nat_eq (suc t.index) m.begun) (is_between pl) inside)
+        where
+          both : (x z : Bool) → z ≡ false → (x && z) ≡ false
+          both true z e = e
+          both false z e = refl
+
+      by_place : (pl : Place) → m.place ≡ pl → CountAt (settings_of code size t.client) t (reserved_of code size t) (tree_of code size t (s.entry t))
+          (s.trace t) (n t) m pl
+          → AreSent (has_ended m t.index) (n t) (told t)
+      by_place (between l) at k = inl k
+      by_place (runs tree) at k = inl (even_now (settings_of code size t.client) t (reserved_of code size t) (tree_of code size t (s.entry t)) (s.trace t)
+          (n t) (holding m) tree k.0)
+      by_place (full h tree) at k = inl (even_now (settings_of code size t.client) t (reserved_of code size t) (tree_of code size t (s.entry t)) (s.trace t)
+          (n t) (holding m) tree k.0)
+      by_place (awaits h tree) at k = inr (open_yet (awaits h tree) at refl, h, k.now)
+      by_place (leaves h hs l) at k = inl k
+
+  ticket_sent : (t : Ticket) → suc t.index ≤ (s.client t.client).begun → AreSent (has_ended (s.client t.client) t.index) (n t) (told t)
+  ticket_sent t low = by_test (nat_lt (suc t.index) (s.client t.client).begun) refl
+    where
+      by_test : (x : Bool) → nat_lt (suc t.index) (s.client t.client).begun ≡ x → AreSent (has_ended (s.client t.client) t.index) (n t) (told t)
+      by_test true e = inl (counted.older t.client t.index (grind (arith, e)))
+      by_test false e = newest_sent t (let last : (s.client t.client).begun ≤ suc t.index = grind (arith, e) in omega (arith, last, low))
+
+  abbrev r : Played
+  r = core_played program s
+
+  module _ (i : ℕ) (inside : i < length s.order) where
+    abbrev t : Ticket
+    t = ticket_at r i
+
+    ok : TicketOk program y t
+    ok = AllByRecursion-get_or (TicketOk program y) s.order i (ticket 0 0) kept.told inside
+
+    below : suc t.index ≤ (s.client t.client).begun
+    below = AllByRecursion-get_or (λ (t : Ticket). suc t.index ≤ (s.client t.client).begun) s.order i (ticket 0 0) kept.below inside
+
+    own_block : t.index < blocks_of program t.client
+    own_block = AllByRecursion-get_or (λ (t : Ticket). t.index < blocks_of program t.client) s.order i (ticket 0 0)
+        (legal_blocks program (λ _. 0) s.order kept.legal) inside
+
+    own_client : t.client < length program.clients
+    own_client = let own = own_block in no_block_beyond program t.client (omega (arith, own))
+
+    leads : Leads (block_tree program t (s.entry t)) (s.trace t) (y.page t).rest
+    leads = subst (λ l. Leads (block_tree program t l) (s.trace t) (y.page t).rest) (kept.entry t)
+        (subst (λ es. Leads (block_tree program t (y.page t).entry) es (y.page t).rest) (kept.trace t) ok.page.path)
+
+    by_mode : (h : ℕ) → IsSentBy mode (text_of program t).body (code_at (code t.client) t.index).graph (longest (code t.client).blocks) (s.entry t)
+        (s.trace t) h
+    by_mode h =
+        syncs_are_counted program mode t.client (code t.client) sound (codes.own t.client own_client) t.index (longest (code t.client).blocks) (s.entry t)
+        (s.trace t) (y.page t).rest h own_block
+        (longest_covers (code t.client).blocks t.index) leads
+
+    -- the tree's count, with the test as the mode says
+    told_is : (h : ℕ) → told t h ≡ syncs_along (is_dynamic mode) h false (tree_of code size t (s.entry t)) (s.trace t)
+    told_is h = ap (λ d. syncs_along d h false (tree_of code size t (s.entry t)) (s.trace t)) (codes.own t.client own_client).dynamic
+
+    counts_as : (others : ℕ → ℕ) → ((h : ℕ) → syncs_along (is_dynamic mode) h false (tree_of code size t (s.entry t)) (s.trace t) ≡ others h)
+        → AreSent (has_ended (s.client t.client) t.index) (n t) others
+    counts_as others same = sent_as (has_ended (s.client t.client) t.index) (n t) (told t) others (λ h. told_is h ∙ same h) (ticket_sent t below)
+
+    ended_is : ended_of r i ≡ has_ended (s.client t.client) t.index
+    ended_is = get_or-map (λ (t : Ticket). has_ended (s.client t.client) t.index) s.order i (ticket 0 0) false inside
+
+    entry_is : entry_of r i ≡ s.entry t
+    entry_is = get_or-map s.entry s.order i (ticket 0 0) [] inside
+
+    trace_is : trace_of r i ≡ s.trace t
+    trace_is = get_or-map s.trace s.order i (ticket 0 0) [] inside
+
+    is_counted : IsCounted program mode r n i
+    is_counted = record {
+      plain = λ e. shown (λ es. λ h. queries h es) (counts_as (λ h. queries h (s.trace t)) (λ h. (by_mode h).plain e));
+      dynamic = λ e. shown (λ es. λ h. counts.runs h es) (counts_as (λ h. counts.runs h (s.trace t)) (λ h. (by_mode h).dynamic e));
+      static = λ e held decides.
+          subst (λ l. AreSent (ended_of r i) (n t) (λ h. counts.kept (text_of program t).body held l h (trace_of r i))) (sym entry_is)
+          (shown (λ es. λ h. counts.kept (text_of program t).body held (s.entry t) h es)
+          (counts_as (λ h. counts.kept (text_of program t).body held (s.entry t) h (s.trace t)) (λ h. (by_mode h).static e held decides)));
+      tested = λ e. (by_mode 0).tested e;
+      ordered = λ held decides h.
+          subst (λ l. AreOrdered (text_of program t).body l (trace_of r i) h held) (sym entry_is)
+          (subst (λ es. AreOrdered (text_of program t).body (s.entry t) es h held) (sym trace_is) ((by_mode h).ordered held decides));
+    }
+      where
+        shown : (count : List Event → ℕ → ℕ) → AreSent (has_ended (s.client t.client) t.index) (n t) (count (s.trace t)) → AreSent (ended_of r i) (n t)
+            (count (trace_of r i))
+        shown count sent = subst (λ b. AreSent b (n t) (count (trace_of r i))) (sym ended_is)
+            (subst (λ es. AreSent (has_ended (s.client t.client) t.index) (n t) (count es)) (sym trace_is) sent)
+
+pub core_syncs_counted : CoreSyncsAreCounted
+unfolding AreSyncsCounted
+core_syncs_counted program sound mode code codes size actors =
+    let s = core_plays code size actors (core_begin program) in
+    let k = run_counted program sound mode code codes size actors in
+    let n = k.1.0 in
+    let c = k.1.1 in
+    record { sent = n; all = sym c.total; each = is_counted program sound mode code codes size s k.0.0 k.0.1 k.0.2 n c }

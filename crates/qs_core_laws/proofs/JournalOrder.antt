@@ -1,0 +1,323 @@
+-- Each object's journal goes on along the order of reservations.
+use Rattle.std.proofs.Common.{◌≡◌, ◌+◌, ◌≤◌, arith, ℕ, suc, Bool, true, false, true≢false, if◌then◌else◌, List, [], ◌∷◌, ◌++◌, map, filter, length, refl, sym, ap, ◌∙◌, subst, inl, inr, append_assoc, append-nil, pos, None}
+use Rattle.std.specs.List.{AllByRecursion}
+use Rattle.std.proofs.lemmas.List.{length-append, length-map, map-append}
+use Rattle.qs_objects.specs.Act.{act, account, buffer, grid}
+use Rattle.qs_objects.specs.Journals.{HeldState, after, answer, has_room, noted, replay, unstamp, unstamped, IsHonest}
+use Rattle.qs_objects.specs.Laws.{IsCommand}
+use Rattle.qs_objects.specs.Operations.{is_query}
+use Rattle.qs_objects.specs.Parts.{logged, stamp}
+use Rattle.qs_objects.specs.declared.Op.{Op}
+use Rattle.qs_objects.specs.declared.Op.TheVariants.{Deposit, Withdraw, Balance, Refused, Put, DropFirst, TakeFirst, First, Size, SetCell, AddCell, Fill, GetCell, RowSum}
+use Rattle.qs_objects.specs.declared.held.Entry.{Entry}
+use Rattle.qs_objects.specs.declared.held.Event.{Event}
+use Rattle.qs_objects.specs.declared.held.Ticket.{Ticket}
+use Rattle.qs_objects.specs.declared.Request.{Request}
+use Rattle.qs_objects.proofs.Replays.{replay-append, IsHonest-append}
+use Rattle.qs_meaning.specs.Following.{reserves, block_tree}
+use Rattle.qs_check.specs.Program.{ProgramShape, text_of}
+use Rattle.qs_check.specs.Sound.{IsSound}
+use Rattle.qs_meaning.proofs.Each.{each_map, each_both, each_unfiltered}
+use Rattle.qs_meaning.proofs.Histories.{Among, Flow, Line, NoQuery, OnlyCommands, done_of, parts_of, unstamp_all}
+use Rattle.qs_meaning.proofs.RequestPaths.{requests_within}
+use Rattle.qs_chunk.specs.LaneViews.{AllCommands, Extends, gone, ClientLane, HandlerLane, object_of}
+use Rattle.qs_chunk.specs.LaneParts.{commands_in}
+use Rattle.qs_handler.specs.Handler.{Handler, free, serves, spares, gives, away, closed, serving}
+use Rattle.qs_played.specs.JournalRooms.{room_of}
+use Rattle.qs_played.proofs.JournalRooms.{all_left, cost, leads_within, order_fits, total, total_less}
+use Rattle.qs_protocol.proofs.LaneWholes.{chunk_of, match_over, match_whole, waits_are}
+use Rattle.qs_protocol.proofs.ObjectViews.{stance, as_list, HandlerLog, PastOf, ahead}
+use Rattle.qs_core_laws.specs.Core.{Core, fresh_held}
+use Rattle.qs_core_laws.specs.CoreSchedule.{on_way}
+use Rattle.qs_core_laws.proofs.CoreInvariant.{LaneHistory, post, TicketOk, CoreInvariant}
+use Rattle.qs_core_laws.proofs.CoreObjects.{object_now}
+use Rattle.qs_core_laws.proofs.CommandsInTransit.{IsMine, IsLater, later, mine_ahead, mine_past, part_out, waits_ahead, waits_out, waits_past}
+
+-- an operation that never answers is no query
+command_is : (op : Op) → IsCommand op → is_query op ≡ false
+command_is Deposit k = refl
+command_is Withdraw k = refl
+command_is Put k = refl
+command_is DropFirst k = refl
+command_is SetCell k = refl
+command_is AddCell k = refl
+command_is Fill k = refl
+command_is Balance k = absurd (cc (k (record { content = account (pos 0); refused = pos 0 }) []))
+command_is Refused k = absurd (cc (k (record { content = account (pos 0); refused = pos 0 }) []))
+command_is TakeFirst k = absurd (cc (k (record { content = buffer 1 []; refused = pos 0 }) []))
+command_is First k = absurd (cc (k (record { content = buffer 1 []; refused = pos 0 }) []))
+command_is Size k = absurd (cc (k (record { content = buffer 1 []; refused = pos 0 }) []))
+command_is GetCell k = absurd (cc (k (record { content = grid 1 1 []; refused = pos 0 }) (pos 0 ∷ pos 0 ∷ [])))
+command_is RowSum k = absurd (cc (k (record { content = grid 1 1 []; refused = pos 0 }) (pos 0 ∷ [])))
+
+pub no_queries : (rs : List Request) → AllCommands rs → AllByRecursion NoQuery rs
+no_queries rs c = each_map {Q = NoQuery} (λ (r : Request) (k : IsCommand r.op). command_is r.op k) rs c
+
+-- y is x after these events under this ticket, where the journal has room for them
+pub record Grown (t : Ticket) (x : HeldState) (es : List Event) (y : HeldState) : Type 0 where
+  pub honest : IsHonest x.object es
+  pub state : y.object ≡ replay x.object es
+  pub journal : y.journal ≡ x.journal ++ map (stamp t) es
+  pub room : y.room ≡ x.room
+
+-- the entry of a request that is run, and the object after it
+abbrev answered : Ticket → HeldState → Request → Entry
+answered t x r = record { ticket = t; request = r; reply = answer x.object r }
+
+abbrev once_run : Ticket → HeldState → Request → HeldState
+once_run t x r = record { object = after x.object r; journal = x.journal ++ answered t x r ∷ []; room = x.room }
+
+pub grown : (t : Ticket) (x : HeldState) (es : List Event) (y : HeldState) → Extends t x es y → length x.journal + length es ≤ x.room → Grown t x es y
+grown t x [] y k le = record {
+  honest = tt;
+  state = ap (λ (o : HeldState). o.object) (sym k);
+  journal = ap (λ (o : HeldState). o.journal) (sym k) ∙ sym (append-nil x.journal);
+  room = ap (λ (o : HeldState). o.room) (sym k);
+}
+grown t x (e ∷ es) y k le = by_case (has_room x) refl (λ x k le. grown t x es y k le) k
+  where
+    by_case : (b : Bool) → has_room x ≡ b → ((x : HeldState) → Extends t x es y → length x.journal + length es ≤ x.room → Grown t x es y)
+        → (e.reply ≡ (if b then noted x t e.request (act x.object e.request.op e.request.args) else (x, None)).1)
+        × Extends t (if b then noted x t e.request (act x.object e.request.op e.request.args) else (x, None)).0 es y
+        → Grown t x (e ∷ es) y
+    by_case false h ih k = absurd (let le' : length x.journal + suc (length es) ≤ x.room = le in let full : x.room ≤ length x.journal = grind (arith, h) in omega (arith, le', full))
+    by_case true h ih k =
+        let more : length (x.journal ++ answered t x e.request ∷ []) ≡ length x.journal + 1 = length-append x.journal (answered t x e.request ∷ []) in
+        let m = ih (once_run t x e.request) k.1 (omega (arith, le, more)) in
+        record {
+          honest = (k.0, m.honest);
+          state = m.state;
+          journal = m.journal ∙ (append_assoc x.journal (answered t x e.request ∷ []) (map (stamp t) es)
+              ∙ ap (λ v. x.journal ++ (record { ticket = t; request = e.request; reply = v } ∷ map (stamp t) es)) (sym k.0));
+          room = m.room;
+        }
+
+-- an honest journal after these events
+stamped_honest : (t : Ticket) (x z : HeldState) (es : List Event) (j : List Entry) → Grown t x es z → IsHonest z.object (unstamped j) → IsHonest x.object (unstamped (map (stamp t) es ++ j))
+stamped_honest t x z es j e k =
+    let is : unstamped (map (stamp t) es ++ j) ≡ es ++ unstamped j = map-append unstamp (map (stamp t) es) j ∙ ap (λ es. es ++ unstamped j) (unstamp_all t es) in
+    subst (IsHonest x.object) (sym is) (IsHonest-append x.object es (unstamped j) e.honest (subst (λ s. IsHonest s (unstamped j)) e.state k))
+
+stamped_replay : (t : Ticket) (x z : HeldState) (es : List Event) (j : List Entry) → Grown t x es z → replay x.object (unstamped (map (stamp t) es ++ j)) ≡ replay z.object (unstamped j)
+stamped_replay t x z es j e =
+    let is : unstamped (map (stamp t) es ++ j) ≡ es ++ unstamped j = map-append unstamp (map (stamp t) es) j ∙ ap (λ es. es ++ unstamped j) (unstamp_all t es) in
+    ap (replay x.object) is ∙ (replay-append x.object es (unstamped j) ∙ ap (λ s. replay s (unstamped j)) (sym e.state))
+
+grown_room : (t : Ticket) (x z : HeldState) (es : List Event) (n : ℕ) → Grown t x es z → length x.journal + (length es + n) ≤ x.room → length z.journal + n ≤ z.room
+grown_room t x z es n e le =
+    let a : length z.journal ≡ length x.journal + length es = ap length e.journal ∙ (length-append x.journal (map (stamp t) es) ∙ ap (λ m. length x.journal + m) (length-map es (stamp t))) in
+    let b = e.room in
+    omega (arith, a, b, le)
+
+-- of the first ticket that is to be served: what was run, from the object that it found, and the commands that wait
+pub record FirstPart (t : Ticket) (found : HeldState) (es : List Event) (ws : List Request) (now : HeldState) : Type 0 where
+  pub ran : List Event
+  pub parts : es ≡ ran ++ map logged ws
+  pub extends : Extends t found ran now
+  pub commands : AllByRecursion NoQuery ws
+
+module _ (program : ProgramShape) (sound : IsSound program) (s : Core) (y : LaneHistory) (g : ℕ → HandlerLog) (k : CoreInvariant program s y g) (h : ℕ) where
+  abbrev parts : Ticket → List Event
+  parts = parts_of y.page h
+
+  abbrev waits : Ticket → List Request
+  waits = on_way s h
+
+  abbrev Busy : Type 0
+  Busy = ahead (post s h) ≡ [] → ⊥
+
+  abbrev pub now : HeldState
+  now = object_now y h (s.handler h) (g h).lent (g h).way
+
+  abbrev pub line_of : Line
+  line_of = record { may = λ t. reserves program t h; parts = parts; done = done_of y.page; waits = waits; busy = Busy; present = now.object }
+
+  -- the tickets that are to be served
+  abbrev Tail : List Ticket → HeldState → Type 0
+  Tail [] found = found ≡ now
+  Tail (t ∷ us) found = Busy × FirstPart t found (parts t) (waits t) now × AllByRecursion (λ u. OnlyCommands (parts u) (waits u)) us
+
+  among_later : (us : List Ticket) → AllByRecursion (λ u. Among u us) us
+  among_later [] = tt
+  among_later (u ∷ us) = (inl refl, each_map (λ v (a : Among v us). inr a) us (among_later us))
+
+  -- of a ticket of which nothing was run
+  only_waits : (u : Ticket) → IsLater program sound s y g k h u → Among u (ahead (post s h)) → OnlyCommands (parts u) (waits u)
+  only_waits u l a =
+      let lane : ClientLane u false ((g h).way u) [] (parts u) (y.stands u h) =
+      subst (λ ps. ClientLane u false ps [] (parts u) (y.stands u h)) l.2 (subst (λ gs. ClientLane u false (y.sent u h) gs (parts u) (y.stands u h)) l.1 (l.0.2.lane h)) in
+      let w = waits_are u ((g h).way u) (parts u) (y.stands u h) lane in
+      let is = waits_ahead program sound s y g k h u a l.0 in (
+        w.0 ∙ ap (map logged) (sym is),
+        subst (AllByRecursion NoQuery) (sym is) (no_queries (commands_in ((g h).way u) ++ chunk_of (y.stands u h)) w.1),
+      )
+
+  later_waits : AllByRecursion (λ u. OnlyCommands (parts u) (waits u)) (s.tickets h)
+  later_waits =
+      each_both {P = IsLater program sound s y g k h} (λ u l a. only_waits u l a) (s.tickets h) (later program sound s y g k h)
+      (each_map (λ u a. among_back (serving (s.handler h)) (s.tickets h) u a) (s.tickets h) (among_later (s.tickets h)))
+    where
+      among_back : (xs ys : List Ticket) (u : Ticket) → Among u ys → Among u (xs ++ ys)
+      among_back [] ys u a = a
+      among_back (x ∷ xs) ys u a = inr (among_back xs ys u a)
+
+  -- the handler serves a ticket
+  tail_serving : (t : Ticket) → serving (s.handler h) ≡ t ∷ [] → now ≡ object_of (stance (s.handler h) (g h).lent) (y.stands t h) ((g h).way t) → Tail (ahead (post s h)) (g h).found
+  tail_serving t one is =
+      let o = k.objects h in
+      let here : ahead (post s h) ≡ t ∷ s.tickets h = ap (λ q. q ++ s.tickets h) one in
+      let m = (subst (AllByRecursion (IsMine program sound s y g k h)) here (mine_ahead program sound s y g k h)).0 in
+      let sent = (subst (AllByRecursion (λ t. y.sent t h ≡ (g h).received t ++ (g h).way t)) here o.sent).0 in
+      let lane = (subst (AllByRecursion (λ t. HandlerLane t false (g h).found ((g h).received t) ((g h).gave t) (stance (s.handler h) (g h).lent))) one o.lane).0 in
+      let gots = (subst (AllByRecursion (λ (t : Ticket). (g h).gave t ≡ y.got t h ++ as_list (s.up t.client h))) one o.gots).0 in
+      let w = match_whole t (g h).found ((g h).received t) ((g h).way t) (y.got t h) ((g h).gave t) (parts t) (y.stands t h) (stance (s.handler h) (g h).lent)
+      (subst (λ p. ClientLane t false p (y.got t h) (parts t) (y.stands t h)) sent (m.2.lane h)) lane (as_list (s.up t.client h), sym gots) in
+      let ws = waits_ahead program sound s y g k h t (subst (Among t) (sym here) (inl refl)) m in
+      subst (λ q. Tail q (g h).found) (sym here) (
+        (λ none. cc (here, none)),
+        record {
+          ran = w.ran;
+          parts = w.part ∙ ap (λ rs. w.ran ++ map logged rs) (sym ws);
+          extends = subst (Extends t (g h).found w.ran) (sym is) w.extends;
+          commands = subst (AllByRecursion NoQuery) (sym ws) (no_queries (commands_in ((g h).way t) ++ chunk_of (y.stands t h)) w.commands);
+        },
+        later_waits,
+      )
+
+  -- it serves none
+  tail_free : serving (s.handler h) ≡ [] → (g h).found ≡ now → Tail (ahead (post s h)) (g h).found
+  tail_free none is = subst (λ q. Tail q (g h).found) (sym (ap (λ q. q ++ s.tickets h) none)) (by_tickets (s.tickets h) refl later_waits)
+    where
+      by_tickets : (ts : List Ticket) → s.tickets h ≡ ts → AllByRecursion (λ u. OnlyCommands (parts u) (waits u)) ts → Tail ts (g h).found
+      by_tickets [] e all = is
+      by_tickets (t ∷ us) e all = (
+        (λ empty. cc (none, e, empty)),
+        record { ran = []; parts = all.0.0; extends = is; commands = all.0.1 },
+        all.1,
+      )
+
+  tail_by : (v : Handler) → s.handler h ≡ v → Tail (ahead (post s h)) (g h).found
+  tail_by (free x) e = tail_free (ap serving e) (sym ((k.objects h).free x e) ∙ sym (ap (λ v. object_now y h v (g h).lent (g h).way) e))
+  tail_by (serves t x) e = tail_serving t (ap serving e) (ap (λ v. object_now y h v (g h).lent (g h).way) e ∙ sym (ap (λ v. object_of (stance v (g h).lent) (y.stands t h) ((g h).way t)) e))
+  tail_by (spares t x n) e = tail_serving t (ap serving e) (ap (λ v. object_now y h v (g h).lent (g h).way) e ∙ sym (ap (λ v. object_of (stance v (g h).lent) (y.stands t h) ((g h).way t)) e))
+  tail_by (gives t x) e = tail_serving t (ap serving e) (ap (λ v. object_now y h v (g h).lent (g h).way) e ∙ sym (ap (λ v. object_of (stance v (g h).lent) (y.stands t h) ((g h).way t)) e))
+  tail_by (away t) e = tail_serving t (ap serving e) (ap (λ v. object_now y h v (g h).lent (g h).way) e ∙ sym (ap (λ v. object_of (stance v (g h).lent) (y.stands t h) ((g h).way t)) e))
+  tail_by (closed x) e = absurd ((k.objects h).opened x e)
+
+  -- what the journal got from here on, and where it leads
+  abbrev Goes : HeldState → List Ticket → Type 0
+  Goes x ts = (j : List Entry) × (now.journal ≡ x.journal ++ j) × Flow line_of x.object j ts × IsHonest x.object (unstamped j) × (replay x.object (unstamped j) ≡ now.object)
+
+  abbrev size_of : List Ticket → ℕ
+  size_of ts = total (λ t. length (parts t)) ts
+
+  flow_pass : (t : Ticket) (ts : List Ticket) (x : HeldState) → TicketOk program y t → reserves program t h ≡ false → Goes x ts → Goes x (t ∷ ts)
+  flow_pass t ts x told out r = (
+    r.0,
+    r.1,
+    (
+      record {
+        ran = [];
+        later = r.0;
+        journal_is = refl;
+        part_is = part_out program sound s y g k h t told out ∙ sym (ap (map logged) (waits_out program sound s y g k h t told out));
+        honest = tt;
+        commands = subst (AllByRecursion NoQuery) (sym (waits_out program sound s y g k h t told out)) tt;
+      },
+      inl ((λ m. absurd (true≢false (sym m ∙ out))), waits_out program sound s y g k h t told out, r.2),
+    ),
+    r.3,
+    r.4,
+  )
+
+  flow_over : (t : Ticket) (ts : List Ticket) (x z : HeldState) → TicketOk program y t → waits t ≡ [] → Extends t x (parts t) z → y.stands t h ≡ gone
+      → length x.journal + (length (parts t) + size_of ts) ≤ x.room → (length z.journal + size_of ts ≤ z.room → Goes z ts) → Goes x (t ∷ ts)
+  flow_over t ts x z told none extends left le next =
+      let e = grown t x (parts t) z extends (omega (arith, le)) in
+      let r = next (grown_room t x z (parts t) (size_of ts) e le) in (
+        map (stamp t) (parts t) ++ r.0,
+        r.1 ∙ (ap (λ j. j ++ r.0) e.journal ∙ append_assoc x.journal (map (stamp t) (parts t)) r.0),
+        (
+          record {
+            ran = parts t;
+            later = r.0;
+            journal_is = refl;
+            part_is = sym (ap (λ ws. parts t ++ map logged ws) none ∙ append-nil (parts t));
+            honest = e.honest;
+            commands = subst (AllByRecursion NoQuery) (sym none) tt;
+          },
+          inl ((λ m. told.gone h left), none, subst (λ o. Flow line_of o r.0 ts) e.state r.2),
+        ),
+        stamped_honest t x z (parts t) r.0 e r.3,
+        stamped_replay t x z (parts t) r.0 e ∙ r.4,
+      )
+
+  flow_first : (t : Ticket) (ts us : List Ticket) (x : HeldState) → Busy → FirstPart t x (parts t) (waits t) now → filter (λ t. reserves program t h) ts ≡ us
+      → AllByRecursion (λ u. OnlyCommands (parts u) (waits u)) us → AllByRecursion (TicketOk program y) ts → length x.journal + (length (parts t) + size_of ts) ≤ x.room → Goes x (t ∷ ts)
+  flow_first t ts us x busy f is all told le =
+      let short : length (parts t) ≡ length f.ran + length (map logged (waits t)) = ap length f.parts ∙ length-append f.ran (map logged (waits t)) in
+      let e = grown t x f.ran now f.extends (omega (arith, le, short)) in (
+        map (stamp t) f.ran,
+        e.journal,
+        (
+          record { ran = f.ran; later = []; journal_is = sym (append-nil (map (stamp t) f.ran)); part_is = f.parts; honest = e.honest; commands = f.commands },
+          inr (
+            busy,
+            refl,
+            each_unfiltered (λ u. OnlyCommands (parts u) (waits u)) (λ u. reserves program u h) ts (subst (AllByRecursion (λ u. OnlyCommands (parts u) (waits u))) (sym is) all)
+                (each_map {Q = λ u. reserves program u h ≡ false → OnlyCommands (parts u) (waits u)} (λ u (ok : TicketOk program y u) out. (
+                  part_out program sound s y g k h u ok out ∙ sym (ap (map logged) (waits_out program sound s y g k h u ok out)),
+                  subst (AllByRecursion NoQuery) (sym (waits_out program sound s y g k h u ok out)) tt,
+                )) ts told),
+          ),
+        ),
+        subst (IsHonest x.object) (sym (unstamp_all t f.ran)) e.honest,
+        ap (replay x.object) (unstamp_all t f.ran) ∙ sym e.state,
+      )
+
+  abbrev Past : List Ticket → HeldState → HeldState → Type 0
+  Past past x found = PastOf (λ t. y.sent t h) (λ t. y.got t h) x past found × AllByRecursion (IsMine program sound s y g k h) past × AllByRecursion (λ t. waits t ≡ []) past
+
+  goes_along : (ts past q : List Ticket) (x found : HeldState) → filter (λ t. reserves program t h) ts ≡ past ++ q → Past past x found → Tail q found → AllByRecursion (TicketOk program y) ts
+      → length x.journal + size_of ts ≤ x.room → Goes x ts
+  goes_along [] [] [] x found e p tail told le =
+      let is : x ≡ now = p.0 ∙ tail in
+      ([], ap (λ (o : HeldState). o.journal) (sym is) ∙ sym (append-nil x.journal), (refl, ap (λ (o : HeldState). o.object) is), tt, ap (λ (o : HeldState). o.object) is)
+  goes_along [] [] (u ∷ q) x found e p tail told le = absurd (cc)
+  goes_along [] (u ∷ past) q x found e p tail told le = absurd (cc)
+  goes_along (t ∷ ts) past q x found e p tail told le = by_case (reserves program t h) refl past q e p tail (λ past q x e p tail le. goes_along ts past q x found e p tail told.1 le)
+    where
+      by_case : (b : Bool) → reserves program t h ≡ b → (past q : List Ticket) → (if b then t ∷ filter (λ t. reserves program t h) ts else filter (λ t. reserves program t h) ts) ≡ past ++ q
+          → Past past x found → Tail q found
+          → ((past q : List Ticket) (x : HeldState) → filter (λ t. reserves program t h) ts ≡ past ++ q → Past past x found → Tail q found → length x.journal + size_of ts ≤ x.room → Goes x ts)
+          → Goes x (t ∷ ts)
+      by_case false out past q e p tail ih = flow_pass t ts x told.0 out (ih past q x e p tail (omega (arith, le)))
+      by_case true own [] [] e p tail ih = absurd (cc)
+      by_case true own [] (u ∷ us) e p tail ih =
+          let is : t ≡ u = cc in
+          let more : filter (λ t. reserves program t h) ts ≡ us = cc in
+          flow_first t ts us x tail.0 (subst (λ u. FirstPart u x (parts u) (waits u) now) (sym is) (subst (λ f. FirstPart u f (parts u) (waits u) now) (sym p.0) tail.1)) more tail.2 told.1 le
+      by_case true own (u ∷ past) q e p tail ih =
+          let is : t ≡ u = cc in
+          let more : filter (λ t. reserves program t h) ts ≡ past ++ q = cc in
+          let z = p.0.0 in
+          let o = match_over u x z (y.sent u h) (y.got u h) p.0.1 (parts u) (y.stands u h) (p.1.0.2.lane h) p.0.2 p.0.3 in
+          flow_over t ts x z told.0 (subst (λ u. waits u ≡ []) (sym is) p.2.0) (subst (λ u. Extends u x (parts u) z) (sym is) o.0) (subst (λ u. y.stands u h ≡ gone) (sym is) o.1) le
+          (ih past q z more (p.0.4, p.1.1, p.2.1) tail)
+
+  within_load : (t : Ticket) → TicketOk program y t → length (parts t) ≤ cost program h t
+  within_load t told = leads_within h (block_tree program t (y.page t).entry) (y.page t).trace (y.page t).rest (cost program h t) told.page.path (requests_within (text_of program t).body (y.page t).entry h)
+
+  -- the room of the journal is never used up
+  pub parts_fit : size_of s.order ≤ room_of program h
+  parts_fit =
+      let short = total_less (λ t. length (parts t)) (cost program h) s.order (each_map within_load s.order k.told) in
+      let whole = order_fits program h (λ _. 0) s.order k.legal in
+      let room = all_left program h in
+      omega (arith, short, whole, room)
+
+  pub goes : Goes (fresh_held program h) s.order
+  goes =
+      goes_along s.order (g h).past (ahead (post s h)) (fresh_held program h) (g h).found (k.objects h).split
+      ((k.objects h).served, mine_past program sound s y g k h, waits_past program sound s y g k h)
+      (tail_by (s.handler h) refl) k.told (let fit = parts_fit in omega (arith, fit))

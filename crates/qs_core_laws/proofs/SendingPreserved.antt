@@ -1,0 +1,251 @@
+-- A client's steps within a block keep the invariant: only its own ticket and the lanes that it sends to move.
+use Rattle.std.proofs.Common.{◌≡◌, ◌≢◌, ◌<◌, ◌≤◌, arith, ℕ, suc, Bool, true, false, true≢false, if◌then◌else◌, ◌==◌, List, [], ◌∷◌, ◌++◌, filter, refl, sym, ap, ◌∙◌, subst, ◌⊎◌, inl, inr, ⊎_elim, Option, Some, None}
+use Rattle.std.specs.List.{AllByRecursion}
+use Rattle.std.proofs.Math.Path.{fun_ext}
+use Rattle.qs_objects.specs.Journals.{HeldState}
+use Rattle.qs_objects.specs.Parts.{part, same}
+use Rattle.qs_objects.specs.declared.held.Event.{Event}
+use Rattle.qs_objects.specs.declared.held.Ticket.{Ticket}
+use Rattle.qs_objects.proofs.Choices.{apart_eqb, num_cases, ticket_cases, ticket_path, same_self}
+use Rattle.qs_meaning.specs.Solo.{put}
+use Rattle.qs_meaning.proofs.Each.{each_map, each_front, each_kept}
+use Rattle.qs_meaning.proofs.Histories.{Among, Page}
+use Rattle.qs_meaning.proofs.TreeWalks.{put_here, put_there}
+use Rattle.qs_meaning.specs.Following.{reserves}
+use Rattle.qs_check.specs.Program.{ProgramShape}
+use Rattle.qs_chunk.specs.LaneViews.{Standing, asks, gone, ClientLane}
+use Rattle.qs_chunk.specs.declared.parcel.Parcel.{Parcel}
+use Rattle.qs_handler.specs.Handler.{serving}
+use Rattle.qs_client_run.specs.Client.{Client, Settings, Settled, act_of, sent, took_chunk}
+use Rattle.qs_client_run.specs.declared.act.Act.TheVariants.{Send, Await, NeedChunk}
+use Rattle.qs_client_run.specs.Client as clients
+use Rattle.qs_played.proofs.FunctionUpdate.{put_at, put_at_here, put_at_there}
+use Rattle.qs_played.specs.Played.{ticket}
+use Rattle.qs_played.proofs.Orders.{legal_among}
+use Rattle.qs_protocol.proofs.ObjectViews.{as_list, PastOf, ObjectView, ClientLog, HandlerLog, ahead, IsObject}
+use Rattle.qs_protocol.proofs.ClientInvariants.{listed, Lined, PlaceOk}
+use Rattle.qs_protocol.proofs.LaneWays.{LastOf}
+use Rattle.qs_protocol.proofs.LaneWholes.{match_over}
+use Rattle.qs_protocol.proofs.ClientLogs.{sends_ok, gets_ok, chunks_ok}
+use Rattle.qs_protocol.proofs.ActObjects.{send_at, await_at, sent_begun, got_begun, chunk_begun}
+use Rattle.qs_protocol.proofs.ObjectSteps.{send_ok, got_ok, last_of, up_serving}
+use Rattle.qs_core_laws.specs.Core.{Core, fresh_held, put_lane}
+use Rattle.qs_core_laws.proofs.CoreInvariant.{LaneHistory, post, deeds, TicketOk, CoreInvariant}
+use Rattle.qs_core_laws.proofs.HandlerSteps.{put_lane_at, put_lane_there, put_up_at, put_up_there, post_path, deeds_ok, of_ahead, may_ahead}
+use Rattle.qs_core_laws.proofs.ClientSteps.{client_moves, moved, story}
+
+pub grown_here : {A : Type 0} (f : Ticket → ℕ → A) (t : Ticket) (h : ℕ) (a : A) (u : Ticket) → put_at f t (put (f t) h a) u h ≡ put_at (λ u. f u h) t a u
+grown_here f t h a u = by_case (same t u)
+  where
+    by_case : (b : Bool) → (if b then put (f t) h a else f u) h ≡ (if b then a else f u h)
+    by_case true = put_here (f t) h a
+    by_case false = refl
+
+pub grown_there : {A : Type 0} (f : Ticket → ℕ → A) (t : Ticket) (k : ℕ → A) (j : ℕ) → k j ≡ f t j → (u : Ticket) → put_at f t k u j ≡ f u j
+grown_there f t k j e u =
+    ⊎_elim
+    (λ (is : t ≡ u). subst (λ u. put_at f t k u j ≡ f u j) is (ap (λ (r : ℕ → _). r j) (put_at_here f t k) ∙ e))
+    (λ (other : same t u ≡ false). ap (λ (r : ℕ → _). r j) (put_at_there f t k u other))
+    (ticket_cases t u)
+
+-- of the clients' sides only what was sent and got counts
+pub object_deeds : (mine : List Ticket) (x : HeldState) (b : ObjectView) (y z : ClientLog) (g : HandlerLog) → ((t : Ticket) → y.sent t ≡ z.sent t) → ((t : Ticket) → y.got t ≡ z.got t) → IsObject mine x b y g → IsObject mine x b z g
+object_deeds mine x b y z g e e' k =
+    subst (λ (f : Ticket → List Parcel). IsObject mine x b (record { sent = f; got = z.got; events = z.events; stands = z.stands }) g) (fun_ext e)
+    (subst (λ (f : Ticket → List HeldState). IsObject mine x b (record { sent = y.sent; got = f; events = z.events; stands = z.stands }) g) (fun_ext e')
+    (record { split = k.split; served = k.served; free = k.free; opened = k.opened; sent = k.sent; lane = k.lane; gots = k.gots; later = k.later; down = k.down; up = k.up; rising = k.rising }))
+
+-- whom a handler is through with has sent the end
+pub past_gone : (sent : Ticket → List Parcel) (got : Ticket → List HeldState) (events : Ticket → List Event) (stands : Ticket → Standing) (ts : List Ticket) (x z : HeldState) → PastOf sent got x ts z
+    → AllByRecursion (λ t. ClientLane t false (sent t) (got t) (events t) (stands t)) ts → AllByRecursion (λ t. stands t ≡ gone) ts
+past_gone sent got events stands [] x z p l = tt
+past_gone sent got events stands (t ∷ ts) x z p l = ((match_over t x p.0 (sent t) (got t) p.1 (events t) (stands t) l.0 p.2 p.3).1, past_gone sent got events stands ts p.0 z p.4 l.1)
+
+pub among_kept : (f : Ticket → Bool) (t : Ticket) (ts : List Ticket) → f t ≡ true → Among t ts → Among t (filter f ts)
+among_kept f t [] e a = a
+among_kept f t (u ∷ us) e (inl is) = rw (subst (λ u. f u ≡ true) is e) (inl is)
+among_kept f t (u ∷ us) e (inr a) = by_case (f u) (among_kept f t us e a)
+  where
+    by_case : (b : Bool) → Among t (filter f us) → Among t (if b then u ∷ filter f us else filter f us)
+    by_case true k = inr k
+    by_case false k = k
+
+same_self_not : (t u : Ticket) → t ≡ u → same t u ≡ false → ⊥
+same_self_not t u is n = true≢false (sym (same_self t) ∙ (ap (λ u. same t u) is ∙ n))
+
+among_back : (t : Ticket) (xs ys : List Ticket) → AllByRecursion (λ u. same t u ≡ false) xs → Among t (xs ++ ys) → Among t ys
+among_back t [] ys n a = a
+among_back t (x ∷ xs) ys n (inl is) = absurd (same_self_not t x is n.0)
+among_back t (x ∷ xs) ys n (inr a) = among_back t xs ys n.1 a
+
+module _ (program : ProgramShape) (lined : (t : Ticket) → Lined (reserves program t) (listed program t)) (settings : Settings) (blocks : ℕ)
+    (s : Core) (y : LaneHistory) (g : ℕ → HandlerLog) (k : CoreInvariant program s y g) where
+  abbrev Mine : ℕ → List Ticket
+  Mine h = filter (λ t. reserves program t h) s.order
+
+  past_apart : (t : Ticket) (h : ℕ) → (y.stands t h ≡ gone → ⊥) → AllByRecursion (λ u. same t u ≡ false) (g h).past
+  past_apart t h n =
+      let told = each_front (TicketOk program y) (g h).past (ahead (post s h)) (subst (AllByRecursion (TicketOk program y)) (k.objects h).split (each_kept (TicketOk program y) (λ t. reserves program t h) s.order k.told)) in
+      each_map (λ u (gone : y.stands u h ≡ gone). ⊎_elim (λ (is : t ≡ u). absurd (n (ap (λ u. y.stands u h) is ∙ gone))) (λ (other : same t u ≡ false). other) (ticket_cases t u)) (g h).past
+      (past_gone (λ u. y.sent u h) (λ u. y.got u h) (λ u. part h (y.page u).trace) (λ u. y.stands u h) (g h).past (fresh_held program h) (g h).found (k.objects h).served
+      (each_map (λ u (told : TicketOk program y u). told.lane h) (g h).past told))
+
+  -- the block that a client is in
+  pub newest : (c n h : ℕ) → (s.client c).begun ≡ suc n → reserves program (ticket c n) h ≡ true → (y.stands (ticket c n) h ≡ gone → ⊥) → LastOf (ticket c n) (ahead (post s h))
+  newest c n h b m stays =
+      let t : Ticket = ticket c n in
+      let all : Among t s.order = (let b' = k.counts c in legal_among program (λ _. 0) s.order c n k.legal (omega arith) (omega (arith, b, b'))) in
+      let mine : Among t ((g h).past ++ ahead (post s h)) = subst (Among t) (k.objects h).split (among_kept (λ t. reserves program t h) t s.order m all) in
+      last_of t (ahead (post s h)) (among_back t (g h).past (ahead (post s h)) (past_apart t h stays) mine) (k.objects h).rising
+      (each_map {Q = λ (u : Ticket). c ≡ u.client → u.index < n ⊎ (ticket c n ≡ u)} (λ (u : Ticket) (lt : suc u.index ≤ (s.client u.client).begun) (e : c ≡ u.client).
+      let lt' : suc u.index ≤ (s.client c).begun = subst (λ d. suc u.index ≤ (s.client d).begun) (sym e) lt in
+      by_order u e (omega arith)) (ahead (post s h)) (of_ahead program s y g k (λ (u : Ticket). suc u.index ≤ (s.client u.client).begun) h k.below))
+    where
+      below_cases : (i j : ℕ) → i ≤ j → (i < j) ⊎ (i ≡ j)
+      below_cases i j le = ⊎_elim (λ (e : i ≡ j). inr e) (λ (e : (i == j) ≡ false). inl (by_num i j le e)) (num_cases i j)
+        where
+          by_num : (i j : ℕ) → i ≤ j → (i == j) ≡ false → i < j
+          by_num i j le e = let n : i ≢ j = apart_eqb i j e in omega (arith, le, n)
+
+      by_order : (u : Ticket) → c ≡ u.client → u.index ≤ n → (u.index < n) ⊎ (ticket c n ≡ u)
+      by_order u e le = ⊎_elim (λ (lt : u.index < n). inl lt) (λ (is : u.index ≡ n). inr (ticket_path e (sym is))) (below_cases u.index n le)
+
+  module _ (c n : ℕ) (begun : (s.client c).begun ≡ suc n) (m : Client) (same_begun : m.begun ≡ (s.client c).begun) (events : List Event)
+      (snt : ℕ → List Parcel) (got : ℕ → List HeldState) (pg : Page) (entry : pg.entry ≡ (y.page (ticket c n)).entry) (trace : pg.trace ≡ (y.page (ticket c n)).trace ++ events)
+      (ok : PlaceOk program (ticket c n) snt got m pg m.place) (out : (h : ℕ) → reserves program (ticket c n) h ≡ false → (snt h ≡ []) × (got h ≡ [])) where
+    abbrev Y : LaneHistory
+    Y = story program s y g k c n begun m same_begun events snt got pg entry trace ok out
+
+    abbrev S : (ℕ → ℕ → List Parcel) → (ℕ → ℕ → Option HeldState) → (ℕ → ℕ → ℕ) → (ℕ → ℕ) → Core
+    S = moved program s y g k c n begun m same_begun events snt got pg entry trace ok out
+
+    -- one object changes
+    at_object : (down : ℕ → ℕ → List Parcel) (up : ℕ → ℕ → Option HeldState) (spare : ℕ → ℕ → ℕ) (syncs : ℕ → ℕ) (h : ℕ) (b : ObjectView) (new : HandlerLog)
+        → post (S down up spare syncs) h ≡ b → ((j : ℕ) → (h == j) ≡ false → post (S down up spare syncs) j ≡ post s j)
+        → ((j : ℕ) → (h == j) ≡ false → (snt j ≡ y.sent (ticket c n) j) × (got j ≡ y.got (ticket c n) j))
+        → IsObject (Mine h) (fresh_held program h) b (deeds Y h) new
+        → CoreInvariant program (S down up spare syncs) Y (put g h new)
+    at_object down up spare syncs h b new e others sides okh =
+        client_moves program s y g k c n begun m same_begun events snt got pg entry trace ok out down up spare syncs (put g h new)
+        (λ j. ⊎_elim
+        (λ (is : h ≡ j). subst (λ j. IsObject (Mine j) (fresh_held program j) (post (S down up spare syncs) j) (deeds Y j) (put g h new j)) is
+        (subst (λ (l : HandlerLog). IsObject (Mine h) (fresh_held program h) (post (S down up spare syncs) h) (deeds Y h) l) (sym (put_here g h new))
+        (subst (λ b. IsObject (Mine h) (fresh_held program h) b (deeds Y h) new) (sym e) okh)))
+        (λ (other : (h == j) ≡ false).
+        subst (λ (l : HandlerLog). IsObject (Mine j) (fresh_held program j) (post (S down up spare syncs) j) (deeds Y j) l) (sym (put_there g h new j other))
+        (subst (λ b. IsObject (Mine j) (fresh_held program j) b (deeds Y j) (g j)) (sym (others j other))
+        (object_deeds (Mine j) (fresh_held program j) (post s j) (deeds y j) (deeds Y j) (g j)
+        (λ u. sym (grown_there y.sent (ticket c n) snt j (sides j other).0 u)) (λ u. sym (grown_there y.got (ticket c n) got j (sides j other).1 u)) (k.objects j))))
+        (num_cases h j))
+
+    -- none changes
+    at_none : (spare : ℕ → ℕ → ℕ) (syncs : ℕ → ℕ) → ((j : ℕ) → (snt j ≡ y.sent (ticket c n) j) × (got j ≡ y.got (ticket c n) j))
+        → CoreInvariant program (S s.down s.up spare syncs) Y g
+    at_none spare syncs sides =
+        client_moves program s y g k c n begun m same_begun events snt got pg entry trace ok out s.down s.up spare syncs g
+        (λ j. object_deeds (Mine j) (fresh_held program j) (post s j) (deeds y j) (deeds Y j) (g j)
+        (λ u. sym (grown_there y.sent (ticket c n) snt j (sides j).0 u)) (λ u. sym (grown_there y.got (ticket c n) got j (sides j).1 u)) (k.objects j))
+
+  -- the core after what a client did
+  abbrev pub after : ℕ → Ticket → Settled → (ℕ → ℕ → List Parcel) → (ℕ → ℕ → Option HeldState) → (ℕ → ℕ → ℕ) → (ℕ → ℕ) → Core
+  after c t r down up spare syncs = record s { client = put s.client c r.client; trace = put_at s.trace t (s.trace t ++ r.events); down = down; up = up; spare = spare; syncs = syncs }
+
+  abbrev pub Keeps : Core → Type 0
+  Keeps s' = (y' : LaneHistory) × (g' : ℕ → HandlerLog) × CoreInvariant program s' y' g'
+
+  pub send_kept : (c n h : ℕ) (p : Parcel) (syncs : ℕ → ℕ) → (s.client c).begun ≡ suc n → act_of settings blocks (s.client c) ≡ Send h p
+      → Keeps (after c (ticket c n) (sent settings (ticket c n) (listed program (ticket c n)) (s.client c) h p) (put_lane s.down c h (s.down c h ++ p ∷ [])) s.up s.spare syncs)
+  send_kept c n h p syncs begun act =
+      let t : Ticket = ticket c n in
+      let m : Client = s.client c in
+      let r : Settled = sent settings t (listed program t) m h p in
+      let ok = k.places c n begun in
+      let at = send_at program t (y.sent t) (y.got t) settings blocks m (y.page t) m.place ok h p act in
+      let here = λ (e : y.stands t h ≡ gone). at.1 (sym (k.stands c n begun h) ∙ e) in
+      let ends = sends_ok program t (y.sent t) (y.got t) settings (lined t) blocks m (y.page t) h p ok act in
+      let snt = put (y.sent t) h (y.sent t h ++ p ∷ []) in
+      let new : HandlerLog = record (g h) { way = put_at (g h).way t ((g h).way t ++ p ∷ []) } in
+      let out : (j : ℕ) → reserves program t j ≡ false → (put (y.sent t) h (y.sent t h ++ p ∷ []) j ≡ []) × (y.got t j ≡ []) = λ j no. (
+        ⊎_elim
+            (λ (is : h ≡ j). absurd (true≢false (sym at.0 ∙ subst (λ j. reserves program t j ≡ false) (sym is) no)))
+            (λ (other : (h == j) ≡ false). put_there (y.sent t) h (y.sent t h ++ p ∷ []) j other ∙ (k.outside t j no).0)
+            (num_cases h j),
+        (k.outside t j no).1,
+      ) in (
+        story program s y g k c n begun r.client (sent_begun settings t (listed program t) m h p) r.events snt (y.got t) ends.0 ends.1 ends.2 ends.3 out,
+        put g h new,
+        at_object c n begun r.client (sent_begun settings t (listed program t) m h p) r.events snt (y.got t) ends.0 ends.1 ends.2 ends.3 out
+            (put_lane s.down c h (s.down c h ++ p ∷ [])) s.up s.spare syncs h (record (post s h) { down = put (λ c. s.down c h) c (s.down c h ++ p ∷ []) }) new
+            (post_path _ _ refl refl (fun_ext (put_lane_at s.down c h (s.down c h ++ p ∷ []))) refl)
+            (λ j other. post_path _ _ refl refl (fun_ext (λ d. put_lane_there s.down c h (s.down c h ++ p ∷ []) d j other)) refl)
+            (λ j other. (put_there (y.sent t) h (y.sent t h ++ p ∷ []) j other, refl))
+            (object_deeds (Mine h) (fresh_held program h) (record (post s h) { down = put (λ c. s.down c h) c (s.down c h ++ p ∷ []) })
+            (record (deeds y h) { sent = put_at (λ u. y.sent u h) t (y.sent t h ++ p ∷ []) })
+            (deeds (story program s y g k c n begun r.client (sent_begun settings t (listed program t) m h p) r.events snt (y.got t) ends.0 ends.1 ends.2 ends.3 out) h) new
+            (λ u. sym (grown_here y.sent t h (y.sent t h ++ p ∷ []) u)) (λ u. sym (grown_there y.got t (y.got t) h refl u))
+            (send_ok (Mine h) (fresh_held program h) (post s h) (deeds y h) (g h) t p (newest c n h begun at.0 here) (past_apart t h here) (k.objects h))),
+      )
+
+  pub get_kept : (c n h : ℕ) (x : HeldState) → (s.client c).begun ≡ suc n → act_of settings blocks (s.client c) ≡ Await h → s.up c h ≡ Some x
+      → Keeps (after c (ticket c n) (clients.got settings (ticket c n) (listed program (ticket c n)) (s.client c) x (s.client c).place) s.down (put_lane s.up c h None) s.spare s.syncs)
+  get_kept c n h x begun act up =
+      let t : Ticket = ticket c n in
+      let m : Client = s.client c in
+      let r : Settled = clients.got settings t (listed program t) m x m.place in
+      let ok = k.places c n begun in
+      let at = await_at program t (y.sent t) (y.got t) settings blocks m (y.page t) m.place ok h act in
+      let here = λ (e : y.stands t h ≡ gone). asks_gone (sym at.1 ∙ (sym (k.stands c n begun h) ∙ e)) in
+      let ends = gets_ok program t (y.sent t) (y.got t) settings (lined t) blocks m (y.page t) h x ok act in
+      let got = put (y.got t) h (y.got t h ++ x ∷ []) in
+      let out : (j : ℕ) → reserves program t j ≡ false → (y.sent t j ≡ []) × (put (y.got t) h (y.got t h ++ x ∷ []) j ≡ []) = λ j no. (
+        (k.outside t j no).0,
+        ⊎_elim
+            (λ (is : h ≡ j). absurd (true≢false (sym at.0 ∙ subst (λ j. reserves program t j ≡ false) (sym is) no)))
+            (λ (other : (h == j) ≡ false). put_there (y.got t) h (y.got t h ++ x ∷ []) j other ∙ (k.outside t j no).1)
+            (num_cases h j),
+      ) in
+      let one = up_serving (Mine h) (fresh_held program h) (post s h) (deeds y h) (g h) t x [] (k.objects h) (ap as_list up) (λ u one_u at_c. older u begun one_u at_c) (deeds_ok program s y g k h).lane in (
+        story program s y g k c n begun r.client (got_begun settings t (listed program t) m h x m.place) r.events (y.sent t) got ends.0 ends.1 ends.2 ends.3 out,
+        put g h (g h),
+        at_object c n begun r.client (got_begun settings t (listed program t) m h x m.place) r.events (y.sent t) got ends.0 ends.1 ends.2 ends.3 out
+            s.down (put_lane s.up c h None) s.spare s.syncs h (record (post s h) { up = put (λ c. as_list (s.up c h)) c [] }) (g h)
+            (post_path _ _ refl refl refl (fun_ext (put_up_at s.up c h None)))
+            (λ j other. post_path _ _ refl refl refl (fun_ext (λ d. put_up_there s.up c h None d j other)))
+            (λ j other. (refl, put_there (y.got t) h (y.got t h ++ x ∷ []) j other))
+            (object_deeds (Mine h) (fresh_held program h) (record (post s h) { up = put (λ c. as_list (s.up c h)) c [] })
+            (record (deeds y h) { got = put_at (λ u. y.got u h) t (y.got t h ++ x ∷ []) })
+            (deeds (story program s y g k c n begun r.client (got_begun settings t (listed program t) m h x m.place) r.events (y.sent t) got ends.0 ends.1 ends.2 ends.3 out) h) (g h)
+            (λ u. sym (grown_there y.sent t (y.sent t) h refl u)) (λ u. sym (grown_here y.got t h (y.got t h ++ x ∷ []) u))
+            (got_ok (Mine h) (fresh_held program h) (post s h) (deeds y h) (g h) t x [] one (ap as_list up) (past_apart t h here) (k.objects h))),
+      )
+    where
+      asks_gone : asks ≡ gone → ⊥
+      asks_gone e = cc
+
+      older : (u : Ticket) → (s.client c).begun ≡ suc n → serving (s.handler h) ≡ u ∷ [] → u.client ≡ c → (u ≡ ticket c n) ⊎ (y.stands u h ≡ gone)
+      older u begun one at =
+          let here : ahead (post s h) ≡ u ∷ s.tickets h = ap (λ q. q ++ s.tickets h) one in
+          let m : reserves program u h ≡ true = (subst (AllByRecursion (λ u. reserves program u h ≡ true)) here (may_ahead program s y g k h)).0 in
+          let b : suc u.index ≤ (s.client u.client).begun = (subst (AllByRecursion (λ (u : Ticket). suc u.index ≤ (s.client u.client).begun)) here (of_ahead program s y g k (λ (u : Ticket). suc u.index ≤ (s.client u.client).begun) h k.below)).0 in
+          let b' : suc u.index ≤ (s.client c).begun = subst (λ d. suc u.index ≤ (s.client d).begun) at b in
+          ⊎_elim
+          (λ (is : u.index ≡ n). inl (ticket_path at is))
+          (λ (other : (u.index == n) ≡ false).
+          let ne : u.index ≢ n = apart_eqb u.index n other in
+          let lt : suc u.index < (s.client u.client).begun = subst (λ d. suc u.index < (s.client d).begun) (sym at) (omega (arith, ne, b', begun)) in
+          inr (k.older u.client u.index lt h m))
+          (num_cases u.index n)
+
+  pub chunk_kept : (c n h : ℕ) (spare : ℕ → ℕ → ℕ) → (s.client c).begun ≡ suc n → act_of settings blocks (s.client c) ≡ NeedChunk h
+      → Keeps (after c (ticket c n) (took_chunk settings (ticket c n) (listed program (ticket c n)) (s.client c) h (s.client c).place) s.down s.up spare s.syncs)
+  chunk_kept c n h spare begun act =
+      let t : Ticket = ticket c n in
+      let m : Client = s.client c in
+      let r : Settled = took_chunk settings t (listed program t) m h m.place in
+      let ok = k.places c n begun in
+      let ends = chunks_ok program t (y.sent t) (y.got t) settings (lined t) blocks m (y.page t) h ok act in
+      let out = λ (j : ℕ) (no : reserves program t j ≡ false). k.outside t j no in (
+        story program s y g k c n begun r.client (chunk_begun settings t (listed program t) m h m.place) r.events (y.sent t) (y.got t) ends.0 ends.1 ends.2 ends.3 out,
+        g,
+        at_none c n begun r.client (chunk_begun settings t (listed program t) m h m.place) r.events (y.sent t) (y.got t) ends.0 ends.1 ends.2 ends.3 out spare s.syncs (λ j. (refl, refl)),
+      )

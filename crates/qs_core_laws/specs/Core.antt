@@ -1,0 +1,304 @@
+-- The optimised machine: clients that run their own queries, lanes of parcels, and handlers; one shared act a step.
+use Rattle.std.specs.Prelude.{◌≡◌, ◌<◌, ◌≤◌, ℕ, Bool, zero, suc, ◌-◌, nat_lt, if◌then◌else◌, List, [], ◌∷◌, ◌++◌, length, Option, Some, None}
+use Rattle.qs_objects.specs.Journals.{HeldState}
+use Rattle.qs_objects.specs.Parts.{same}
+use Rattle.qs_objects.specs.declared.held.Event.{Event}
+use Rattle.qs_objects.specs.declared.held.Ticket.{Ticket}
+use Rattle.qs_objects.specs.declared.held.Next.TheVariants as nexts
+use Rattle.qs_check.specs.Program.{ProgramShape}
+use Rattle.qs_meaning.specs.Serial.{declared, zeros}
+use Rattle.qs_meaning.specs.Solo.{put}
+use Rattle.qs_check.specs.Sound.{is_in}
+use Rattle.qs_check.specs.Values.{Locals}
+use Rattle.qs_graph.specs.Synced.{Synced}
+use Rattle.qs_syncset.specs.declared.mode.Mode.{Mode}
+use Rattle.qs_syncset.specs.Codes.{ClientCode, IsCodeOf, code_at}
+use Rattle.qs_chunk.specs.declared.parcel.Parcel.{Parcel}
+use Rattle.qs_chunk.specs.declared.parcel.Parcel.TheVariants.{Work, Sync, Home, End}
+use Rattle.qs_handler.specs.Handler.{Handler, free, gave, received, taken}
+use Rattle.qs_handler.specs.Handler as handlers
+use Rattle.qs_handler.specs.declared.mind.Act as handler_acts
+use Rattle.qs_handler.specs.declared.mind.Act.TheVariants as acts
+use Rattle.qs_client_run.specs.Client.{Client, Place, Settings, Settled, act_of, between, runs, full, awaits, leaves, booked, first_client, got, sent, took_chunk}
+use Rattle.qs_client.specs.Mind.{tree_at}
+use Rattle.qs_client_run.specs.declared.act.Act as client_acts
+use Rattle.qs_client_run.specs.declared.act.Act.TheVariants as wants
+use Rattle.qs_played.specs.JournalRooms.{room_of}
+use Rattle.qs_played.specs.Played.{ticket}
+use Rattle.qs_played.specs.declared.actor.Actor.{Actor}
+use Rattle.qs_played.specs.declared.actor.Actor.TheVariants as actor
+
+-- The order of reservations; each client, and the Syncs that it sent; of the lane from a client to a handler the parcels that lie there, the
+-- object on its way up, and how many empty chunks lie ready; each handler and its queue of tickets; of each ticket the variables at entry
+-- and the trace.
+pub record Core : Type 0 where
+  pub order : List Ticket
+  pub client : ℕ → Client
+  pub syncs : ℕ → ℕ
+  pub down : ℕ → ℕ → List Parcel
+  pub up : ℕ → ℕ → Option HeldState
+  pub spare : ℕ → ℕ → ℕ
+  pub handler : ℕ → Handler
+  pub tickets : ℕ → List Ticket
+  pub entry : Ticket → Locals
+  pub trace : Ticket → List Event
+
+-- how many parcels a lane takes, and how many empty chunks
+abbrev pub lane_room : ℕ
+lane_room = 16
+
+abbrev pub spare_room : ℕ
+spare_room = 4
+
+-- at client c and handler h
+abbrev pub put_lane : {A : Type 0} → (ℕ → ℕ → A) → ℕ → ℕ → A → ℕ → ℕ → A
+put_lane f c h a = put f c (put (f c) h a)
+
+-- at a ticket
+abbrev pub put_ticket : {A : Type 0} → (Ticket → A) → Ticket → A → Ticket → A
+put_ticket f t a u = if same t u then a else f u
+
+-- the codes of a program's clients; no other client has blocks
+pub record AreCodes (p : ProgramShape) (mode : Mode) (code : ℕ → ClientCode) : Type 0 where
+  pub own : (c : ℕ) → c < length p.clients → IsCodeOf p mode c (code c)
+  pub none : (c : ℕ) → length p.clients ≤ c → (code c).blocks ≡ []
+
+module _ (code : ℕ → ClientCode) (size : ℕ) where
+  abbrev pub settings_of : ℕ → Settings
+  settings_of c = record { dynamic = (code c).dynamic; size = size }
+
+  abbrev pub blocks : ℕ → ℕ
+  blocks c = length (code c).blocks
+
+  -- the handlers that a ticket's block reserves, and whether one is among them
+  abbrev pub reserved_of : Ticket → List ℕ
+  reserved_of t = (code_at (code t.client) t.index).reserved
+
+  abbrev pub may : Ticket → ℕ → Bool
+  may t h = is_in (reserved_of t) h
+
+  -- a ticket's block as a tree with the synchronisations that are left in it
+  abbrev pub tree_of : Ticket → Locals → Synced
+  tree_of t l = tree_at (code t.client) t.index l
+
+  -- the ticket of the block that a client is in
+  abbrev pub current : ℕ → Client → Ticket
+  current c m = ticket c (m.begun - 1)
+
+  -- a client after an act, with what entered its block's trace
+  abbrev pub settled : Core → ℕ → Ticket → Settled → Core
+  settled s c t r = record {
+    order = s.order;
+    client = put s.client c r.client;
+    syncs = s.syncs;
+    down = s.down;
+    up = s.up;
+    spare = s.spare;
+    handler = s.handler;
+    tickets = s.tickets;
+    entry = s.entry;
+    trace = put_ticket s.trace t (s.trace t ++ r.events);
+  }
+
+  -- Reserve: the ticket comes to the order, and to the queue of each handler of the block's list
+  abbrev pub reserved : Core → ℕ → Ticket → Locals → Settled → Core
+  reserved s c t l r = record {
+    order = s.order ++ t ∷ [];
+    client = put s.client c r.client;
+    syncs = s.syncs;
+    down = s.down;
+    up = s.up;
+    spare = s.spare;
+    handler = s.handler;
+    tickets = λ h. if may t h then s.tickets h ++ t ∷ [] else s.tickets h;
+    entry = put_ticket s.entry t l;
+    trace = put_ticket s.trace t r.events;
+  }
+
+  abbrev pub reserves_from : Core → ℕ → Place → Option Core
+  reserves_from s c (between l) =
+      let t = ticket c (s.client c).begun in
+      Some (reserved s c t l (booked (settings_of c) t (reserved_of t) (s.client c) (tree_of t l)))
+  reserves_from s c (runs rest) = None
+  reserves_from s c (full h rest) = None
+  reserves_from s c (awaits h rest) = None
+  reserves_from s c (leaves h hs l) = None
+
+  -- the Syncs of a client once it sent this
+  abbrev pub synced : (ℕ → ℕ) → ℕ → Parcel → ℕ → ℕ
+  synced syncs c Sync = put syncs c (suc (syncs c))
+  synced syncs c (Work chunk) = syncs
+  synced syncs c (Home x) = syncs
+  synced syncs c End = syncs
+
+  abbrev pub lies : Core → ℕ → ℕ → Parcel → Core
+  lies s c h parcel = record {
+    order = s.order;
+    client = s.client;
+    syncs = synced s.syncs c parcel;
+    down = put_lane s.down c h (s.down c h ++ parcel ∷ []);
+    up = s.up;
+    spare = s.spare;
+    handler = s.handler;
+    tickets = s.tickets;
+    entry = s.entry;
+    trace = s.trace;
+  }
+
+  -- SendParcel
+  abbrev pub sends : Core → ℕ → ℕ → Parcel → Option Core
+  sends s c h parcel =
+      let m = s.client c in
+      let t = current c m in
+      if nat_lt (length (s.down c h)) lane_room
+      then Some (settled (lies s c h parcel) c t (sent (settings_of c) t (reserved_of t) m h parcel))
+      else None
+
+  abbrev pub with_up : Core → ℕ → ℕ → Option HeldState → Core
+  with_up s c h x = record {
+    order = s.order;
+    client = s.client;
+    syncs = s.syncs;
+    down = s.down;
+    up = put_lane s.up c h x;
+    spare = s.spare;
+    handler = s.handler;
+    tickets = s.tickets;
+    entry = s.entry;
+    trace = s.trace;
+  }
+
+  abbrev pub with_spare : Core → ℕ → ℕ → ℕ → Core
+  with_spare s c h n = record {
+    order = s.order;
+    client = s.client;
+    syncs = s.syncs;
+    down = s.down;
+    up = s.up;
+    spare = put_lane s.spare c h n;
+    handler = s.handler;
+    tickets = s.tickets;
+    entry = s.entry;
+    trace = s.trace;
+  }
+
+  -- GetObject
+  abbrev pub gets : Core → ℕ → ℕ → Option HeldState → Option Core
+  gets s c h None = None
+  gets s c h (Some x) =
+      let m = s.client c in
+      let t = current c m in
+      Some (settled (with_up s c h None) c t (got (settings_of c) t (reserved_of t) m x m.place))
+
+  -- an empty chunk is taken
+  abbrev pub takes_chunk : Core → ℕ → ℕ → ℕ → Option Core
+  takes_chunk s c h zero = None
+  takes_chunk s c h (suc n) =
+      let m = s.client c in
+      let t = current c m in
+      Some (settled (with_spare s c h n) c t (took_chunk (settings_of c) t (reserved_of t) m h m.place))
+
+  abbrev pub client_step : Core → ℕ → client_acts.Act → Option Core
+  client_step s c wants.Reserve = reserves_from s c (s.client c).place
+  client_step s c (wants.Send h parcel) = sends s c h parcel
+  client_step s c (wants.Await h) = gets s c h (s.up c h)
+  client_step s c (wants.NeedChunk h) = takes_chunk s c h (s.spare c h)
+  client_step s c wants.Finished = None
+
+  abbrev pub handles : Core → ℕ → Handler → Core
+  handles s h x = record {
+    order = s.order;
+    client = s.client;
+    syncs = s.syncs;
+    down = s.down;
+    up = s.up;
+    spare = s.spare;
+    handler = put s.handler h x;
+    tickets = s.tickets;
+    entry = s.entry;
+    trace = s.trace;
+  }
+
+  abbrev pub with_tickets : Core → ℕ → List Ticket → Core
+  with_tickets s h ts = record {
+    order = s.order;
+    client = s.client;
+    syncs = s.syncs;
+    down = s.down;
+    up = s.up;
+    spare = s.spare;
+    handler = s.handler;
+    tickets = put s.tickets h ts;
+    entry = s.entry;
+    trace = s.trace;
+  }
+
+  abbrev pub with_down : Core → ℕ → ℕ → List Parcel → Core
+  with_down s c h ps = record {
+    order = s.order;
+    client = s.client;
+    syncs = s.syncs;
+    down = put_lane s.down c h ps;
+    up = s.up;
+    spare = s.spare;
+    handler = s.handler;
+    tickets = s.tickets;
+    entry = s.entry;
+    trace = s.trace;
+  }
+
+  -- a handler that came to this with what it took, where that may come to it
+  abbrev pub handled : Core → ℕ → Option Handler → Option Core
+  handled s h None = None
+  handled s h (Some x) = Some (handles s h x)
+
+  -- TakeTicket
+  abbrev pub takes_ticket : Core → ℕ → List Ticket → Option Core
+  takes_ticket s h [] = None
+  takes_ticket s h (t ∷ ts) = handled (with_tickets s h ts) h (taken (s.handler h) (nexts.Ticket t))
+
+  -- TakeParcel
+  abbrev pub takes_parcel : Core → ℕ → ℕ → List Parcel → Option Core
+  takes_parcel s h c [] = None
+  takes_parcel s h c (parcel ∷ ps) = handled (with_down s c h ps) h (received (s.handler h) parcel)
+
+  -- GiveObject
+  abbrev pub gives : Core → ℕ → ℕ → HeldState → Option HeldState → Option Core
+  gives s h c x None = Some (handles (with_up s c h (Some x)) h (gave (s.handler h)))
+  gives s h c x (Some y) = None
+
+  -- an empty chunk is given back
+  abbrev pub gives_chunk : Core → ℕ → ℕ → Option Core
+  gives_chunk s h c =
+      if nat_lt (s.spare c h) spare_room then Some (handles (with_spare s c h (suc (s.spare c h))) h (gave (s.handler h))) else None
+
+  abbrev pub handler_step : Core → ℕ → handler_acts.Act → Option Core
+  handler_step s h acts.TakeTicket = takes_ticket s h (s.tickets h)
+  handler_step s h (acts.TakeParcel c) = takes_parcel s h c (s.down c h)
+  handler_step s h (acts.Give c x) = gives s h c x (s.up c h)
+  handler_step s h (acts.Spare c chunk) = gives_chunk s h c
+  handler_step s h acts.Closed = None
+
+  -- an actor's one step, where it has one
+  abbrev pub core_step : Core → Actor → Option Core
+  core_step s (actor.Client c) = client_step s c (act_of (settings_of c) (blocks c) (s.client c))
+  core_step s (actor.Handler h) = handler_step s h (handlers.act_of (s.handler h))
+
+-- an object as declared, with its journal's room
+abbrev pub fresh_held : ProgramShape → ℕ → HeldState
+fresh_held p h = record { object = declared p h; journal = []; room = room_of p h }
+
+-- each client has its variables at 0, each handler its object, and in each lane lie four empty chunks
+abbrev pub core_begin : ProgramShape → Core
+core_begin p = record {
+  order = [];
+  client = λ c. first_client zeros;
+  syncs = λ c. 0;
+  down = λ c h. [];
+  up = λ c h. None;
+  spare = λ c h. spare_room;
+  handler = λ h. free (fresh_held p h);
+  tickets = λ h. [];
+  entry = λ t. [];
+  trace = λ t. [];
+}

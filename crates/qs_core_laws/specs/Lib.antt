@@ -1,0 +1,6 @@
+pub mod CoalescedExamples
+pub mod Core
+pub mod CoreExamples
+pub mod CoreReached
+pub mod CoreSchedule
+pub mod CoreSyncSums

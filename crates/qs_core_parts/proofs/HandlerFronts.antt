@@ -1,0 +1,23 @@
+-- A handler whose act carries nothing may be handed what comes.
+use Rattle.std.proofs.Common.{◌≡◌, ℕ, refl, ap, ◌∙◌, subst, ◌∷◌, List}
+use Rattle.std.specs.Prelude.{IsTrue}
+use Rattle.qs_chunk.specs.Lanes.{may_stand}
+use Rattle.qs_chunk.specs.declared.parcel.Parcel.{Parcel}
+use Rattle.qs_handler.specs.Handler.{Handler, free, serves, spares, gives, away, closed, is_away, with_act}
+use Rattle.qs_handler.specs.declared.mind.Act.TheVariants as acts
+use Rattle.qs_core_parts.specs.CoreHandlers.{CoreHandlerState, MayCome}
+use Rattle.qs_core_parts.specs.LaneStates.{LaneState}
+
+pub carries_no_parcel : (h : Handler) (c : ℕ) → with_act h (acts.TakeParcel c) ≡ h
+carries_no_parcel (free x) c = refl
+carries_no_parcel (serves t x) c = refl
+carries_no_parcel (spares t x n) c = refl
+carries_no_parcel (gives t x) c = refl
+carries_no_parcel (away t) c = refl
+carries_no_parcel (closed x) c = refl
+
+-- the parcel that comes first may stand there
+pub first_may_stand : (s : CoreHandlerState) (l : LaneState) (c : ℕ) (p : Parcel) (ps : List Parcel)
+    → MayCome s l → s.act ≡ acts.TakeParcel c → l.down ≡ p ∷ ps → IsTrue (may_stand (is_away s.mind) p)
+first_may_stand s l c p ps comes asked is =
+    subst (λ h. IsTrue (may_stand (is_away h) p)) (ap (with_act s.mind) asked ∙ carries_no_parcel s.mind c) (comes c p ps asked is)

@@ -1,0 +1,4 @@
+pub mod ClientModels
+pub mod CoreMinds
+pub mod HandlerFronts
+pub mod LaneStock

@@ -1,0 +1,85 @@
+-- A client of the optimised machine, as the code holds it.
+use Rattle.std.specs.Prelude.{◌≡◌, ◌<◌, ◌++◌, ◌∷◌, [], ℕ, Bool, true, false, List, length, nat_lt, if◌then◌else◌, slice_set, Option, Some, None}
+use Rattle.std.specs.List.{AllByRecursion}
+use Rattle.qs_objects.specs.Journals.{HeldState}
+use Rattle.qs_objects.specs.declared.Request.{Request}
+use Rattle.qs_chunk.specs.Batch.{Batch}
+use Rattle.qs_client.specs.Mind.{Mind, asked_of, chunk_mind, done, got_mind, hands_out, whole}
+use Rattle.qs_client.specs.MindState.{MindState, mind_of}
+use Rattle.qs_client_run.specs.declared.act.Act.{Act}
+use Rattle.qs_client_run.specs.declared.act.Act.TheVariants as acts
+use Rattle.qs_core_parts.specs.CoreHandlers.{CoreHandlerState, LaneSteps as HandlerSteps}
+use Rattle.qs_core_parts.specs.LaneStates.{IsStocked, LaneState, lane_at, with_down, with_spare, with_up}
+
+-- its mind, the act that the mind handed out last, and its lanes
+pub record CoreClientState : Type 0 where
+  pub mind : MindState
+  pub act : Act
+  pub lanes : List LaneState
+
+-- the mind with what the act carries
+unfoldable pub whole_of : CoreClientState → Mind
+whole_of s = whole (mind_of s.mind) s.act
+
+-- the act is the next one of the client, and the mind is without what it carries
+pub record IsCoreClient (s : CoreClientState) : Type 0 where
+  pub act : s.act ≡ asked_of (whole_of s)
+  pub mind : mind_of s.mind ≡ hands_out (whole_of s) s.act
+
+-- the handler to whose lane a client turns
+abbrev pub turns_to : Act → Option ℕ
+turns_to acts.Reserve = None
+turns_to (acts.Send h parcel) = Some h
+turns_to (acts.Await h) = Some h
+turns_to (acts.NeedChunk h) = Some h
+turns_to acts.Finished = None
+
+abbrev pub takes_object : Mind → LaneState → Option HeldState → Option (Mind × LaneState)
+takes_object m l None = None
+takes_object m l (Some x) = Some (got_mind m x, with_up l None)
+
+abbrev pub takes_empty : Mind → ℕ → LaneState → List (Batch Request) → Option (Mind × LaneState)
+takes_empty m h l [] = None
+takes_empty m h l (b ∷ bs) = Some (chunk_mind m h, with_spare l bs)
+
+-- what it does at that lane: the mind and the lane after it, where it can step
+abbrev pub lane_step : Mind → Act → LaneState → Option (Mind × LaneState)
+lane_step m acts.Reserve l = None
+lane_step m (acts.Send h parcel) l =
+    if nat_lt (length l.down) 16 then Some (done (hands_out m (acts.Send h parcel)), with_down l (l.down ++ parcel ∷ [])) else None
+lane_step m (acts.Await h) l = takes_object m l l.up
+lane_step m (acts.NeedChunk h) l = takes_empty m h l l.spare
+lane_step m acts.Finished l = None
+
+-- it came to this by a step at a lane
+pub record LaneSteps (old new : CoreClientState) : Type 0 where
+  pub handler : ℕ
+  pub turned : turns_to old.act ≡ Some handler
+  pub lane : LaneState
+  pub steps : lane_step (whole_of old) old.act (lane_at old.lanes handler) ≡ Some (whole_of new, lane)
+  pub lanes : new.lanes ≡ slice_set old.lanes handler lane
+
+-- it can't step at a lane
+abbrev pub LaneStays : CoreClientState → Type 0
+LaneStays s = (h : ℕ) → turns_to s.act ≡ Some h → lane_step (whole_of s) s.act (lane_at s.lanes h) ≡ None
+
+-- it has the lane that it turns to
+abbrev pub HasLane : CoreClientState → Type 0
+HasLane s = (h : ℕ) → turns_to s.act ≡ Some h → h < length s.lanes
+
+-- the empty chunks in its lanes are empty, and have the size of its chunks
+abbrev pub AreStocked : CoreClientState → Type 0
+AreStocked s = AllByRecursion (IsStocked (whole_of s).size) s.lanes
+
+abbrev pub is_reserve : Act → Bool
+is_reserve acts.Reserve = true
+is_reserve (acts.Send h parcel) = false
+is_reserve (acts.Await h) = false
+is_reserve (acts.NeedChunk h) = false
+is_reserve acts.Finished = false
+
+-- a handler came to this by a step at the client's lane to it, and the client's seat to this with the lane as it is then
+pub record Meets (h : ℕ) (old : CoreClientState) (handler : CoreHandlerState) (new : CoreClientState) (later : CoreHandlerState) : Type 0 where
+  pub lane : LaneState
+  pub steps : HandlerSteps handler (lane_at old.lanes h) later lane
+  pub seat : new ≡ record { mind = old.mind; act = old.act; lanes = slice_set old.lanes h lane }

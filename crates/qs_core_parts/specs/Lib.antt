@@ -1,0 +1,3 @@
+pub mod CoreClients
+pub mod CoreHandlers
+pub mod LaneStates

@@ -1,0 +1,300 @@
+//! A client of the optimised machine.
+
+ghost use Rattle.std.specs.Prelude.{◌≡◌, ◌<◌, [], false, ◌&&◌, ◌++◌, ◌∷◌, ℕ, length, nat_eq, replicate, slice_index_or, slice_set, IfOk, option_copied};
+ghost use Rattle.std.specs.Bool.{OnTrue};
+ghost use Rattle.qs_client.specs.Mind.{booked_mind, fresh_mind, is_between};
+ghost use Rattle.qs_client.specs.MindState.{IsMind, mind_of};
+ghost use Rattle.qs_chunk.specs.declared.parcel.Parcel.{Parcel as ParcelShape};
+ghost use Rattle.qs_client_run.specs.declared.act.Act.TheVariants as acts;
+ghost use Rattle.qs_core_parts.specs.CoreHandlers.{MayCome, handler_of, lane_step as handler_lane_step};
+ghost use Rattle.qs_core_parts.specs.CoreClients.{Meets, AreStocked, HasLane, IsCoreClient, LaneStays, LaneSteps, is_reserve, turns_to, whole_of};
+ghost use Rattle.qs_chunk.specs.LaneParts.{away_at, home_of};
+ghost use Rattle.qs_client.specs.Mind.{has_ended};
+ghost use Rattle.qs_core_parts.specs.LaneStates.{fresh_lane, lane_at};
+
+use crate::core_handler::CoreHandler;
+use crate::lane::Lane;
+use qs_check::Locals;
+use qs_chunk::{ChunkSize, Parcel};
+use qs_client::{Act, Mind};
+use qs_objects::{Event, Held, Ticket};
+use qs_played::Row;
+use qs_syncset::Code;
+use std::alloc::{AllocError, Global};
+use std::marker::Model;
+use std::mem;
+
+/// A client's mind with the act that it handed out last, and the client's lanes, one to each handler. It takes memory in `new` alone.
+#[derive(Drop)]
+pub struct CoreClient {
+    mind: Mind,
+    act: Act,
+    lanes: Vec<Lane>,
+}
+
+impl Model for CoreClient {
+    ghost use Rattle.qs_core_parts.specs.CoreClients.{CoreClientState, IsCoreClient};
+
+    ghost Value = { CoreClientState };
+
+    ghost view = { λ s. record { mind = s.mind; act = s.act; lanes = s.lanes.items } };
+
+    ghost invariant = { λ s. IsCoreClient (record { mind = s.mind; act = s.act; lanes = s.lanes.items }) };
+}
+
+impl CoreClient {
+    /// A client that runs this code in chunks of this size, before its first block, with lanes to so many handlers.
+    pub fn new(
+        alloc: Global,
+        code: Code,
+        size: ChunkSize,
+        handlers: usize,
+    ) -> Result<CoreClient, AllocError>
+        ensures fresh { IfOk result (λ s. whole_of s ≡ fresh_mind code size) }
+        ensures lanes { IfOk result (λ s. s.lanes ≡ replicate handlers (fresh_lane size)) }
+    {
+        let mut mind = Mind::new(alloc, code, size)?;
+        let mut lanes = Vec::with_capacity(alloc, handlers)?;
+        for _handler in 0..handlers {
+            lanes.push_reserved(Lane::new(alloc, size)?);
+        }
+        let act = mind.next();
+        Ok(CoreClient { mind, act, lanes })
+    }
+
+    /// What holds of every client: its act is the next one of its mind. It does nothing.
+    pub fn is_seat(&self)
+        ensures seat { IsCoreClient self.now }
+        ensures mind { IsMind (mind_of self.now.mind) }
+    {
+        self.mind.is_mind();
+    }
+
+    /// Whether it wants to reserve its next block.
+    pub fn wants_block(&self) -> bool
+        ensures value { result ≡ is_reserve self.now.act }
+    {
+        match &self.act {
+            Act::Reserve => true,
+            Act::Send(_, _) => false,
+            Act::Await(_) => false,
+            Act::NeedChunk(_) => false,
+            Act::Finished => false,
+        }
+    }
+
+    /// Its next block was reserved.
+    pub fn book(&mut self, ticket: Ticket)
+        requires asked { self.old.act ≡ acts.Reserve }
+        requires next { ticket.index ≡ (whole_of self.old).client.begun }
+        ensures booked { whole_of self.new ≡ booked_mind (whole_of self.old) ticket }
+        ensures seat { IsCoreClient self.new }
+        ensures lanes { self.new.lanes ≡ self.old.lanes }
+    {
+        self.mind.booked(ticket);
+        self.act = self.mind.next();
+    }
+
+    /// The handler to whose lane it turns.
+    fn handler(&self) -> Option<u8>
+        ensures value { result ≡ turns_to self.now.act }
+    {
+        match &self.act {
+            Act::Reserve => None,
+            Act::Send(handler, _) => Some(*handler),
+            Act::Await(handler) => Some(*handler),
+            Act::NeedChunk(handler) => Some(*handler),
+            Act::Finished => None,
+        }
+    }
+
+    /// What it does next at a lane; false where it can't.
+    pub fn go_on(&mut self) -> bool
+        requires lane { HasLane self.old }
+        requires stocked { AreStocked self.old }
+        ensures steps { OnTrue result (LaneSteps self.old self.new) }
+        ensures stays { result ≡ false → LaneStays self.old }
+        ensures unchanged { result ≡ false → self.new ≡ self.old }
+    {
+        let Some(handler) = self.handler() else {
+            return false;
+        };
+        match &self.act {
+            Act::Send(_, _) => self.send(handler),
+            Act::Await(_) => self.get(handler),
+            Act::NeedChunk(_) => self.take_chunk(handler),
+            Act::Reserve => false,
+            Act::Finished => false,
+        }
+    }
+
+    // Sends a parcel, where the lane has room.
+    fn send(&mut self, handler: u8) -> bool
+        requires asked { (p : ParcelShape) × (self.old.act ≡ acts.Send handler p) }
+        requires lane { handler < length self.old.lanes }
+        ensures steps { OnTrue result (LaneSteps self.old self.new) }
+        ensures stays { result ≡ false → LaneStays self.old }
+        ensures unchanged { result ≡ false → self.new ≡ self.old }
+    {
+        let lane = &mut self.lanes[usize::from(handler)];
+        if !lane.has_room() {
+            return false;
+        }
+        let Act::Send(_, parcel) = mem::replace(&mut self.act, Act::Finished) else {
+            unreachable!();
+        };
+        lane.push(parcel);
+        self.act = self.mind.next();
+        true
+    }
+
+    // Takes the object that it waits for.
+    fn get(&mut self, handler: u8) -> bool
+        requires asked { self.old.act ≡ acts.Await handler }
+        requires lane { handler < length self.old.lanes }
+        ensures steps { OnTrue result (LaneSteps self.old self.new) }
+        ensures stays { result ≡ false → LaneStays self.old }
+        ensures unchanged { result ≡ false → self.new ≡ self.old }
+    {
+        let lane = &mut self.lanes[usize::from(handler)];
+        let Some(held) = lane.take_object() else {
+            return false;
+        };
+        self.mind.got(held);
+        self.act = self.mind.next();
+        true
+    }
+
+    // Takes an empty chunk.
+    fn take_chunk(&mut self, handler: u8) -> bool
+        requires asked { self.old.act ≡ acts.NeedChunk handler }
+        requires lane { handler < length self.old.lanes }
+        requires stocked { AreStocked self.old }
+        ensures steps { OnTrue result (LaneSteps self.old self.new) }
+        ensures stays { result ≡ false → LaneStays self.old }
+        ensures unchanged { result ≡ false → self.new ≡ self.old }
+    {
+        let lane = &mut self.lanes[usize::from(handler)];
+        let Some(chunk) = lane.take_chunk() else {
+            return false;
+        };
+        self.mind.chunk(chunk);
+        self.act = self.mind.next();
+        true
+    }
+
+    /// A handler does what it does next at the client's lane to it; false where it can't.
+    pub fn meet(&mut self, number: u8, handler: &mut CoreHandler) -> bool
+        requires lane { number < length self.old.lanes }
+        requires comes { MayCome handler.old (lane_at self.old.lanes number) }
+        ensures steps { OnTrue result (Meets number self.old handler.old self.new handler.new) }
+        ensures none { result ≡ false → handler_lane_step (handler_of handler.old) handler.old.act (lane_at self.old.lanes number) ≡ None }
+        ensures unchanged { result ≡ false → self.new ≡ self.old }
+        ensures handler { result ≡ false → handler.new ≡ handler.old }
+    {
+        let lane = &mut self.lanes[usize::from(number)];
+        handler.meet(lane)
+    }
+
+    /// How many of its blocks were begun.
+    pub fn begun(&self) -> usize
+        ensures value { result ≡ (whole_of self.now).client.begun }
+    {
+        self.mind.begun()
+    }
+
+    /// Whether it stands between two blocks, with none to come.
+    pub fn is_done(&self) -> bool
+        ensures value { result ≡ (is_between (whole_of self.now).client.place && nat_eq (whole_of self.now).client.begun (length (whole_of self.now).code.blocks)) }
+    {
+        self.mind.is_between() && self.mind.begun() == self.mind.blocks()
+    }
+
+    /// Whether the block of this number has ended.
+    pub fn has_ended(&self, index: u8) -> bool
+        ensures value { result ≡ has_ended (whole_of self.now).client index }
+    {
+        let next = usize::from(index) + 1;
+        next < self.mind.begun() || (next == self.mind.begun() && self.mind.is_between())
+    }
+
+    /// The variables at entry of the block of this number.
+    pub fn entry(&self, index: u8) -> Locals
+        requires { index < length (whole_of self.now).entries }
+        ensures value { result ≡ slice_index_or (whole_of self.now).entries index [] }
+    {
+        self.mind.entries()[usize::from(index)]
+    }
+
+    /// The trace of the block of this number.
+    pub fn trace(&self, alloc: Global, index: u8) -> Result<Row<Event>, AllocError>
+        requires { index < length (whole_of self.now).traces }
+        ensures value { IfOk result (λ events. events ≡ slice_index_or (whole_of self.now).traces index []) }
+    {
+        let mut events = Vec::new(alloc);
+        for event in self.mind.traces().of(usize::from(index)) {
+            events.push(event.copied())?;
+        }
+        Ok(Row::from_vec(events))
+    }
+
+    /// How many Syncs it sent.
+    pub fn syncs(&self) -> u64
+        ensures value { result ≡ (whole_of self.now).syncs }
+    {
+        self.mind.syncs()
+    }
+
+    /// The handler's object, where the client has it, or sends it home.
+    pub fn held(&self, handler: u8) -> Option<&Held>
+        requires { handler < 8 }
+        ensures value { option_copied result ≡ (whole_of self.now).client.held handler }
+    {
+        match &self.act {
+            Act::Send(at, Parcel::Home(held)) => {
+                if *at == handler {
+                    Some(held)
+                } else {
+                    self.mind.held(handler)
+                }
+            }
+            _ => self.mind.held(handler),
+        }
+    }
+
+    /// The lane to a handler.
+    pub fn lane(&self, handler: usize) -> &Lane
+        requires { handler < length self.now.lanes }
+        ensures value { result.now ≡ lane_at self.now.lanes handler }
+    {
+        &self.lanes[handler]
+    }
+
+    /// The handler's object, where the handler gave it away: on its way to the client, on its way home, or with the client.
+    pub fn away(&self, handler: u8) -> Option<&Held>
+        requires few { handler < 8 }
+        requires lane { handler < length self.now.lanes }
+        ensures value { option_copied result ≡ away_at (lane_at self.now.lanes handler).up (lane_at self.now.lanes handler).down ((whole_of self.now).client.held handler) }
+    {
+        let lane = self.lane(usize::from(handler));
+        match lane.object() {
+            Some(held) => Some(held),
+            None => match lane.first() {
+                Some(parcel) => sent_home(parcel),
+                None => self.held(handler),
+            },
+        }
+    }
+}
+
+// The object that goes home in a parcel.
+fn sent_home(parcel: &Parcel) -> Option<&Held>
+    ensures value { option_copied result ≡ home_of parcel.now }
+{
+    match parcel {
+        Parcel::Home(held) => Some(held),
+        Parcel::Work(_) => None,
+        Parcel::Sync => None,
+        Parcel::End => None,
+    }
+}

@@ -1,0 +1,208 @@
+//! A handler of the optimised machine.
+
+ghost use Rattle.std.specs.Prelude.{◌≡◌, ◌<◌, [], ℕ, None, false, length, IfOk, option_copied};
+ghost use Rattle.qs_objects.specs.Journals.{HeldState};
+ghost use Rattle.qs_objects.specs.declared.Request.{Request};
+ghost use Rattle.qs_chunk.specs.Batch.{Batch};
+ghost use Rattle.std.specs.Bool.{OnTrue};
+ghost use Rattle.qs_handler.specs.Handler.{free, held_of};
+ghost use Rattle.qs_handler.specs.declared.mind.Act.TheVariants as acts;
+ghost use Rattle.qs_core_parts.specs.CoreHandlers.{is_waiting, takes_ticket};
+ghost use Rattle.qs_core_parts.specs.CoreHandlers.{IsCoreHandler, LaneSteps, MayCome, TakesTicket, entered, handler_of, handler_seat, lane_step, turns_to};
+
+use crate::lane::Lane;
+use qs_handler::{Act, Mind};
+use qs_objects::{Held, Next, Ticket};
+use std::alloc::{AllocError, Global};
+use std::collections::VecDeque;
+use std::marker::Model;
+use std::mem;
+
+/// A handler's mind with the act that it handed out last, and the handler's queue of tickets. It takes memory in `new` alone.
+#[derive(Drop)]
+pub struct CoreHandler {
+    mind: Mind,
+    act: Act,
+    tickets: VecDeque<Ticket>,
+    room: usize,
+}
+
+impl Model for CoreHandler {
+    ghost use Rattle.std.specs.Prelude.{◌≤◌};
+    ghost use Rattle.std.specs.VecDeque.{deque_capacity};
+    ghost use Rattle.qs_core_parts.specs.CoreHandlers.{CoreHandlerState, IsCoreHandler};
+
+    ghost Value = { CoreHandlerState };
+
+    ghost view = { λ s. record { mind = s.mind; act = s.act; tickets = s.tickets.items; room = s.room } };
+
+    ghost invariant = { λ s. IsCoreHandler (record { mind = s.mind; act = s.act; tickets = s.tickets.items; room = s.room })
+        × (s.room ≤ deque_capacity s.tickets) };
+}
+
+impl CoreHandler {
+    /// One that is free, with its object and room for so many tickets.
+    pub fn new(alloc: Global, held: Held, room: usize) -> Result<CoreHandler, AllocError>
+        ensures fresh { IfOk result (λ s. s ≡ handler_seat (free held) [] room) }
+    {
+        let tickets = VecDeque::with_capacity(alloc, room)?;
+        let mut mind = Mind::new(held);
+        let act = mind.next();
+        Ok(CoreHandler {
+            mind,
+            act,
+            tickets,
+            room,
+        })
+    }
+
+    /// A ticket comes to the end of its queue.
+    pub fn enter(&mut self, ticket: Ticket)
+        requires room { length self.old.tickets < self.old.room }
+        ensures entered { self.new ≡ entered ticket self.old }
+    {
+        self.tickets.push_back_reserved(ticket);
+    }
+
+    /// What holds of every handler: its act is the next one of its mind. It does nothing.
+    pub fn is_seat(&self)
+        ensures seat { IsCoreHandler self.now }
+    {
+        let _ = &self.mind;
+    }
+
+    /// The client whose lane it turns to.
+    pub fn client(&self) -> Option<u8>
+        ensures value { result ≡ turns_to self.now.act }
+    {
+        match &self.act {
+            Act::TakeTicket => None,
+            Act::TakeParcel(client) => Some(*client),
+            Act::Give(client, _) => Some(*client),
+            Act::Spare(client, _) => Some(*client),
+            Act::Closed => None,
+        }
+    }
+
+    /// Takes the first ticket of its queue; false where there is none.
+    pub fn take_ticket(&mut self) -> bool
+        requires asked { self.old.act ≡ acts.TakeTicket }
+        ensures takes { OnTrue result (TakesTicket self.old self.new) }
+        ensures none { result ≡ false → self.old.tickets ≡ [] }
+        ensures unchanged { result ≡ false → self.new ≡ self.old }
+    {
+        match self.tickets.pop_front() {
+            None => false,
+            Some(ticket) => {
+                self.mind.ticket(Next::Ticket(ticket));
+                self.act = self.mind.next();
+                true
+            }
+        }
+    }
+
+    /// What it does next at its client's lane; false where it can't.
+    pub fn meet(&mut self, lane: &mut Lane) -> bool
+        requires comes { MayCome self.old lane.old }
+        ensures steps { OnTrue result (LaneSteps self.old lane.old self.new lane.new) }
+        ensures none { result ≡ false → lane_step (handler_of self.old) self.old.act lane.old ≡ None }
+        ensures unchanged { result ≡ false → self.new ≡ self.old }
+        ensures lane { result ≡ false → lane.new ≡ lane.old }
+    {
+        match &self.act {
+            Act::TakeParcel(_) => self.take_parcel(lane),
+            Act::Give(_, _) => self.give(lane),
+            Act::Spare(_, _) => self.spare(lane),
+            Act::TakeTicket => false,
+            Act::Closed => false,
+        }
+    }
+
+    // Takes the first parcel.
+    fn take_parcel(&mut self, lane: &mut Lane) -> bool
+        requires asked { (c : ℕ) × (self.old.act ≡ acts.TakeParcel c) }
+        requires comes { MayCome self.old lane.old }
+        ensures steps { OnTrue result (LaneSteps self.old lane.old self.new lane.new) }
+        ensures none { result ≡ false → lane_step (handler_of self.old) self.old.act lane.old ≡ None }
+        ensures unchanged { result ≡ false → self.new ≡ self.old }
+        ensures lane { result ≡ false → lane.new ≡ lane.old }
+    {
+        let Some(parcel) = lane.pop() else {
+            return false;
+        };
+        self.mind.parcel(parcel);
+        self.act = self.mind.next();
+        true
+    }
+
+    // Gives the object, where none is on its way up.
+    fn give(&mut self, lane: &mut Lane) -> bool
+        requires asked { (c : ℕ) × (x : HeldState) × (self.old.act ≡ acts.Give c x) }
+        ensures steps { OnTrue result (LaneSteps self.old lane.old self.new lane.new) }
+        ensures none { result ≡ false → lane_step (handler_of self.old) self.old.act lane.old ≡ None }
+        ensures unchanged { result ≡ false → self.new ≡ self.old }
+        ensures lane { result ≡ false → lane.new ≡ lane.old }
+    {
+        if lane.object().is_some() {
+            return false;
+        }
+        let Act::Give(_, held) = mem::replace(&mut self.act, Act::Closed) else {
+            unreachable!();
+        };
+        lane.put_object(held);
+        self.act = self.mind.next();
+        true
+    }
+
+    // Gives an empty chunk back, where there is room for it.
+    fn spare(&mut self, lane: &mut Lane) -> bool
+        requires asked { (c : ℕ) × (chunk : Batch Request) × (self.old.act ≡ acts.Spare c chunk) }
+        ensures steps { OnTrue result (LaneSteps self.old lane.old self.new lane.new) }
+        ensures none { result ≡ false → lane_step (handler_of self.old) self.old.act lane.old ≡ None }
+        ensures unchanged { result ≡ false → self.new ≡ self.old }
+        ensures lane { result ≡ false → lane.new ≡ lane.old }
+    {
+        if !lane.has_chunk_room() {
+            return false;
+        }
+        let Act::Spare(_, chunk) = mem::replace(&mut self.act, Act::Closed) else {
+            unreachable!();
+        };
+        lane.put_chunk(chunk);
+        self.act = self.mind.next();
+        true
+    }
+
+    // Whether it waits for a ticket.
+    fn takes_ticket(&self) -> bool
+        ensures value { result ≡ takes_ticket self.now.act }
+    {
+        match &self.act {
+            Act::TakeTicket => true,
+            Act::TakeParcel(_) => false,
+            Act::Give(_, _) => false,
+            Act::Spare(_, _) => false,
+            Act::Closed => false,
+        }
+    }
+
+    /// Whether it serves nobody, and has no ticket.
+    pub fn is_waiting(&self) -> bool
+        ensures value { result ≡ is_waiting self.now }
+    {
+        self.takes_ticket() && self.tickets.is_empty()
+    }
+
+    /// The object with its journal, where the handler has it, or is about to give it.
+    pub fn held(&self) -> Option<&Held>
+        ensures value { option_copied result ≡ held_of (handler_of self.now) }
+    {
+        match &self.act {
+            Act::Give(_, held) => Some(held),
+            Act::TakeTicket => self.mind.held(),
+            Act::TakeParcel(_) => self.mind.held(),
+            Act::Spare(_, _) => self.mind.held(),
+            Act::Closed => self.mind.held(),
+        }
+    }
+}

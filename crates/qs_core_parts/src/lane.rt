@@ -1,0 +1,137 @@
+//! Lanes.
+
+ghost use Rattle.std.specs.Prelude.{◌≡◌, ◌<◌, ◌∷◌, ◌++◌, [], IfOk, MatchOption, None, Some, length, not, nat_lt, nat_eq, option_copied, List};
+ghost use Rattle.qs_chunk.specs.declared.parcel.Parcel.{Parcel as ParcelShape};
+ghost use Rattle.qs_core_parts.specs.LaneStates.{fresh_lane, with_down, with_spare, with_up};
+
+use qs_chunk::{Chunk, ChunkSize, Parcel};
+use qs_objects::{Held, Request};
+use std::alloc::{AllocError, Global};
+use std::collections::VecDeque;
+use std::marker::Model;
+use std::mem;
+
+// How many parcels a lane takes, and how many empty chunks.
+const PARCELS: usize = 16;
+
+const CHUNKS: usize = 4;
+
+/// The lane from a client to a handler: parcels on their way, the object on its way up, and empty chunks. It takes memory in `new` alone.
+#[derive(Drop)]
+pub struct Lane {
+    down: VecDeque<Parcel>,
+    up: Option<Held>,
+    spare: VecDeque<Chunk<Request>>,
+}
+
+impl Model for Lane {
+    ghost use Rattle.std.specs.Prelude.{◌≤◌};
+    ghost use Rattle.std.specs.VecDeque.{deque_len, deque_capacity};
+    ghost use Rattle.qs_core_parts.specs.LaneStates.{LaneState};
+
+    ghost Value = { LaneState };
+
+    ghost view = { λ l. record { down = l.down.items; up = l.up; spare = l.spare.items } };
+
+    ghost invariant = { λ l. (16 ≤ deque_capacity l.down) × (deque_len l.spare ≤ 4) × (4 ≤ deque_capacity l.spare) };
+}
+
+impl Lane {
+    /// One in which nothing is on its way, with four empty chunks of this size.
+    pub fn new(alloc: Global, size: ChunkSize) -> Result<Lane, AllocError>
+        ensures fresh { IfOk result (λ lane. lane ≡ fresh_lane size) }
+    {
+        let down = VecDeque::with_capacity(alloc, PARCELS)?;
+        let mut spare = VecDeque::with_capacity(alloc, CHUNKS)?;
+        for _chunk in 0..CHUNKS {
+            spare.push_back_reserved(Chunk::with_capacity(alloc, size)?);
+        }
+        Ok(Lane {
+            down,
+            up: None,
+            spare,
+        })
+    }
+
+    /// Whether one more parcel finds room.
+    pub fn has_room(&self) -> bool
+        ensures value { result ≡ nat_lt (length self.now.down) 16 }
+    {
+        self.down.len() < PARCELS
+    }
+
+    /// Whether no parcel lies there.
+    pub fn is_empty(&self) -> bool
+        ensures value { result ≡ nat_eq (length self.now.down) 0 }
+    {
+        self.down.is_empty()
+    }
+
+    /// The parcel that comes next.
+    pub fn first(&self) -> Option<&Parcel>
+        ensures value { MatchOption result (self.now.down ≡ []) (λ parcel. (rest : List ParcelShape) × (self.now.down ≡ parcel.now ∷ rest)) }
+    {
+        self.down.front()
+    }
+
+    /// A parcel, at the end.
+    pub fn push(&mut self, parcel: Parcel)
+        requires room { length self.old.down < 16 }
+        ensures pushed { self.new ≡ with_down self.old (self.old.down ++ parcel ∷ []) }
+    {
+        self.down.push_back_reserved(parcel);
+    }
+
+    /// Takes the first parcel.
+    pub fn pop(&mut self) -> Option<Parcel>
+        ensures cases { MatchOption result ((self.old.down ≡ []) × (self.new ≡ self.old))
+            (λ parcel. self.old ≡ with_down self.new (parcel ∷ self.new.down)) }
+    {
+        self.down.pop_front()
+    }
+
+    /// The object on its way up.
+    pub fn object(&self) -> Option<&Held>
+        ensures value { option_copied result ≡ self.now.up }
+    {
+        self.up.as_ref()
+    }
+
+    /// The object goes up, where none is on its way.
+    pub fn put_object(&mut self, held: Held)
+        ensures put { self.new ≡ with_up self.old (Some held) }
+    {
+        self.up = Some(held);
+    }
+
+    /// Takes the object.
+    pub fn take_object(&mut self) -> Option<Held>
+        ensures value { result ≡ self.old.up }
+        ensures rest { self.new ≡ with_up self.old None }
+    {
+        mem::replace(&mut self.up, None)
+    }
+
+    /// Whether one more empty chunk finds room.
+    pub fn has_chunk_room(&self) -> bool
+        ensures value { result ≡ nat_lt (length self.now.spare) 4 }
+    {
+        self.spare.len() < CHUNKS
+    }
+
+    /// Gives an empty chunk back.
+    pub fn put_chunk(&mut self, chunk: Chunk<Request>)
+        requires room { length self.old.spare < 4 }
+        ensures put { self.new ≡ with_spare self.old (self.old.spare ++ chunk ∷ []) }
+    {
+        self.spare.push_back_reserved(chunk);
+    }
+
+    /// Takes an empty chunk.
+    pub fn take_chunk(&mut self) -> Option<Chunk<Request>>
+        ensures cases { MatchOption result ((self.old.spare ≡ []) × (self.new ≡ self.old))
+            (λ chunk. self.old ≡ with_spare self.new (chunk ∷ self.new.spare)) }
+    {
+        self.spare.pop_front()
+    }
+}

@@ -1,0 +1,26 @@
+use Rattle.std.proofs.Common.{refl}
+use Rattle.clap.proofs.OnLiterals.{clap_on_literals}
+use Rattle.qs_line.proofs.laws.line_examples.Goals as goal
+
+pub returns : goal.returns
+unfolding clap_on_literals
+returns c = record {
+  examples = record {
+    defaults = record { checks = refl; graphs = refl; rules_alone = refl; play_alone = refl };
+    settings = record { mode = refl; chunk = refl; most_rounds = refl; picks = refl; all = refl };
+    others = record {
+      no_word = refl;
+      unknown_word = refl;
+      extra_word = refl;
+      chunk_of_none = refl;
+      chunk_of_33 = refl;
+      unknown_mode = refl;
+      too_many_rounds = refl;
+      empty_part = refl;
+      two_digits = refl;
+      no_picks = refl;
+      asks_help = refl;
+      asks_help_of_play = refl;
+    };
+  };
+}

@@ -1,0 +1,44 @@
+-- The command as clap's data.
+use Rattle.std.specs.Prelude.{[], ◌∷◌, codes, Some, pos, true}
+use Rattle.clap.specs.Words.{App, Rule, Shape, Text, new_app, new_rule, with_rule, with_subcommand}
+use Rattle.clap.specs.declared.builder.ArgAction.TheVariants.{Set}
+use Rattle.clap.specs.declared.builder.ValueParser.TheVariants as parser
+
+-- `--NAME VALUE`
+abbrev pub option_rule : Text → Rule
+option_rule name = record (new_rule name) { long = Some name; action = Some Set }
+
+-- the same with a default
+abbrev pub defaulted_rule : Text → Text → Rule
+defaulted_rule name value = record (option_rule name) { defaults = value ∷ [] }
+
+-- `--chunk`, of 1 to 32
+abbrev pub chunk_rule : Rule
+chunk_rule = record (defaulted_rule (codes "chunk") (codes "8")) { parser = Some (parser.Signed (pos 1) (pos 32)) }
+
+abbrev pub rounds_rule : Rule
+rounds_rule = defaulted_rule (codes "rounds") (codes "1000000")
+
+-- `rules [--rounds N] [--pick LIST]`
+abbrev pub rules_app : App
+rules_app = with_rule (with_rule (new_app (codes "rules")) rounds_rule) (option_rule (codes "pick"))
+
+-- `play [--mode M] [--chunk N]`
+abbrev pub machine_app : App
+machine_app = with_rule (with_rule (new_app (codes "play")) (defaulted_rule (codes "mode") (codes "both"))) chunk_rule
+
+-- `play [--mode M] [--chunk N] [--rounds N] [--pick LIST]`
+abbrev pub play_app : App
+play_app = with_rule (with_rule machine_app rounds_rule) (option_rule (codes "pick"))
+
+-- the program's name, with no word `help`
+abbrev pub named_app : App
+named_app = record (new_app (codes "qs")) { top = record (new_app (codes "qs")).top { disable_help_subcommand = true } }
+
+-- `check` and `graph`
+abbrev pub texts_app : App
+texts_app = with_subcommand (with_subcommand named_app (new_app (codes "check")).top) (new_app (codes "graph")).top
+
+-- the whole command
+abbrev pub qs_app : App
+qs_app = with_subcommand (with_subcommand texts_app rules_app.top) play_app.top

@@ -1,0 +1,4 @@
+pub mod Command
+pub mod Picks
+pub mod Line
+pub mod LineExamples

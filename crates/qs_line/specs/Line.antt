@@ -1,0 +1,128 @@
+-- What a line asks for.
+use Rattle.std.specs.Prelude.{◌≡◌, ◌≢◌, ℕ, List, [], ◌∷◌, codes, Option, Some, None, Result, Ok, Err, ⊤, Bool, true, false, if◌then◌else◌, option_map, option_and_then, unwrap_or}
+use Rattle.std.specs.Cmp.Lexicographic.{pointwise}
+use Rattle.std.specs.Str.{bytes_eq}
+use Rattle.std.specs.Str.Parse.{digits_value, without_leading_plus}
+use Rattle.clap.specs.Faults.{fault_of}
+use Rattle.clap.specs.Kinds.{IsAmong, Kinds}
+use Rattle.clap.specs.ValueTests.{is_unsigned_in}
+use Rattle.clap.specs.Words.{Row, Text, first_of, subcommand_of}
+use Rattle.clap.specs.declared.error.kind.ErrorKind.TheVariants.{DisplayHelp, OutOfMemory}
+use Rattle.clap.specs.declared.error.kind.ErrorKind.{ErrorKind}
+use Rattle.qs_played.specs.declared.actor.Actor.{Actor}
+use Rattle.qs_syncset.specs.declared.mode.Mode.{Mode}
+use Rattle.qs_syncset.specs.declared.mode.Mode.TheVariants.{Plain, Dynamic, Static, Both}
+use Rattle.qs_line.specs.Command.{qs_app}
+use Rattle.qs_line.specs.Picks.{picks_in}
+use Rattle.qs_line.specs.declared.line.LineFault.{LineFault}
+use Rattle.qs_line.specs.declared.line.LineFault.TheVariants as fault
+use Rattle.qs_line.specs.declared.line.Settings.{Settings}
+use Rattle.qs_line.specs.declared.line.Settings.TheVariants as word
+
+-- what is asked for: the counts; the graphs; a run by the plain rules, with so many rounds after its picks; or one in the optimised
+-- machine, in a mode and by chunks of a size
+pub data Request : Type 0 where
+  check : Request
+  graph : Request
+  rules : ℕ → List Actor → Request
+  play : Mode → ℕ → ℕ → List Actor → Request
+
+abbrev pub request_of : Settings → Request
+request_of word.Check = check
+request_of word.Graph = graph
+request_of (word.Rules rounds picks) = rules rounds picks.items
+request_of (word.Play mode chunk rounds picks) = play mode chunk rounds picks.items
+
+abbrev pub mode_in : Text → Option Mode
+mode_in text =
+    if bytes_eq text (codes "none") then Some Plain
+    else if bytes_eq text (codes "dynamic") then Some Dynamic
+    else if bytes_eq text (codes "static") then Some Static
+    else if bytes_eq text (codes "both") then Some Both else None
+
+-- the number of a text of decimal digits, with a plus before them or none, where it is from `low` to `high`
+abbrev pub number_in : ℕ → ℕ → Text → Option ℕ
+number_in low high text =
+    if is_unsigned_in low high text then Some (digits_value 10 (without_leading_plus text)) else None
+
+abbrev pub mode_at : List Row → Option Mode
+mode_at rows = option_and_then mode_in (first_of (codes "mode") rows)
+
+abbrev pub chunk_at : List Row → Option ℕ
+chunk_at rows = option_and_then (number_in 1 32) (first_of (codes "chunk") rows)
+
+abbrev pub rounds_at : List Row → Option ℕ
+rounds_at rows = option_and_then (number_in 0 4294967295) (first_of (codes "rounds") rows)
+
+-- no pick where the line has no list of them
+abbrev pub picks_at : List Row → Option (List Actor)
+picks_at rows = unwrap_or (option_map picks_in (first_of (codes "pick") rows)) (Some [])
+
+abbrev pub rules_at : List Row → Option Request
+rules_at rows = option_and_then (λ rounds. option_map (rules rounds) (picks_at rows)) (rounds_at rows)
+
+abbrev pub play_at : List Row → Option Request
+play_at rows =
+    option_and_then (λ mode. option_and_then (λ chunk.
+    option_and_then (λ rounds. option_map (play mode chunk rounds) (picks_at rows))
+    (rounds_at rows)) (chunk_at rows)) (mode_at rows)
+
+-- what a word asks for, with the entries that clap finds after it
+abbrev pub request_at : Text → List Row → Option Request
+request_at name rows =
+    if bytes_eq name (codes "check") then Some check
+    else if bytes_eq name (codes "graph") then Some graph
+    else if bytes_eq name (codes "rules") then rules_at rows
+    else if bytes_eq name (codes "play") then play_at rows else None
+
+-- what the word that clap meets asks for
+abbrev pub request_met : Option (Text × List Row) → Option Request
+request_met None = None
+request_met (Some entry) = request_at entry.0 entry.1
+
+-- what a line comes to
+pub data Line : Type 0 where
+  asks : Request → Line
+  help : Line
+  refused : Line
+
+-- what it asks for
+abbrev pub request_by : Line → Option Request
+request_by (asks request) = Some request
+request_by help = None
+request_by refused = None
+
+abbrev pub line_met : Option Request → Line
+line_met (Some request) = asks request
+line_met None = refused
+
+abbrev pub is_help : ErrorKind → Bool
+is_help DisplayHelp = true
+is_help _ = false
+
+-- by the kinds of error that clap may answer: none where it takes the words
+abbrev pub line_by : Kinds → Option Request → Line
+line_by [] request = line_met request
+line_by (kind ∷ kinds) request = if is_help kind then help else refused
+
+-- the line of these words, the program's name first
+abbrev pub line_in : List Text → Line
+line_in words = line_by (fault_of qs_app words) (request_met (subcommand_of qs_app words))
+
+-- the fault of a line that clap refuses by an error of this kind
+abbrev pub IsFault : ErrorKind → LineFault → Type 0
+IsFault kind fault.Refused = (kind ≢ DisplayHelp) × (kind ≢ OutOfMemory)
+IsFault kind (fault.Help text) = kind ≡ DisplayHelp
+IsFault kind fault.Memory = ⊤
+
+-- the fault by one of some kinds
+abbrev pub IsFaultAmong : Kinds → LineFault → Type 0
+IsFaultAmong kinds fault.Memory = ⊤
+IsFaultAmong kinds f = (kind : ErrorKind) × IsAmong kind kinds × IsFault kind f
+
+-- the answer is what the line comes to, unless memory runs out
+abbrev pub IsAnswer : Line → Result Settings LineFault → Type 0
+IsAnswer line (Ok settings) = line ≡ asks (request_of settings)
+IsAnswer line (Err fault.Refused) = line ≡ refused
+IsAnswer line (Err (fault.Help text)) = line ≡ help
+IsAnswer line (Err fault.Memory) = ⊤

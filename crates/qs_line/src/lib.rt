@@ -1,0 +1,10 @@
+//! The command line of `qs`, read by `clap`.
+#![tactic(auto)]
+
+mod command;
+pub mod laws;
+mod line;
+mod picks;
+
+pub use line::{LineFault, Settings, read_line};
+pub use qs_played::Actor;

@@ -1,0 +1,193 @@
+// The settings of a line.
+
+ghost use Rattle.std.specs.Prelude.{◌≡◌, [], IfOk, IfErr, map, option_map};
+ghost use Rattle.clap.specs.Words.{found_of, first_of, kind_of, rows_of, subcommand_of, subcommand_rows_of};
+ghost use Rattle.clap.specs.Faults.{fault_of};
+ghost use Rattle.qs_line.specs.Command.{qs_app};
+ghost use Rattle.qs_line.specs.Line.{IsAnswer, IsFault, IsFaultAmong, chunk_at, line_in, mode_at, picks_at, play_at, request_at, request_met, request_of, rounds_at, rules_at};
+
+use crate::Actor;
+use crate::command::command;
+use crate::picks::picks_of;
+use clap::error::ErrorKind;
+use clap::{ArgMatches, Error};
+use qs_chunk::ChunkSize;
+use qs_syncset::Mode;
+use std::alloc::{AllocError, Global};
+
+/// What an accepted line asks for.
+#[derive(Debug, PartialEq, Eq, Drop)]
+pub enum Settings {
+    /// Check the script, and count.
+    Check,
+    /// Check it, and show the graphs of its blocks.
+    Graph,
+    /// Check it, and play it by the plain rules.
+    Rules {
+        /// How many rounds are played at most.
+        rounds: u32,
+        /// Who steps before the rounds.
+        picks: Vec<Actor>,
+    },
+    /// Check it, and play it in the optimised machine.
+    Play {
+        /// Which synchronisations are left out.
+        mode: Mode,
+        /// How many commands a chunk takes.
+        chunk: ChunkSize,
+        /// How many rounds are played at most.
+        rounds: u32,
+        /// Who steps before the rounds.
+        picks: Vec<Actor>,
+    },
+}
+
+/// Why a line gives no settings.
+#[derive(Debug, Drop)]
+pub enum LineFault {
+    /// It is no line of the program.
+    Refused,
+    /// It asks for help, which is this text.
+    Help(String),
+    /// Out of memory.
+    Memory,
+}
+
+impl From<AllocError> for LineFault {
+    ghost use Rattle.qs_line.specs.declared.line.LineFault.TheVariants as fault;
+
+    ghost from_gives = { λ _ f. f ≡ fault.Memory };
+
+    fn from(_error: AllocError) -> LineFault {
+        LineFault::Memory
+    }
+}
+
+// The text that clap has for a name: what stands on the line, or the default.
+fn text_at<'a>(found: &ArgMatches<'a>, name: &str) -> Option<&'a str>
+    ensures text { option_map (λ text. text.now) result ≡ first_of name.now (rows_of (found_of found.now)) }
+{
+    found.get_str(name)
+}
+
+fn mode_of(found: &ArgMatches<'_>) -> Option<Mode>
+    ensures mode { result ≡ mode_at (rows_of (found_of found.now)) }
+{
+    match text_at(found, "mode")? {
+        "none" => Some(Mode::Plain),
+        "dynamic" => Some(Mode::Dynamic),
+        "static" => Some(Mode::Static),
+        "both" => Some(Mode::Both),
+        _ => None,
+    }
+}
+
+fn chunk_of(found: &ArgMatches<'_>) -> Option<ChunkSize>
+    ensures chunk { result ≡ chunk_at (rows_of (found_of found.now)) }
+{
+    ChunkSize::new(text_at(found, "chunk")?.parse::<u8>().ok()?)
+}
+
+fn rounds_of(found: &ArgMatches<'_>) -> Option<u32>
+    ensures rounds { result ≡ rounds_at (rows_of (found_of found.now)) }
+{
+    text_at(found, "rounds")?.parse::<u32>().ok()
+}
+
+// The picks of a line; none where it has no list of them.
+fn given_picks(alloc: Global, found: &ArgMatches<'_>) -> Result<Option<Vec<Actor>>, AllocError>
+    ensures picks { IfOk result (λ picks. option_map (λ actors. actors.items) picks ≡ picks_at (rows_of (found_of found.now))) }
+{
+    match text_at(found, "pick") {
+        Some(text) => picks_of(alloc, text),
+        None => Ok(Some(Vec::new(alloc))),
+    }
+}
+
+fn rules_settings(alloc: Global, found: &ArgMatches<'_>) -> Result<Option<Settings>, AllocError>
+    ensures settings { IfOk result (λ settings. option_map request_of settings ≡ rules_at (rows_of (found_of found.now))) }
+{
+    let (Some(rounds), Some(picks)) = (rounds_of(found), given_picks(alloc, found)?) else {
+        return Ok(None);
+    };
+    Ok(Some(Settings::Rules { rounds, picks }))
+}
+
+fn play_settings(alloc: Global, found: &ArgMatches<'_>) -> Result<Option<Settings>, AllocError>
+    ensures settings { IfOk result (λ settings. option_map request_of settings ≡ play_at (rows_of (found_of found.now))) }
+{
+    let (Some(mode), Some(chunk)) = (mode_of(found), chunk_of(found)) else {
+        return Ok(None);
+    };
+    let (Some(rounds), Some(picks)) = (rounds_of(found), given_picks(alloc, found)?) else {
+        return Ok(None);
+    };
+    Ok(Some(Settings::Play {
+        mode,
+        chunk,
+        rounds,
+        picks,
+    }))
+}
+
+// What a word asks for, with what clap found after it.
+fn settings_of(
+    alloc: Global,
+    name: &str,
+    found: &ArgMatches<'_>,
+) -> Result<Option<Settings>, AllocError>
+    ensures settings { IfOk result (λ settings. option_map request_of settings ≡ request_at name.now (rows_of (found_of found.now))) }
+{
+    match name {
+        "check" => Ok(Some(Settings::Check)),
+        "graph" => Ok(Some(Settings::Graph)),
+        "rules" => rules_settings(alloc, found),
+        "play" => play_settings(alloc, found),
+        _ => Ok(None),
+    }
+}
+
+fn met_settings(alloc: Global, matches: &ArgMatches<'_>) -> Result<Option<Settings>, AllocError>
+    ensures settings { IfOk result (λ settings. option_map request_of settings ≡ request_met (subcommand_rows_of matches.now)) }
+{
+    match matches.subcommand() {
+        Some((name, found)) => settings_of(alloc, name, found),
+        None => Ok(None),
+    }
+}
+
+// The fault of a line that clap refuses.
+fn line_fault(alloc: Global, error: &Error) -> LineFault
+    ensures fault { IsFault (kind_of error.now) result }
+{
+    match error.kind() {
+        ErrorKind::OutOfMemory => LineFault::Memory,
+        ErrorKind::DisplayHelp => match error.to_string(alloc) {
+            Ok(text) => LineFault::Help(text),
+            Err(_) => LineFault::Memory,
+        },
+        _ => LineFault::Refused,
+    }
+}
+
+// What clap makes of the words.
+fn matches_of<'a>(alloc: Global, words: &'a [&'a str]) -> Result<ArgMatches<'a>, LineFault>
+    ensures taken { IfOk result (λ matches. fault_of qs_app (map (λ word. word.now) words.entry.now) ≡ []) }
+    ensures entries { IfOk result (λ matches. subcommand_rows_of matches ≡ subcommand_of qs_app (map (λ word. word.now) words.entry.now)) }
+    ensures fault { IfErr result (IsFaultAmong (fault_of qs_app (map (λ word. word.now) words.entry.now))) }
+{
+    match command(alloc)?.try_get_matches_from(words) {
+        Ok(matches) => Ok(matches),
+        Err(error) => Err(line_fault(alloc, &error)),
+    }
+}
+
+/// The settings of a line, whose first word is the program's name: those that `clap` finds, and its defaults. `Refused` comes exactly where
+/// `clap` refuses the words by an error, or where a mode, a number or the list of picks does not read; `Help` exactly where it answers with
+/// help. `Memory` may come in place of each.
+pub fn read_line<'a>(alloc: Global, words: &'a [&'a str]) -> Result<Settings, LineFault>
+    ensures line { IsAnswer (line_in (map (λ word. word.now) words.entry.now)) result }
+{
+    let matches = matches_of(alloc, words)?;
+    met_settings(alloc, &matches)?.ok_or(LineFault::Refused)
+}

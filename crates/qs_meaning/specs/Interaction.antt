@@ -1,0 +1,52 @@
+-- A block as an interaction tree: what it asks next, and for each reply what it asks then.
+use Rattle.std.specs.Prelude.{◌≡◌, ℕ, zero, suc, ℤ, if◌then◌else◌, [], ◌∷◌, None, slice_set}
+use Rattle.qs_objects.specs.declared.Request.{Request}
+use Rattle.qs_objects.specs.declared.held.Event.{Event}
+use Rattle.qs_check.specs.Statements.{Statements, end, command, query, assign, choose, again, leave}
+use Rattle.qs_check.specs.Values.{Locals, expr_value, test_value, request_of}
+use Rattle.qs_meaning.specs.Solo.{States, Outcome, changed, value_of, event, solo}
+use Rattle.qs_objects.specs.Journals.{answer}
+
+-- over, with these variables; a command, and the rest; a query, and for each reply the rest
+pub data Interaction : Type 0 where
+  Done : (locals : Locals) → Interaction
+  Call : (request : Request) → (next : Interaction) → Interaction
+  Query : (request : Request) → (next : ℤ → Interaction) → Interaction
+
+-- what comes next, by the variables
+abbrev pub Next : Type 0
+Next = Locals → Interaction
+
+-- n turns of a repeat's body, and then what comes after the repeat
+abbrev pub turns : ℕ → (Next → Next) → Next → Next
+turns zero body next = next
+turns (suc n) body next = body (turns n body next)
+
+-- the tree of statements, by what comes after them and what comes after the innermost repeat
+abbrev pub meaning : Statements → Next → Next → Next
+meaning end next leaves l = next l
+meaning (command c rest) next leaves l = Call (request_of l c) (meaning rest next leaves l)
+meaning (query x c rest) next leaves l = Query (request_of l c) (λ v. meaning rest next leaves (slice_set l x v))
+meaning (assign x e rest) next leaves l = meaning rest next leaves (slice_set l x (expr_value l e))
+meaning (choose t has_else first other rest) next leaves l =
+    let later = meaning rest next leaves in if test_value l t then meaning first later leaves l else meaning other later leaves l
+meaning (again n body rest) next leaves l =
+    let later = meaning rest next leaves in turns n (λ turn. meaning body turn later) later l
+meaning (leave rest) next leaves l = leaves l
+
+-- the tree of a whole block
+abbrev pub tree_of : Statements → Locals → Interaction
+tree_of body l = meaning body Done Done l
+
+abbrev pub noted : Event → Outcome → Outcome
+noted e o = record { trace = e ∷ o.trace; locals = o.locals; states = o.states }
+
+-- each request of a tree done at once
+abbrev pub run : Interaction → States → Outcome
+run (Done l) st = record { trace = []; locals = l; states = st }
+run (Call r next) st = noted (event r None) (run next (changed st r))
+run (Query r next) st = let v = answer (st r.object) r in noted (event r v) (run (next (value_of v)) (changed st r))
+
+-- a block alone does what its interaction tree does
+abbrev pub TreesAgree : Type 0
+TreesAgree = (body : Statements) (l : Locals) (st : States) → solo body l st ≡ run (tree_of body l) st

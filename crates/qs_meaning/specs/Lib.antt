@@ -1,0 +1,6 @@
+pub mod Solo
+pub mod Interaction
+pub mod Following
+pub mod Serial
+pub mod Paths
+pub mod MeaningExamples

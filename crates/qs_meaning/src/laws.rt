@@ -1,0 +1,35 @@
+//! What the definitions say of blocks, for callers' proofs and for readers.
+
+ghost use Rattle.qs_meaning.specs.Following.{BlocksAskOnly, HonestTracesRun};
+ghost use Rattle.qs_meaning.specs.Interaction.{TreesAgree};
+ghost use Rattle.qs_meaning.specs.MeaningExamples.{MeaningExamples};
+ghost use Rattle.qs_meaning.specs.Paths.{RequestsWithinLoad};
+
+/// A block alone, its statements run one after another, does what its interaction tree does: the same requests with the same
+/// replies, the same variables and the same states at the end. It does nothing.
+pub fn blocks_alone_follow_their_trees()
+    ensures agree { TreesAgree }
+{}
+
+/// On every path of a block's interaction tree, whatever the replies, the requests on an object are at most the block's load
+/// for it; it does nothing.
+pub fn requests_within_load()
+    ensures within { RequestsWithinLoad }
+{}
+
+/// Programs with the replies and the states of their serial runs, computed by the definitions; it does nothing.
+pub fn meaning_examples()
+    ensures examples { MeaningExamples }
+{}
+
+/// A trace along a block's interaction tree, whose replies on each object are the object's own, is what the block does alone, as
+/// far as the trace goes. It does nothing.
+pub fn honest_traces_run()
+    ensures run { HonestTracesRun }
+{}
+
+/// A block of a checked program makes requests on the objects of its list alone; what it calls are commands, and what it asks are
+/// queries. It does nothing.
+pub fn blocks_ask_only()
+    ensures only { BlocksAskOnly }
+{}

@@ -1,0 +1,18 @@
+-- Handlers, one after another.
+use Rattle.std.proofs.Common.{◌≡◌, ◌<◌, ℕ, ◌==◌, false, List, [], ◌∷◌, length, sym, subst, length-set, get_or-set_other}
+use Rattle.std.specs.List.{AllByRecursion}
+use Rattle.std.proofs.Math.ListN.{set}
+use Rattle.qs_played.proofs.Lists.{apart}
+use Rattle.qs_plain.specs.Handlers.{handler_at, nobody}
+use Rattle.qs_plain.specs.Served.{HandlerState}
+
+abbrev pub Can : (HandlerState → Type 0) → List HandlerState → ℕ → Type 0
+Can P hs h = (h < length hs) × P (handler_at hs h)
+
+-- a change at one handler leaves what holds at others
+pub can_after : (P : HandlerState → Type 0) (hs : List HandlerState) (h : ℕ) (x : HandlerState) (ks : List ℕ) → AllByRecursion (Can P hs) ks → AllByRecursion (λ y. (h == y) ≡ false) ks
+    → AllByRecursion (Can P (set hs h x)) ks
+can_after P hs h x [] each far = tt
+can_after P hs h x (k ∷ ks) each far =
+    let there : handler_at (set hs h x) k ≡ handler_at hs k = get_or-set_other hs h k x nobody (apart h k far.0) in
+    ((rw length-set each.0.0, subst P (sym there) each.0.1), can_after P hs h x ks each.1 far.1)

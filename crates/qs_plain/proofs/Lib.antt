@@ -1,0 +1,12 @@
+pub mod Reaching
+pub mod HandlersPreserved
+pub mod HandlersSteps
+pub mod Playing
+pub mod ReadingOff
+pub mod RulesBegin
+pub mod RulesFresh
+pub mod RulesGo
+pub mod RulesPreserved
+pub mod RulesServe
+pub mod RulesSteps
+pub mod RulesFieldLemmas

@@ -1,0 +1,39 @@
+-- Wherever the plain rules have come, what they have shown is isolated and counted.
+use Rattle.std.proofs.Common.{sym, subst, ◌≡◌, Bool, true, false, List, [], ◌∷◌, ◌++◌, refl, ap, ◌∙◌}
+use Rattle.std.specs.Bool.{OnTrue}
+use Rattle.qs_check.specs.Sound.{IsSound}
+use Rattle.qs_check.specs.Program.{ProgramShape}
+use Rattle.qs_played.specs.Isolation.{IsIsolated}
+use Rattle.qs_played.specs.declared.actor.Actor.{Actor}
+use Rattle.qs_plain_laws.specs.PlainSchedule.{played_of, or_stay, plays}
+use Rattle.qs_plain_laws.specs.PlainSyncSums.{AreQueriesCounted}
+use Rattle.qs_plain_laws.proofs.PlainSyncs.{plain_syncs_counted}
+use Rattle.qs_plain_laws.specs.PlainIsolation.{queued}
+use Rattle.qs_plain_laws.specs.Plain.{Plain, begin, step}
+use Rattle.qs_plain_laws.proofs.Isolating.{runs_isolated}
+use Rattle.qs_plain.specs.Rules.{IsReached, RulesState, AreRulesCounted, AreIsolated, Steps, plain_of}
+
+pub reached_counted : (r : RulesState) → IsSound r.program → IsReached r → AreRulesCounted r
+reached_counted r sound (actors, is) =
+    subst (λ s. AreQueriesCounted r.program s (played_of r.program s)) (sym is) (plain_syncs_counted r.program sound actors)
+
+plays_more : (p : ProgramShape) (actors : List Actor) (a : Actor) (s : Plain) → plays p (actors ++ a ∷ []) s ≡ or_stay (plays p actors s) (step p (plays p actors s) a)
+plays_more p [] a s = refl
+plays_more p (b ∷ actors) a s = plays_more p actors a (or_stay s (step p s b))
+
+stepped : (old new : RulesState) (a : Actor) → IsReached old → Steps old a new → IsReached new
+stepped old new a (actors, is) steps =
+    let p = old.program in
+    let there : plays p (actors ++ a ∷ []) (begin p) ≡ plain_of new =
+    plays_more p actors a (begin p)
+    ∙ (sym (ap (λ s. or_stay s (step p s a)) is) ∙ ap (or_stay (plain_of old)) steps.0) in
+    (actors ++ a ∷ [], sym there ∙ ap (λ (q : ProgramShape). plays q (actors ++ a ∷ []) (begin q)) (sym steps.1))
+
+-- a step that may have been made
+pub reached_next : (old new : RulesState) (a : Actor) (b : Bool) → IsReached old → OnTrue b (Steps old a new) → (b ≡ false → new ≡ old) → IsReached new
+reached_next old new a true reached steps same = stepped old new a reached steps
+reached_next old new a false reached steps same = subst IsReached (sym (same refl)) reached
+
+pub reached_isolated : (r : RulesState) → IsSound r.program → IsReached r → AreIsolated r
+reached_isolated r sound (actors, is) =
+    subst (λ s. IsIsolated r.program (played_of r.program s) (queued s)) (sym is) (runs_isolated r.program sound actors)

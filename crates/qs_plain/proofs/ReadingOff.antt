@@ -1,0 +1,34 @@
+-- What is read off the code is what the plain rules show.
+use Rattle.std.proofs.Common.{◌≡◌, ◌<◌, ℕ, zero, suc, ◌+◌, ◌&&◌, List, [], ◌∷◌, map, drop, length, get_or, sum_by, refl, ap, sym, ◌∙◌, add-one}
+use Rattle.std.proofs.Math.Seq.{drop-cons}
+use Rattle.std.proofs.lemmas.List.Sums.{sum_by-cons}
+use Rattle.qs_check.specs.Program.{ProgramShape}
+use Rattle.qs_plain_laws.specs.Plain.{Handler, no_client}
+use Rattle.qs_plain_laws.specs.PlainSchedule.{all_done, is_done, syncs_of}
+use Rattle.qs_plain_client.specs.Clients.{ClientState, client_of, client_at}
+use Rattle.qs_plain.specs.Served.{HandlerState, handler_of}
+
+pub at_client : (cs : List ClientState) (c : ℕ) → client_of (client_at cs c) ≡ get_or (map client_of cs) c no_client
+at_client [] c = refl
+at_client (d ∷ cs) zero = refl
+at_client (d ∷ cs) (suc c) = at_client cs c
+
+pub all_syncs : (cs : List ClientState) → sum_by (λ (d : ClientState). syncs_of (client_of d)) cs ≡ sum_by syncs_of (map client_of cs)
+all_syncs [] = refl
+all_syncs (d ∷ cs) =
+    rw (sum_by-cons (λ (x : ClientState). syncs_of (client_of x)) d cs, sum_by-cons syncs_of (client_of d) (map client_of cs))
+    (ap (λ n. syncs_of (client_of d) + n) (all_syncs cs))
+
+pub all_journals : (hs : List HandlerState) → map (λ (h : HandlerState). h.held.journal) hs ≡ map (λ (h : Handler). h.held.journal) (map handler_of hs)
+all_journals [] = refl
+all_journals (h ∷ hs) = ap (λ rest. h.held.journal ∷ rest) (all_journals hs)
+
+pub all_states : (hs : List HandlerState) → map (λ (h : HandlerState). h.held.object) hs ≡ map (λ (h : Handler). h.held.object) (map handler_of hs)
+all_states [] = refl
+all_states (h ∷ hs) = ap (λ rest. h.held.object ∷ rest) (all_states hs)
+
+pub done_from : (p : ProgramShape) (cs : List ClientState) (d : ClientState) (i : ℕ) → i < length cs
+    → all_done p i (map client_of (drop i cs)) ≡ (is_done p i (client_of (get_or cs i d)) && all_done p (i + 1) (map client_of (drop (i + 1) cs)))
+done_from p cs d i within =
+    ap (λ xs. all_done p i (map client_of xs)) (drop-cons cs i d within)
+    ∙ ap (λ n. is_done p i (client_of (get_or cs i d)) && all_done p n (map client_of (drop n cs))) (sym (add-one i))

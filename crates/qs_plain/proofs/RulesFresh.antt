@@ -1,0 +1,63 @@
+-- Before the first step.
+use Rattle.std.proofs.Common.{◌≡◌, ◌<◌, ℕ, suc, ◌+◌, List, [], ◌∷◌, map, length, get_or, sum_by, refl, ap, ◌∙◌, arith}
+use Rattle.std.specs.List.{range_with_len}
+use Rattle.std.proofs.lemmas.List.Sums.{sum_by-cons}
+use Rattle.qs_objects.specs.declared.held.Ticket.{Ticket}
+use Rattle.qs_check.specs.Program.{ProgramShape, ClientShape, no_client}
+use Rattle.qs_plain_laws.specs.Plain.{begin, fresh_client, fresh_handler}
+use Rattle.qs_plain_laws.specs.Plain as plain
+use Rattle.qs_plain_client.specs.FreshClients.{AreFresh}
+use Rattle.qs_plain_client.specs.Clients.{ClientState, IsFresh, client_of, stage_of, absent, client_at}
+use Rattle.qs_plain.specs.Beginning.{AreIdle}
+use Rattle.qs_plain.specs.Handlers.{nobody}
+use Rattle.qs_plain.specs.Rules.{RulesState, IsRules, plain_of, to_come}
+use Rattle.qs_plain.specs.Served.{HandlerState, handler_of}
+
+-- a list whose elements are given by their numbers
+listed : {X Y : Type 0} (f : X → Y) (g : ℕ → Y) (xs : List X) (d : X) (a : ℕ) → ((i : ℕ) → i < length xs → f (get_or xs i d) ≡ g (a + i)) → map f xs ≡ map g (range_with_len a (length xs))
+listed f g [] d a each = refl
+listed f g (x ∷ xs) d a each =
+    let here : a + 0 ≡ a = omega arith in
+    let first : f x ≡ g a = each 0 (omega arith) ∙ ap g here in
+    let others = listed f g xs d (a + 1) (λ i less. let place : a + suc i ≡ (a + 1) + i = omega arith in each (suc i) (omega arith) ∙ ap g place) in
+    λ k. first k ∷ others k
+
+fresh_is : (p : ProgramShape) (c : ℕ) (d : ClientState) → IsFresh p c d → client_of d ≡ fresh_client c
+fresh_is p c d f =
+    (λ k. record { stage = stage_of (f.stage k) d.frames d.locals; entries = f.entries k; traces = map (λ t. t.events) (f.traces k) })
+    ∙ (λ k. record { stage = plain.out (f.locals k); entries = []; traces = [] })
+
+to_come_is : (cs : List ClientState) (ds : List ClientShape) → length cs ≡ length ds → ((i : ℕ) → i < length ds → length (get_or cs i absent).prepared ≡ length (get_or ds i no_client).blocks)
+    → to_come cs ≡ sum_by (λ (d : ClientShape). length d.blocks) ds
+to_come_is [] [] same each = refl
+to_come_is [] (d ∷ ds) same each = absurd (omega arith)
+to_come_is (c ∷ cs) [] same each = absurd (omega arith)
+to_come_is (c ∷ cs) (d ∷ ds) same each =
+    rw (sum_by-cons (λ (x : ClientState). length x.prepared) c cs, sum_by-cons (λ (x : ClientShape). length x.blocks) d ds)
+    (omega (arith, each 0 (omega arith), to_come_is cs ds (omega arith) (λ i less. each (suc i) (omega arith))))
+
+module _ (p : ProgramShape) (room : ℕ) (cs : List ClientState) (hs : List HandlerState) (fresh : AreFresh p cs) (still : AreIdle p room hs) where
+  abbrev pub fresh_rules : List Ticket → RulesState
+  fresh_rules order = record { program = p; order = order; clients = cs; handlers = hs }
+
+  pub fresh_to_come : to_come cs ≡ sum_by (λ (d : ClientShape). length d.blocks) p.clients
+  fresh_to_come = to_come_is cs p.clients fresh.many (λ i less. (fresh.each i less).prepared)
+
+  pub fresh_kept : (order : List Ticket) → room ≡ sum_by (λ (d : ClientShape). length d.blocks) p.clients → IsRules (fresh_rules order)
+  fresh_kept order enough = record {
+    clients = fresh.many;
+    own = λ c less. let f = fresh.each c (rw fresh.many at less) in (f.program, f.number);
+    handlers = still.many;
+    rooms = λ h less. rw (still.each h (rw still.many at less)) (omega (arith, fresh_to_come, enough));
+    queues = λ h less. rw (still.each h (rw still.many at less)) tt;
+  }
+
+  pub fresh_plain : plain_of (fresh_rules []) ≡ begin p
+  fresh_plain =
+      let clients = listed client_of fresh_client cs absent 0 (λ i less. fresh_is p i (client_at cs i) (fresh.each i (rw fresh.many at less)) ∙ (let place : i ≡ 0 + i = omega arith in ap fresh_client place)) in
+      let handlers = listed handler_of (fresh_handler p) hs nobody 0 (λ h less. ap handler_of (still.each h (rw still.many at less)) ∙ (let place : h ≡ 0 + h = omega arith in ap (fresh_handler p) place)) in
+      λ k. record {
+        order = [];
+        clients = (clients ∙ ap (λ n. map fresh_client (range_with_len 0 n)) fresh.many) k;
+        handlers = (handlers ∙ ap (λ n. map (fresh_handler p) (range_with_len 0 n)) still.many) k;
+      }

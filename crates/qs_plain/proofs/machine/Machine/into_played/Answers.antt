@@ -1,0 +1,63 @@
+use Rattle.std.proofs.Common.{◌≡◌, ◌∙◌, ◌&&◌, ap, sym, subst, map, get_or, sum_by, [], Bool, true, false}
+use Rattle.qs_objects.specs.declared.held.Ticket.{Ticket}
+use Rattle.qs_plain_laws.specs.PlainSchedule.{all_done, all_idle, has_ended, syncs_of}
+use Rattle.qs_plain_client.specs.Clients.{ClientState, client_of, client_at}
+use Rattle.qs_plain.specs.BegunBlocks.{AreOwn}
+use Rattle.qs_plain.specs.Rules.{RulesState, IsRules}
+use Rattle.qs_plain.specs.Served.{HandlerState, handler_of}
+use Rattle.qs_plain.proofs.ReadingOff.{at_client, all_syncs, all_journals, all_states}
+use Rattle.qs_plain.proofs.machine.Machine.into_played.Goals.{then-are_done, else-are_done}
+use Rattle.qs_plain.proofs.machine.Machine.into_played.Goals as goal
+
+both_are : (a b : Bool) → a ≡ true → (a && b) ≡ b
+both_are a b e = ap (λ z. z && b) e
+
+one_is_not : (a b : Bool) → a ≡ false → (a && b) ≡ false
+one_is_not a b e = ap (λ z. z && b) e
+
+pub returns : goal.returns
+returns c =
+    let p = c.args.self.program in
+    let clients = ap (λ (r : RulesState). r.clients) c.self.view_is in
+    let handlers = ap (λ (r : RulesState). r.handlers) c.self.view_is in
+    let order = ap (λ (r : RulesState). r.order) c.self.view_is in
+    let kept = subst IsRules c.self.view_is c.self.invariant.0 in
+    let ended =
+    c.in_ok-ended.ensures.value
+    ∙ (λ k. map (λ (t : Ticket). has_ended (client_of (client_at ((c.deref.ensures.value ∙ clients) k) t.client)) t.index) ((c.deref-2.ensures.value ∙ order) k))
+    ∙ (λ k. map (λ (t : Ticket). has_ended (at_client c.args.self.clients t.client k) t.index) c.args.self.order) in
+    let entries =
+    c.in_ok-entries.ensures.value
+    ∙ (λ k. map (λ (t : Ticket). get_or (client_at ((c.deref-3.ensures.value ∙ clients) k) t.client).entries t.index []) ((c.deref-4.ensures.value ∙ order) k))
+    ∙ (λ k. map (λ (t : Ticket). get_or (at_client c.args.self.clients t.client k).entries t.index []) c.args.self.order) in
+    let traces =
+    c.in_ok-traces.ensures.value
+    ∙ (λ k. map (λ (t : Ticket). get_or (client_of (client_at ((c.deref-5.ensures.value ∙ clients) k) t.client)).traces t.index []) ((c.deref-6.ensures.value ∙ order) k))
+    ∙ (λ k. map (λ (t : Ticket). get_or (at_client c.args.self.clients t.client k).traces t.index []) c.args.self.order) in
+    let syncs =
+    c.syncs-syncs.ensures.value
+    ∙ ap (sum_by (λ (d : ClientState). syncs_of (client_of d))) (c.deref-7.ensures.value ∙ clients)
+    ∙ all_syncs c.args.self.clients in
+    let journals = c.in_ok-journals.ensures.journals ∙ ap (map (λ (h : HandlerState). h.held.journal)) handlers ∙ all_journals c.args.self.handlers in
+    let states = c.in_ok-journals.ensures.states ∙ ap (map (λ (h : HandlerState). h.held.object)) handlers ∙ all_states c.args.self.handlers in
+    let now = c.deref-8.ensures.value ∙ clients in
+    let done = c.are_done.ensures.value p (subst (AreOwn p) (sym now) kept.own) ∙ ap (λ cs. all_done p 0 (map client_of cs)) now in
+    let idle = all_idle (map handler_of c.args.self.handlers) in
+    let every = all_done p 0 (map client_of c.args.self.clients) in
+    let finished : c.if-are_done.finished ≡ (every && idle) = elim c.if-are_done.branch [
+      | then-are_done w ↦ w.finished-is ∙ w.are_idle-finished.ensures.value ∙ ap (λ hs. all_idle (map handler_of hs)) (w.deref-then-are_done.ensures.value ∙ handlers)
+          ∙ sym (both_are every idle (sym done ∙ w.if-are_done.true))
+      | else-are_done w ↦ w.finished-is ∙ w.if-are_done.false ∙ sym (one_is_not every idle (sym done ∙ w.if-are_done.false))
+    ] in
+    record {
+      shown = λ k. record {
+        order = (c.from_vec.ensures.value ∙ order) k;
+        ended = ended k;
+        entries = entries k;
+        traces = traces k;
+        journals = journals k;
+        states = states k;
+        syncs = syncs k;
+        finished = finished k;
+      };
+    }

@@ -1,0 +1,18 @@
+use Rattle.std.proofs.Common.{◌≡◌, map}
+use Rattle.std.specs.List.{range_with_len}
+use Rattle.qs_played.specs.declared.actor.Actor.TheVariants as actor
+use Rattle.qs_plain_laws.specs.PlainSchedule.{plays}
+use Rattle.qs_plain.specs.Rules.{plain_of}
+use Rattle.qs_plain.proofs.machine.Machine.round.Given as goal
+
+abbrev pub invariant-loop-client : goal.invariant-loop-client
+invariant-loop-client l = record {
+  program : l.self.program ≡ l.initial.self.program;
+  value : plain_of l.self ≡ plays l.initial.self.program (map actor.Client (range_with_len 0 l.client)) (plain_of l.initial.self);
+}
+
+abbrev pub invariant-loop-handler : goal.invariant-loop-handler
+invariant-loop-handler l = record {
+  program : l.self.program ≡ l.initial.self.program;
+  value : plain_of l.self ≡ plays l.initial.self.program (map actor.Handler (range_with_len 0 l.handler)) (plain_of l.initial.self);
+}

@@ -1,0 +1,49 @@
+use Rattle.std.proofs.Common.{length, ap, subst, arith}
+use Rattle.std.proofs.Math.ListN.{set}
+use Rattle.qs_played.specs.declared.actor.Actor.TheVariants as actor
+use Rattle.qs_plain_client.specs.ClientMoves.{Begins}
+use Rattle.qs_plain_client.specs.Clients.{ClientState, IsClient}
+use Rattle.qs_plain_client.specs.declared.stage.Stage.TheVariants as stage
+use Rattle.qs_plain.specs.Rules.{to_come, RulesState}
+use Rattle.qs_plain.proofs.RulesBegin.{can_enter, begun_rules, fewer, separate_steps}
+use Rattle.qs_plain.proofs.RulesFieldLemmas.{within_of, stage_of, here_of, made_kept, made_steps, longer_order}
+use Rattle.qs_plain.proofs.machine.Machine.separate.Goals as goal
+
+pub enter_all-requires : goal.enter_all-requires
+enter_all-requires c =
+    let less = within_of _ _ c.args.number c.self.view_is c.requires.number in
+    let here = here_of _ c.args.number _ _ c.from.ensures less c.index_mut-client.ensures.value in
+    let isc = subst IsClient here c.begun.ensures.kept in
+    let out = stage_of _ _ c.args.number stage.Out c.self.view_is c.requires.out in
+    let begins = subst (λ d. Begins d c.begin-queues.result.items c.begin-queues.new.self) here c.begin-queues.ensures.begins in
+    can_enter _ c.self.invariant.0 c.is_sound.ensures.sound c.args.number less isc out c.begin-queues.result.items c.begin-queues.new.self begins
+
+pub invariant_of-self : goal.invariant_of-self
+invariant_of-self c =
+    let less = within_of _ _ c.args.number c.self.view_is c.requires.number in
+    let here = here_of _ c.args.number _ _ c.from.ensures less c.index_mut-client.ensures.value in
+    let isc = subst IsClient here c.begun.ensures.kept in
+    let out = stage_of _ _ c.args.number stage.Out c.self.view_is c.requires.out in
+    let begins = subst (λ d. Begins d c.begin-queues.result.items c.begin-queues.new.self) here c.begin-queues.ensures.begins in
+    let one_less = fewer _ c.self.invariant.0 c.is_sound.ensures.sound c.args.number less isc out c.begin-queues.result.items c.begin-queues.new.self begins in
+    let r : RulesState = record { program = c.self.inside.program.now; order = c.self.inside.order.items; clients = c.self.inside.clients.items; handlers = c.self.inside.handlers.items } in (
+      made_kept r c.push_reserved.new.self.items c.args.number c.from.result c.begin-queues.new.self _ c.enter_all.new.handlers.items c.from.ensures c.enter_all.ensures.entered
+          (begun_rules _ c.self.invariant.0 c.is_sound.ensures.sound c.args.number less isc out c.begin-queues.result.items c.begin-queues.new.self begins c.push_reserved.new.self.items),
+      omega (arith, one_less, c.self.invariant.1, c.push_reserved.ensures.len, c.push_reserved.ensures.capacity, ap (λ n. to_come (set c.self.inside.clients.items n c.begin-queues.new.self)) c.from.ensures),
+    )
+
+pub returns : goal.returns
+returns c =
+    let less = within_of _ _ c.args.number c.self.view_is c.requires.number in
+    let here = here_of _ c.args.number _ _ c.from.ensures less c.index_mut-client.ensures.value in
+    let isc = subst IsClient here c.begun.ensures.kept in
+    let out = stage_of _ _ c.args.number stage.Out c.self.view_is c.requires.out in
+    let begins = subst (λ d. Begins d c.begin-queues.result.items c.begin-queues.new.self) here c.begin-queues.ensures.begins in
+    record {
+      steps = (
+        made_steps _ _ (actor.Client c.args.number) _ c.push_reserved.new.self.items c.args.number c.from.result c.begin-queues.new.self _ c.enter_all.new.handlers.items c.self.view_is c.from.ensures c.enter_all.ensures.entered
+            (longer_order _ _ _ _ _ _ c.push_reserved.ensures.items c.begun.ensures.value (ap (λ (d : ClientState). length d.entries) here))
+            (separate_steps _ c.self.invariant.0 c.is_sound.ensures.sound c.args.number less isc out c.begin-queues.result.items c.begin-queues.new.self begins),
+        ap (λ (r : RulesState). r.program) c.self.view_is,
+      );
+    }

@@ -1,0 +1,14 @@
+-- What the code reads off when a run is over.
+use Rattle.std.specs.Prelude.{◌≡◌, ◌<◌, ℕ, List, length, slice_index_or}
+use Rattle.qs_objects.specs.declared.held.Ticket.{Ticket}
+use Rattle.qs_check.specs.Program.{ProgramShape}
+use Rattle.qs_plain_client.specs.Clients.{ClientState, client_at}
+
+-- each ticket names a block that was begun
+abbrev pub AreBegun : List ClientState → List Ticket → Type 0
+AreBegun cs order = (i : ℕ) (d : Ticket) → i < length order →
+    ((slice_index_or order i d).client < length cs) × ((slice_index_or order i d).index < length (client_at cs (slice_index_or order i d).client).entries)
+
+-- the clients of a program, each with its number
+abbrev pub AreOwn : ProgramShape → List ClientState → Type 0
+AreOwn p cs = (c : ℕ) → c < length cs → ((client_at cs c).program ≡ p) × ((client_at cs c).number ≡ c)

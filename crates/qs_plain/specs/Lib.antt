@@ -1,0 +1,5 @@
+pub mod Beginning
+pub mod BegunBlocks
+pub mod Handlers
+pub mod Rules
+pub mod Served

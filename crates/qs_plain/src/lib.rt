@@ -1,0 +1,12 @@
+//! The machine of the plain rules: for each handler a queue of queues, and in it a private queue of single requests for each reservation.
+#![tactic(auto)]
+
+mod handler;
+mod handlers;
+mod machine;
+mod rules;
+mod schedules;
+mod showing;
+
+pub use rules::Rules;
+pub use schedules::play_plain;

@@ -1,0 +1,232 @@
+//! The machine of the plain rules.
+
+ghost use Rattle.std.specs.Prelude.{◌≡◌, ◌<◌, None, false, length, IfOk};
+ghost use Rattle.std.specs.Bool.{OnTrue};
+ghost use Rattle.qs_plain_laws.specs.Plain.{begin, step as the_step};
+ghost use Rattle.qs_played.specs.declared.actor.Actor.TheVariants as actors;
+ghost use Rattle.qs_plain_client.specs.declared.stage.Stage.TheVariants as stages;
+
+use crate::handler::{HandlerState, Served};
+use crate::handlers::{enter_all, fresh_handlers, log_all, log_once};
+use crate::showing;
+use qs_check::Program;
+use qs_objects::Ticket;
+use qs_plain_client::{Asked, ClientState, Stage, answer, fresh_clients};
+use qs_plain_laws::QueueItem;
+use qs_played::{Actor, Played, Row};
+use std::alloc::{AllocError, Global};
+use std::marker::Model;
+
+/// A program on its way: each handler has a queue of queues, and each reservation a private queue of single requests. It takes memory
+/// in `new` alone.
+#[derive(Drop)]
+pub(crate) struct Machine<'p> {
+    program: &'p Program,
+    alloc: Global,
+    order: Vec<Ticket>,
+    clients: Vec<ClientState<'p>>,
+    handlers: Vec<HandlerState>,
+}
+
+impl<'p> Model for Machine<'p> {
+    ghost use Rattle.std.specs.Prelude.{◌≤◌, ◌+◌, vec_len, vec_capacity};
+    ghost use Rattle.qs_plain.specs.Rules.{RulesState, rules_code, IsRules, to_come};
+
+    ghost Value = { RulesState };
+
+    ghost coded = { rules_code };
+
+    ghost view = { λ r. record { program = r.program.now; order = r.order.items; clients = r.clients.items; handlers = r.handlers.items } };
+
+    ghost invariant = { λ r.
+        IsRules (record { program = r.program.now; order = r.order.items; clients = r.clients.items; handlers = r.handlers.items })
+        × (vec_len r.order + to_come r.clients.items ≤ vec_capacity r.order) };
+}
+
+impl<'p> Machine<'p> {
+    ghost use Rattle.qs_plain_client.specs.Clients.{client_at};
+    ghost use Rattle.qs_plain.specs.Rules.{Steps, plain_of};
+    ghost use Rattle.qs_played.specs.Schedule.{actors_of};
+    ghost use Rattle.qs_plain_laws.specs.PlainSchedule.{played_of, plays};
+    ghost use Rattle.qs_plain.specs.BegunBlocks.{AreBegun};
+
+    /// A program before its first step. It takes all the memory that the run will need, by the loads; an allocation that fails leaves nothing.
+    pub(crate) fn new(alloc: Global, program: &'p Program) -> Result<Machine<'p>, AllocError>
+        ensures fresh { IfOk result (λ r. (r.program ≡ program.now) × (plain_of r ≡ begin program.now)) }
+    {
+        program.is_sound();
+        let blocks = program.blocks();
+        let clients = fresh_clients(alloc, program)?;
+        let handlers = fresh_handlers(alloc, program, blocks)?;
+        let order = Vec::with_capacity(alloc, blocks)?;
+        Ok(Machine {
+            program,
+            alloc,
+            order,
+            clients,
+            handlers,
+        })
+    }
+
+    /// The program.
+    pub(crate) fn program(&self) -> &Program
+        ensures value { result.now ≡ self.now.program }
+    {
+        self.program
+    }
+
+    /// One step of an actor: true where it has one, and else false, with nothing changed; also where there is no such actor.
+    pub(crate) fn step(&mut self, actor: Actor) -> bool
+        ensures steps { OnTrue result (Steps self.old actor self.new) }
+        ensures none { result ≡ false → the_step self.old.program (plain_of self.old) actor ≡ None }
+        ensures unchanged { result ≡ false → self.new ≡ self.old }
+    {
+        match actor {
+            Actor::Client(client) => {
+                usize::from(client) < self.clients.len() && self.step_client(client)
+            }
+            Actor::Handler(handler) => {
+                usize::from(handler) < self.handlers.len() && self.step_handler(handler)
+            }
+        }
+    }
+
+    fn step_client(&mut self, number: u8) -> bool
+        requires { number < length self.old.clients }
+        ensures steps { OnTrue result (Steps self.old (actors.Client number) self.new) }
+        ensures none { result ≡ false → the_step self.old.program (plain_of self.old) (actors.Client number) ≡ None }
+        ensures unchanged { result ≡ false → self.new ≡ self.old }
+    {
+        let client = &self.clients[usize::from(number)];
+        match client.stage() {
+            Stage::Out => {
+                if !client.has_more() {
+                    return false;
+                }
+                self.separate(number);
+                true
+            }
+            Stage::Within => {
+                self.go_on(number);
+                true
+            }
+            Stage::Waiting(_) => false,
+        }
+    }
+
+    /// A client reserves the objects of its next block.
+    fn separate(&mut self, number: u8)
+        requires number { number < length self.old.clients }
+        requires out { (client_at self.old.clients number).stage ≡ stages.Out }
+        requires more { 0 < length (client_at self.old.clients number).prepared }
+        ensures steps { Steps self.old (actors.Client number) self.new }
+    {
+        self.program.is_sound();
+        let client = &mut self.clients[usize::from(number)];
+        let ticket = Ticket {
+            client: number,
+            index: client.begun() as u8,
+        };
+        let queues = client.begin();
+        self.order.push_reserved(ticket);
+        enter_all(&mut self.handlers, queues);
+    }
+
+    /// A client in a block goes on up to its next request, which is logged, or to the block's end.
+    fn go_on(&mut self, number: u8)
+        requires number { number < length self.old.clients }
+        requires within { (client_at self.old.clients number).stage ≡ stages.Within }
+        ensures steps { Steps self.old (actors.Client number) self.new }
+    {
+        self.program.is_sound();
+        let client = &mut self.clients[usize::from(number)];
+        let ticket = Ticket {
+            client: number,
+            index: (client.begun() - 1) as u8,
+        };
+        match client.ask(self.alloc) {
+            Asked::Command(request) => {
+                let object = request.object;
+                log_once(
+                    &mut self.handlers,
+                    object,
+                    ticket,
+                    QueueItem::Command(request),
+                );
+            }
+            Asked::Query(request) => {
+                let object = request.object;
+                log_once(
+                    &mut self.handlers,
+                    object,
+                    ticket,
+                    QueueItem::Query(request),
+                );
+            }
+            Asked::End => {
+                let block = self.program.block(ticket.client, ticket.index);
+                log_all(
+                    &mut self.handlers,
+                    block.reserved(),
+                    ticket,
+                    &QueueItem::EndMark,
+                );
+            }
+        }
+    }
+
+    fn step_handler(&mut self, number: u8) -> bool
+        requires { number < length self.old.handlers }
+        ensures steps { OnTrue result (Steps self.old (actors.Handler number) self.new) }
+        ensures none { result ≡ false → the_step self.old.program (plain_of self.old) (actors.Handler number) ≡ None }
+        ensures unchanged { result ≡ false → self.new ≡ self.old }
+    {
+        let handler = &mut self.handlers[usize::from(number)];
+        match handler.serve() {
+            Served::Nothing => false,
+            Served::Done => true,
+            Served::Replied(ticket, request, reply) => {
+                answer(&mut self.clients, ticket, request, reply);
+                true
+            }
+        }
+    }
+
+    /// One step of each client and then of each handler, in text order.
+    pub(crate) fn round(&mut self)
+        ensures round { plain_of self.new ≡ plays self.old.program (actors_of self.old.program) (plain_of self.old) }
+        ensures program { self.new.program ≡ self.old.program }
+    {
+        self.program.is_sound();
+        for client in 0..self.program.clients() as u8 {
+            let _stepped = self.step(Actor::Client(client));
+        }
+        for handler in 0..self.program.objects() as u8 {
+            let _stepped = self.step(Actor::Handler(handler));
+        }
+    }
+
+    /// What the run has shown.
+    pub(crate) fn into_played(self, alloc: Global) -> Result<Played, AllocError>
+        requires { AreBegun self.clients self.order }
+        ensures shown { IfOk result (λ played. played ≡ played_of self.entry.program (plain_of self.entry)) }
+    {
+        self.program.is_sound();
+        let ended = showing::endings(alloc, &self.clients, &self.order)?;
+        let entries = showing::entries(alloc, &self.clients, &self.order)?;
+        let traces = showing::traces(alloc, &self.clients, &self.order)?;
+        let syncs = showing::syncs(&self.clients);
+        let finished = showing::are_done(&self.clients) && showing::are_idle(&self.handlers);
+        let (journals, states) = showing::parts(alloc, self.handlers)?;
+        Ok(Played {
+            order: Row::from_vec(self.order),
+            ended,
+            entries,
+            traces,
+            journals,
+            states,
+            syncs,
+            finished,
+        })
+    }
+}

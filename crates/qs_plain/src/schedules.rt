@@ -1,0 +1,64 @@
+//! Schedules under the plain rules.
+
+ghost use Rattle.std.specs.Prelude.{◌≡◌, IfOk};
+ghost use Rattle.qs_meaning.specs.Serial.{IsLegal};
+ghost use Rattle.qs_played.specs.Isolation.{IsIsolated};
+ghost use Rattle.qs_plain_laws.specs.PlainIsolation.{queued};
+ghost use Rattle.qs_plain_laws.specs.PlainSyncSums.{AreQueriesCounted};
+ghost use Rattle.qs_played.specs.Schedule.{actors_of, all_named, names_actor, repeated};
+ghost use Rattle.qs_plain_laws.specs.PlainSchedule.{IsPlayed, played_of, plays, scheduled};
+
+use crate::machine::Machine;
+use qs_check::Program;
+use qs_played::{Actor, PlayFault, Played, are_named};
+use std::alloc::{AllocError, Global};
+
+/// What a program shows under the plain rules after a schedule: first the picks, one step each, then so many rounds, each of them one
+/// step of every client and then of every handler in text order; an actor without a step changes nothing. `Rounds` comes for more
+/// than 1,000,000 rounds, `Actor` for a pick that names no actor of the program, both before any allocation; `Memory` where one fails. What is shown is isolated: each reservation has done what its block does alone, at its place in the
+/// order of reservations. Its synchronisations are counted, reservation by reservation and object by object.
+pub fn play_plain(
+    alloc: Global,
+    program: &Program,
+    picks: &[Actor],
+    rounds: u32,
+) -> Result<Played, PlayFault>
+    ensures played { IsPlayed program.now picks.now rounds result }
+    ensures legal { IfOk result (λ played. IsLegal program.now played.order) }
+    ensures isolated { IfOk result (λ played. IsIsolated program.now played (queued (scheduled program.now picks.now rounds))) }
+    ensures counted { IfOk result (AreQueriesCounted program.now (scheduled program.now picks.now rounds)) }
+{
+    if rounds > 1_000_000 {
+        return Err(PlayFault::Rounds);
+    }
+    if !are_named(program, picks) {
+        return Err(PlayFault::Actor);
+    }
+    match play(alloc, program, picks, rounds) {
+        Ok(played) => Ok(played),
+        Err(_) => Err(PlayFault::Memory),
+    }
+}
+
+#[tactic(auto, unfolding(qs_plain_laws::specs::PlainSchedule::scheduled))]
+fn play(
+    alloc: Global,
+    program: &Program,
+    picks: &[Actor],
+    rounds: u32,
+) -> Result<Played, AllocError>
+    ensures played { IfOk result (λ played. played ≡ played_of program.now (scheduled program.now picks.now rounds)) }
+    ensures legal { IfOk result (λ played. IsLegal program.now played.order) }
+    ensures isolated { IfOk result (λ played. IsIsolated program.now played (queued (scheduled program.now picks.now rounds))) }
+    ensures counted { IfOk result (AreQueriesCounted program.now (scheduled program.now picks.now rounds)) }
+{
+    program.is_sound();
+    let mut rules = Machine::new(alloc, program)?;
+    for pick in picks {
+        let _stepped = rules.step(*pick);
+    }
+    for _round in 0..rounds {
+        rules.round();
+    }
+    rules.into_played(alloc)
+}

@@ -1,0 +1,117 @@
+//! What a run has shown, read off when it is over.
+
+ghost use Rattle.std.specs.Prelude.{◌≡◌, ◌≤◌, ◌∷◌, IfOk, length, map, sum_by, slice_index_or, []};
+ghost use Rattle.qs_objects.specs.declared.held.Ticket.{Ticket as TicketShape};
+ghost use Rattle.qs_check.specs.Program.{ProgramShape};
+ghost use Rattle.qs_plain_client.specs.Clients.{ClientState as State, client_of};
+ghost use Rattle.qs_plain_client.specs.Clients.{client_at};
+ghost use Rattle.qs_plain_laws.specs.PlainSchedule.{all_done, all_idle, has_ended, syncs_of};
+ghost use Rattle.qs_plain.specs.Served.{HandlerState as Serving, handler_of};
+ghost use Rattle.qs_plain.specs.BegunBlocks.{AreBegun, AreOwn};
+
+use crate::handler::HandlerState;
+use qs_check::Locals;
+use qs_objects::{Journal, Object, Ticket};
+use qs_plain_client::ClientState;
+use qs_played::{Row, Traces};
+use std::alloc::{AllocError, Global};
+
+/// For each ticket whether its block has ended.
+pub(crate) fn endings(
+    alloc: Global,
+    clients: &[ClientState],
+    order: &[Ticket],
+) -> Result<Row<bool>, AllocError>
+    requires { AreBegun clients.now order.now }
+    ensures value { IfOk result (λ row. row ≡ map (λ (t : TicketShape). has_ended (client_of (client_at clients.now t.client)) t.index) order.now) }
+{
+    let mut row = Vec::new(alloc);
+    for ticket in order {
+        row.push(clients[usize::from(ticket.client)].has_ended(ticket.index))?;
+    }
+    Ok(Row::from_vec(row))
+}
+
+/// For each ticket its client's variables at entry.
+pub(crate) fn entries(
+    alloc: Global,
+    clients: &[ClientState],
+    order: &[Ticket],
+) -> Result<Row<Locals>, AllocError>
+    requires { AreBegun clients.now order.now }
+    ensures value { IfOk result (λ row. row ≡ map (λ (t : TicketShape). slice_index_or (client_at clients.now t.client).entries t.index []) order.now) }
+{
+    let mut row = Vec::new(alloc);
+    for ticket in order {
+        row.push(clients[usize::from(ticket.client)].entry(ticket.index))?;
+    }
+    Ok(Row::from_vec(row))
+}
+
+/// For each ticket its block's trace.
+pub(crate) fn traces(
+    alloc: Global,
+    clients: &[ClientState],
+    order: &[Ticket],
+) -> Result<Traces, AllocError>
+    requires { AreBegun clients.now order.now }
+    ensures value { IfOk result (λ traces. traces ≡ map (λ (t : TicketShape). slice_index_or (client_of (client_at clients.now t.client)).traces t.index []) order.now) }
+{
+    let mut row = Vec::new(alloc);
+    for ticket in order {
+        row.push(clients[usize::from(ticket.client)].trace(alloc, ticket.index)?)?;
+    }
+    Ok(Traces::from_vec(row))
+}
+
+/// How many queries the clients have asked.
+pub(crate) fn syncs(clients: &[ClientState]) -> u64
+    requires { length clients.now ≤ 8 }
+    ensures value { result ≡ sum_by (λ (d : State). syncs_of (client_of d)) clients.now }
+{
+    let mut syncs = 0;
+    for client in clients {
+        syncs += client.syncs();
+    }
+    syncs
+}
+
+/// Whether each client stands between two blocks with none to come.
+pub(crate) fn are_done(clients: &[ClientState]) -> bool
+    ensures value { (p : ProgramShape) → AreOwn p clients.now → result ≡ all_done p 0 (map client_of clients.now) }
+{
+    let mut done = true;
+    for client in clients {
+        done = done && client.is_done();
+    }
+    done
+}
+
+/// Whether no handler serves anybody.
+pub(crate) fn are_idle(handlers: &[HandlerState]) -> bool
+    ensures value { result ≡ all_idle (map handler_of handlers.now) }
+{
+    let mut idle = true;
+    for handler in handlers {
+        idle = idle && handler.is_idle();
+    }
+    idle
+}
+
+/// For each handler its object's journal and its object.
+pub(crate) fn parts(
+    alloc: Global,
+    handlers: Vec<HandlerState>,
+) -> Result<(Row<Journal>, Row<Object>), AllocError>
+    ensures journals { IfOk result (λ rows. rows.0 ≡ map (λ (h : Serving). h.held.journal) handlers.items) }
+    ensures states { IfOk result (λ rows. rows.1 ≡ map (λ (h : Serving). h.held.object) handlers.items) }
+{
+    let mut journals = Vec::new(alloc);
+    let mut states = Vec::new(alloc);
+    for handler in handlers {
+        let (object, journal) = handler.into_held().into_parts();
+        journals.push(journal)?;
+        states.push(object)?;
+    }
+    Ok((Row::from_vec(journals), Row::from_vec(states)))
+}

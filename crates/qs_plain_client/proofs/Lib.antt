@@ -1,0 +1,3 @@
+pub mod ClientPreserved
+pub mod Mapping
+pub mod FrameMoves

@@ -1,0 +1,82 @@
+-- What a client's moves do to it.
+use Rattle.std.specs.Prelude.{◌≡◌, ℕ, ◌==◌, if◌then◌else◌, true, List, [], ◌∷◌, ◌++◌, length, slice_set, ℤ, Option, None}
+use Rattle.qs_objects.specs.declared.Request.{Request}
+use Rattle.qs_meaning.specs.Interaction.{Done, Call, Query}
+use Rattle.qs_meaning.specs.Solo.{event, value_of}
+use Rattle.qs_check.specs.Sound.{is_in}
+use Rattle.qs_plain_client.specs.Clients.{ClientState, block_of}
+use Rattle.qs_plain_client.specs.PreparedBlock.{PreparedState}
+use Rattle.qs_plain_client.specs.TraceMoves.{noted_in}
+use Rattle.qs_plain_client.specs.Frames.{Frame, rest, next_of}
+use Rattle.qs_plain_client.specs.Queues.{QueueState}
+use Rattle.qs_plain_client.specs.Traces.{TraceState}
+use Rattle.qs_plain_client.specs.declared.client.Asked.{Asked}
+use Rattle.qs_plain_client.specs.declared.stage.Stage.{Stage}
+use Rattle.qs_plain_client.specs.declared.client.Asked.TheVariants as asked
+use Rattle.qs_plain_client.specs.declared.stage.Stage.TheVariants as stage
+
+abbrev pub moved : ClientState → Stage → List ℤ → List Frame → List TraceState → ClientState
+moved d s l fs ts = record {
+  program = d.program;
+  number = d.number;
+  stage = s;
+  locals = l;
+  frames = fs;
+  depth = d.depth;
+  entries = d.entries;
+  traces = ts;
+  prepared = d.prepared;
+}
+
+-- a block begins, with what is prepared for it
+abbrev pub begun_with : ClientState → PreparedState → List PreparedState → ClientState
+begun_with d x later = record {
+  program = d.program;
+  number = d.number;
+  stage = stage.Within;
+  locals = d.locals;
+  frames = d.frames ++ rest (block_of d (length d.entries)).body ∷ [];
+  depth = d.depth;
+  entries = d.entries ++ d.locals ∷ [];
+  traces = d.traces ++ x.trace ∷ [];
+  prepared = later;
+}
+
+pub record Begins (old : ClientState) (queues : List (ℕ × QueueState)) (new : ClientState) : Type 0 where
+  pub first : PreparedState
+  pub prepared : old.prepared ≡ first ∷ new.prepared
+  pub handed : queues ≡ first.queues
+  pub client : new ≡ begun_with old first new.prepared
+
+-- what a client in a block asks, after its quiet moves
+abbrev pub Goes : Asked → ClientState → ClientState → Type 0
+Goes (asked.Command r) old new =
+    (next_of old.frames old.locals ≡ Call r (next_of new.frames new.locals))
+    × (new ≡ moved old stage.Within new.locals new.frames (noted_in old.traces (event r None)))
+Goes (asked.Query r) old new =
+    (x : ℕ) × (next_of old.frames old.locals ≡ Query r (λ v. next_of new.frames (slice_set new.locals x v)))
+    × (new ≡ moved old (stage.Waiting x) new.locals new.frames old.traces)
+Goes asked.End old new =
+    (next_of old.frames old.locals ≡ Done new.locals) × (new ≡ moved old stage.Out new.locals [] old.traces)
+
+-- how many requests on an object it makes
+abbrev pub requested_of : Asked → ℕ → ℕ
+requested_of (asked.Command r) h = if r.object == h then 1 else 0
+requested_of (asked.Query r) h = if r.object == h then 1 else 0
+requested_of asked.End h = 0
+
+-- a request is on an object of the list
+abbrev pub IsReserved : List ℕ → Asked → Type 0
+IsReserved reserved (asked.Command r) = is_in reserved r.object ≡ true
+IsReserved reserved (asked.Query r) = is_in reserved r.object ≡ true
+IsReserved reserved asked.End = Unit {0}
+
+-- a reply goes to a client that waits, and to no other
+abbrev pub RepliesAt : Stage → ClientState → Request → Option ℤ → ClientState → Type 0
+RepliesAt stage.Out old r v new = new ≡ old
+RepliesAt stage.Within old r v new = new ≡ old
+RepliesAt (stage.Waiting x) old r v new =
+    new ≡ moved old stage.Within (slice_set old.locals x (value_of v)) old.frames (noted_in old.traces (event r v))
+
+abbrev pub Replies : ClientState → Request → Option ℤ → ClientState → Type 0
+Replies old r v new = RepliesAt old.stage old r v new

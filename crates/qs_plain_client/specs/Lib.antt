@@ -1,0 +1,12 @@
+pub mod Asking
+pub mod FreshClients
+pub mod ClientMoves
+pub mod Clients
+pub mod FrameViews
+pub mod Frames
+pub mod Growing
+pub mod ReplyDelivery
+pub mod TraceMoves
+pub mod Queues
+pub mod PreparedBlock
+pub mod Traces

@@ -1,0 +1,14 @@
+//! A client under the plain rules: the frames of its block, and all that its later blocks will need, prepared; and private queues.
+#![tactic(auto)]
+
+mod client;
+mod frames;
+mod private_queue;
+mod stage;
+mod trace;
+
+pub use client::{Asked, ClientState, Prepared, answer, fresh_clients};
+pub use frames::{Ask, Frame, Frames, grow};
+pub use private_queue::PrivateQueue;
+pub use stage::Stage;
+pub use trace::Trace;

@@ -1,0 +1,74 @@
+//! Private queues.
+
+ghost use Rattle.std.specs.Prelude.{◌≡◌, ◌+◌, ◌-◌, ◌<◌, [], ◌∷◌, ◌++◌, IfOk, IfNone, IfSome, MatchOption, if◌then◌else◌, true, false};
+ghost use Rattle.qs_objects.specs.Parts.{same as same_ticket};
+ghost use Rattle.qs_played.specs.Played.{ticket as the_ticket};
+ghost use Rattle.qs_plain_laws.specs.Plain.{Private, put_item};
+ghost use Rattle.qs_plain_client.specs.Queues.{queue_state};
+
+use qs_objects::Ticket;
+use qs_plain_laws::QueueItem;
+use std::alloc::{AllocError, Global};
+use std::collections::VecDeque;
+use std::marker::Model;
+
+/// The private queue of a reservation, which takes memory in `new` alone.
+#[derive(Drop)]
+pub struct PrivateQueue {
+    ticket: Ticket,
+    items: VecDeque<QueueItem>,
+    room: usize,
+}
+
+impl Model for PrivateQueue {
+    ghost use Rattle.std.specs.Prelude.{◌≤◌, ◌+◌};
+    ghost use Rattle.std.specs.VecDeque.{deque_len, deque_capacity};
+    ghost use Rattle.qs_plain_client.specs.Queues.{QueueState, queue_state};
+
+    ghost Value = { QueueState };
+
+    ghost view = { λ q. queue_state q.ticket q.items.items q.room };
+
+    ghost invariant = { λ q. deque_len q.items + q.room ≤ deque_capacity q.items };
+}
+
+impl PrivateQueue {
+    /// An empty one, in which `room` items can be logged.
+    pub fn new(alloc: Global, ticket: Ticket, room: usize) -> Result<PrivateQueue, AllocError>
+        ensures fresh { IfOk result (λ q. q ≡ queue_state ticket [] room) }
+    {
+        let items = VecDeque::with_capacity(alloc, room)?;
+        Ok(PrivateQueue {
+            ticket,
+            items,
+            room,
+        })
+    }
+
+    /// The reservation that it belongs to.
+    pub fn ticket(&self) -> Ticket
+        ensures value { result ≡ self.now.queue.ticket }
+    {
+        self.ticket
+    }
+
+    /// Logs an item if the queue is the ticket's.
+    pub fn put(&mut self, ticket: Ticket, item: &QueueItem)
+        requires { same_ticket ticket self.old.queue.ticket ≡ true → 0 < self.old.room }
+        ensures queue { self.new.queue ≡ put_item ticket item.now self.old.queue }
+        ensures room { self.new.room ≡ self.old.room - (if same_ticket ticket self.old.queue.ticket then 1 else 0) }
+    {
+        if self.ticket.client == ticket.client && self.ticket.index == ticket.index {
+            self.items.push_back_reserved(item.copied());
+            self.room -= 1;
+        }
+    }
+
+    /// Takes its first item.
+    pub fn pop(&mut self) -> Option<QueueItem>
+        ensures cases { MatchOption result ((self.old.queue.items ≡ []) × (self.new ≡ self.old))
+            (λ item. self.old ≡ queue_state self.new.queue.ticket (item ∷ self.new.queue.items) self.new.room) }
+    {
+        self.items.pop_front()
+    }
+}

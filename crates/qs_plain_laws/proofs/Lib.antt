@@ -1,0 +1,11 @@
+pub mod ServedRunMoves
+pub mod ServedRuns
+pub mod Isolating
+pub mod Ordering
+pub mod PlainPreserved
+pub mod PlainSyncs
+pub mod Rooms
+pub mod ServiceFlows
+pub mod Services
+pub mod RunViews
+pub mod Simulation

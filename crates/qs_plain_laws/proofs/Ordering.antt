@@ -1,0 +1,148 @@
+-- The order of reservations is legal after every schedule.
+use Rattle.std.proofs.Common.{◌≡◌, ◌<◌, ℕ, zero, suc, ◌==◌, Bool, true, false, if◌then◌else◌, nat_lt, List, [], ◌∷◌, ◌++◌, map, length, get_or, Some, None, refl, ap, sym, subst, ◌∙◌, arith, add-one, get_or-set_same, get_or-set_other}
+use Rattle.std.proofs.Math.ListN.{set}
+use Rattle.std.proofs.Math.Seq.{map-set_same}
+use Rattle.std.proofs.lemmas.List.{length-append, length-map, map-set}
+use Rattle.std.specs.List.{range_with_len}
+use Rattle.std.specs.Prelude.{Option, ℤ}
+use Rattle.qs_objects.specs.declared.held.Ticket.{Ticket}
+use Rattle.qs_objects.specs.Journals.{ran}
+use Rattle.qs_objects.specs.declared.Request.{Request}
+use Rattle.qs_meaning.specs.Interaction.{Interaction, Done, Call, Query}
+use Rattle.qs_check.specs.Program.{ProgramShape, blocks_of}
+use Rattle.qs_meaning.specs.Serial.{LegalFrom, IsLegal}
+use Rattle.qs_meaning.specs.Solo.{put}
+use Rattle.qs_played.specs.Played.{ticket}
+use Rattle.qs_played.proofs.Lists.{apart}
+use Rattle.qs_played.specs.declared.actor.Actor.{Actor}
+use Rattle.qs_played.proofs.Orders.{counts_after, legal-more, counts-more, counts_grow}
+use Rattle.qs_played.specs.declared.actor.Actor.TheVariants as actor
+use Rattle.qs_plain_laws.specs.Plain.{Plain, Client, Handler, Private, Stage, out, within, waiting, begin, begun, client_at, handler_at, client_step, goes_on, separate, item_step, queue_step, replied, reply_to, step, fresh_client, no_client}
+use Rattle.qs_plain_laws.specs.PlainSchedule.{or_stay, plays}
+use Rattle.qs_plain_laws.specs.declared.item.QueueItem.{QueueItem}
+use Rattle.qs_plain_laws.specs.declared.item.QueueItem.TheVariants as item
+
+pub record IsOrdered (p : ProgramShape) (s : Plain) : Type 0 where
+  pub legal : IsLegal p s.order
+  pub counts : (c : ℕ) → counts_after (λ _. 0) s.order c ≡ get_or (map begun s.clients) c 0
+
+get_or-put : (xs : List ℕ) (c y k : ℕ) → c < length xs → get_or (set xs c y) k 0 ≡ put (λ m. get_or xs m 0) c y k
+get_or-put xs c y k less = by_test (c == k) refl
+  where
+    by_test : (b : Bool) → (c == k) ≡ b → get_or (set xs c y) k 0 ≡ (if b then y else get_or xs k 0)
+    by_test true e = let same : k ≡ c = grind (arith, e) in ap (λ n. get_or (set xs c y) n 0) same ∙ get_or-set_same xs c y 0 less
+    by_test false e = get_or-set_other xs c k y 0 (apart c k e)
+
+get_or-begun : (cs : List Client) (c : ℕ) → get_or (map begun cs) c 0 ≡ begun (get_or cs c no_client)
+get_or-begun [] c = refl
+get_or-begun (it ∷ cs) zero = refl
+get_or-begun (it ∷ cs) (suc c) = get_or-begun cs c
+
+heard : (r : Request) (v : Option ℤ) (it : Client) → begun (replied it r v) ≡ begun it
+heard r v it = by_stage it.stage
+  where
+    by_stage : (g : Stage) → begun (reply_to it r v g) ≡ begun it
+    by_stage (out l) = refl
+    by_stage (within rest) = refl
+    by_stage (waiting next) = refl
+
+module _ (p : ProgramShape) (s : Plain) (o : IsOrdered p s) where
+  -- the order is as it was, and so is how many blocks were begun
+  same_order : (t : Plain) → t.order ≡ s.order → map begun t.clients ≡ map begun s.clients → IsOrdered p t
+  same_order t order begins = record {
+    legal = subst (IsLegal p) (sym order) o.legal;
+    counts = λ c. ap (λ ts. counts_after (λ _. 0) ts c) order ∙ o.counts c ∙ sym (ap (λ (xs : List ℕ). get_or xs c 0) begins);
+  }
+
+  one_set : (c : ℕ) (it : Client) → begun it ≡ begun (get_or s.clients c no_client) → map begun (set s.clients c it) ≡ map begun s.clients
+  one_set c it same = map-set_same begun s.clients c it no_client same
+
+  module _ (c : ℕ) (less : c < length s.clients) where
+    abbrev it : Client
+    it = client_at s c
+
+    going : (rest : Interaction) → IsOrdered p (goes_on p s c it rest)
+    going (Done l) = same_order (goes_on p s c it (Done l)) refl (one_set c _ refl)
+    going (Call r next) = same_order (goes_on p s c it (Call r next)) refl (one_set c _ refl)
+    going (Query r next) = same_order (goes_on p s c it (Query r next)) refl (one_set c _ refl)
+
+    longer : (l : List ℤ) → suc (begun it) ≡ length (it.entries ++ l ∷ [])
+    longer l = sym (length-append it.entries (l ∷ []) ∙ add-one (begun it))
+
+    starting : (l : List ℤ) (b : Bool) → nat_lt (begun it) (blocks_of p c) ≡ b → IsOrdered p (or_stay s (if b then Some (separate p s c it l) else None))
+    starting l false e = o
+    starting l true e = record {
+      legal = legal-more p (λ _. 0) s.order (ticket c (begun it)) o.legal (sym (o.counts c ∙ get_or-begun s.clients c)) (grind (arith, e));
+      counts = λ k.
+          ap (λ (f : ℕ → ℕ). f k) (counts-more (λ _. 0) s.order (ticket c (begun it)))
+          ∙ ap (λ (f : ℕ → ℕ). put f c (suc (begun it)) k) (λ i m. o.counts m i)
+          ∙ sym (get_or-put (map begun s.clients) c (suc (begun it)) k (rw length-map less))
+          ∙ ap (λ xs. get_or xs k 0) (ap (set (map begun s.clients) c) (longer l) ∙ sym (map-set begun s.clients c _));
+    }
+
+    staged : (g : Stage) → IsOrdered p (or_stay s (client_step p s c it g))
+    staged (out l) = starting l (nat_lt (begun it) (blocks_of p c)) refl
+    staged (within rest) = going rest
+    staged (waiting next) = o
+
+  module _ (h : ℕ) where
+    abbrev handler : Handler
+    handler = handler_at s.handlers h
+
+    served : (q : Private) (qs : List Private) (items : List QueueItem) → IsOrdered p (or_stay s (item_step s h handler q qs items))
+    served q qs [] = o
+    served q qs (item.Command r ∷ items) = same_order (or_stay s (item_step s h handler q qs (item.Command r ∷ items))) refl refl
+    served q qs (item.Query r ∷ items) =
+        same_order (or_stay s (item_step s h handler q qs (item.Query r ∷ items))) refl
+        (one_set q.ticket.client _ (heard r (ran handler.held q.ticket r).1 (client_at s q.ticket.client)))
+    served q qs (item.EndMark ∷ items) = same_order (or_stay s (item_step s h handler q qs (item.EndMark ∷ items))) refl refl
+
+    from_queues : (qs : List Private) → IsOrdered p (or_stay s (queue_step s h handler qs))
+    from_queues [] = o
+    from_queues (q ∷ qs) = served q qs q.items
+
+  ordered_next : (a : Actor) → IsOrdered p (or_stay s (step p s a))
+  ordered_next (actor.Handler h) = from_queues h (handler_at s.handlers h).queues
+  ordered_next (actor.Client c) = by_number (nat_lt c (length s.clients)) refl
+    where
+      by_number : (b : Bool) → nat_lt c (length s.clients) ≡ b → IsOrdered p (or_stay s (if b then client_step p s c (client_at s c) (client_at s c).stage else None))
+      by_number false e = o
+      by_number true e = staged c (grind (arith, e)) (client_at s c).stage
+
+pub ordered_plays : (p : ProgramShape) (s : Plain) (actors : List Actor) → IsOrdered p s → IsOrdered p (plays p actors s)
+ordered_plays p s [] o = o
+ordered_plays p s (a ∷ rest) o = ordered_plays p (or_stay s (step p s a)) rest (ordered_next p s o a)
+
+none_begun : (cs : List ℕ) (c : ℕ) → get_or (map begun (map fresh_client cs)) c 0 ≡ 0
+none_begun [] c = refl
+none_begun (n ∷ cs) zero = refl
+none_begun (n ∷ cs) (suc c) = none_begun cs c
+
+pub ordered_begin : (p : ProgramShape) → IsOrdered p (begin p)
+ordered_begin p = record { legal = tt; counts = λ c. sym (none_begun (range_with_len 0 (length p.clients)) c) }
+
+put_here : (b : ℕ → ℕ) (c y : ℕ) → put b c y c ≡ y
+put_here b c y = let same : (c == c) ≡ true = grind arith in ap (λ z. if z then y else b c) same
+
+counted : (p : ProgramShape) (b : ℕ → ℕ) (ts : List Ticket) (i : ℕ) (d : Ticket) → LegalFrom p b ts → i < length ts
+    → (get_or ts i d).index < counts_after b ts (get_or ts i d).client
+counted p b [] i d legal less = absurd (omega (arith, less))
+counted p b (t ∷ ts) zero d legal less =
+    omega (arith, counts_grow p (put b t.client (suc t.index)) ts t.client legal.2, put_here b t.client (suc t.index))
+counted p b (t ∷ ts) (suc i) d legal less = counted p (put b t.client (suc t.index)) ts i d legal.2 (omega (arith, less))
+
+some_within : (xs : List ℕ) (c : ℕ) → 0 < get_or xs c 0 → c < length xs
+some_within [] c some = absurd (omega (arith, some))
+some_within (x ∷ xs) zero some = omega arith
+some_within (x ∷ xs) (suc c) some = omega (arith, some_within xs c some)
+
+-- each ticket of the order names a block that was begun
+pub tickets_begun : (p : ProgramShape) (s : Plain) → IsOrdered p s → (i : ℕ) (d : Ticket) → i < length s.order
+    → ((get_or s.order i d).client < length s.clients) × ((get_or s.order i d).index < begun (client_at s (get_or s.order i d).client))
+tickets_begun p s o i d less =
+    let t = get_or s.order i d in
+    let many = counted p (λ _. 0) s.order i d o.legal less in
+    let begins = o.counts t.client in (
+      omega (arith, length-map s.clients begun, some_within (map begun s.clients) t.client (omega (arith, many, begins))),
+      omega (arith, many, begins, get_or-begun s.clients t.client),
+    )

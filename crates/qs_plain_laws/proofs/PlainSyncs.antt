@@ -1,0 +1,261 @@
+-- The synchronisations under the plain rules, counted by the traces.
+use Rattle.std.proofs.Common.{◌≡◌, ◌<◌, ◌≤◌, ℕ, zero, suc, ◌+◌, ◌-◌, ◌==◌, ◌&&◌, nat_lt, nat_eq, Bool, true, false, if◌then◌else◌, List, [], ◌∷◌, length, get_or, refl, sym, ap, ◌∙◌, subst, inl, inr, arith}
+use Rattle.std.specs.Prelude.{sum_by}
+use Rattle.std.specs.List.{AllByRecursion, range_with_len}
+use Rattle.std.proofs.lemmas.List.{get_or-map}
+use Rattle.std.proofs.lemmas.List.Sums.{sum_by-cons}
+use Rattle.qs_objects.specs.declared.held.Event.{Event}
+use Rattle.qs_objects.specs.declared.held.Ticket.{Ticket}
+use Rattle.qs_objects.specs.declared.Request.{Request}
+use Rattle.qs_objects.proofs.Choices.{apart_eqb, eqb_apart, eqb_self}
+use Rattle.qs_meaning.specs.Following.{AsksOnly, Leads, block_tree, reserves}
+use Rattle.qs_meaning.specs.Interaction.{Interaction, Done, Call, Query}
+use Rattle.qs_check.specs.Program.{ProgramShape, blocks_of}
+use Rattle.qs_meaning.specs.Serial.{IsLegal}
+use Rattle.qs_meaning.specs.Solo.{value_of}
+use Rattle.qs_check.specs.Sound.{IsSound}
+use Rattle.qs_check.proofs.Bounds.{AllByRecursion-get_or}
+use Rattle.qs_meaning.proofs.Histories.{Among, IsPage}
+use Rattle.qs_meaning.proofs.Each.{each_map}
+use Rattle.qs_meaning.proofs.SoundTrees.{blocks_ask_only}
+use Rattle.qs_syncset.specs.SyncCounts.{asks, queries}
+use Rattle.qs_syncset.proofs.SyncTrees.{command_asks_none, query_counts}
+use Rattle.qs_played.specs.Isolation.{ended_of, ticket_at, trace_of}
+use Rattle.qs_played.specs.Played.{ticket}
+use Rattle.qs_played.specs.Schedule.{queries_in}
+use Rattle.qs_played.specs.SyncSums.{AreSent}
+use Rattle.qs_played.specs.declared.played.Played.{Played}
+use Rattle.qs_played.proofs.ReservedObjects.{reserved_inside}
+use Rattle.qs_played.proofs.SyncLists.{sum_of, total_of, legal_blocks, sum_add, sum_at, sum_inside, sum_legal, sum_of_client, sum_one, sum_zero}
+use Rattle.qs_played.proofs.Orders.{each_among, counts_after, legal_among}
+use Rattle.qs_played.proofs.JournalRooms.{no_block_beyond}
+use Rattle.qs_plain_laws.specs.Plain.{Plain, Client, begin, begun, client_at, no_client}
+use Rattle.qs_plain_laws.specs.PlainSchedule.{ended_at, has_ended, is_out, played_of, plays, syncs_of, trace_at, waits}
+use Rattle.qs_plain_laws.specs.PlainSyncSums.{AreQueriesCounted, PlainSyncsAreCounted, waiting}
+use Rattle.qs_plain_laws.proofs.ServedRunMoves.{asks_left}
+use Rattle.qs_plain_laws.proofs.ServedRuns.{ServedRun, IsServedRun}
+use Rattle.qs_plain_laws.proofs.PlainPreserved.{RunInvariant, run_kept, sight_of}
+use Rattle.qs_plain_laws.proofs.RunViews.{RunView, Stance, Stands, Runs, Awaits, stage_of}
+use Rattle.qs_plain_laws.proofs.Simulation.{Simulates, StandsAt}
+use Rattle.qs_plain_laws.specs.Plain as plain
+
+-- the objects of a trace along a tree are the tree's
+objects_among : (may : ℕ → Bool) (tree : Interaction) (es : List Event) (rest : Interaction) → AsksOnly may tree → Leads tree es rest
+    → AllByRecursion (λ (e : Event). may e.request.object ≡ true) es
+objects_among may tree [] rest asks leads = tt
+objects_among may (Done l) (e ∷ es) rest asks leads = absurd leads
+objects_among may (Call r next) (e ∷ es) rest asks leads =
+    (ap (λ (e : Event). may e.request.object) leads.0 ∙ asks.1, objects_among may next es rest asks.2 leads.1)
+objects_among may (Query r next) (e ∷ es) rest asks leads =
+    (ap (λ (r : Request). may r.object) leads.0 ∙ asks.1, objects_among may (next (value_of e.reply)) es rest (asks.2 (value_of e.reply)) leads.1)
+
+-- one of the first m numbers
+one_of_range : (k m : ℕ) → k < m → sum_by (λ h. if k == h then 1 else 0) (range_with_len 0 m) ≡ 1
+one_of_range k m inside =
+    let none = sum_zero (λ (h : ℕ). 0) (λ h. refl) (range_with_len 0 m) in
+    let one = sum_one (λ h. if k == h then 1 else 0) (λ h. 0) k 1 m (rw (eqb_self k) refl) (λ i out. rw out refl) inside in
+    omega (arith, none, one)
+
+-- the queries of a trace, object by object
+queries_by_object : (m : ℕ) (es : List Event) → AllByRecursion (λ (e : Event). e.request.object < m) es
+    → sum_by (λ h. queries h es) (range_with_len 0 m) ≡ queries_in es
+queries_by_object m [] inside = sum_zero (λ h. queries h []) (λ h. refl) (range_with_len 0 m)
+queries_by_object m (e ∷ es) inside = by_event (asks e) refl (queries_by_object m es inside.1)
+  where
+    all : queries_in (e ∷ es) ≡ (if asks e then 1 else 0) + queries_in es
+    all = sum_by-cons (λ (e : Event). if asks e then 1 else 0) e es
+
+    by_event : (b : Bool) → asks e ≡ b → sum_by (λ h. queries h es) (range_with_len 0 m) ≡ queries_in es
+        → sum_by (λ h. queries h (e ∷ es)) (range_with_len 0 m) ≡ queries_in (e ∷ es)
+    by_event true is rest =
+        let each = sum_inside (λ h. queries h (e ∷ es)) (λ h. (if e.request.object == h then 1 else 0) + queries h es) 0 m
+        (λ h low high. query_counts h e es is) in
+        let both = sum_add (λ h. if e.request.object == h then 1 else 0) (λ h. queries h es) (range_with_len 0 m) in
+        let one = one_of_range e.request.object m inside.0 in
+        let whole : queries_in (e ∷ es) ≡ 1 + queries_in es = all ∙ ap (λ b. (if b then 1 else 0) + queries_in es) is in
+        omega (arith, each, both, one, whole, rest)
+    by_event false is rest =
+        let each = sum_inside (λ h. queries h (e ∷ es)) (λ h. queries h es) 0 m (λ h low high. command_asks_none h e es is) in
+        let whole : queries_in (e ∷ es) ≡ 0 + queries_in es = all ∙ ap (λ b. (if b then 1 else 0) + queries_in es) is in
+        omega (arith, each, whole, rest)
+
+-- the query that a client waits for, by its object
+abbrev asked_of : Stance → ℕ → ℕ
+asked_of (Stands l) h = 0
+asked_of (Runs rest) h = 0
+asked_of (Awaits r next) h = if r.object == h then 1 else 0
+
+module _ (p : ProgramShape) (sound : IsSound p) (s : Plain) (k : RunInvariant p sound s) where
+  abbrev v : RunView
+  v = sight_of s k.stance
+
+  abbrev w : ServedRun
+  w = k.kept.0
+
+  good : IsServedRun p w
+  good = k.kept.1
+
+  sim : Simulates v w
+  sim = k.kept.2
+
+  abbrev r : Played
+  r = played_of p s
+
+  legal : IsLegal p s.order
+  legal = subst (IsLegal p) sim.order good.legal
+
+  counts : (c : ℕ) → counts_after (λ _. 0) s.order c ≡ begun (client_at s c)
+  counts c = ap (λ ts. counts_after (λ _. 0) ts c) (sym sim.order) ∙ (good.counts c ∙ sim.booked c)
+
+  -- in the block that its client is in, the query that it waits for
+  abbrev waits_for : Ticket → ℕ → ℕ
+  waits_for t h = if suc t.index == begun (client_at s t.client) then asked_of (k.stance t.client) h else 0
+
+  abbrev sent : Ticket → ℕ → ℕ
+  sent t h = waits_for t h + queries h (trace_at s t)
+
+  -- each block that was begun stands in the order
+  in_order : (c i : ℕ) → i < begun (client_at s c) → Among (ticket c i) w.order
+  in_order c i less =
+      legal_among p (λ _. 0) w.order c i good.legal (omega arith)
+      (let many : counts_after (λ _. 0) w.order c ≡ begun (client_at s c) = good.counts c ∙ sim.booked c in omega (arith, less, many))
+
+  page_ok : (c i : ℕ) → i < begun (client_at s c) → IsPage p (ticket c i) (w.page (ticket c i))
+  page_ok c i less = each_among (λ t. IsPage p t (w.page t)) (ticket c i) w.order good.pages (in_order c i less)
+
+  -- what a block asks is of objects of the program
+  objects_inside : (c i : ℕ) → i < begun (client_at s c) → AllByRecursion (λ (e : Event). e.request.object < length p.objects) (trace_at s (ticket c i))
+  objects_inside c i less =
+      let t = ticket c i in
+      subst (λ es. AllByRecursion (λ (e : Event). e.request.object < length p.objects) es) (sim.trace t)
+      (each_map (λ (e : Event) m. reserved_inside p sound t e.request.object m) (w.page t).trace
+      (objects_among (reserves p t) (block_tree p t (w.page t).entry) (w.page t).trace (w.page t).rest (blocks_ask_only p sound t (w.page t).entry)
+      (page_ok c i less)))
+
+  -- and so is what its client waits for
+  asked_inside : (c n : ℕ) → begun (client_at s c) ≡ n → (g : Stance) → k.stance c ≡ g → sum_of p (asked_of g) ≡ waits (stage_of g)
+  asked_inside c n b (Stands l) at = sum_zero (λ h. 0) (λ h. refl) (range_with_len 0 (length p.objects))
+  asked_inside c n b (Runs rest) at = sum_zero (λ h. 0) (λ h. refl) (range_with_len 0 (length p.objects))
+  asked_inside c zero b (Awaits q next) at =
+      absurd (subst (λ n. StandsAt w.page c (Awaits q next) n) b (subst (λ g. StandsAt w.page c g (begun (client_at s c))) at (sim.stands c)))
+  asked_inside c (suc i) b (Awaits q next) at =
+      let t = ticket c i in
+      let rest : (w.page t).rest ≡ Query q next =
+      subst (λ n. StandsAt w.page c (Awaits q next) n) b (subst (λ g. StandsAt w.page c g (begun (client_at s c))) at (sim.stands c)) in
+      let asking : AsksOnly (reserves p t) (Query q next) = subst (AsksOnly (reserves p t)) rest (asks_left p sound w t (page_ok c i (omega (arith, b)))) in
+      one_of_range q.object (length p.objects) (reserved_inside p sound t q.object asking.1)
+
+  -- a client between blocks waits for nothing
+  none_before : (c : ℕ) → begun (client_at s c) ≡ 0 → (g : Stance) → k.stance c ≡ g → waits (stage_of g) ≡ 0
+  none_before c b (Stands l) at = refl
+  none_before c b (Runs rest) at = refl
+  none_before c b (Awaits q next) at =
+      absurd (subst (λ n. StandsAt w.page c (Awaits q next) n) b (subst (λ g. StandsAt w.page c g (begun (client_at s c))) at (sim.stands c)))
+
+  -- what a block has asked
+  block_sent : (c i : ℕ) → i < begun (client_at s c)
+      → sum_of p (sent (ticket c i)) ≡ (if suc i == begun (client_at s c) then waits (stage_of (k.stance c)) else 0) + queries_in (trace_at s (ticket c i))
+  block_sent c i less =
+      let t = ticket c i in
+      let both = sum_add (waits_for t) (λ h. queries h (trace_at s t)) (range_with_len 0 (length p.objects)) in
+      let asked = by_case (suc i == begun (client_at s c)) in
+      let past = queries_by_object (length p.objects) (trace_at s t) (objects_inside c i less) in
+      omega (arith, both, asked, past)
+    where
+      by_case : (b : Bool) → sum_of p (λ h. if b then asked_of (k.stance c) h else 0) ≡ (if b then waits (stage_of (k.stance c)) else 0)
+      by_case true = asked_inside c (begun (client_at s c)) refl (k.stance c) refl
+      by_case false = sum_zero (λ h. 0) (λ h. refl) (range_with_len 0 (length p.objects))
+
+  -- one more at the last number of a range
+  at_last : (n x : ℕ) (f : ℕ → ℕ) → (n ≡ 0 → x ≡ 0) → sum_by (λ i. (if suc i == n then x else 0) + f i) (range_with_len 0 n) ≡ x + sum_by f (range_with_len 0 n)
+  at_last zero x f none = let z = none refl in omega (arith, z)
+  at_last (suc n) x f none =
+      sum_one (λ i. (if suc i == suc n then x else 0) + f i) f n x (suc n) (rw (eqb_self (suc n)) refl)
+      (λ i out. let other : (suc i == suc n) ≡ false = apart i out in rw other (omega arith)) (omega arith)
+    where
+      apart : (i : ℕ) → (n == i) ≡ false → (suc i == suc n) ≡ false
+      apart i out = eqb_apart (suc i) (suc n) (λ same. apart_eqb n i out (let back : i ≡ n = omega (arith, same) in sym back))
+
+  client_sent : (c : ℕ) → c < length p.clients → sum_of_client (λ t. sum_of p (sent t)) c 0 (begun (client_at s c)) ≡ syncs_of (client_at s c)
+  client_sent c inside =
+      let it = client_at s c in
+      let n = begun it in
+      let whole : n - 0 ≡ n = omega arith in
+      let each = sum_inside (λ i. sum_of p (sent (ticket c i)))
+      (λ i. (if suc i == n then waits (stage_of (k.stance c)) else 0) + queries_in (get_or it.traces i [])) 0 n
+      (λ i low high. block_sent c i (omega (arith, high))) in
+      let last = at_last n (waits (stage_of (k.stance c))) (λ i. queries_in (get_or it.traces i [])) (λ z. none_before c z (k.stance c) refl) in
+      let listed : sum_by queries_in it.traces ≡ sum_by (λ i. queries_in (get_or it.traces i [])) (range_with_len 0 n) =
+      sum_at queries_in [] it.traces ∙ ap (λ m. sum_by (λ i. queries_in (get_or it.traces i [])) (range_with_len 0 m)) (k.traces c) in
+      let stage : waits it.stage ≡ waits (stage_of (k.stance c)) = ap waits (k.stages c inside) in
+      ap (λ m. sum_by (λ i. sum_of p (sent (ticket c i))) (range_with_len 0 m)) whole ∙ omega (arith, each, last, listed, stage)
+
+  all_sent : r.syncs ≡ total_of p sent s.order
+  all_sent =
+      let listed = sum_at syncs_of no_client s.clients in
+      let each = sum_inside (λ c. sum_of_client (λ t. sum_of p (sent t)) c 0 (counts_after (λ _. 0) s.order c)) (λ c. syncs_of (client_at s c)) 0
+      (length p.clients)
+      (λ c low high. ap (sum_of_client (λ t. sum_of p (sent t)) c 0) (counts c) ∙ client_sent c (omega (arith, high))) in
+      let ordered = sum_legal p (λ t. sum_of p (sent t)) (λ _. 0) s.order legal in
+      let long : sum_by (λ c. syncs_of (client_at s c)) (range_with_len 0 (length s.clients)) ≡ sum_by (λ c. syncs_of (client_at s c))
+      (range_with_len 0 (length p.clients)) =
+      ap (λ m. sum_by (λ c. syncs_of (client_at s c)) (range_with_len 0 m)) k.clients in
+      omega (arith, listed, each, ordered, long)
+
+  -- a reservation: one more where its client waits in it
+  ticket_sent : (t : Ticket) → t.client < length p.clients → AreSent (ended_at s t) (sent t) (λ h. queries h (trace_at s t))
+  ticket_sent t inside = by_case (suc t.index == begun (client_at s t.client)) refl
+    where
+      it : Client
+      it = client_at s t.client
+
+      by_stance : suc t.index ≡ begun it → (g : Stance) → k.stance t.client ≡ g
+          → AreSent (ended_at s t) (λ h. asked_of g h + queries h (trace_at s t)) (λ h. queries h (trace_at s t))
+      by_stance last (Stands l) at = inl (λ h. omega arith)
+      by_stance last (Runs rest) at = inl (λ h. omega arith)
+      by_stance last (Awaits q next) at =
+          let less : nat_lt (suc t.index) (begun it) ≡ false = grind (arith, last) in
+          let waiting_now : it.stage ≡ plain.waiting next = k.stages t.client inside ∙ ap stage_of at in
+          let open_yet : has_ended it t.index ≡ false = rw less
+          (ap (λ g. nat_eq (suc t.index) (begun it) && is_out g) waiting_now ∙ both (nat_eq (suc t.index) (begun it))) in
+          inr (open_yet, q.object, λ h. refl)
+        where
+          both : (x : Bool) → (x && false) ≡ false
+          both true = refl
+          both false = refl
+
+      by_case : (b : Bool) → (suc t.index == begun it) ≡ b → AreSent (ended_at s t) (sent t) (λ h. queries h (trace_at s t))
+      by_case true is =
+          subst (λ b. AreSent (ended_at s t) (λ h. (if b then asked_of (k.stance t.client) h else 0) + queries h (trace_at s t))
+          (λ h. queries h (trace_at s t))) (sym is)
+          (by_stance (grind (arith, is)) (k.stance t.client) refl)
+      by_case false out = inl (λ h. rw out (omega arith))
+
+  place_sent : (i : ℕ) → i < length s.order → AreSent (ended_of r i) (sent (ticket_at r i)) (λ h. queries h (trace_of r i))
+  place_sent i inside =
+      let t = ticket_at r i in
+      let own = AllByRecursion-get_or (λ (t : Ticket). t.index < blocks_of p t.client) s.order i (ticket 0 0) (legal_blocks p (λ _. 0) s.order legal) inside in
+      subst (λ es. AreSent (ended_of r i) (sent t) (λ h. queries h es)) (sym (get_or-map (trace_at s) s.order i (ticket 0 0) [] inside))
+      (subst (λ b. AreSent b (sent t) (λ h. queries h (trace_at s t))) (sym (get_or-map (ended_at s) s.order i (ticket 0 0) false inside))
+      (ticket_sent t (no_block_beyond p t.client (omega (arith, own)))))
+
+  -- over all objects, one more exactly where its client waits in it
+  place_more : (i : ℕ) → i < length s.order → sum_of p (sent (ticket_at r i)) ≡ waiting s (ticket_at r i) + queries_in (trace_of r i)
+  place_more i inside =
+      let t = ticket_at r i in
+      let booked = AllByRecursion-get_or (λ (t : Ticket). suc t.index ≤ w.booked t.client) s.order i (ticket 0 0)
+      (subst (AllByRecursion (λ (t : Ticket). suc t.index ≤ w.booked t.client)) sim.order good.below) inside in
+      let less : t.index < begun (client_at s t.client) = let same = sim.booked t.client in omega (arith, booked, same) in
+      let own = AllByRecursion-get_or (λ (t : Ticket). t.index < blocks_of p t.client) s.order i (ticket 0 0) (legal_blocks p (λ _. 0) s.order legal) inside in
+      let stage = k.stages t.client (no_block_beyond p t.client (omega (arith, own))) in
+      block_sent t.client t.index less
+      ∙ (ap (λ g. (if suc t.index == begun (client_at s t.client) then waits g else 0) + queries_in (trace_at s t)) (sym stage)
+      ∙ ap (λ es. waiting s t + queries_in es) (sym (get_or-map (trace_at s) s.order i (ticket 0 0) [] inside)))
+
+-- after every list of actors
+pub plain_syncs_counted : PlainSyncsAreCounted
+unfolding AreQueriesCounted
+plain_syncs_counted p sound actors =
+    let s = plays p actors (begin p) in
+    let k = run_kept p sound actors in
+    record { sent = sent p sound s k; all = all_sent p sound s k; each = λ i inside. record { each = place_sent p sound s k i inside; more = place_more p sound s k i inside } }

@@ -1,0 +1,128 @@
+-- A served run: reservations in order, what is known of each, and how far each object was served.
+use Rattle.std.proofs.Common.{◌≡◌, ℕ, suc, ◌≤◌, ℤ, if◌then◌else◌, List, [], ◌∷◌, ◌++◌, map, filter, flat_map}
+use Rattle.std.specs.List.{AllByRecursion}
+use Rattle.qs_objects.specs.Act.{State}
+use Rattle.qs_objects.specs.Journals.{after, answer, replay, unstamped, IsHonest}
+use Rattle.qs_objects.specs.Parts.{logged, stamp}
+use Rattle.qs_objects.specs.declared.held.Entry.{Entry}
+use Rattle.qs_objects.specs.declared.held.Event.{Event}
+use Rattle.qs_objects.specs.declared.held.Ticket.{Ticket}
+use Rattle.qs_objects.specs.declared.Request.{Request}
+use Rattle.qs_meaning.specs.Following.{reserves, block_tree}
+use Rattle.qs_meaning.specs.Interaction.{Interaction}
+use Rattle.qs_check.specs.Program.{ProgramShape}
+use Rattle.qs_meaning.specs.Serial.{IsLegal, declared}
+use Rattle.qs_meaning.specs.Solo.{put, event, value_of}
+use Rattle.qs_check.specs.Values.{Locals}
+use Rattle.qs_meaning.proofs.Histories.{Page, IsPage, Begins, Apart, NoQuery, parts_of, done_of, advance}
+use Rattle.qs_played.proofs.Orders.{counts_after}
+use Rattle.qs_played.proofs.FunctionUpdate.{put_at}
+
+-- An object's service: the tickets whose requests were all run; those that are still to be served, in order; what was run of the first
+-- of them; for each the commands that wait; the journal, and the state.
+pub record Service : Type 0 where
+  pub past : List Ticket
+  pub queue : List Ticket
+  pub now : List Event
+  pub wait : Ticket → List Request
+  pub journal : List Entry
+  pub state : State
+
+pub record ServedRun : Type 0 where
+  pub order : List Ticket
+  pub booked : ℕ → ℕ
+  pub page : Ticket → Page
+  pub service : ℕ → Service
+
+-- a command is logged
+abbrev pub service_log : Service → Ticket → Request → Service
+service_log l t r = record { past = l.past; queue = l.queue; now = l.now; wait = put_at l.wait t (l.wait t ++ r ∷ []); journal = l.journal; state = l.state }
+
+abbrev pub log : ServedRun → Ticket → Request → Interaction → ServedRun
+log w t r next = record {
+  order = w.order;
+  booked = w.booked;
+  page = put_at w.page t (advance (w.page t) (logged r) next);
+  service = put w.service r.object (service_log (w.service r.object) t r);
+}
+
+-- a query of the first ticket is answered
+abbrev pub service_answer : Service → Ticket → Request → Service
+service_answer l t r = record {
+  past = l.past;
+  queue = l.queue;
+  wait = l.wait;
+  now = l.now ++ event r (answer l.state r) ∷ [];
+  journal = l.journal ++ stamp t (event r (answer l.state r)) ∷ [];
+  state = after l.state r;
+}
+
+abbrev pub reply : ServedRun → Ticket → Request → (ℤ → Interaction) → ServedRun
+reply w t r next =
+    let v = answer (w.service r.object).state r in
+    record {
+      order = w.order;
+      booked = w.booked;
+      page = put_at w.page t (advance (w.page t) (event r v) (next (value_of v)));
+      service = put w.service r.object (service_answer (w.service r.object) t r);
+    }
+
+-- the first command that waits is run
+abbrev pub service_run : Service → Ticket → Request → List Request → Service
+service_run l t r rs = record {
+  past = l.past;
+  queue = l.queue;
+  wait = put_at l.wait t rs;
+  now = l.now ++ logged r ∷ [];
+  journal = l.journal ++ stamp t (event r (answer l.state r)) ∷ [];
+  state = after l.state r;
+}
+
+abbrev pub run_first : ServedRun → ℕ → Ticket → Request → List Request → ServedRun
+run_first w h t r rs = record { order = w.order; booked = w.booked; page = w.page; service = put w.service h (service_run (w.service h) t r rs) }
+
+-- the first ticket is over
+abbrev pub service_leave : Service → Ticket → List Ticket → Service
+service_leave l t ts = record { past = l.past ++ t ∷ []; queue = ts; now = []; wait = l.wait; journal = l.journal; state = l.state }
+
+abbrev pub leave : ServedRun → ℕ → Ticket → List Ticket → ServedRun
+leave w h t ts = record { order = w.order; booked = w.booked; page = w.page; service = put w.service h (service_leave (w.service h) t ts) }
+
+-- a ticket comes
+abbrev pub service_reserve : Service → Ticket → Service
+service_reserve l t = record { past = l.past; queue = l.queue ++ t ∷ []; now = l.now; wait = put_at l.wait t []; journal = l.journal; state = l.state }
+
+abbrev pub reserve : ProgramShape → ServedRun → Ticket → Locals → ServedRun
+reserve p w t l = record {
+  order = w.order ++ t ∷ [];
+  booked = put w.booked t.client (suc t.index);
+  page = put_at w.page t (record { entry = l; trace = []; rest = block_tree p t l });
+  service = λ h. if reserves p t h then service_reserve (w.service h) t else w.service h;
+}
+
+-- of each ticket what was run and what waits is its part of the trace, and only of the first something was run
+abbrev pub Front : (Ticket → List Event) → List Event → (Ticket → List Request) → List Ticket → Type 0
+Front parts now wait [] = now ≡ []
+Front parts now wait (t ∷ ts) = (parts t ≡ now ++ map logged (wait t)) × AllByRecursion (λ u. parts u ≡ map logged (wait u)) ts
+
+abbrev pub shown : List Ticket → List Event → List Entry
+shown [] now = []
+shown (t ∷ ts) now = map (stamp t) now
+
+pub record IsService (p : ProgramShape) (start : State) (order : List Ticket) (h : ℕ) (parts : Ticket → List Event) (done : Ticket → Type 0) (l : Service) : Type 0 where
+  pub mine : filter (λ t. reserves p t h) order ≡ l.past ++ l.queue
+  pub apart : Apart l.queue
+  pub over : AllByRecursion done l.past
+  pub front : Front parts l.now l.wait l.queue
+  pub entries : l.journal ≡ flat_map (λ t. map (stamp t) (parts t)) l.past ++ shown l.queue l.now
+  pub commands : (t : Ticket) → AllByRecursion NoQuery (l.wait t)
+  pub honest : IsHonest start (unstamped l.journal)
+  pub state : replay start (unstamped l.journal) ≡ l.state
+
+pub record IsServedRun (p : ProgramShape) (w : ServedRun) : Type 0 where
+  pub legal : IsLegal p w.order
+  pub counts : (c : ℕ) → counts_after (λ _. 0) w.order c ≡ w.booked c
+  pub below : AllByRecursion (λ t. suc t.index ≤ w.booked t.client) w.order
+  pub pages : AllByRecursion (λ t. IsPage p t (w.page t)) w.order
+  pub begins : AllByRecursion (λ t. Begins w.page t.client t.index (w.page t).entry) w.order
+  pub services : (h : ℕ) → IsService p (declared p h) w.order h (parts_of w.page h) (done_of w.page) (w.service h)

@@ -1,0 +1,245 @@
+-- Each move keeps what is known of an object's service.
+use Rattle.std.proofs.Common.{◌≡◌, ◌≢◌, ℕ, Bool, true, false, if◌then◌else◌, List, [], ◌∷◌, ◌++◌, map, filter, flat_map, refl, sym, ap, ap₂, ◌∙◌, subst, ⊎_elim, append_assoc, append-nil, true≢false}
+use Rattle.std.specs.List.{AllByRecursion}
+use Rattle.std.proofs.lemmas.List.{map-append}
+use Rattle.std.proofs.lemmas.List.Elements.{filter-append}
+use Rattle.std.proofs.lemmas.List.Concat.{flat_map-append}
+use Rattle.std.proofs.Math.Path.{fun_ext}
+use Rattle.qs_objects.specs.Act.{State}
+use Rattle.qs_objects.specs.Journals.{after, answer, replay, unstamp, unstamped, IsHonest}
+use Rattle.qs_objects.specs.Parts.{logged, stamp, same}
+use Rattle.qs_objects.specs.declared.held.Event.{Event}
+use Rattle.qs_objects.specs.declared.held.Ticket.{Ticket}
+use Rattle.qs_objects.specs.declared.Request.{Request}
+use Rattle.qs_objects.proofs.Choices.{ticket_cases, same_self}
+use Rattle.qs_objects.proofs.ObjectLaws.{never_answers}
+use Rattle.qs_objects.proofs.Replays.{replay-append, IsHonest-append}
+use Rattle.qs_meaning.specs.Following.{reserves}
+use Rattle.qs_check.specs.Program.{ProgramShape}
+use Rattle.qs_meaning.specs.Solo.{event}
+use Rattle.qs_meaning.proofs.Each.{each_map, each_both, each_snoc, each_front, each_back, each_kept, flat_map_same}
+use Rattle.qs_meaning.proofs.Histories.{Apart, NoQuery}
+use Rattle.qs_played.proofs.FunctionUpdate.{put_at, put_at_here, put_at_there, put_at_holds}
+use Rattle.qs_plain_laws.proofs.ServedRuns.{Service, service_log, service_answer, service_run, service_leave, service_reserve, Front, shown, IsService}
+
+shown_none : (ts : List Ticket) → shown ts [] ≡ []
+shown_none [] = refl
+shown_none (t ∷ ts) = refl
+
+module _ (p : ProgramShape) (start : State) (order : List Ticket) (h : ℕ) where
+  -- another way to say what the parts are
+  pub service_same : (parts parts' : Ticket → List Event) (done done' : Ticket → Type 0) (l : Service) → ((t : Ticket) → parts t ≡ parts' t) → ((t : Ticket) → done t → done' t) → IsService p start order h parts done l → IsService p start order h parts' done' l
+  service_same parts parts' done done' l e d ok =
+      let k = subst (λ ps. IsService p start order h ps done l) (fun_ext e) ok in
+      record { mine = k.mine; apart = k.apart; over = each_map d l.past k.over; front = k.front; entries = k.entries; commands = k.commands; honest = k.honest; state = k.state }
+
+  -- an entry more
+  honest_more : (l : Service) (parts : Ticket → List Event) (done : Ticket → Type 0) (t : Ticket) (r : Request) → IsService p start order h parts done l
+      → IsHonest start (unstamped (l.journal ++ stamp t (event r (answer l.state r)) ∷ []))
+      × (replay start (unstamped (l.journal ++ stamp t (event r (answer l.state r)) ∷ [])) ≡ after l.state r)
+  honest_more l parts done t r ok =
+      let e = event r (answer l.state r) in
+      let is = map-append unstamp l.journal (stamp t e ∷ []) in (
+        subst (IsHonest start) (sym is) (IsHonest-append start (unstamped l.journal) (e ∷ []) ok.honest (ap (λ s. answer s r) (sym ok.state), tt)),
+        ap (replay start) is ∙ (replay-append start (unstamped l.journal) (e ∷ []) ∙ ap (λ s. after s r) ok.state),
+      )
+
+  module _ (parts : Ticket → List Event) (done : Ticket → Type 0) where
+    -- the parts of tickets that are over stay as they are, where a ticket that isn't over gets one more event
+    past_same : (t : Ticket) (es : List Event) → (done t → ⊥) → (ts : List Ticket) → AllByRecursion done ts
+        → flat_map (λ u. map (stamp u) (parts u)) ts ≡ flat_map (λ u. map (stamp u) (put_at parts t es u)) ts
+    past_same t es open' ts over =
+        flat_map_same _ _ ts (each_map (λ u d.
+        ⊎_elim
+        (λ (is : t ≡ u). absurd (open' (subst done (sym is) d)))
+        (λ (other : same t u ≡ false). ap (map (stamp u)) (sym (put_at_there parts t es u other)))
+        (ticket_cases t u)) ts over)
+
+    pub service_log_ok : (done' : Ticket → Type 0) (l : Service) (t : Ticket) (r : Request) → ((u : Ticket) → done u → done' u) → (done t → ⊥) → NoQuery r
+        → IsService p start order h parts done l → IsService p start order h (put_at parts t (parts t ++ logged r ∷ [])) done' (service_log l t r)
+    service_log_ok done' l t r d open' command ok = record {
+      mine = ok.mine;
+      apart = ok.apart;
+      over = each_map d l.past ok.over;
+      front = front l.queue ok.front;
+      entries = ok.entries ∙ ap (λ es. es ++ shown l.queue l.now) (past_same t _ open' l.past ok.over);
+      commands = put_at_holds (AllByRecursion NoQuery) l.wait t (l.wait t ++ r ∷ []) (each_snoc NoQuery (l.wait t) r (ok.commands t) command) ok.commands;
+      honest = ok.honest;
+      state = ok.state;
+    }
+      where
+        parts' : Ticket → List Event
+        parts' = put_at parts t (parts t ++ logged r ∷ [])
+
+        wait' : Ticket → List Request
+        wait' = put_at l.wait t (l.wait t ++ r ∷ [])
+
+        each : (now : List Event) (u : Ticket) → parts u ≡ now ++ map logged (l.wait u) → parts' u ≡ now ++ map logged (wait' u)
+        each now u e =
+            ⊎_elim
+            (λ (is : t ≡ u). subst (λ u. parts' u ≡ now ++ map logged (wait' u)) is
+            (put_at_here parts t _ ∙ (ap (λ es. es ++ logged r ∷ []) (subst (λ u. parts u ≡ now ++ map logged (l.wait u)) (sym is) e)
+            ∙ (append_assoc now (map logged (l.wait t)) (logged r ∷ []) ∙ ap (λ es. now ++ es) (sym (map-append logged (l.wait t) (r ∷ [])) ∙ ap (map logged) (sym (put_at_here l.wait t _)))))))
+            (λ (other : same t u ≡ false). put_at_there parts t _ u other ∙ (e ∙ ap (λ rs. now ++ map logged rs) (sym (put_at_there l.wait t _ u other))))
+            (ticket_cases t u)
+
+        front : (q : List Ticket) → Front parts l.now l.wait q → Front parts' l.now wait' q
+        front [] f = f
+        front (v ∷ vs) f = (each l.now v f.0, each_map (each []) vs f.1)
+
+    pub service_answer_ok : (done' : Ticket → Type 0) (l : Service) (t : Ticket) (ts : List Ticket) (r : Request) → ((u : Ticket) → done u → done' u) → (done t → ⊥)
+        → l.queue ≡ t ∷ ts → l.wait t ≡ []
+        → IsService p start order h parts done l → IsService p start order h (put_at parts t (parts t ++ event r (answer l.state r) ∷ [])) done' (service_answer l t r)
+    service_answer_ok done' l t ts r d open' q w ok =
+        let e = event r (answer l.state r) in
+        let parts' = put_at parts t (parts t ++ e ∷ []) in
+        let f = subst (Front parts l.now l.wait) q ok.front in
+        let a = subst Apart q ok.apart in
+        let more = honest_more l parts done t r ok in
+        let head : parts t ≡ l.now = f.0 ∙ (ap (λ rs. l.now ++ map logged rs) w ∙ append-nil l.now) in
+        record {
+          mine = ok.mine;
+          apart = ok.apart;
+          over = each_map d l.past ok.over;
+          front = subst (Front parts' (l.now ++ e ∷ []) l.wait) (sym q) (
+            put_at_here parts t _ ∙ (ap (λ es. es ++ e ∷ []) head ∙ sym (ap (λ rs. (l.now ++ e ∷ []) ++ map logged rs) w ∙ append-nil (l.now ++ e ∷ []))),
+            each_both (λ u n g.
+                ⊎_elim
+                (λ (is : t ≡ u). absurd (n is))
+                (λ (other : same t u ≡ false). put_at_there parts t _ u other ∙ g)
+                (ticket_cases t u)) ts a.0 f.1,
+          );
+          entries =
+              ap (λ es. es ++ stamp t e ∷ []) (ok.entries ∙ ap₂ (λ es q. es ++ shown q l.now) (past_same t _ open' l.past ok.over) q)
+              ∙ (append_assoc (flat_map (λ u. map (stamp u) (parts' u)) l.past) (map (stamp t) l.now) (stamp t e ∷ [])
+              ∙ ap (λ es. flat_map (λ u. map (stamp u) (parts' u)) l.past ++ es) (sym (map-append (stamp t) l.now (e ∷ [])) ∙ ap (λ q. shown q (l.now ++ e ∷ [])) (sym q)));
+          commands = ok.commands;
+          honest = more.0;
+          state = more.1;
+        }
+
+    pub service_run_ok : (l : Service) (t : Ticket) (ts : List Ticket) (r : Request) (rs : List Request)
+        → l.queue ≡ t ∷ ts → l.wait t ≡ r ∷ rs
+        → IsService p start order h parts done l → IsService p start order h parts done (service_run l t r rs)
+    service_run_ok l t ts r rs q w ok =
+        let e = event r (answer l.state r) in
+        let f = subst (Front parts l.now l.wait) q ok.front in
+        let a = subst Apart q ok.apart in
+        let more = honest_more l parts done t r ok in
+        let commands = subst (AllByRecursion NoQuery) w (ok.commands t) in
+        let wait' = put_at l.wait t rs in
+        let is : stamp t e ≡ stamp t (logged r) = ap (λ v. stamp t (event r v)) (never_answers r.op commands.0 l.state r.args) in
+        record {
+          mine = ok.mine;
+          apart = ok.apart;
+          over = ok.over;
+          front = subst (Front parts (l.now ++ logged r ∷ []) wait') (sym q) (
+            f.0 ∙ (ap (λ rs. l.now ++ map logged rs) w ∙ (sym (append_assoc l.now (logged r ∷ []) (map logged rs)) ∙ ap (λ rs. (l.now ++ logged r ∷ []) ++ map logged rs) (sym (put_at_here l.wait t rs)))),
+            each_both (λ u n g.
+                ⊎_elim
+                (λ (is : t ≡ u). absurd (n is))
+                (λ (other : same t u ≡ false). g ∙ ap (map logged) (sym (put_at_there l.wait t rs u other)))
+                (ticket_cases t u)) ts a.0 f.1,
+          );
+          entries =
+              ap₂ (λ es x. es ++ x ∷ []) (ok.entries ∙ ap (λ q. flat_map (λ u. map (stamp u) (parts u)) l.past ++ shown q l.now) q) is
+              ∙ (append_assoc (flat_map (λ u. map (stamp u) (parts u)) l.past) (map (stamp t) l.now) (stamp t (logged r) ∷ [])
+              ∙ ap (λ es. flat_map (λ u. map (stamp u) (parts u)) l.past ++ es) (sym (map-append (stamp t) l.now (logged r ∷ [])) ∙ ap (λ q. shown q (l.now ++ logged r ∷ [])) (sym q)));
+          commands = put_at_holds (AllByRecursion NoQuery) l.wait t rs commands.1 ok.commands;
+          honest = more.0;
+          state = more.1;
+        }
+
+    pub service_leave_ok : (l : Service) (t : Ticket) (ts : List Ticket)
+        → l.queue ≡ t ∷ ts → l.wait t ≡ [] → done t
+        → IsService p start order h parts done l → IsService p start order h parts done (service_leave l t ts)
+    service_leave_ok l t ts q w d ok =
+        let f = subst (Front parts l.now l.wait) q ok.front in
+        let a = subst Apart q ok.apart in
+        let head : parts t ≡ l.now = f.0 ∙ (ap (λ rs. l.now ++ map logged rs) w ∙ append-nil l.now) in
+        let block = λ (u : Ticket). map (stamp u) (parts u) in
+        record {
+          mine = ok.mine ∙ (ap (λ q. l.past ++ q) q ∙ sym (append_assoc l.past (t ∷ []) ts));
+          apart = a.1;
+          over = each_snoc done l.past t ok.over d;
+          front = front ts f.1;
+          entries = ok.entries ∙ (ap (λ q. flat_map block l.past ++ shown q l.now) q ∙ (ap (λ es. flat_map block l.past ++ map (stamp t) es) (sym head) ∙ (sym (ap (λ es. flat_map block l.past ++ es) (append-nil (block t))) ∙ (sym (flat_map-append block l.past (t ∷ [])) ∙ (sym (append-nil (flat_map block (l.past ++ t ∷ []))) ∙ ap (λ es. flat_map block (l.past ++ t ∷ []) ++ es) (sym (shown_none ts)))))));
+          commands = ok.commands;
+          honest = ok.honest;
+          state = ok.state;
+        }
+      where
+        front : (ts : List Ticket) → AllByRecursion (λ u. parts u ≡ map logged (l.wait u)) ts → Front parts [] l.wait ts
+        front [] f = refl
+        front (u ∷ us) f = f
+
+    -- a new ticket, for an object that it reserves and for one that it doesn't
+    module _ (done' : Ticket → Type 0) (l : Service) (t : Ticket) (d : (u : Ticket) → same t u ≡ false → done u → done' u) (fresh : AllByRecursion (λ u. same t u ≡ false) order) (ok : IsService p start order h parts done l) where
+      abbrev new_parts : Ticket → List Event
+      new_parts = put_at parts t []
+
+      abbrev new_wait : Ticket → List Request
+      new_wait = put_at l.wait t []
+
+      both_fresh : AllByRecursion (λ u. same t u ≡ false) (l.past ++ l.queue)
+      both_fresh = subst (AllByRecursion (λ u. same t u ≡ false)) ok.mine (each_kept (λ u. same t u ≡ false) (λ u. reserves p u h) order fresh)
+
+      past_fresh : AllByRecursion (λ u. same t u ≡ false) l.past
+      past_fresh = each_front _ l.past l.queue both_fresh
+
+      queue_fresh : AllByRecursion (λ u. same t u ≡ false) l.queue
+      queue_fresh = each_back _ l.past l.queue both_fresh
+
+      past_over : AllByRecursion done' l.past
+      past_over = each_both (λ u e k. d u e k) l.past past_fresh ok.over
+
+      blocks_same : flat_map (λ u. map (stamp u) (parts u)) l.past ≡ flat_map (λ u. map (stamp u) (new_parts u)) l.past
+      blocks_same = flat_map_same _ _ l.past (each_map (λ u e. ap (map (stamp u)) (sym (put_at_there parts t [] u e))) l.past past_fresh)
+
+      mine_after : (b : Bool) → reserves p t h ≡ b → filter (λ u. reserves p u h) (order ++ t ∷ []) ≡ (l.past ++ l.queue) ++ (if b then t ∷ [] else [])
+      mine_after b e = filter-append (λ u. reserves p u h) order (t ∷ []) ∙ ap₂ (λ (a : List Ticket) (b : Bool). a ++ (if b then t ∷ [] else [])) ok.mine e
+
+      pub service_pass_ok : reserves p t h ≡ false → IsService p start (order ++ t ∷ []) h new_parts done' l
+      service_pass_ok e = record {
+        mine = mine_after false e ∙ append-nil (l.past ++ l.queue);
+        apart = ok.apart;
+        over = past_over;
+        front = front l.queue queue_fresh ok.front;
+        entries = ok.entries ∙ ap (λ es. es ++ shown l.queue l.now) blocks_same;
+        commands = ok.commands;
+        honest = ok.honest;
+        state = ok.state;
+      }
+        where
+          front : (q : List Ticket) → AllByRecursion (λ u. same t u ≡ false) q → Front parts l.now l.wait q → Front (put_at parts t []) l.now l.wait q
+          front [] n f = f
+          front (v ∷ vs) n f = (put_at_there parts t [] v n.0 ∙ f.0, each_both (λ u e g. put_at_there parts t [] u e ∙ g) vs n.1 f.1)
+
+      pub service_reserve_ok : reserves p t h ≡ true → IsService p start (order ++ t ∷ []) h new_parts done' (service_reserve l t)
+      service_reserve_ok e = record {
+        mine = mine_after true e ∙ append_assoc l.past l.queue (t ∷ []);
+        apart = apart l.queue queue_fresh ok.apart;
+        over = past_over;
+        front = front l.queue queue_fresh ok.front;
+        entries = ok.entries ∙ ap₂ (λ a b. a ++ b) blocks_same (seen l.queue ok.front);
+        commands = put_at_holds (AllByRecursion NoQuery) l.wait t [] tt ok.commands;
+        honest = ok.honest;
+        state = ok.state;
+      }
+        where
+          apart : (q : List Ticket) → AllByRecursion (λ u. same t u ≡ false) q → Apart q → Apart (q ++ t ∷ [])
+          apart [] n a = (tt, tt)
+          apart (v ∷ vs) n a = (each_snoc (λ u. v ≢ u) vs t a.0 (λ is. true≢false (sym (subst (λ u. same t u ≡ true) (sym is) (same_self t)) ∙ n.0)), apart vs n.1 a.1)
+
+          seen : (q : List Ticket) → Front parts l.now l.wait q → shown q l.now ≡ shown (q ++ t ∷ []) l.now
+          seen [] f = ap (map (stamp t)) (sym f)
+          seen (v ∷ vs) f = refl
+
+          front : (q : List Ticket) → AllByRecursion (λ u. same t u ≡ false) q → Front parts l.now l.wait q → Front (put_at parts t []) l.now (put_at l.wait t []) (q ++ t ∷ [])
+          front [] n f = (put_at_here parts t [] ∙ ap₂ (λ es rs. es ++ map logged rs) (sym f) (sym (put_at_here l.wait t [])), tt)
+          front (v ∷ vs) n f = (
+            put_at_there parts t [] v n.0 ∙ (f.0 ∙ ap (λ rs. l.now ++ map logged rs) (sym (put_at_there l.wait t [] v n.0))),
+            each_snoc (λ u. put_at parts t [] u ≡ map logged (put_at l.wait t [] u)) vs t
+                (each_both (λ u e g. put_at_there parts t [] u e ∙ (g ∙ ap (map logged) (sym (put_at_there l.wait t [] u e)))) vs n.1 f.1)
+                (put_at_here parts t [] ∙ ap (map logged) (sym (put_at_here l.wait t []))),
+          )

@@ -1,0 +1,630 @@
+-- Each step of a run, seen by functions, is a move of its served run.
+use Rattle.std.proofs.Common.{◌≡◌, ◌≢◌, ℕ, zero, suc, ◌-◌, ◌<◌, ◌≤◌, arith, Bool, true, false, true≢false, if◌then◌else◌, ◌==◌, List, [], ◌∷◌, ◌++◌, map, length, refl, sym, ap, ap₂, ◌∙◌, subst, ⊎_elim, append-nil, Option, ℤ}
+use Rattle.std.specs.List.{AllByRecursion}
+use Rattle.std.proofs.lemmas.List.{map-append}
+use Rattle.std.proofs.lemmas.Simd.{map-map}
+use Rattle.qs_objects.specs.Act.{State}
+use Rattle.qs_objects.specs.Journals.{after, answer}
+use Rattle.qs_objects.specs.Parts.{logged, stamp, same}
+use Rattle.qs_objects.specs.declared.held.Entry.{Entry}
+use Rattle.qs_objects.specs.declared.held.Event.{Event}
+use Rattle.qs_objects.specs.declared.held.Ticket.{Ticket}
+use Rattle.qs_objects.specs.declared.Request.{Request}
+use Rattle.qs_objects.proofs.Choices.{eqb_self, eqb_true, eqb_apart, apart_eqb, num_cases, ticket_cases, ticket_path, same_self}
+use Rattle.qs_meaning.specs.Following.{AsksOnly, reserves, block_tree}
+use Rattle.qs_meaning.specs.Interaction.{Interaction, Done, Call, Query}
+use Rattle.qs_check.specs.Program.{ProgramShape, blocks_of}
+use Rattle.qs_meaning.specs.Solo.{put, event, value_of}
+use Rattle.qs_check.specs.Sound.{IsSound}
+use Rattle.qs_check.specs.Values.{Locals}
+use Rattle.qs_meaning.proofs.Each.{each_map, each_kept, each_back, each_passes, every, map_same}
+use Rattle.qs_meaning.proofs.Histories.{Page, IsPage, IsDone, Begins, Among, Apart, advance}
+use Rattle.qs_meaning.proofs.TreeWalks.{put_here, put_there}
+use Rattle.qs_played.specs.Played.{ticket}
+use Rattle.qs_played.specs.JournalRooms.{room_of}
+use Rattle.qs_played.proofs.Orders.{each_among, legal_among}
+use Rattle.qs_played.proofs.FunctionUpdate.{put_at, put_at_here, put_at_there, put_at_field, put_field, put_at_kept, put_kept, put_all, put_both}
+use Rattle.qs_plain_laws.specs.Plain.{Private, Handler, put_item, log_in, enter}
+use Rattle.qs_plain_laws.specs.declared.item.QueueItem.{QueueItem}
+use Rattle.qs_plain_laws.proofs.ServedRuns.{Service, ServedRun, log, reply, leave, run_first, reserve, service_reserve, IsServedRun}
+use Rattle.qs_plain_laws.proofs.ServedRunMoves.{asks_left, log_ok, reply_ok, run_ok, leave_ok, reserve_ok, fresh, page', is_done_kept}
+use Rattle.qs_plain_laws.proofs.Rooms.{room_to_run, room_to_ask}
+use Rattle.qs_plain_laws.proofs.RunViews.{Stance, Stands, Runs, Awaits, Standing, RunView, current, stand, answered, separate, call, query, end, do_step, ask_step, end_step}
+use Rattle.qs_plain_laws.specs.declared.item.QueueItem.TheVariants as item
+
+-- what stands behind the commands in a private queue
+abbrev pub tail_now : Stance → ℕ → List QueueItem
+tail_now (Stands l) h = item.EndMark ∷ []
+tail_now (Runs t) h = []
+tail_now (Awaits r next) h = (if r.object == h then item.Query r ∷ [] else [])
+
+abbrev pub tail : (ℕ → Standing) → ℕ → Ticket → List QueueItem
+tail client h u = (if suc u.index == (client u.client).begun then tail_now (client u.client).stage h else item.EndMark ∷ [])
+
+abbrev pub private : (ℕ → Standing) → ℕ → (Ticket → List Request) → Ticket → Private
+private client h wait u = record { ticket = u; items = map item.Command (wait u) ++ tail client h u }
+
+abbrev pub StandsAt : (Ticket → Page) → ℕ → Stance → ℕ → Type 0
+StandsAt page c (Stands l) n = Begins page c n l
+StandsAt page c (Runs t) zero = ⊥
+StandsAt page c (Runs t) (suc k) = (page (ticket c k)).rest ≡ t
+StandsAt page c (Awaits r next) zero = ⊥
+StandsAt page c (Awaits r next) (suc k) = (page (ticket c k)).rest ≡ Query r next
+
+pub record Simulates (s : RunView) (w : ServedRun) : Type 0 where
+  pub order : w.order ≡ s.order
+  pub booked : (c : ℕ) → w.booked c ≡ (s.client c).begun
+  pub entry : (t : Ticket) → (w.page t).entry ≡ s.entry t
+  pub trace : (t : Ticket) → (w.page t).trace ≡ s.trace t
+  pub stands : (c : ℕ) → StandsAt w.page c (s.client c).stage (s.client c).begun
+  pub older : (c k : ℕ) → suc k < (s.client c).begun → IsDone (w.page (ticket c k)).rest
+  pub queues : (h : ℕ) → (s.handler h).queues ≡ map (private s.client h (w.service h).wait) (w.service h).queue
+  pub journal : (h : ℕ) → (w.service h).journal ≡ (s.handler h).held.journal
+  pub state : (h : ℕ) → (w.service h).state ≡ (s.handler h).held.object
+
+-- the current ticket's tail, and the others'
+tail_here : (client : ℕ → Standing) (h c k : ℕ) → suc k ≡ (client c).begun → tail client h (ticket c k) ≡ tail_now (client c).stage h
+tail_here client h c k e = rw (← e) (rw (eqb_self (suc k)))
+
+tail_old : (client : ℕ → Standing) (h : ℕ) (u : Ticket) → (suc u.index == (client u.client).begun) ≡ false → tail client h u ≡ item.EndMark ∷ []
+tail_old client h u e = rw e
+
+tail_there : (s : RunView) (h c k : ℕ) (stage : Stance) (u : Ticket) → suc k ≡ (s.client c).begun → same (ticket c k) u ≡ false → tail (stand s c stage) h u ≡ tail s.client h u
+tail_there s h c k stage u e other =
+    ⊎_elim
+    (λ (is : c ≡ u.client).
+    let b : (s.client c).begun ≡ (s.client u.client).begun = ap (λ c. (s.client c).begun) is in
+    let new : (stand s c stage u.client).begun ≡ (s.client u.client).begun = put_kept (λ x. x.begun) s.client c (record { begun = (s.client c).begun; stage = stage }) refl u.client in
+    let out : (suc u.index == (s.client u.client).begun) ≡ false = eqb_apart (suc u.index) (s.client u.client).begun (λ i. let j : k ≡ u.index = omega arith in true≢false (sym (subst (λ t. same t u ≡ true) (sym (ticket_path is j)) (same_self u)) ∙ other)) in
+    tail_old (stand s c stage) h u (ap (λ n. suc u.index == n) new ∙ out) ∙ sym (tail_old s.client h u out))
+    (λ (out : (c == u.client) ≡ false). ap (λ (x : Standing). (if suc u.index == x.begun then tail_now x.stage h else item.EndMark ∷ [])) (put_there s.client c (record { begun = (s.client c).begun; stage = stage }) u.client out))
+    (num_cases c u.client)
+
+-- the current ticket's tail after a change of its client's stage
+tail_new : (s : RunView) (h c k : ℕ) (stage : Stance) → suc k ≡ (s.client c).begun → tail (stand s c stage) h (ticket c k) ≡ tail_now stage h
+tail_new s h c k stage e =
+    let x : Standing = record { begun = (s.client c).begun; stage = stage } in
+    let here : stand s c stage c ≡ x = put_here s.client c x in
+    tail_here (stand s c stage) h c k (e ∙ sym (ap (λ x. x.begun) here)) ∙ ap (λ x. tail_now x.stage h) here
+
+private_path : (u : Ticket) (a b : List QueueItem) → a ≡ b → ◌≡◌ {A = Private} (record { ticket = u; items = a }) (record { ticket = u; items = b })
+private_path u a b e = λ i. record { ticket = u; items = e i }
+
+-- one item more in the private queue of t, and none in the others
+item_case : (client client' : ℕ → Standing) (h : ℕ) (wait wait' : Ticket → List Request) (t : Ticket) (i : QueueItem)
+    → (map item.Command (wait t) ++ tail client h t) ++ i ∷ [] ≡ map item.Command (wait' t) ++ tail client' h t
+    → ((u : Ticket) → same t u ≡ false → (wait' u ≡ wait u) × (tail client' h u ≡ tail client h u))
+    → (u : Ticket) → put_item t i (private client h wait u) ≡ private client' h wait' u
+item_case client client' h wait wait' t i here there u =
+    ⊎_elim
+    (λ (is : t ≡ u). subst (λ u. put_item t i (private client h wait u) ≡ private client' h wait' u) is (rw (same_self t) (private_path t _ _ here)))
+    (λ (other : same t u ≡ false). let k = there u other in rw other (private_path u _ _ (ap₂ (λ a b. map item.Command a ++ b) (sym k.0) (sym k.1))))
+    (ticket_cases t u)
+
+none_case : (client client' : ℕ → Standing) (h : ℕ) (wait wait' : Ticket → List Request) (u : Ticket) → wait' u ≡ wait u → tail client' h u ≡ tail client h u → private client h wait u ≡ private client' h wait' u
+none_case client client' h wait wait' u a b = private_path u _ _ (ap₂ (λ a b. map item.Command a ++ b) (sym a) (sym b))
+
+-- the current ticket's tail stays, and so do all
+tail_stays : (s : RunView) (h c k : ℕ) (stage : Stance) → suc k ≡ (s.client c).begun → tail_now stage h ≡ tail_now (s.client c).stage h → (u : Ticket) → tail (stand s c stage) h u ≡ tail s.client h u
+tail_stays s h c k stage e same_tail u =
+    ⊎_elim
+    (λ (is : ticket c k ≡ u). subst (λ u. tail (stand s c stage) h u ≡ tail s.client h u) is (tail_new s h c k stage e ∙ (same_tail ∙ sym (tail_here s.client h c k e))))
+    (λ (other : same (ticket c k) u ≡ false). tail_there s h c k stage u e other)
+    (ticket_cases (ticket c k) u)
+
+-- where the current ticket's tail was empty, what follows the commands is its new tail
+tail_first : (s : RunView) (h c k : ℕ) (stage : Stance) (i : QueueItem) (rs : List Request) → suc k ≡ (s.client c).begun → tail_now (s.client c).stage h ≡ [] → tail_now stage h ≡ i ∷ []
+    → (map item.Command rs ++ tail s.client h (ticket c k)) ++ i ∷ [] ≡ map item.Command rs ++ tail (stand s c stage) h (ticket c k)
+tail_first s h c k stage i rs e a b =
+    ap (λ x. (map item.Command rs ++ x) ++ i ∷ []) (tail_here s.client h c k e ∙ a) ∙ (ap (λ x. x ++ i ∷ []) (append-nil (map item.Command rs)) ∙ ap (λ x. map item.Command rs ++ x) (sym b ∙ sym (tail_new s h c k stage e)))
+
+call_item : (tl tl' : List QueueItem) (rs rs' : List Request) (r : Request) → tl ≡ [] → tl' ≡ [] → rs' ≡ rs ++ r ∷ [] → (map item.Command rs ++ tl) ++ item.Command r ∷ [] ≡ map item.Command rs' ++ tl'
+call_item tl tl' rs rs' r a b e =
+    ap (λ x. (map item.Command rs ++ x) ++ item.Command r ∷ []) a ∙ (ap (λ x. x ++ item.Command r ∷ []) (append-nil (map item.Command rs)) ∙ (sym (map-append item.Command rs (r ∷ [])) ∙ (sym (append-nil (map item.Command (rs ++ r ∷ []))) ∙ ap₂ (λ x y. map item.Command x ++ y) (sym e) (sym b))))
+
+module _ (p : ProgramShape) (sound : IsSound p) where
+  abbrev pub Kept : RunView → Type 0
+  Kept s = (w : ServedRun) × IsServedRun p w × Simulates s w
+
+  stands_moved : (page page' : Ticket → Page) (c : ℕ) (stage : Stance) (n : ℕ) → ((k : ℕ) → (page' (ticket c k)).rest ≡ (page (ticket c k)).rest) → StandsAt page c stage n → StandsAt page' c stage n
+  stands_moved page page' c (Stands l) zero e h = h
+  stands_moved page page' c (Stands l) (suc k) e h = e k ∙ h
+  stands_moved page page' c (Runs t) zero e h = h
+  stands_moved page page' c (Runs t) (suc k) e h = e k ∙ h
+  stands_moved page page' c (Awaits r next) zero e h = h
+  stands_moved page page' c (Awaits r next) (suc k) e h = e k ∙ h
+
+  stands_after : (s : RunView) (page page' : Ticket → Page) (c : ℕ) (stage : Stance) → ((u : Ticket) → (c == u.client) ≡ false → (page' u).rest ≡ (page u).rest)
+      → StandsAt page' c stage (s.client c).begun → ((d : ℕ) → StandsAt page d (s.client d).stage (s.client d).begun) → (d : ℕ) → StandsAt page' d (stand s c stage d).stage (stand s c stage d).begun
+  stands_after s page page' c stage e here there =
+      put_all (λ d (x : Standing). StandsAt page' d x.stage x.begun) s.client c (record { begun = (s.client c).begun; stage = stage }) here
+      (λ d other. stands_moved page page' d (s.client d).stage (s.client d).begun (λ k. e (ticket d k) other) (there d))
+
+  begun_same : (s : RunView) (c : ℕ) (stage : Stance) (d : ℕ) → (stand s c stage d).begun ≡ (s.client d).begun
+  begun_same s c stage d = put_kept (λ x. x.begun) s.client c (record { begun = (s.client c).begun; stage = stage }) refl d
+
+  -- the current block of a client, what is left of it, and that it is in the order
+  abbrev Here : RunView → ServedRun → ℕ → Interaction → Type 0
+  Here s w c t = (suc (((s.client c).begun - 1)) ≡ (s.client c).begun) × ((w.page (current s c)).rest ≡ t) × Among (current s c) w.order
+
+  here_some : (s : RunView) (w : ServedRun) (c : ℕ) (t : Interaction) (n : ℕ) → (s.client c).begun ≡ suc n → IsServedRun p w → Simulates s w → (w.page (ticket c n)).rest ≡ t → Here s w c t
+  here_some s w c t n e ok sim at =
+      let last : n ≡ (s.client c).begun - 1 = omega (arith, e) in
+      let b = sim.booked c in
+      (omega (arith, e), subst (λ k. (w.page (ticket c k)).rest ≡ t) last at, legal_among p (λ _. 0) w.order c (((s.client c).begun - 1)) ok.legal (omega arith) (let n = ok.counts c in omega (arith, b, n, e)))
+
+  here_in : (s : RunView) (w : ServedRun) (c : ℕ) (t : Interaction) → (s.client c).stage ≡ Runs t → (n : ℕ) → (s.client c).begun ≡ n → IsServedRun p w → Simulates s w → Here s w c t
+  here_in s w c t is zero e ok sim = absurd (subst (λ n. StandsAt w.page c (Runs t) n) e (subst (λ x. StandsAt w.page c x (s.client c).begun) is (sim.stands c)))
+  here_in s w c t is (suc n) e ok sim = here_some s w c t n e ok sim (subst (λ n. StandsAt w.page c (Runs t) n) e (subst (λ x. StandsAt w.page c x (s.client c).begun) is (sim.stands c)))
+
+  here_waits : (s : RunView) (w : ServedRun) (c : ℕ) (r : Request) (next : ℤ → Interaction) → (s.client c).stage ≡ Awaits r next → (n : ℕ) → (s.client c).begun ≡ n → IsServedRun p w → Simulates s w → Here s w c (Query r next)
+  here_waits s w c r next is zero e ok sim = absurd (subst (λ n. StandsAt w.page c (Awaits r next) n) e (subst (λ x. StandsAt w.page c x (s.client c).begun) is (sim.stands c)))
+  here_waits s w c r next is (suc n) e ok sim = here_some s w c (Query r next) n e ok sim (subst (λ n. StandsAt w.page c (Awaits r next) n) e (subst (λ x. StandsAt w.page c x (s.client c).begun) is (sim.stands c)))
+
+  -- a stage that stands at what is left of the current block
+  stands_here : (page : Ticket → Page) (c n : ℕ) (t : Interaction) → suc ((n - 1)) ≡ n → (page (ticket c ((n - 1)))).rest ≡ t → StandsAt page c (Runs t) n
+  stands_here page c zero t e h = absurd (omega arith)
+  stands_here page c (suc k) t e h = subst (λ k. (page (ticket c k)).rest ≡ t) (let p : suc k - 1 ≡ k = omega arith in p) h
+
+  -- a client in a block has begun one
+  pub begun_some : (s : RunView) (c : ℕ) (t : Interaction) → (s.client c).stage ≡ Runs t → Kept s → 0 < (s.client c).begun
+  begun_some s c t is kept = let here = (here_in s kept.0 c t is (s.client c).begun refl kept.1 kept.2).0 in omega (arith, here)
+
+  asks_here : (s : RunView) (c : ℕ) (t : Interaction) → (s.client c).stage ≡ Runs t → (kept : Kept s) → AsksOnly (reserves p (current s c)) t
+  asks_here s c t is kept =
+      let w = kept.0 in
+      let here = here_in s w c t is (s.client c).begun refl kept.1 kept.2 in
+      subst (AsksOnly (reserves p (current s c))) here.1
+      (asks_left p sound w (current s c) (each_among (λ t. IsPage p t (w.page t)) (current s c) w.order kept.1.pages here.2))
+
+  -- what a client asks it has reserved
+  pub call_within : (s : RunView) (c : ℕ) (r : Request) (next : Interaction) → (s.client c).stage ≡ Runs (Call r next) → Kept s → reserves p (current s c) r.object ≡ true
+  call_within s c r next is kept = (asks_here s c (Call r next) is kept).1
+
+  pub query_within : (s : RunView) (c : ℕ) (r : Request) (next : ℤ → Interaction) → (s.client c).stage ≡ Runs (Query r next) → Kept s → reserves p (current s c) r.object ≡ true
+  query_within s c r next is kept = (asks_here s c (Query r next) is kept).1
+
+  pub call_kept : (s : RunView) (c : ℕ) (r : Request) (next : Interaction) → (s.client c).stage ≡ Runs (Call r next) → Kept s → Kept (call s c r next)
+  call_kept s c r next is kept =
+      let w = kept.0 in let sim = kept.2 in
+      let t = current s c in
+      let here = here_in s w c (Call r next) is (s.client c).begun refl kept.1 sim in
+      let adv = advance (w.page t) (logged r) next in
+      let busy : IsDone (w.page t).rest → ⊥ = λ d. subst IsDone here.1 d in (
+        log w t r next,
+        log_ok p sound w t r next here.2 here.1 kept.1,
+        record {
+          order = sim.order;
+          booked = λ d. sim.booked d ∙ sym (begun_same s c (Runs next) d);
+          entry = λ u. put_at_kept (λ p. p.entry) w.page t adv refl u ∙ sim.entry u;
+          trace = put_at_field (λ p. p.trace) w.page s.trace t adv (s.trace t ++ logged r ∷ []) sim.trace (ap (λ es. es ++ logged r ∷ []) (sim.trace t));
+          stands = stands_after s w.page (put_at w.page t adv) c (Runs next)
+              (λ u other. ap (λ p. p.rest) (put_at_there w.page t adv u (rw other)))
+              (stands_here (put_at w.page t adv) c (s.client c).begun next here.0 (ap (λ p. p.rest) (put_at_here w.page t adv)))
+              sim.stands;
+          older = λ d k lt. is_done_kept p sound w t (logged r) next busy (ticket d k) (sim.older d k (subst (λ n. suc k < n) (begun_same s c (Runs next) d) lt));
+          queues = put_both (λ h (x : Handler) (l : Service). x.queues ≡ map (private (stand s c (Runs next)) h l.wait) l.queue) s.handler w.service r.object _ _
+              (ap (map (put_item t (item.Command r))) (sim.queues r.object) ∙ (map-map (put_item t (item.Command r)) _ (w.service r.object).queue ∙ map_same _ _ (w.service r.object).queue (every
+              (item_case s.client (stand s c (Runs next)) r.object (w.service r.object).wait (put_at (w.service r.object).wait t ((w.service r.object).wait t ++ r ∷ [])) t (item.Command r)
+              (call_item _ _ _ _ r (tail_here s.client r.object c (((s.client c).begun - 1)) here.0 ∙ ap (λ x. tail_now x r.object) is) (tail_new s r.object c (((s.client c).begun - 1)) (Runs next) here.0) (put_at_here (w.service r.object).wait t _))
+              (λ u other. (put_at_there (w.service r.object).wait t _ u other, tail_stays s r.object c (((s.client c).begun - 1)) (Runs next) here.0 (sym (ap (λ x. tail_now x r.object) is)) u)))
+              (w.service r.object).queue)))
+              (λ h other. sim.queues h ∙ map_same _ _ (w.service h).queue (every
+              (λ u. none_case s.client (stand s c (Runs next)) h (w.service h).wait (w.service h).wait u refl (tail_stays s h c (((s.client c).begun - 1)) (Runs next) here.0 (sym (ap (λ x. tail_now x h) is)) u))
+              (w.service h).queue));
+          journal = put_both (λ h (l : Service) (x : Handler). l.journal ≡ x.held.journal) w.service s.handler r.object _ _ (sim.journal r.object) (λ h other. sim.journal h);
+          state = put_both (λ h (l : Service) (x : Handler). l.state ≡ x.held.object) w.service s.handler r.object _ _ (sim.state r.object) (λ h other. sim.state h);
+        },
+      )
+
+  pub query_kept : (s : RunView) (c : ℕ) (r : Request) (next : ℤ → Interaction) → (s.client c).stage ≡ Runs (Query r next) → Kept s → Kept (query s c r next)
+  query_kept s c r next is kept =
+      let w = kept.0 in let sim = kept.2 in
+      let t = current s c in
+      let here = here_in s w c (Query r next) is (s.client c).begun refl kept.1 sim in
+      let k = ((s.client c).begun - 1) in (
+        w,
+        kept.1,
+        record {
+          order = sim.order;
+          booked = λ d. sim.booked d ∙ sym (begun_same s c (Awaits r next) d);
+          entry = sim.entry;
+          trace = sim.trace;
+          stands = stands_after s w.page w.page c (Awaits r next) (λ u other. refl) (waits_here w.page c (s.client c).begun r next here.0 here.1) sim.stands;
+          older = λ d k lt. sim.older d k (subst (λ n. suc k < n) (begun_same s c (Awaits r next) d) lt);
+          queues = put_all (λ h (x : Handler). x.queues ≡ map (private (stand s c (Awaits r next)) h (w.service h).wait) (w.service h).queue) s.handler r.object _
+              (ap (map (put_item t (item.Query r))) (sim.queues r.object) ∙ (map-map (put_item t (item.Query r)) _ (w.service r.object).queue ∙ map_same _ _ (w.service r.object).queue (every
+              (item_case s.client (stand s c (Awaits r next)) r.object (w.service r.object).wait (w.service r.object).wait t (item.Query r)
+              (tail_first s r.object c k (Awaits r next) (item.Query r) ((w.service r.object).wait t) here.0 (ap (λ x. tail_now x r.object) is) (ap (λ b. (if b then item.Query r ∷ [] else [])) (eqb_self r.object)))
+              (λ u other. (refl, tail_there s r.object c k (Awaits r next) u here.0 other)))
+              (w.service r.object).queue)))
+              (λ h other. sim.queues h ∙ map_same _ _ (w.service h).queue (every
+              (λ u. none_case s.client (stand s c (Awaits r next)) h (w.service h).wait (w.service h).wait u refl (tail_stays s h c k (Awaits r next) here.0 (ap (λ b. (if b then item.Query r ∷ [] else [])) other ∙ sym (ap (λ x. tail_now x h) is)) u))
+              (w.service h).queue));
+          journal = λ h. sim.journal h ∙ sym (put_kept (λ (x : Handler). x.held.journal) s.handler r.object (log_in t (item.Query r) (s.handler r.object)) refl h);
+          state = λ h. sim.state h ∙ sym (put_kept (λ (x : Handler). x.held.object) s.handler r.object (log_in t (item.Query r) (s.handler r.object)) refl h);
+        },
+      )
+    where
+      waits_here : (page : Ticket → Page) (c n : ℕ) (r : Request) (next : ℤ → Interaction) → suc ((n - 1)) ≡ n → (page (ticket c ((n - 1)))).rest ≡ Query r next → StandsAt page c (Awaits r next) n
+      waits_here page c zero r next e h = absurd (omega arith)
+      waits_here page c (suc k) r next e h = subst (λ k. (page (ticket c k)).rest ≡ Query r next) (let p : suc k - 1 ≡ k = omega arith in p) h
+
+  -- the tickets in an object's queue reserve it
+  pub queue_may : (w : ServedRun) (h : ℕ) → IsServedRun p w → AllByRecursion (λ u. reserves p u h ≡ true) (w.service h).queue
+  queue_may w h ok =
+      each_back (λ u. reserves p u h ≡ true) (w.service h).past (w.service h).queue
+      (subst (AllByRecursion (λ u. reserves p u h ≡ true)) (ok.services h).mine (each_passes (λ u. reserves p u h) w.order))
+
+  pub end_kept : (s : RunView) (c : ℕ) (l : Locals) → (s.client c).stage ≡ Runs (Done l) → Kept s → Kept (end p s c l)
+  end_kept s c l is kept =
+      let w = kept.0 in let sim = kept.2 in
+      let t = current s c in
+      let here = here_in s w c (Done l) is (s.client c).begun refl kept.1 sim in
+      let k = ((s.client c).begun - 1) in (
+        w,
+        kept.1,
+        record {
+          order = sim.order;
+          booked = λ d. sim.booked d ∙ sym (begun_same s c (Stands l) d);
+          entry = sim.entry;
+          trace = sim.trace;
+          stands = stands_after s w.page w.page c (Stands l) (λ u other. refl) (out_here w.page c (s.client c).begun l here.0 here.1) sim.stands;
+          older = λ d k lt. sim.older d k (subst (λ n. suc k < n) (begun_same s c (Stands l) d) lt);
+          queues = λ h. marks h (reserves p t h) refl;
+          journal = λ h. sim.journal h ∙ journals h (reserves p t h);
+          state = λ h. sim.state h ∙ states h (reserves p t h);
+        },
+      )
+    where
+      out_here : (page : Ticket → Page) (c n : ℕ) (l : Locals) → suc ((n - 1)) ≡ n → (page (ticket c ((n - 1)))).rest ≡ Done l → StandsAt page c (Stands l) n
+      out_here page c zero l e h = absurd (omega arith)
+      out_here page c (suc k) l e h = subst (λ k. (page (ticket c k)).rest ≡ Done l) (let p : suc k - 1 ≡ k = omega arith in p) h
+
+      journals : (h : ℕ) (b : Bool) → (s.handler h).held.journal ≡ (if b then log_in (current s c) item.EndMark (s.handler h) else s.handler h).held.journal
+      journals h true = refl
+      journals h false = refl
+
+      states : (h : ℕ) (b : Bool) → (s.handler h).held.object ≡ (if b then log_in (current s c) item.EndMark (s.handler h) else s.handler h).held.object
+      states h true = refl
+      states h false = refl
+
+      marks : (h : ℕ) (b : Bool) → reserves p (current s c) h ≡ b → (if b then log_in (current s c) item.EndMark (s.handler h) else s.handler h).queues ≡ map (private (stand s c (Stands l)) h ((kept.0).service h).wait) ((kept.0).service h).queue
+      marks h true e =
+          let w = kept.0 in let sim = kept.2 in
+          let here = here_in s w c (Done l) is (s.client c).begun refl kept.1 sim in
+          ap (map (put_item (current s c) item.EndMark)) (sim.queues h) ∙ (map-map (put_item (current s c) item.EndMark) _ (w.service h).queue ∙ map_same _ _ (w.service h).queue (every
+          (item_case s.client (stand s c (Stands l)) h (w.service h).wait (w.service h).wait (current s c) item.EndMark
+          (tail_first s h c (((s.client c).begun - 1)) (Stands l) item.EndMark ((w.service h).wait (current s c)) here.0 (ap (λ x. tail_now x h) is) refl)
+          (λ u other. (refl, tail_there s h c (((s.client c).begun - 1)) (Stands l) u here.0 other)))
+          (w.service h).queue))
+      marks h false e =
+          let w = kept.0 in let sim = kept.2 in
+          let here = here_in s w c (Done l) is (s.client c).begun refl kept.1 sim in
+          sim.queues h ∙ map_same _ _ (w.service h).queue (each_map (λ u (m : reserves p u h ≡ true).
+          none_case s.client (stand s c (Stands l)) h (w.service h).wait (w.service h).wait u refl
+          (⊎_elim
+          (λ (same_one : current s c ≡ u). absurd (true≢false (sym m ∙ (ap (λ t. reserves p t h) (sym same_one) ∙ e))))
+          (λ (other : same (current s c) u ≡ false). tail_there s h c (((s.client c).begun - 1)) (Stands l) u here.0 other)
+          (ticket_cases (current s c) u)))
+          (w.service h).queue (queue_may w h kept.1))
+
+  -- a private queue of a ticket whose client enters a block
+  tail_entered : (s : RunView) (h c : ℕ) (l : Locals) (tr : Interaction) (u : Ticket) → (s.client c).stage ≡ Stands l → same (ticket c (s.client c).begun) u ≡ false
+      → tail (put s.client c (record { begun = suc (s.client c).begun; stage = Runs tr })) h u ≡ tail s.client h u
+  tail_entered s h c l tr u is other =
+      let x : Standing = record { begun = suc (s.client c).begun; stage = Runs tr } in
+      ⊎_elim
+      (λ (at : c ≡ u.client).
+      let new : put s.client c x u.client ≡ x = subst (λ d. put s.client c x d ≡ x) at (put_here s.client c x) in
+      let out : (suc u.index == suc (s.client c).begun) ≡ false = eqb_apart (suc u.index) (suc (s.client c).begun) (λ i. let j : (s.client c).begun ≡ u.index = omega arith in true≢false (sym (subst (λ t. same t u ≡ true) (sym (ticket_path at j)) (same_self u)) ∙ other)) in
+      tail_old (put s.client c x) h u (ap (λ (x : Standing). suc u.index == x.begun) new ∙ out)
+      ∙ sym (both_end (suc u.index == (s.client u.client).begun) (s.client u.client).stage h l (ap (λ d. (s.client d).stage) (sym at) ∙ is)))
+      (λ (out : (c == u.client) ≡ false). ap (λ (x : Standing). (if suc u.index == x.begun then tail_now x.stage h else item.EndMark ∷ [])) (put_there s.client c x u.client out))
+      (num_cases c u.client)
+    where
+      both_end : (b : Bool) (stage : Stance) (h : ℕ) (l : Locals) → stage ≡ Stands l → (if b then tail_now stage h else item.EndMark ∷ []) ≡ item.EndMark ∷ []
+      both_end true stage h l e = ap (λ x. tail_now x h) e
+      both_end false stage h l e = refl
+
+  pub separate_kept : (s : RunView) (c : ℕ) (l : Locals) → (s.client c).begun < blocks_of p c → (s.client c).stage ≡ Stands l → Kept s → Kept (separate p s c l)
+  separate_kept s c l some is kept =
+      let w = kept.0 in let sim = kept.2 in
+      let n = (s.client c).begun in
+      let t = ticket c n in
+      let x : Standing = record { begun = suc n; stage = Runs (block_tree p t l) } in
+      let pg : Page = record { entry = l; trace = []; rest = block_tree p t l } in
+      let ib : n ≡ w.booked c = sym (sim.booked c) in
+      let begins : Begins w.page c n l = subst (λ x. StandsAt w.page c x n) is (sim.stands c) in (
+        reserve p w t l,
+        reserve_ok p sound w t l ib kept.1 some begins,
+        record {
+          order = ap (λ ts. ts ++ t ∷ []) sim.order;
+          booked = λ d. sym (put_field (λ (x : Standing). x.begun) s.client w.booked c x (suc n) (λ d. sym (sim.booked d)) refl d);
+          entry = put_at_field (λ (p : Page). p.entry) w.page s.entry t pg l sim.entry refl;
+          trace = put_at_field (λ (p : Page). p.trace) w.page s.trace t pg [] sim.trace refl;
+          stands = put_all (λ d (x : Standing). StandsAt (put_at w.page t pg) d x.stage x.begun) s.client c x (ap (λ (p : Page). p.rest) (put_at_here w.page t pg))
+              (λ d other. stands_moved w.page (put_at w.page t pg) d (s.client d).stage (s.client d).begun (λ k. ap (λ (p : Page). p.rest) (put_at_there w.page t pg (ticket d k) (rw other))) (sim.stands d));
+          older = put_all (λ d (x : Standing). (k : ℕ) → suc k < x.begun → IsDone (put_at w.page t pg (ticket d k)).rest) s.client c x
+              (λ k lt. subst (λ (p : Page). IsDone p.rest) (sym (put_at_there w.page t pg (ticket c k) (not_new k n lt))) (old_here w n k lt begins (λ k lt. sim.older c k lt)))
+              (λ d other k lt. subst (λ (p : Page). IsDone p.rest) (sym (put_at_there w.page t pg (ticket d k) (rw other))) (sim.older d k lt));
+          queues = λ h. lists h (reserves p t h) refl;
+          journal = λ h. journals h (reserves p t h);
+          state = λ h. states h (reserves p t h);
+        },
+      )
+    where
+      not_new : (k n : ℕ) → suc k < suc n → same (ticket c n) (ticket c k) ≡ false
+      not_new k n lt = ⊎_elim (λ (e : ticket c n ≡ ticket c k). let i : n ≡ k = ap (λ t. t.index) e in absurd (omega arith)) (λ (other : same (ticket c n) (ticket c k) ≡ false). other) (ticket_cases (ticket c n) (ticket c k))
+
+      old_here : (w : ServedRun) (n k : ℕ) → suc k < suc n → Begins w.page c n l → ((k : ℕ) → suc k < n → IsDone (w.page (ticket c k)).rest) → IsDone (w.page (ticket c k)).rest
+      old_here w n k lt b old =
+          ⊎_elim
+          (λ (e : suc k ≡ n). let b' : Begins w.page c (suc k) l = subst (λ n. Begins w.page c n l) (sym e) b in subst IsDone (sym b') tt)
+          (λ (other : (suc k == n) ≡ false). let ne : suc k ≢ n = apart_eqb (suc k) n other in old k (omega arith))
+          (num_cases (suc k) n)
+
+      journals : (h : ℕ) (b : Bool) → (if b then service_reserve (kept.0.service h) (ticket c (s.client c).begun) else kept.0.service h).journal ≡ (if b then enter (ticket c (s.client c).begun) (s.handler h) else s.handler h).held.journal
+      journals h true = kept.2.journal h
+      journals h false = kept.2.journal h
+
+      states : (h : ℕ) (b : Bool) → (if b then service_reserve (kept.0.service h) (ticket c (s.client c).begun) else kept.0.service h).state ≡ (if b then enter (ticket c (s.client c).begun) (s.handler h) else s.handler h).held.object
+      states h true = kept.2.state h
+      states h false = kept.2.state h
+
+      fresh_in : (h : ℕ) → AllByRecursion (λ u. same (ticket c (s.client c).begun) u ≡ false) (kept.0.service h).queue
+      fresh_in h =
+          let t = ticket c (s.client c).begun in
+          each_back (λ u. same t u ≡ false) (kept.0.service h).past (kept.0.service h).queue
+          (subst (AllByRecursion (λ u. same t u ≡ false)) (kept.1.services h).mine (each_kept (λ u. same t u ≡ false) (λ u. reserves p u h) kept.0.order (fresh p sound kept.0 t l (sym (kept.2.booked c)) kept.1)))
+
+      lists : (h : ℕ) (b : Bool) → reserves p (ticket c (s.client c).begun) h ≡ b
+          → (if b then enter (ticket c (s.client c).begun) (s.handler h) else s.handler h).queues
+          ≡ map (private (put s.client c (record { begun = suc (s.client c).begun; stage = Runs (block_tree p (ticket c (s.client c).begun) l) })) h (if b then service_reserve (kept.0.service h) (ticket c (s.client c).begun) else kept.0.service h).wait)
+          (if b then service_reserve (kept.0.service h) (ticket c (s.client c).begun) else kept.0.service h).queue
+      lists h true e =
+          let w = kept.0 in let t = ticket c (s.client c).begun in let x : Standing = record { begun = suc (s.client c).begun; stage = Runs (block_tree p t l) } in
+          let client' = put s.client c x in
+          let here : put s.client c x c ≡ x = put_here s.client c x in
+          ap₂ (λ a b. a ++ b)
+          (kept.2.queues h ∙ map_same _ _ (w.service h).queue (each_map (λ u n. none_case s.client client' h (w.service h).wait (put_at (w.service h).wait t []) u (put_at_there (w.service h).wait t [] u n) (tail_entered s h c l (block_tree p t l) u is n)) (w.service h).queue (fresh_in h)))
+          (ap (λ p. p ∷ []) (private_path t [] _ (ap₂ (λ rs i. map item.Command rs ++ i) (sym (put_at_here (w.service h).wait t [])) (sym (tail_here client' h c (s.client c).begun (sym (ap (λ x. x.begun) here)) ∙ ap (λ x. tail_now x.stage h) here)))))
+          ∙ sym (map-append (private client' h (put_at (w.service h).wait t [])) (w.service h).queue (t ∷ []))
+      lists h false e =
+          let w = kept.0 in let t = ticket c (s.client c).begun in let x : Standing = record { begun = suc (s.client c).begun; stage = Runs (block_tree p t l) } in
+          kept.2.queues h ∙ map_same _ _ (w.service h).queue (each_map (λ u n. none_case s.client (put s.client c x) h (w.service h).wait (w.service h).wait u refl (tail_entered s h c l (block_tree p t l) u is n)) (w.service h).queue (fresh_in h))
+
+  -- the first private queue, and the line's first ticket
+  abbrev First : RunView → ServedRun → ℕ → Private → List Private → Type 0
+  First s w h q qs = (t : Ticket) × (ts : List Ticket) × ((w.service h).queue ≡ t ∷ ts) × (q ≡ private s.client h (w.service h).wait t) × (qs ≡ map (private s.client h (w.service h).wait) ts)
+
+  first : (s : RunView) (w : ServedRun) (h : ℕ) (q : Private) (qs : List Private) (ts : List Ticket) → (w.service h).queue ≡ ts → q ∷ qs ≡ map (private s.client h (w.service h).wait) ts → First s w h q qs
+  first s w h q qs [] e is = absurd (cc)
+  first s w h q qs (t ∷ ts) e is = (t, ts, e, ap (head_or q) is, ap rest_of is)
+    where
+      head_or : Private → List Private → Private
+      head_or q [] = q
+      head_or q (p ∷ ps) = p
+
+      rest_of : List Private → List Private
+      rest_of [] = []
+      rest_of (p ∷ ps) = ps
+
+  -- a private queue is its commands and its tail
+  first_do : (rs : List Request) (tl : List QueueItem) (r : Request) (items : List QueueItem) → (tl ≡ item.Command r ∷ items → ⊥) → map item.Command rs ++ tl ≡ item.Command r ∷ items → (rest : List Request) × (rs ≡ r ∷ rest) × (items ≡ map item.Command rest ++ tl)
+  first_do [] tl r items n e = absurd (n e)
+  first_do (q ∷ rs) tl r items n e =
+      let is : q ≡ r = cc in
+      let more : map item.Command rs ++ tl ≡ items = cc in
+      (rs, ap (λ q. q ∷ rs) is, sym more)
+
+  first_ask : (rs : List Request) (tl : List QueueItem) (r : Request) (items : List QueueItem) → map item.Command rs ++ tl ≡ item.Query r ∷ items → (rs ≡ []) × (tl ≡ item.Query r ∷ items)
+  first_ask [] tl r items e = (refl, e)
+  first_ask (q ∷ rs) tl r items e = absurd (cc)
+
+  first_end : (rs : List Request) (tl : List QueueItem) (items : List QueueItem) → map item.Command rs ++ tl ≡ item.EndMark ∷ items → (rs ≡ []) × (tl ≡ item.EndMark ∷ items)
+  first_end [] tl items e = (refl, e)
+  first_end (q ∷ rs) tl items e = absurd (cc)
+
+  -- what a tail may begin with
+  now_do : (stage : Stance) (h : ℕ) (r : Request) (items : List QueueItem) → tail_now stage h ≡ item.Command r ∷ items → ⊥
+  now_do (Stands l) h r items e = cc
+  now_do (Runs t) h r items e = cc
+  now_do (Awaits q next) h r items e = by_case (q.object == h) e
+    where
+      by_case : (b : Bool) → (if b then item.Query q ∷ [] else []) ≡ item.Command r ∷ items → ⊥
+      by_case true e = cc
+      by_case false e = cc
+
+  tail_do : (b : Bool) (stage : Stance) (h : ℕ) (r : Request) (items : List QueueItem) → (if b then tail_now stage h else item.EndMark ∷ []) ≡ item.Command r ∷ items → ⊥
+  tail_do true stage h r items e = now_do stage h r items e
+  tail_do false stage h r items e = cc
+
+  now_ask : (stage : Stance) (h : ℕ) (r : Request) (items : List QueueItem) → tail_now stage h ≡ item.Query r ∷ items → (next : ℤ → Interaction) × (stage ≡ Awaits r next) × (r.object ≡ h) × (items ≡ [])
+  now_ask (Stands l) h r items e = absurd (cc)
+  now_ask (Runs t) h r items e = absurd (cc)
+  now_ask (Awaits q next) h r items e = by_case (q.object == h) refl e
+    where
+      by_case : (b : Bool) → (q.object == h) ≡ b → (if b then item.Query q ∷ [] else []) ≡ item.Query r ∷ items → (next' : ℤ → Interaction) × (Awaits q next ≡ Awaits r next') × (r.object ≡ h) × (items ≡ [])
+      by_case true is e =
+          let same_one : q ≡ r = cc in
+          let none : items ≡ [] = cc in
+          (next, ap (λ q. Awaits q next) same_one, sym (ap (λ (q : Request). q.object) same_one) ∙ eqb_true q.object h is, none)
+      by_case false is e = absurd (cc)
+
+  tail_ask : (u : Ticket) (n : ℕ) (stage : Stance) (h : ℕ) (r : Request) (items : List QueueItem) (b : Bool) → (suc u.index == n) ≡ b → (if b then tail_now stage h else item.EndMark ∷ []) ≡ item.Query r ∷ items
+      → (suc u.index ≡ n) × ((next : ℤ → Interaction) × (stage ≡ Awaits r next) × (r.object ≡ h) × (items ≡ []))
+  tail_ask u n stage h r items true is e = (eqb_true (suc u.index) n is, now_ask stage h r items e)
+  tail_ask u n stage h r items false is e = absurd (cc)
+
+  now_end : (stage : Stance) (h : ℕ) (items : List QueueItem) → tail_now stage h ≡ item.EndMark ∷ items → ((l : Locals) × (stage ≡ Stands l))
+  now_end (Stands l) h items e = (l, refl)
+  now_end (Runs t) h items e = absurd (cc)
+  now_end (Awaits q next) h items e = by_case (q.object == h) e
+    where
+      by_case : (b : Bool) → (if b then item.Query q ∷ [] else []) ≡ item.EndMark ∷ items → ((l : Locals) × (Awaits q next ≡ Stands l))
+      by_case true e = absurd (cc)
+      by_case false e = absurd (cc)
+
+  do_at : (s : RunView) (h : ℕ) (t : Ticket) (ts : List Ticket) (r : Request) (items : List QueueItem) (kept : Kept s) (f : (kept.0.service h).queue ≡ t ∷ ts)
+      → ((rest : List Request) × ((kept.0.service h).wait t ≡ r ∷ rest) × (items ≡ map item.Command rest ++ tail s.client h t))
+      → Kept (do_step s h (private s.client h (kept.0.service h).wait t) (map (private s.client h (kept.0.service h).wait) ts) r items)
+  do_at s h t ts r items kept f d =
+      let w = kept.0 in let sim = kept.2 in let ok = kept.1.services h in
+      let wait' = put_at (w.service h).wait t d.0 in
+      let apart = subst Apart f ok.apart in (
+        run_first w h t r d.0,
+        run_ok p sound w h t ts r d.0 f d.1 kept.1,
+        record {
+          order = sim.order;
+          booked = sim.booked;
+          entry = sim.entry;
+          trace = sim.trace;
+          stands = sim.stands;
+          older = sim.older;
+          queues = put_both (λ h (x : Handler) (l : Service). x.queues ≡ map (private s.client h l.wait) l.queue) s.handler w.service h _ _
+              (ap₂ (λ p ps. p ∷ ps)
+              (private_path t items _ (d.2 ∙ ap (λ rs. map item.Command rs ++ tail s.client h t) (sym (put_at_here (w.service h).wait t d.0))))
+              (map_same (private s.client h (w.service h).wait) (private s.client h wait') ts (each_map (λ u n. none_case s.client s.client h (w.service h).wait wait' u (⊎_elim (λ (is : t ≡ u). absurd (n is)) (λ (other : same t u ≡ false). put_at_there (w.service h).wait t d.0 u other) (ticket_cases t u)) refl) ts apart.0))
+              ∙ sym (ap (map (private s.client h wait')) f))
+              (λ g other. sim.queues g);
+          journal = put_both (λ h (l : Service) (x : Handler). l.journal ≡ x.held.journal) w.service s.handler h _ _ (ap₂ (λ (j : List Entry) (a : State). j ++ stamp t (event r (answer a r)) ∷ []) (sim.journal h) (sim.state h)) (λ g other. sim.journal g);
+          state = put_both (λ h (l : Service) (x : Handler). l.state ≡ x.held.object) w.service s.handler h _ _ (ap (λ a. after a r) (sim.state h)) (λ g other. sim.state g);
+        },
+      )
+
+  -- where a command is served, the journal has room
+  pub do_room : (s : RunView) (h : ℕ) (q : Private) (qs : List Private) (r : Request) (items : List QueueItem) → (s.handler h).queues ≡ q ∷ qs → q.items ≡ item.Command r ∷ items → Kept s
+      → length (s.handler h).held.journal < room_of p h
+  do_room s h q qs r items e i kept =
+      let w = kept.0 in
+      let f = first s w h q qs (w.service h).queue refl (sym e ∙ kept.2.queues h) in
+      let d = first_do ((w.service h).wait f.0) (tail s.client h f.0) r items (tail_do (suc f.0.index == (s.client f.0.client).begun) (s.client f.0.client).stage h r items) (sym (ap (λ q. q.items) f.3) ∙ i) in
+      subst (λ (j : List Entry). length j < room_of p h) (kept.2.journal h) (room_to_run p h w kept.1 f.0 f.1 r d.0 f.2 d.1)
+
+  pub do_kept : (s : RunView) (h : ℕ) (q : Private) (qs : List Private) (r : Request) (items : List QueueItem) → (s.handler h).queues ≡ q ∷ qs → q.items ≡ item.Command r ∷ items → Kept s → Kept (do_step s h q qs r items)
+  do_kept s h q qs r items e i kept =
+      let f = first s kept.0 h q qs (kept.0.service h).queue refl (sym e ∙ kept.2.queues h) in
+      let d = first_do ((kept.0.service h).wait f.0) (tail s.client h f.0) r items (tail_do (suc f.0.index == (s.client f.0.client).begun) (s.client f.0.client).stage h r items) (sym (ap (λ q. q.items) f.3) ∙ i) in
+      subst (λ q. Kept (do_step s h q qs r items)) (sym f.3) (subst (λ qs. Kept (do_step s h (private s.client h (kept.0.service h).wait f.0) qs r items)) (sym f.4) (do_at s h f.0 f.1 r items kept f.2 d))
+
+  ask_at : (s : RunView) (t : Ticket) (ts : List Ticket) (r : Request) (next : ℤ → Interaction) (kept : Kept s) → (kept.0.service r.object).queue ≡ t ∷ ts → (kept.0.service r.object).wait t ≡ []
+      → suc t.index ≡ (s.client t.client).begun → (s.client t.client).stage ≡ Awaits r next
+      → Kept (ask_step s r.object (private s.client r.object (kept.0.service r.object).wait t) (map (private s.client r.object (kept.0.service r.object).wait) ts) r [])
+  ask_at s t ts r next kept f none at is =
+      let w = kept.0 in let sim = kept.2 in let ok = kept.1.services r.object in
+      let c = t.client in
+      let h = r.object in
+      let here = here_waits s w c r next is (s.client c).begun refl kept.1 sim in
+      let k : current s c ≡ t = ticket_path refl (let i : ((s.client c).begun - 1) ≡ t.index = omega arith in i) in
+      let rest : (w.page t).rest ≡ Query r next = subst (λ u. (w.page u).rest ≡ Query r next) k here.1 in
+      let among = subst (λ u. Among u w.order) k here.2 in
+      let v = answer (s.handler h).held.object r in
+      let vw = answer (w.service h).state r in
+      let v_is : vw ≡ v = ap (λ a. answer a r) (sim.state h) in
+      let stage' = answered (value_of v) (s.client c).stage in
+      let stage_is : Runs (next (value_of vw)) ≡ stage' = ap (λ v. Runs (next (value_of v))) v_is ∙ sym (ap (answered (value_of v)) is) in
+      let adv = advance (w.page t) (event r vw) (next (value_of vw)) in
+      let busy : IsDone (w.page t).rest → ⊥ = λ d. subst IsDone rest d in
+      let apart = subst Apart f ok.apart in
+      let tail_is = λ (g : ℕ) (out : (r.object == g) ≡ false) (u : Ticket). tail_stays s g c t.index stage' at (sym (ap (λ x. tail_now x g) stage_is) ∙ sym (ap (λ x. tail_now x g) is ∙ ap (λ b. (if b then item.Query r ∷ [] else [])) out)) u in (
+        reply w t r next,
+        reply_ok p sound w t r next ts among rest f none kept.1,
+        record {
+          order = sim.order;
+          booked = λ d. sim.booked d ∙ sym (begun_same s c stage' d);
+          entry = λ u. put_at_kept (λ (p : Page). p.entry) w.page t adv refl u ∙ sim.entry u;
+          trace = put_at_field (λ (p : Page). p.trace) w.page s.trace t adv (s.trace t ++ event r v ∷ []) sim.trace (ap₂ (λ (es : List Event) (v : Option ℤ). es ++ event r v ∷ []) (sim.trace t) v_is);
+          stands = stands_after s w.page (put_at w.page t adv) c stage'
+              (λ u other. ap (λ (p : Page). p.rest) (put_at_there w.page t adv u (rw other)))
+              (subst (λ x. StandsAt (put_at w.page t adv) c x (s.client c).begun) stage_is
+              (stands_here (put_at w.page t adv) c (s.client c).begun (next (value_of vw)) here.0 (subst (λ u. (put_at w.page t adv u).rest ≡ next (value_of vw)) (sym k) (ap (λ (p : Page). p.rest) (put_at_here w.page t adv)))))
+              sim.stands;
+          older = λ d k lt. is_done_kept p sound w t (event r vw) (next (value_of vw)) busy (ticket d k) (sim.older d k (subst (λ n. suc k < n) (begun_same s c stage' d) lt));
+          queues = put_both (λ h (x : Handler) (l : Service). x.queues ≡ map (private (stand s c stage') h l.wait) l.queue) s.handler w.service h _ _
+              (ap₂ (λ p ps. p ∷ ps)
+              (private_path t [] _ (ap₂ (λ rs i. map item.Command rs ++ i) (sym none) (sym (tail_new s h c t.index stage' at ∙ sym (ap (λ x. tail_now x h) stage_is)))))
+              (map_same (private s.client h (w.service h).wait) (private (stand s c stage') h (w.service h).wait) ts (each_map (λ u n. none_case s.client (stand s c stage') h (w.service h).wait (w.service h).wait u refl (⊎_elim (λ (is : t ≡ u). absurd (n is)) (λ (other : same t u ≡ false). tail_there s h c t.index stage' u at other) (ticket_cases t u))) ts apart.0))
+              ∙ sym (ap (map (private (stand s c stage') h (w.service h).wait)) f))
+              (λ g other. sim.queues g ∙ map_same _ _ (w.service g).queue (every (λ u. none_case s.client (stand s c stage') g (w.service g).wait (w.service g).wait u refl (tail_is g other u)) (w.service g).queue));
+          journal = put_both (λ h (l : Service) (x : Handler). l.journal ≡ x.held.journal) w.service s.handler h _ _ (ap₂ (λ (j : List Entry) (a : State). j ++ stamp t (event r (answer a r)) ∷ []) (sim.journal h) (sim.state h)) (λ g other. sim.journal g);
+          state = put_both (λ h (l : Service) (x : Handler). l.state ≡ x.held.object) w.service s.handler h _ _ (ap (λ a. after a r) (sim.state h)) (λ g other. sim.state g);
+        },
+      )
+
+  pub ask_kept : (s : RunView) (h : ℕ) (q : Private) (qs : List Private) (r : Request) (items : List QueueItem) → (s.handler h).queues ≡ q ∷ qs → q.items ≡ item.Query r ∷ items → Kept s → Kept (ask_step s h q qs r items)
+  ask_kept s h q qs r items e i kept =
+      let f = first s kept.0 h q qs (kept.0.service h).queue refl (sym e ∙ kept.2.queues h) in
+      let t = f.0 in
+      let d = first_ask ((kept.0.service h).wait t) (tail s.client h t) r items (sym (ap (λ q. q.items) f.3) ∙ i) in
+      let a = tail_ask t (s.client t.client).begun (s.client t.client).stage h r items (suc t.index == (s.client t.client).begun) refl d.1 in
+      let at = subst (λ g. ((kept.0.service g).queue ≡ t ∷ f.1) → ((kept.0.service g).wait t ≡ []) → Kept (ask_step s g (private s.client g (kept.0.service g).wait t) (map (private s.client g (kept.0.service g).wait) f.1) r [])) a.1.2
+      (λ x y. ask_at s t f.1 r a.1.0 kept x y a.0 a.1.1) in
+      subst (λ q. Kept (ask_step s h q qs r items)) (sym f.3)
+      (subst (λ qs. Kept (ask_step s h (private s.client h (kept.0.service h).wait t) qs r items)) (sym f.4)
+      (subst (λ items. Kept (ask_step s h (private s.client h (kept.0.service h).wait t) (map (private s.client h (kept.0.service h).wait) f.1) r items)) (sym a.1.3) (at f.2 d.0)))
+
+  -- a query that is served: its client waits for it, and the journal has room
+  pub record Asking (s : RunView) (h : ℕ) (q : Private) (r : Request) (items : List QueueItem) : Type 0 where
+    pub next : ℤ → Interaction
+    pub stage : (s.client q.ticket.client).stage ≡ Awaits r next
+    pub last : suc q.ticket.index ≡ (s.client q.ticket.client).begun
+    pub room : length (s.handler h).held.journal < room_of p h
+
+  pub asking : (s : RunView) (h : ℕ) (q : Private) (qs : List Private) (r : Request) (items : List QueueItem) → (s.handler h).queues ≡ q ∷ qs → q.items ≡ item.Query r ∷ items → Kept s → Asking s h q r items
+  asking s h q qs r items e i kept =
+      let w = kept.0 in
+      let f = first s w h q qs (w.service h).queue refl (sym e ∙ kept.2.queues h) in
+      let t = f.0 in
+      let d = first_ask ((w.service h).wait t) (tail s.client h t) r items (sym (ap (λ q. q.items) f.3) ∙ i) in
+      let a = tail_ask t (s.client t.client).begun (s.client t.client).stage h r items (suc t.index == (s.client t.client).begun) refl d.1 in
+      let here = here_waits s w t.client r a.1.0 a.1.1 (s.client t.client).begun refl kept.1 kept.2 in
+      let k : current s t.client ≡ t = ticket_path refl (let begun = a.0 in let i : (s.client t.client).begun - 1 ≡ t.index = omega (arith, begun) in i) in
+      let path = each_among (λ t. IsPage p t (w.page t)) t w.order kept.1.pages (subst (λ u. Among u w.order) k here.2) in
+      let fits = room_to_ask p h w kept.1 t f.1 r a.1.0 f.2 d.0 path (subst (λ u. (w.page u).rest ≡ Query r a.1.0) k here.1) a.1.2 in
+      subst (λ q. Asking s h q r items) (sym f.3) (record {
+        next = a.1.0;
+        stage = a.1.1;
+        last = a.0;
+        room = subst (λ (j : List Entry). length j < room_of p h) (kept.2.journal h) fits;
+      })
+
+  -- a ticket in a line has been booked
+  queue_below : (w : ServedRun) (h : ℕ) → IsServedRun p w → AllByRecursion (λ u. suc u.index ≤ w.booked u.client) (w.service h).queue
+  queue_below w h ok = each_back (λ u. suc u.index ≤ w.booked u.client) (w.service h).past (w.service h).queue (subst (AllByRecursion (λ u. suc u.index ≤ w.booked u.client)) (ok.services h).mine (each_kept (λ u. suc u.index ≤ w.booked u.client) (λ u. reserves p u h) w.order ok.below))
+
+  -- behind an end mark nothing is left
+  ended_done : (s : RunView) (t : Ticket) (h : ℕ) (items : List QueueItem) (kept : Kept s) → suc t.index ≤ kept.0.booked t.client → (b : Bool) → (suc t.index == (s.client t.client).begun) ≡ b
+      → (if b then tail_now (s.client t.client).stage h else item.EndMark ∷ []) ≡ item.EndMark ∷ items → IsDone (kept.0.page t).rest
+  ended_done s t h items kept below true e is =
+      let n : suc t.index ≡ (s.client t.client).begun = eqb_true (suc t.index) (s.client t.client).begun e in
+      let l = now_end (s.client t.client).stage h items is in
+      let b : Begins kept.0.page t.client (suc t.index) l.0 = subst (λ n. Begins kept.0.page t.client n l.0) (sym n) (subst (λ x. StandsAt kept.0.page t.client x (s.client t.client).begun) l.1 (kept.2.stands t.client)) in
+      subst IsDone (sym b) tt
+  ended_done s t h items kept below false e is =
+      let n : suc t.index ≢ (s.client t.client).begun = apart_eqb (suc t.index) (s.client t.client).begun e in
+      let m = kept.2.booked t.client in
+      kept.2.older t.client t.index (omega (arith, m))
+
+  pub end_step_kept : (s : RunView) (h : ℕ) (q : Private) (qs : List Private) (items : List QueueItem) → (s.handler h).queues ≡ q ∷ qs → q.items ≡ item.EndMark ∷ items → Kept s → Kept (end_step s h qs)
+  end_step_kept s h q qs items e i kept =
+      let w = kept.0 in let sim = kept.2 in
+      let f = first s w h q qs (w.service h).queue refl (sym e ∙ sim.queues h) in
+      let t = f.0 in
+      let d = first_end ((w.service h).wait t) (tail s.client h t) items (sym (ap (λ q. q.items) f.3) ∙ i) in
+      let below = (subst (AllByRecursion (λ u. suc u.index ≤ w.booked u.client)) f.2 (queue_below w h kept.1)).0 in
+      let over = ended_done s t h items kept below (suc t.index == (s.client t.client).begun) refl d.1 in (
+        leave w h t f.1,
+        leave_ok p sound w h t f.1 f.2 d.0 over kept.1,
+        record {
+          order = sim.order;
+          booked = sim.booked;
+          entry = sim.entry;
+          trace = sim.trace;
+          stands = sim.stands;
+          older = sim.older;
+          queues = put_both (λ h (x : Handler) (l : Service). x.queues ≡ map (private s.client h l.wait) l.queue) s.handler w.service h _ _ f.4 (λ g other. sim.queues g);
+          journal = put_both (λ h (l : Service) (x : Handler). l.journal ≡ x.held.journal) w.service s.handler h _ _ (sim.journal h) (λ g other. sim.journal g);
+          state = put_both (λ h (l : Service) (x : Handler). l.state ≡ x.held.object) w.service s.handler h _ _ (sim.state h) (λ g other. sim.state g);
+        },
+      )

@@ -1,0 +1,84 @@
+-- Isolation: what each reservation did is what its block does alone, at its place in the order of reservations.
+use Rattle.std.specs.Prelude.{◌≡◌, ◌<◌, ℕ, Bool, true, false, List, [], ◌++◌, map, filter, flat_map, length, slice_index_or}
+use Rattle.qs_objects.specs.Act.{State}
+use Rattle.qs_objects.specs.Journals.{replay, unstamped, IsHonest}
+use Rattle.qs_objects.specs.Operations.{is_query}
+use Rattle.qs_objects.specs.Parts.{IsFront, HasEntry, before, entries_of, logged, part, same}
+use Rattle.qs_objects.specs.declared.held.Entry.{Entry}
+use Rattle.qs_objects.specs.declared.held.Event.{Event}
+use Rattle.qs_objects.specs.declared.held.Ticket.{Ticket}
+use Rattle.qs_objects.specs.declared.Request.{Request}
+use Rattle.qs_check.specs.Program.{ProgramShape, blocks_of}
+use Rattle.qs_meaning.specs.Serial.{IsLegal, Place, serial, declared, no_state}
+use Rattle.qs_check.specs.Values.{Locals}
+use Rattle.qs_played.specs.Played.{ticket}
+use Rattle.qs_played.specs.declared.played.Played.{Played}
+
+abbrev pub no_place : Place
+no_place = record { ticket = ticket 0 0; entry = []; starts = λ h. no_state; trace = [] }
+
+-- what a run shows of its i-th reservation
+abbrev pub ticket_at : Played → ℕ → Ticket
+ticket_at r i = slice_index_or r.order i (ticket 0 0)
+
+abbrev pub entry_of : Played → ℕ → Locals
+entry_of r i = slice_index_or r.entries i []
+
+abbrev pub trace_of : Played → ℕ → List Event
+trace_of r i = slice_index_or r.traces i []
+
+abbrev pub ended_of : Played → ℕ → Bool
+ended_of r i = slice_index_or r.ended i false
+
+-- and of object h
+abbrev pub journal_of : Played → ℕ → List Entry
+journal_of r h = slice_index_or r.journals h []
+
+abbrev pub state_of : Played → ℕ → State
+state_of r h = slice_index_or r.states h no_state
+
+-- the i-th place of the serial run along the order of reservations
+abbrev pub place_of : ProgramShape → Played → ℕ → Place
+place_of p r i = slice_index_or (serial p r.order).places i no_place
+
+-- The i-th reservation. The client's variables at entry are those that the serial run has there; the trace is a front of the serial
+-- run's, and all of it where the block has ended; and what stands in an object's journal before the reservation's first entry leaves the
+-- state that the serial run finds there.
+pub record IsPlace (p : ProgramShape) (r : Played) (i : ℕ) : Type 0 where
+  pub entry : entry_of r i ≡ (place_of p r i).entry
+  pub front : IsFront (trace_of r i) (place_of p r i).trace
+  pub whole : ended_of r i ≡ true → trace_of r i ≡ (place_of p r i).trace
+  pub starts : (h : ℕ) → HasEntry (ticket_at r i) (journal_of r h) → replay (declared p h) (unstamped (before (ticket_at r i) (journal_of r h))) ≡ (place_of p r i).starts h
+
+abbrev pub queries_of : List Event → List Event
+queries_of es = filter (λ (e : Event). is_query e.request.op) es
+
+-- Object h, where `waits h t` are the commands of ticket t that are on their way to it. Its journal is honest from the declared state, and
+-- its replay is the object's state. The entries come ticket by ticket, in the order of reservations, and a ticket has one only where all
+-- requests of each earlier reservation on the object are there. A ticket's entries, and then its commands on the way, are its trace's part on
+-- the object; and each answered query is among the entries.
+pub record IsLine (p : ProgramShape) (r : Played) (waits : ℕ → Ticket → List Request) (h : ℕ) : Type 0 where
+  pub honest : IsHonest (declared p h) (unstamped (journal_of r h))
+  pub replayed : replay (declared p h) (unstamped (journal_of r h)) ≡ state_of r h
+  pub order : journal_of r h ≡ flat_map (λ t. entries_of t (journal_of r h)) r.order
+  pub turns : (i k : ℕ) → i < k → k < length r.order → HasEntry (ticket_at r k) (journal_of r h)
+      → unstamped (entries_of (ticket_at r i) (journal_of r h)) ≡ part h (place_of p r i).trace
+  pub parts : (i : ℕ) → i < length r.order
+      → part h (trace_of r i) ≡ unstamped (entries_of (ticket_at r i) (journal_of r h)) ++ map logged (waits h (ticket_at r i))
+  pub queries : (i : ℕ) → i < length r.order
+      → queries_of (part h (trace_of r i)) ≡ queries_of (unstamped (entries_of (ticket_at r i) (journal_of r h)))
+
+-- Where all has run: each block of the program is in the order once, and the objects' states are the serial run's.
+pub record IsWhole (p : ProgramShape) (r : Played) : Type 0 where
+  pub once : (t : Ticket) → t.index < blocks_of p t.client → length (filter (same t) r.order) ≡ 1
+  pub states : (h : ℕ) → h < length p.objects → state_of r h ≡ (serial p r.order).states h
+
+pub record Isolation (p : ProgramShape) (r : Played) (waits : ℕ → Ticket → List Request) : Type 0 where
+  pub legal : IsLegal p r.order
+  pub places : (i : ℕ) → i < length r.order → IsPlace p r i
+  pub objects : (h : ℕ) → h < length p.objects → IsLine p r waits h
+  pub finished : r.finished ≡ true → IsWhole p r
+
+-- It does not unfold by itself: a proof that wants one of its parts says so, and the others are spared them.
+unfoldable pub IsIsolated : ProgramShape → Played → (ℕ → Ticket → List Request) → Type 0
+IsIsolated p r waits = Isolation p r waits

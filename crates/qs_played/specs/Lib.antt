@@ -1,0 +1,6 @@
+pub mod Isolation
+pub mod Played
+pub mod JournalRooms
+pub mod ExampleRuns
+pub mod Schedule
+pub mod SyncSums

@@ -1,0 +1,14 @@
+//! What a run shows, the schedules that it is played by, and what is said of every run, by whatever machine.
+#![tactic(auto)]
+
+mod actor;
+mod fault;
+mod journal_rooms;
+mod picks;
+mod played;
+
+pub use actor::Actor;
+pub use fault::PlayFault;
+pub use journal_rooms::declared_held;
+pub use picks::are_named;
+pub use played::{Played, Row, Traces};

@@ -1,0 +1,107 @@
+-- A lane seen from either end goes on by one move.
+use Rattle.std.proofs.Common.{◌≡◌, Bool, true, false, List, [], ◌∷◌, ◌++◌, map, refl, sym, ap, ap₂, ◌∙◌, subst, append_assoc}
+use Rattle.std.proofs.lemmas.List.{map-append}
+use Rattle.qs_objects.specs.Journals.{HeldState, ran}
+use Rattle.qs_objects.specs.Laws.{IsCommand}
+use Rattle.qs_objects.specs.Parts.{logged}
+use Rattle.qs_objects.specs.declared.held.Event.{Event}
+use Rattle.qs_objects.specs.declared.held.Ticket.{Ticket}
+use Rattle.qs_objects.specs.declared.Request.{Request}
+use Rattle.qs_meaning.specs.Solo.{event}
+use Rattle.qs_meaning.proofs.Each.{each_join}
+use Rattle.qs_chunk.specs.Batch.{Batch}
+use Rattle.qs_chunk.specs.Runs.{ran_all}
+use Rattle.qs_chunk.specs.LaneViews.{AllCommands, Extends, Standing, sends, asks, holds, gone, ClientLane, Serving, serves, gives, lent, over, HandlerLane}
+use Rattle.qs_chunk.specs.declared.parcel.Parcel.{Parcel}
+use Rattle.qs_chunk.proofs.LaneMatch.{Extends-append}
+use Rattle.qs_chunk.specs.declared.parcel.Parcel.TheVariants as parcels
+
+-- from how the client stands, these go on to another standing
+abbrev pub Goes : Ticket → Standing → List Parcel → List HeldState → List Event → Standing → Type 0
+Goes t (sends chunk) sent gots es s = AllCommands chunk → ClientLane t false sent gots (map logged chunk ++ es) s
+Goes t asks sent gots es s = ClientLane t true sent gots es s
+Goes t (holds x) sent gots es s = (g : HeldState) → (ds : List Event) → Extends t g ds x → ClientLane t true sent (g ∷ gots) (ds ++ es) s
+Goes t gone sent gots es s = (sent ≡ []) × (gots ≡ []) × (es ≡ []) × (s ≡ gone)
+
+pub lane_goes : (t : Ticket) (asked : Bool) (sent : List Parcel) (gots : List HeldState) (es : List Event) (s : Standing) (sent' : List Parcel) (gots' : List HeldState) (es' : List Event) (s' : Standing)
+    → ClientLane t asked sent gots es s → Goes t s sent' gots' es' s' → ClientLane t asked (sent ++ sent') (gots ++ gots') (es ++ es') s'
+lane_goes t false [] gots es s sent' gots' es' s' k g =
+    let g' : ClientLane t false sent' gots' (map logged k.0 ++ es') s' = (subst (λ s. Goes t s sent' gots' es' s') k.1 g) k.4 in
+    subst (λ gs. ClientLane t false sent' (gs ++ gots') (es ++ es') s') (sym k.2) (subst (λ es. ClientLane t false sent' gots' (es ++ es') s') (sym k.3) g')
+lane_goes t false (parcels.Work chunk ∷ sent) gots es s sent' gots' es' s' k g =
+    (k.0 ++ es', ap (λ xs. xs ++ es') k.1 ∙ append_assoc (map logged chunk.items) k.0 es', k.2, lane_goes t false sent gots k.0 s sent' gots' es' s' k.3 g)
+lane_goes t false (parcels.Sync ∷ sent) gots es s sent' gots' es' s' k g = lane_goes t true sent gots es s sent' gots' es' s' k g
+lane_goes t false (parcels.Home x ∷ sent) gots es s sent' gots' es' s' k g = absurd k
+lane_goes t false (parcels.End ∷ sent) gots es s sent' gots' es' s' k g =
+    let e = subst (λ s. Goes t s sent' gots' es' s') k.3 g in
+    (ap₂ (λ a b. a ++ b) k.0 e.0, ap₂ (λ a b. a ++ b) k.1 e.1, ap₂ (λ a b. a ++ b) k.2 e.2, e.3)
+lane_goes t true [] [] es s sent' gots' es' s' k g = subst (λ es. ClientLane t true sent' gots' (es ++ es') s') (sym k.0) (subst (λ s. Goes t s sent' gots' es' s') k.1 g)
+lane_goes t true [] (x ∷ gots) es s sent' gots' es' s' k g =
+    subst (λ gs. ClientLane t true sent' (x ∷ (gs ++ gots')) (es ++ es') s') (sym k.1) ((subst (λ s. Goes t s sent' gots' es' s') k.2 g) x es k.3)
+lane_goes t true (parcels.Home x ∷ sent) gots es s sent' gots' es' s' k g =
+    (k.0, k.1 ++ gots', k.2, k.3 ++ es', ap (λ gs. gs ++ gots') k.4, ap (λ es. es ++ es') k.5 ∙ append_assoc k.2 k.3 es', k.6, lane_goes t false sent k.1 k.3 s sent' gots' es' s' k.7 g)
+lane_goes t true (parcels.Work chunk ∷ sent) gots es s sent' gots' es' s' k g = absurd k
+lane_goes t true (parcels.Sync ∷ sent) gots es s sent' gots' es' s' k g = absurd k
+lane_goes t true (parcels.End ∷ sent) gots es s sent' gots' es' s' k g = absurd k
+
+-- the seven moves of a client
+pub goes_put : (t : Ticket) (chunk : List Request) (r : Request) → IsCommand r.op → Goes t (sends chunk) [] [] (logged r ∷ []) (sends (chunk ++ r ∷ []))
+goes_put t chunk r c k = (chunk ++ r ∷ [], refl, refl, sym (map-append logged chunk (r ∷ [])), each_join (λ (r : Request). IsCommand r.op) chunk (r ∷ []) k (c, tt))
+
+pub goes_work : (t : Ticket) (chunk : Batch Request) → Goes t (sends chunk.items) (parcels.Work chunk ∷ []) [] [] (sends [])
+goes_work t chunk k = ([], refl, k, ([], refl, refl, refl, tt))
+
+pub goes_sync : (t : Ticket) → Goes t (sends []) (parcels.Sync ∷ []) [] [] asks
+goes_sync t k = (refl, refl)
+
+pub goes_got : (t : Ticket) (x : HeldState) → Goes t asks [] (x ∷ []) [] (holds x)
+goes_got t x = (x, refl, refl, refl)
+
+pub goes_ask : (t : Ticket) (x : HeldState) (r : Request) → Goes t (holds x) [] [] (event r ((ran x t r).1) ∷ []) (holds ((ran x t r).0))
+goes_ask t x r g ds e = ((ran x t r).0, refl, refl, Extends-append t g x ((ran x t r).0) ds (event r ((ran x t r).1) ∷ []) e (refl, refl))
+
+pub goes_home : (t : Ticket) (x : HeldState) → Goes t (holds x) (parcels.Home x ∷ []) [] [] (sends [])
+goes_home t x g ds e = (g, [], ds, [], refl, refl, e, ([], refl, refl, refl, tt))
+
+pub goes_end : (t : Ticket) → Goes t (sends []) (parcels.End ∷ []) [] [] gone
+goes_end t k = (refl, refl, refl, refl)
+
+-- from how the handler stands
+abbrev pub HandlerGoes : Ticket → Serving → List Parcel → List HeldState → Serving → Type 0
+HandlerGoes t (serves x) got gave s = HandlerLane t false x got gave s
+HandlerGoes t (gives x) got gave s = HandlerLane t true x got gave s
+HandlerGoes t (lent x) got gave s = HandlerLane t true x got (x ∷ gave) s
+HandlerGoes t (over x) got gave s = (got ≡ []) × (gave ≡ []) × (s ≡ over x)
+
+pub handler_goes : (t : Ticket) (asked : Bool) (x : HeldState) (got : List Parcel) (gave : List HeldState) (s : Serving) (got' : List Parcel) (gave' : List HeldState) (s' : Serving)
+    → HandlerLane t asked x got gave s → HandlerGoes t s got' gave' s' → HandlerLane t asked x (got ++ got') (gave ++ gave') s'
+handler_goes t false x [] gave s got' gave' s' k g = subst (λ gs. HandlerLane t false x got' (gs ++ gave') s') (sym k.0) (subst (λ s. HandlerGoes t s got' gave' s') k.1 g)
+handler_goes t false x (parcels.Work chunk ∷ got) gave s got' gave' s' k g = handler_goes t false (ran_all x t chunk.items) got gave s got' gave' s' k g
+handler_goes t false x (parcels.Sync ∷ got) gave s got' gave' s' k g = handler_goes t true x got gave s got' gave' s' k g
+handler_goes t false x (parcels.Home y ∷ got) gave s got' gave' s' k g = absurd k
+handler_goes t false x (parcels.End ∷ got) gave s got' gave' s' k g =
+    let e = subst (λ s. HandlerGoes t s got' gave' s') k.2 g in
+    (ap₂ (λ a b. a ++ b) k.0 e.0, ap₂ (λ a b. a ++ b) k.1 e.1, e.2)
+handler_goes t true x [] [] s got' gave' s' k g = subst (λ s. HandlerGoes t s got' gave' s') k g
+handler_goes t true x [] (y ∷ gave) s got' gave' s' k g =
+    subst (λ y. HandlerLane t true x got' (y ∷ (gave ++ gave')) s') (sym k.0) (subst (λ gs. HandlerLane t true x got' (x ∷ (gs ++ gave')) s') (sym k.1) (subst (λ s. HandlerGoes t s got' gave' s') k.2 g))
+handler_goes t true x (parcels.Home y ∷ got) gave s got' gave' s' k g = (k.0 ++ gave', ap (λ gs. gs ++ gave') k.1, handler_goes t false y got k.0 s got' gave' s' k.2 g)
+handler_goes t true x (parcels.Work chunk ∷ got) gave s got' gave' s' k g = absurd k
+handler_goes t true x (parcels.Sync ∷ got) gave s got' gave' s' k g = absurd k
+handler_goes t true x (parcels.End ∷ got) gave s got' gave' s' k g = absurd k
+
+-- the five moves of a handler
+pub handler_work : (t : Ticket) (x : HeldState) (chunk : Batch Request) → HandlerGoes t (serves x) (parcels.Work chunk ∷ []) [] (serves (ran_all x t chunk.items))
+handler_work t x chunk = (refl, refl)
+
+pub handler_sync : (t : Ticket) (x : HeldState) → HandlerGoes t (serves x) (parcels.Sync ∷ []) [] (gives x)
+handler_sync t x = refl
+
+pub handler_give : (t : Ticket) (x : HeldState) → HandlerGoes t (gives x) [] (x ∷ []) (lent x)
+handler_give t x = (refl, refl, refl)
+
+pub handler_home : (t : Ticket) (x y : HeldState) → HandlerGoes t (lent x) (parcels.Home y ∷ []) [] (serves y)
+handler_home t x y = ([], refl, (refl, refl))
+
+pub handler_end : (t : Ticket) (x : HeldState) → HandlerGoes t (serves x) (parcels.End ∷ []) [] (over x)
+handler_end t x = (refl, refl, refl)

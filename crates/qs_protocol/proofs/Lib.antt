@@ -1,0 +1,14 @@
+pub mod ActKinds
+pub mod ActObjects
+pub mod ClientActs
+pub mod ClientCounts
+pub mod ClientLogs
+pub mod ClientInvariants
+pub mod LaneFronts
+pub mod LaneMoves
+pub mod LaneParts
+pub mod LaneWays
+pub mod LaneWholes
+pub mod ObjectViews
+pub mod ObjectSteps
+pub mod SilentSteps
