@@ -1,6 +1,8 @@
 -- The beginning of a block: all is in place, and there is room for all its requests.
-use Rattle.std.proofs.Common.{◌≡◌, ℕ, zero, suc, ◌+◌, ◌-◌, ◌*◌, ◌<◌, ◌≤◌, Bool, true, false, ◌==◌, if◌then◌else◌, List, [], ◌∷◌, ◌++◌, is_some, length, length-append, replicate, get_or, refl, sym, ap, ◌∙◌, subst, arith, ⊎_elim}
+use Rattle.std.proofs.Common.{◌≡◌, ℕ, zero, suc, ◌+◌, ◌-◌, ◌*◌, ◌<◌, ◌≤◌, Bool, true, false, ◌==◌, if◌then◌else◌, inl, inr, List, [], ◌∷◌, ◌++◌, is_some, length, length-append, replicate, get_or, refl, sym, ap, ◌∙◌, subst, arith, ⊎_elim}
+use Rattle.std.proofs.lemmas.Bool.{cases_lt}
 use Rattle.std.proofs.lemmas.List.{length-replicate}
+use Rattle.std.proofs.Math.ListN.{get_or-eq_default}
 use Rattle.qs_objects.specs.declared.held.Ticket.{Ticket}
 use Rattle.qs_objects.specs.declared.Request.{Request}
 use Rattle.qs_objects.proofs.Choices.{eqb_self, apart_eqb, num_cases}
@@ -28,7 +30,7 @@ use Rattle.qs_client_run.specs.BlockSizes.{room_for, sum_below, longest}
 use Rattle.qs_client_run.specs.Minds.{HasSettled, items_of, outcome, place_by}
 use Rattle.qs_client_run.specs.Running.{Fits, IsRunning}
 use Rattle.qs_client_run.specs.Standing.{HasCome, IsStanding}
-use Rattle.qs_client_run.specs.Trail.{trace_at}
+use Rattle.qs_objects.specs.Traces.{AreEmptyAfter, TraceState, trace_at, trace_state}
 use Rattle.qs_client_run.specs.declared.run.Run.{Run}
 use Rattle.qs_client_run.proofs.Codes.{reserved_below_eight}
 use Rattle.qs_client_run.proofs.Coming.{reserves_here}
@@ -149,6 +151,13 @@ as_long [] k inside = absurd (omega (arith, inside))
 as_long (b ∷ bs) zero inside = omega arith
 as_long (b ∷ bs) (suc k) inside = omega (arith, as_long bs k (omega (arith, inside)))
 
+-- where the blocks after one have no events, later traces have none
+empty_after : (ts : List TraceState) (n k : ℕ) → length ts ≡ n → ((j : ℕ) → k < j → j < n → (trace_at ts j).events ≡ []) → AreEmptyAfter ts k
+empty_after ts n k same none j after = elim (cases_lt j n) [
+  | inl below ↦ none j after below
+  | inr beyond ↦ ap (λ (x : TraceState). x.events) (get_or-eq_default ts (trace_state [] 0) {n = j} (omega (arith, beyond, same)))
+]
+
 -- the data of a mind whose next block begins
 abbrev pub entered : MindState → Ticket → MindState
 entered m t = record {
@@ -199,8 +208,11 @@ module _ (m : MindState) (w : IsKept m) (t : Ticket) (asked : Asks (mind_of m) a
         within = b.ends;
         counted = long;
         sound = b.sound (λ h. is_some (held_at m.run.hands h));
-        fits = subst (λ n. Fits n (walk (code_at m.code t.index).graph limit (entry m.run.way.locals counts))) (sym (w.later t.index (omega (arith, is)) inside)) b.fits;
+        fits = subst (λ (x : TraceState). Fits x.room (walk (code_at m.code t.index).graph limit (entry m.run.way.locals counts)))
+            (sym (w.later t.index (omega (arith, is)) inside)) b.fits;
         row = omega (arith, w.rows, inside);
+        last = empty_after m.run.traces (length m.code.blocks) t.index w.rows
+            (λ j after below. ap (λ (x : TraceState). x.events) (w.later j (omega (arith, after, is)) below));
         held = over.held;
         chunks = over.chunks;
         opened = over.opened;

@@ -1,5 +1,5 @@
 -- A mind before its first block.
-use Rattle.std.proofs.Common.{◌≡◌, ℕ, zero, suc, ◌+◌, ◌*◌, ◌≤◌, List, [], ◌∷◌, Option, None, length, replicate, get_or, refl, sym, ap, subst, arith}
+use Rattle.std.proofs.Common.{◌≡◌, ℕ, zero, suc, ◌+◌, ◌*◌, ◌≤◌, List, [], ◌∷◌, Option, None, length, map, replicate, get_or, refl, sym, ap, ◌∙◌, subst, arith}
 use Rattle.std.proofs.Math.Path.{fun_ext}
 use Rattle.std.proofs.lemmas.List.{get_or-map, length-map, length-replicate}
 use Rattle.qs_objects.specs.Journals.{HeldState}
@@ -15,12 +15,12 @@ use Rattle.qs_client_run.specs.Client.{between}
 use Rattle.qs_client_run.specs.BlockSizes.{empty_rows, room_for, longest}
 use Rattle.qs_client_run.specs.Minds.{items_of}
 use Rattle.qs_client_run.specs.Running.{IsOpen}
-use Rattle.qs_client_run.specs.Trail.{TraceState, trace_state}
+use Rattle.qs_objects.specs.Traces.{TraceState, empty_trace, events_of, trace_state}
 use Rattle.qs_client_run.specs.declared.run.Run.{Run}
 use Rattle.qs_client_run.specs.declared.stage.Handed.TheVariants as handeds
 use Rattle.qs_client.specs.Kept.{IsKept}
 use Rattle.qs_client.specs.Mind.{fresh_mind}
-use Rattle.qs_client.specs.MindState.{MindState, events_of, mind_of}
+use Rattle.qs_client.specs.MindState.{MindState, mind_of}
 
 none_at : {X : Type 0} (n i : ℕ) (d : X) → get_or (replicate n d) i d ≡ d
 none_at zero i d = refl
@@ -55,7 +55,7 @@ fresh_kept code size ok sized = record {
   code = ok;
   size = sized;
   blocks = omega arith;
-  rows = length-map code.blocks (λ (b : BlockCode). trace_state [] (room_for b));
+  rows = length-map (map room_for code.blocks) empty_trace ∙ length-map code.blocks room_for;
   counts = length-replicate {A = ℕ} (longest code.blocks) 0;
   ticket = λ some. absurd (omega (arith, some));
   first = λ none. (refl, refl);
@@ -63,7 +63,9 @@ fresh_kept code size ok sized = record {
   few = no_nodes;
   standing = record { held = refl; chunks = refl; opened = λ h. subst (IsOpen size) (sym (none_at {X = Option (Batch Request)} 8 h None)) tt };
   gone = tt;
-  later = λ k past inside. ap (λ (t : TraceState). t.room) (get_or-map (λ (b : BlockCode). trace_state [] (room_for b)) code.blocks k no_code (trace_state [] 0) inside);
+  later = λ k past inside.
+      get_or-map empty_trace (map room_for code.blocks) k 0 (trace_state [] 0) (omega (arith, inside, length-map code.blocks room_for))
+      ∙ ap empty_trace (get_or-map room_for code.blocks k no_code 0 inside);
 }
 
 pub fresh_is : (code : ClientCode) (size : ℕ) → mind_of (fresh_state code size) ≡ fresh_mind code size

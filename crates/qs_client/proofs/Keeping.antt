@@ -16,7 +16,7 @@ use Rattle.qs_client_run.specs.BlockSizes.{room_for, longest}
 use Rattle.qs_client_run.specs.Standing.{count_sync, HasCome, HasGot, HasSent, HasTaken, IsGone, IsStanding, after_send, handed_of, left_after}
 use Rattle.qs_client_run.specs.Minds.{Outcome, place_by}
 use Rattle.qs_client_run.specs.Running.{KeepsRows}
-use Rattle.qs_client_run.specs.Trail.{TraceState, trace_at, trace_state}
+use Rattle.qs_objects.specs.Traces.{TraceState, empty_trace, events_of, trace_at, trace_state}
 use Rattle.qs_client_run.specs.declared.act.Act.{Act}
 use Rattle.qs_client_run.specs.declared.run.Run.{Run}
 use Rattle.qs_client_run.specs.declared.stage.Handed.{Handed}
@@ -28,7 +28,7 @@ use Rattle.qs_client_run.specs.declared.stage.Handed.TheVariants as handeds
 use Rattle.qs_client_run.specs.declared.stage.Stage.TheVariants as stages
 use Rattle.qs_client.specs.Kept.{IsKept}
 use Rattle.qs_client.specs.Mind.{Asks, Mind, asked_of, chunk_mind, comes_to, done, extended, got_mind, hands_out, is_between}
-use Rattle.qs_client.specs.MindState.{MindState, IsMind, block_of, client_in, events_of, mind_of, settings_in}
+use Rattle.qs_client.specs.MindState.{MindState, IsMind, block_of, client_in, mind_of, settings_in}
 
 events_at : (rows : List TraceState) (j : ℕ) → get_or (events_of rows) j [] ≡ (trace_at rows j).events
 events_at rows j = get_or-map (λ (t : TraceState). t.events) rows j (trace_state [] 0)
@@ -100,7 +100,7 @@ pub record IsSteady (m : MindState) : Type 0 where
   pub rows : length m.run.traces ≡ length m.code.blocks
   pub counts : length m.run.way.counts ≡ longest m.code.blocks
   pub ticket : m.ticket.index + 1 ≡ length m.entries
-  pub later : (k : ℕ) → length m.entries ≤ k → k < length m.code.blocks → (trace_at m.run.traces k).room ≡ room_for (code_at m.code k)
+  pub later : (k : ℕ) → length m.entries ≤ k → k < length m.code.blocks → trace_at m.run.traces k ≡ empty_trace (room_for (code_at m.code k))
 
 pub steady : (m : MindState) → 0 < length m.entries → IsKept m → IsSteady m
 steady m some w = record {
@@ -136,7 +136,7 @@ come_kept m by most new s w few = record {
   standing = w.standing;
   gone = nothing_gone (block_of m).graph new new.stage;
   later = λ k past inside.
-      ap (λ (t : TraceState). t.room) (w.rows.others k (ne_eqb m.ticket.index k (λ e. omega (arith, e, past, s.ticket)))) ∙ s.later k past inside;
+      w.rows.others k (ne_eqb m.ticket.index k (λ e. omega (arith, e, past, s.ticket))) ∙ s.later k past inside;
 }
 
 -- a block was begun where something was handed out, or the client does not stand between blocks
@@ -313,7 +313,7 @@ acts_kept m w given new a = record {
   few = w.few;
   standing = a.standing;
   gone = a.gone;
-  later = λ k past inside. ap (λ (ts : List TraceState). (trace_at ts k).room) a.traces ∙ w.later k past inside;
+  later = λ k past inside. ap (λ (ts : List TraceState). trace_at ts k) a.traces ∙ w.later k past inside;
 }
 
 pub acts_is : (m : MindState) (most : ℕ) (given : Act) (new : Run)

@@ -4,7 +4,7 @@ use Rattle.qs_graph.specs.Steps.{limit}
 use Rattle.qs_syncset.specs.Codes.{IsCode, code_at}
 use Rattle.qs_client_run.specs.BlockSizes.{longest, room_for}
 use Rattle.qs_client_run.specs.Standing.{IsGone, IsStanding}
-use Rattle.qs_client_run.specs.Trail.{trace_at}
+use Rattle.qs_objects.specs.Traces.{empty_trace, trace_at}
 use Rattle.qs_client_run.specs.declared.stage.Handed.TheVariants as handeds
 use Rattle.qs_client_run.specs.declared.stage.Stage.TheVariants as stages
 use Rattle.qs_client.specs.MindState.{MindState, block_of}
@@ -23,4 +23,4 @@ pub record IsKept (m : MindState) : Type 0 where
   pub few : m.syncs + left ≤ length m.entries * limit
   pub standing : IsStanding (block_of m) m.size m.ticket.index left m.run m.run.stage
   pub gone : IsGone (block_of m).graph m.handed m.run m.run.stage
-  pub later : (k : ℕ) → length m.entries ≤ k → k < length m.code.blocks → (trace_at m.run.traces k).room ≡ room_for (code_at m.code k)
+  pub later : (k : ℕ) → length m.entries ≤ k → k < length m.code.blocks → trace_at m.run.traces k ≡ empty_trace (room_for (code_at m.code k))

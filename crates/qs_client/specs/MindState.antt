@@ -7,7 +7,7 @@ use Rattle.qs_graph.specs.Steps.{limit}
 use Rattle.qs_syncset.specs.Codes.{BlockCode, ClientCode, IsCode, code_at}
 use Rattle.qs_client_run.specs.Client.{Client, Settings}
 use Rattle.qs_client_run.specs.Minds.{client_of}
-use Rattle.qs_client_run.specs.Trail.{TraceState}
+use Rattle.qs_objects.specs.Traces.{TraceState, events_of}
 use Rattle.qs_client_run.specs.declared.run.Run.{Run}
 use Rattle.qs_client_run.specs.declared.stage.Handed.{Handed}
 use Rattle.qs_client.specs.Mind.{Mind, is_between}
@@ -26,9 +26,6 @@ pub record MindState : Type 0 where
 -- the code of the block that was begun last
 abbrev pub block_of : MindState → BlockCode
 block_of m = code_at m.code m.ticket.index
-
-abbrev pub events_of : List TraceState → List (List Event)
-events_of rows = map (λ (t : TraceState). t.events) rows
 
 abbrev pub settings_in : MindState → Settings
 settings_in m = record { dynamic = m.code.dynamic; size = m.size }

@@ -4,12 +4,14 @@ ghost use Rattle.std.specs.Prelude.{◌≡◌, ◌<◌, ℕ, [], IfOk, length, o
 ghost use Rattle.qs_chunk.specs.Batch.{batch};
 ghost use Rattle.qs_client.specs.Mind.{Asks, booked_mind, chunk_mind, done, ended_by, fresh_mind, got_mind, is_between, next_act, next_mind};
 ghost use Rattle.qs_client_run.specs.Acting.{IsQuiet};
-ghost use Rattle.qs_client.specs.MindState.{IsMind, events_of, mind_of};
+ghost use Rattle.qs_client.specs.MindState.{IsMind, mind_of};
+ghost use Rattle.qs_objects.specs.Rows.{joined};
+ghost use Rattle.qs_objects.specs.Traces.{events_of};
 
 use qs_check::Locals;
 use qs_chunk::{Chunk, ChunkSize};
-use qs_client_run::{Act, Handed, Run, Stage, Traces};
-use qs_objects::{Held, Request, Ticket};
+use qs_client_run::{Act, Handed, Run, Stage};
+use qs_objects::{Event, Held, Request, Ticket, Traces};
 use qs_syncset::Code;
 use std::alloc::{AllocError, Global};
 use std::marker::Model;
@@ -200,6 +202,14 @@ impl Mind {
         ensures value { events_of result.now ≡ (mind_of self.now).traces }
     {
         &self.run.traces
+    }
+
+    /// The traces so far, joined: the events of all blocks, block after block.
+    #[tactic(auto, unfolding(crate::specs::MindState::mind_of))]
+    pub fn row(&self) -> &[Event]
+        ensures value { result.now ≡ joined (mind_of self.now).traces }
+    {
+        self.run.traces.joined()
     }
 
     /// The client's variables as it entered each block that was begun.

@@ -22,7 +22,7 @@ use Rattle.qs_chunk.specs.declared.parcel.Parcel.TheVariants as parcels
 use Rattle.qs_client_run.specs.Acting.{Wants, with_hands, IsQuiet}
 use Rattle.qs_client_run.specs.Client.{Client, Settings, act_at, act_of, call_act, clears, got, rest_act, took_chunk, settle}
 use Rattle.qs_client_run.specs.Hand.{held_at, chunk_at, with_held, with_chunk}
-use Rattle.qs_client_run.specs.Trail.{trace_at}
+use Rattle.qs_objects.specs.Traces.{trace_at}
 use Rattle.qs_client_run.specs.Minds.{HasSettled, client_of, items_of, outcome, place_by, place_of}
 use Rattle.qs_client_run.specs.Running.{IsOpen, IsRunning, IsLoud}
 use Rattle.qs_client_run.specs.Standing.{HasGot, HasTaken, IsAwaiting, IsStanding, handed_of}
@@ -202,6 +202,7 @@ module _ (b : BlockCode) (settings : Settings) (ticket : Ticket) (blocks begun m
     sound = subst (λ f. IsSoundSynced f (walk b.graph n s.way)) (sym (holding_put s.hands h (Some x) (omega (arith, w.handler, w.held)))) w.sound;
     fits = w.fits;
     row = w.row;
+    last = w.last;
     held = length-set s.hands.held h (Some x) ∙ w.held;
     chunks = w.chunks;
     opened = w.opened;
@@ -235,6 +236,7 @@ module _ (b : BlockCode) (settings : Settings) (ticket : Ticket) (blocks begun m
     sound = w.sound;
     fits = w.fits;
     row = w.row;
+    last = w.last;
     held = w.held;
     chunks = length-set s.hands.chunks h (Some (batch [] settings.size)) ∙ w.chunks;
     opened = chunk_each (λ j x. IsOpen settings.size x) s.hands h (Some (batch [] settings.size)) (omega (arith, eight, w.chunks))

@@ -24,7 +24,8 @@ use Rattle.qs_syncset.specs.Codes.{BlockCode}
 use Rattle.qs_chunk.specs.Batch.{Batch, batch}
 use Rattle.qs_client_run.specs.Client.{Client, Settings, Settled, settle, leaving, calls, queries, stays, with_event, runs, full}
 use Rattle.qs_client_run.specs.Hand.{HandsState, held_at, chunk_at, with_held, with_chunk}
-use Rattle.qs_client_run.specs.Trail.{TraceState, trace_state, trace_at, noted, noted_at}
+use Rattle.qs_objects.proofs.TraceRows.{empty_after_note}
+use Rattle.qs_objects.specs.Traces.{TraceState, trace_state, trace_at, noted, noted_at}
 use Rattle.qs_client_run.specs.Minds.{items_of, client_with, client_of, place_of, place_by, outcome, coming, reached, HasSettled}
 use Rattle.qs_client_run.specs.Standing.{IsStanding, HasSent, resumed}
 use Rattle.qs_client_run.specs.Running.{IsRunning, IsFull, IsStopped, IsLoud, IsOpen, IsSized, KeepsRows, Fits, goes_to, called_by, called, asked_by, asked, synced, ended, moved_by, moved}
@@ -210,6 +211,7 @@ module _ (g : List Place) (settings : Settings) (terms : Terms) (reserved : List
       sound = w.sound;
       fits = w.fits;
       row = w.whole.row;
+      last = w.whole.last;
       held = w.whole.held;
       chunks = w.whole.chunks;
       opened = w.whole.opened;
@@ -245,6 +247,7 @@ module _ (g : List Place) (settings : Settings) (terms : Terms) (reserved : List
           sound = subst (λ f. IsSoundSynced f (walk g n t)) (put_same (holding s.hands) h true (and_cases terms.dynamic (is_some (held_at s.hands h)) e).1) w.sound;
           fits = w.fits;
           row = w.whole.row;
+          last = w.whole.last;
           held = w.whole.held;
           chunks = w.whole.chunks;
           opened = w.whole.opened;
@@ -342,6 +345,7 @@ module _ (g : List Place) (settings : Settings) (terms : Terms) (reserved : List
                 sound = sound;
                 fits = fits;
                 row = omega (arith, w.whole.row, length-set s.traces k (noted (trace_at s.traces k) (logged r)));
+                last = empty_after_note s.traces k (logged r) w.whole.last;
                 held = w.whole.held;
                 chunks = length-set s.hands.chunks r.object (Some more) ∙ w.whole.chunks;
                 handler = w.eight;
@@ -364,6 +368,7 @@ module _ (g : List Place) (settings : Settings) (terms : Terms) (reserved : List
               sound = sound;
               fits = fits;
               row = omega (arith, w.whole.row, length-set s.traces k (noted (trace_at s.traces k) (logged r)));
+              last = empty_after_note s.traces k (logged r) w.whole.last;
               held = w.whole.held;
               chunks = length-set s.hands.chunks r.object (Some more) ∙ w.whole.chunks;
               opened = chunk_each (λ j c. IsOpen settings.size c) s.hands r.object (Some more) inside
@@ -403,6 +408,7 @@ module _ (g : List Place) (settings : Settings) (terms : Terms) (reserved : List
               sound = subst (λ f. IsSoundSynced f (walk g n (t (value_of o.1)))) (sym same) (w.sound.1 (value_of o.1));
               fits = subst (λ (y : TraceState). Fits y.room (walk g n (t (value_of o.1)))) (sym row) (w.fits.1 (value_of o.1));
               row = omega (arith, w.whole.row, length-set s.traces k (noted (trace_at s.traces k) (event r o.1)));
+              last = empty_after_note s.traces k (event r o.1) w.whole.last;
               held = length-set s.hands.held r.object (Some o.0) ∙ w.whole.held;
               chunks = w.whole.chunks;
               opened = w.whole.opened;
@@ -494,6 +500,7 @@ full_running g size k n h s gone w = record {
   sound = w.sound;
   fits = w.fits;
   row = w.row;
+  last = w.last;
   held = w.held;
   chunks = w.chunks;
   opened = λ j. room_again size h j (chunk_at s.hands j) (w.others j) (λ is. subst (λ m. chunk_at s.hands m ≡ None) is gone);
@@ -528,6 +535,7 @@ restaged g size k n s stage w = record {
   sound = w.sound;
   fits = w.fits;
   row = w.row;
+  last = w.last;
   held = w.held;
   chunks = w.chunks;
   opened = w.opened;

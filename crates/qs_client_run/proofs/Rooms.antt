@@ -5,7 +5,7 @@ use Rattle.qs_graph.specs.Nodes.{Place}
 use Rattle.qs_graph.specs.Walk.{Spot, Calls, Queries, move, said, walk}
 use Rattle.qs_syncset.specs.SoundSynced.{IsSoundSynced}
 use Rattle.qs_client_run.specs.Hand.{held_at}
-use Rattle.qs_client_run.specs.Trail.{trace_at}
+use Rattle.qs_objects.specs.Traces.{trace_at}
 use Rattle.qs_client_run.specs.Running.{IsRunning, Fits}
 use Rattle.qs_client_run.specs.declared.run.Run.{Run}
 

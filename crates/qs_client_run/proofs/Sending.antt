@@ -11,7 +11,7 @@ use Rattle.qs_graph.proofs.Saying.{walk_up}
 use Rattle.qs_syncset.specs.Codes.{BlockCode}
 use Rattle.qs_client_run.specs.Client.{Client, Settings, sent_sync, sent_end, leaving, awaits, between}
 use Rattle.qs_client_run.specs.Hand.{HandsState}
-use Rattle.qs_client_run.specs.Trail.{TraceState, trace_at}
+use Rattle.qs_objects.specs.Traces.{TraceState, trace_at}
 use Rattle.qs_client_run.specs.Minds.{client_with, client_of, place_by, outcome}
 use Rattle.qs_client_run.specs.Running.{IsOver, IsRunning}
 use Rattle.qs_client_run.specs.Standing.{IsStanding, IsSyncing, HasSent, synced_by, synced_on, left_by, left_on}
@@ -47,6 +47,7 @@ module _ (b : BlockCode) (settings : Settings) (ticket : Ticket) (begun : ℕ) w
         sound = w.sound;
         fits = w.fits;
         row = w.whole.row;
+        last = w.whole.last;
         held = w.whole.held;
         chunks = w.whole.chunks;
         handler = w.eight;

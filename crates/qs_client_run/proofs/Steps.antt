@@ -8,7 +8,7 @@ use Rattle.qs_meaning.specs.Solo.{event, value_of}
 use Rattle.qs_graph.specs.Walk.{Spot}
 use Rattle.qs_chunk.specs.Batch.{Batch, batch}
 use Rattle.qs_client_run.specs.Hand.{HandsState, held_at, chunk_at, with_held, with_chunk}
-use Rattle.qs_client_run.specs.Trail.{noted_at}
+use Rattle.qs_objects.specs.Traces.{noted_at}
 use Rattle.qs_client_run.specs.Running.{called_by, called, asked_by, asked}
 use Rattle.qs_client_run.specs.declared.run.Run.{Run}
 use Rattle.qs_client_run.specs.declared.stage.Stage.TheVariants as stages

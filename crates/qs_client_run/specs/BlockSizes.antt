@@ -1,7 +1,7 @@
 -- What the blocks of a code need: room for the traces, and a count for each repeat of the longest graph.
 use Rattle.std.specs.Prelude.{ℕ, zero, suc, ◌+◌, List, [], map, ◌∷◌, length, max}
 use Rattle.qs_syncset.specs.Codes.{BlockCode, load_at}
-use Rattle.qs_client_run.specs.Trail.{TraceState, trace_state}
+use Rattle.qs_objects.specs.Traces.{TraceState, empty_trace}
 
 -- the sum of f below n
 abbrev pub sum_below : ℕ → (ℕ → ℕ) → ℕ
@@ -14,7 +14,7 @@ room_for b = sum_below 8 (load_at b)
 
 -- the traces before the first block
 abbrev pub empty_rows : List BlockCode → List TraceState
-empty_rows blocks = map (λ (b : BlockCode). trace_state [] (room_for b)) blocks
+empty_rows blocks = map empty_trace (map room_for blocks)
 
 -- the nodes of the longest graph
 abbrev pub longest : List BlockCode → ℕ

@@ -9,4 +9,3 @@ pub mod Standing
 pub mod Minds
 pub mod Restart
 pub mod Running
-pub mod Trail

@@ -12,7 +12,7 @@ use Rattle.qs_chunk.specs.Batch.{Batch}
 use Rattle.qs_client_run.specs.Client.{Client, Settings, Settled, Place, settle, between, runs, full, awaits, leaves}
 use Rattle.qs_client_run.specs.Running.{IsStopped, KeepsRows}
 use Rattle.qs_client_run.specs.Hand.{HandsState, held_at, chunk_at}
-use Rattle.qs_client_run.specs.Trail.{trace_at}
+use Rattle.qs_objects.specs.Traces.{trace_at}
 use Rattle.qs_client_run.specs.declared.stage.Stage.{Stage}
 use Rattle.qs_client_run.specs.declared.run.Run.{Run}
 use Rattle.qs_client_run.specs.declared.stage.Stage.TheVariants as stages

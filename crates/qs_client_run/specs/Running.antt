@@ -12,7 +12,7 @@ use Rattle.qs_graph.specs.Walk.{Spot, Move, Ends, Goes, Calls, Syncs, Queries, m
 use Rattle.qs_syncset.specs.SoundSynced.{IsSoundSynced}
 use Rattle.qs_chunk.specs.Batch.{Batch, batch}
 use Rattle.qs_client_run.specs.Hand.{held_at, chunk_at, with_held, with_chunk}
-use Rattle.qs_client_run.specs.Trail.{TraceState, trace_at, noted_at}
+use Rattle.qs_objects.specs.Traces.{AreEmptyAfter, TraceState, trace_at, noted_at}
 use Rattle.qs_client_run.specs.declared.stage.Stage.{Stage}
 use Rattle.qs_client_run.specs.declared.run.Run.{Run}
 use Rattle.qs_client_run.specs.declared.run.Terms.{Terms}
@@ -101,6 +101,7 @@ pub record IsRunning (g : List Place) (size k n : ℕ) (s : Run) : Type 0 where
   pub sound : IsSoundSynced (λ h. is_some (held_at s.hands h)) (walk g n s.way)
   pub fits : Fits (trace_at s.traces k).room (walk g n s.way)
   pub row : k < length s.traces
+  pub last : AreEmptyAfter s.traces k
   pub held : length s.hands.held ≡ 8
   pub chunks : length s.hands.chunks ≡ 8
   pub opened : (h : ℕ) → IsOpen size (chunk_at s.hands h)
@@ -129,6 +130,7 @@ pub record IsFull (g : List Place) (size k n h : ℕ) (s : Run) : Type 0 where
   pub sound : IsSoundSynced (λ j. is_some (held_at s.hands j)) (walk g n s.way)
   pub fits : Fits (trace_at s.traces k).room (walk g n s.way)
   pub row : k < length s.traces
+  pub last : AreEmptyAfter s.traces k
   pub held : length s.hands.held ≡ 8
   pub chunks : length s.hands.chunks ≡ 8
   pub handler : h < 8

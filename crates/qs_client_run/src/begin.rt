@@ -1,6 +1,6 @@
 //! All the memory of a client, and the beginning of a block.
 
-ghost use Rattle.std.specs.Prelude.{◌≡◌, ◌<◌, ℕ, IfOk, length};
+ghost use Rattle.std.specs.Prelude.{◌≡◌, ◌<◌, ◌≤◌, ℕ, IfOk, length};
 ghost use Rattle.qs_syncset.specs.Codes.{code_at};
 ghost use Rattle.qs_client_run.specs.Beginning.{begins_at, fresh_run};
 ghost use Rattle.qs_client_run.specs.Client.{Place, Settings};
@@ -12,9 +12,8 @@ ghost use Rattle.qs_client_run.specs.Running.{IsRunning};
 use crate::hands::Hands;
 use crate::run::Run;
 use crate::stage::Stage;
-use crate::traces::{Trace, Traces};
 use crate::way::Way;
-use qs_objects::Ticket;
+use qs_objects::{Ticket, Traces};
 use qs_syncset::Code;
 use std::alloc::{AllocError, Global};
 
@@ -33,6 +32,7 @@ fn longest_graph(code: &Code) -> usize
 fn room_of(code: &Code, block: usize) -> usize
     requires block { block < length code.now.blocks }
     ensures value { result ≡ room_for (code_at code.now block) }
+    ensures few { result ≤ 800000 }
 {
     let mut room = 0;
     for handler in 0..8u8 {
@@ -45,12 +45,16 @@ fn room_of(code: &Code, block: usize) -> usize
 fn empty_traces(alloc: Global, code: &Code) -> Result<Traces, AllocError>
     ensures empty { IfOk result (λ traces. traces ≡ empty_rows code.now.blocks) }
 {
+    code.is_code();
     let count = code.blocks();
-    let mut rows = Vec::with_capacity(alloc, count)?;
+    let mut rooms = Vec::with_capacity(alloc, count)?;
+    let mut room = 0;
     for block in 0..count {
-        rows.push_reserved(Trace::new(alloc, room_of(code, block))?);
+        let requests = room_of(code, block);
+        rooms.push_reserved(requests);
+        room += requests;
     }
-    Ok(Traces::of_rows(rows))
+    Traces::new(alloc, rooms, room)
 }
 
 impl Run {

@@ -9,7 +9,6 @@ mod hands;
 pub mod laws;
 mod run;
 mod stage;
-mod traces;
 mod turn;
 mod way;
 
@@ -17,5 +16,4 @@ pub use act::Act;
 pub use hands::Hands;
 pub use run::Run;
 pub use stage::{Handed, Stage};
-pub use traces::{Trace, Traces};
 pub use way::Way;

@@ -5,18 +5,17 @@ ghost use Rattle.qs_check.specs.Values.{request_of};
 ghost use Rattle.qs_graph.specs.Walk.{at_node, with_value};
 ghost use Rattle.qs_client_run.specs.Hand.{chunk_at, held_at};
 ghost use Rattle.qs_client_run.specs.Running.{IsOpen, IsRunning, asked, called, ended, moved, synced};
-ghost use Rattle.qs_client_run.specs.Trail.{trace_at};
+ghost use Rattle.qs_objects.specs.Traces.{AreEmptyAfter, trace_at};
 ghost use Rattle.qs_client_run.specs.Client.{Settings, Place};
 ghost use Rattle.qs_client_run.specs.Minds.{HasSettled};
 ghost use Rattle.qs_client_run.specs.declared.stage.Stage.TheVariants as stages;
 
 use crate::hands::Hands;
 use crate::stage::Stage;
-use crate::traces::Traces;
 use crate::way::Way;
 use qs_check::Call;
 use qs_graph::{Graph, Node};
-use qs_objects::{Event, Ticket};
+use qs_objects::{Event, Ticket, Traces};
 
 /// A client's place in its block's graph, its objects and open chunks, its traces, and where it stands.
 #[derive(Drop)]
@@ -56,6 +55,7 @@ impl Run {
         requires object { call.now.object < 8 }
         requires few { length call.now.args ≤ 3 }
         requires block { block < length self.old.traces }
+        requires last { AreEmptyAfter self.old.traces block }
         requires room { 0 < (trace_at self.old.traces block).room }
         requires opened { (size : ℕ) × IsOpen size (chunk_at self.old.hands call.now.object) }
         ensures new { self.new ≡ (called block (request_of self.old.way.locals call.now) (at_node self.old.way next) self.old).0 }
@@ -90,6 +90,7 @@ impl Run {
         requires object { call.now.object < 8 }
         requires few { length call.now.args ≤ 3 }
         requires block { ticket.index < length self.old.traces }
+        requires last { AreEmptyAfter self.old.traces ticket.index }
         requires room { 0 < (trace_at self.old.traces ticket.index).room }
         requires held { IsSome (held_at self.old.hands call.now.object) }
         ensures new { self.new

@@ -18,7 +18,7 @@ use Rattle.qs_meaning.proofs.SerialRuns.{legal_apart}
 use Rattle.qs_syncset.specs.declared.mode.Mode.{Mode}
 use Rattle.qs_syncset.specs.Codes.{ClientCode}
 use Rattle.qs_syncset.specs.SyncCounts.{syncs_along}
-use Rattle.qs_syncset.proofs.SyncCounts.{code_asks}
+use Rattle.qs_syncset.proofs.CountedSyncs.{code_asks}
 use Rattle.qs_syncset.proofs.SyncTrees.{IsAsking}
 use Rattle.qs_chunk.specs.declared.parcel.Parcel.{Parcel}
 use Rattle.qs_chunk.specs.declared.parcel.Parcel.TheVariants as parcels

@@ -11,7 +11,7 @@ use Rattle.qs_syncset.specs.declared.mode.Mode.{Mode}
 use Rattle.qs_syncset.specs.Codes.{ClientCode, code_at}
 use Rattle.qs_syncset.specs.Modes.{is_dynamic}
 use Rattle.qs_syncset.specs.SyncCounts.{AreOrdered, IsSentBy, queries, syncs_along}
-use Rattle.qs_syncset.proofs.SyncCounts.{syncs_are_counted}
+use Rattle.qs_syncset.proofs.CountedSyncs.{syncs_are_counted}
 use Rattle.qs_syncset.specs.SyncCounts as counts
 use Rattle.qs_client_run.specs.Client.{Client, Place, between, runs, full, awaits, leaves}
 use Rattle.qs_client_run.specs.BlockSizes.{longest}

@@ -2,3 +2,5 @@ pub mod Choices
 pub mod Sums
 pub mod ObjectLaws
 pub mod Replays
+pub mod Cuts
+pub mod TraceRows

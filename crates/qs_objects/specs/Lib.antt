@@ -5,3 +5,6 @@ pub mod Journals
 pub mod Parts
 pub mod Laws
 pub mod Examples
+pub mod Sums
+pub mod Rows
+pub mod Traces

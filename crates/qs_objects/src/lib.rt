@@ -11,10 +11,14 @@ mod held;
 pub mod laws;
 mod object;
 mod operation;
+mod rows;
+mod traces;
 
 pub use args::Args;
 pub use held::{Entry, Event, Held, Journal, Next, Ticket};
 pub use object::{Kind, Object, ObjectFault};
+pub use rows::Rows;
+pub use traces::Traces;
 
 /// What a request asks for: a command, which changes the object and has no reply, or a query, which
 /// has one.

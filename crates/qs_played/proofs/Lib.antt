@@ -1,5 +1,6 @@
 pub mod ReservedObjects
 pub mod SyncLists
+pub mod SyncTallies
 pub mod ShownRuns
 pub mod Orders
 pub mod Lists

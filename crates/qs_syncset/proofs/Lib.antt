@@ -7,7 +7,8 @@ pub mod CoalescedWalks
 pub mod CodeWalks
 pub mod SyncTrees
 pub mod SyncWalks
-pub mod SyncCounts
+pub mod CountedSyncs
 pub mod Tables
 pub mod WorkedGraphs
 pub mod WorkedSyncs
+pub mod CountRows

@@ -11,3 +11,4 @@ pub mod CodeLaws
 pub mod SyncCounts
 pub mod SyncExamples
 pub mod HeldExamples
+pub mod SyncRows

@@ -7,8 +7,10 @@ pub mod laws;
 mod mode;
 mod removal;
 mod rows;
+mod sync_counts;
 
 pub use code::{Code, compile};
 pub use mode::Mode;
 pub use removal::coalesce;
 pub use rows::{Sets, held_sets};
+pub use sync_counts::{SyncCount, SyncCounts};

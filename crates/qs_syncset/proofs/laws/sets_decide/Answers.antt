@@ -1,4 +1,4 @@
-use Rattle.qs_syncset.proofs.SyncCounts.{sets_decide}
+use Rattle.qs_syncset.proofs.CountedSyncs.{sets_decide}
 use Rattle.qs_syncset.proofs.laws.sets_decide.Goals as goal
 
 pub returns : goal.returns

@@ -1,4 +1,4 @@
-use Rattle.qs_syncset.proofs.SyncCounts.{syncs_are_counted}
+use Rattle.qs_syncset.proofs.CountedSyncs.{syncs_are_counted}
 use Rattle.qs_syncset.proofs.laws.syncs_are_counted.Goals as goal
 
 pub returns : goal.returns

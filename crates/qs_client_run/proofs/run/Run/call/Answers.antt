@@ -6,7 +6,7 @@ use Rattle.qs_check.specs.Values.{request_of}
 use Rattle.qs_graph.specs.Walk.{at_node}
 use Rattle.qs_chunk.specs.Batch.{batch}
 use Rattle.qs_client_run.specs.Hand.{HandsState, with_chunk}
-use Rattle.qs_client_run.specs.Trail.{noted_at}
+use Rattle.qs_objects.specs.Traces.{noted_at}
 use Rattle.qs_client_run.specs.declared.run.Run.{Run}
 use Rattle.qs_client_run.proofs.Steps.{none_of, called_fills}
 use Rattle.qs_client_run.proofs.run.Run.call.Goals.{then-is_full, else-is_full}

@@ -7,7 +7,7 @@ use Rattle.qs_check.specs.Values.{request_of}
 use Rattle.qs_meaning.specs.Solo.{event, value_of}
 use Rattle.qs_graph.specs.Walk.{Spot, at_node, with_value}
 use Rattle.qs_client_run.specs.Hand.{HandsState, with_held}
-use Rattle.qs_client_run.specs.Trail.{noted_at}
+use Rattle.qs_objects.specs.Traces.{noted_at}
 use Rattle.qs_client_run.specs.declared.run.Run.{Run}
 use Rattle.qs_client_run.proofs.Steps.{asked_runs}
 use Rattle.qs_client_run.proofs.run.Run.query.Goals as goal

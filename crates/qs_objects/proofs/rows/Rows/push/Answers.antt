@@ -1,0 +1,70 @@
+use Rattle.std.proofs.Common.{◌<◌, ◌+◌, ◌-◌, List, [], ◌∷◌, ◌++◌, length, get_or, set, refl, sym, ap, ◌∙◌, subst, arith}
+use Rattle.std.proofs.lemmas.List.{get_or_default}
+use Rattle.std.specs.Prelude.{vec_capacity}
+use Rattle.qs_objects.specs.Rows.{FillList, IsLast, RowsState, cut, rows_state}
+use Rattle.qs_objects.proofs.Cuts.{fill_push, row_inside, row_within, rows_push, start_inside}
+use Rattle.qs_objects.proofs.rows.Rows.push.Goals as goal
+
+pub index-count-requires : goal.index-count-requires
+index-count-requires g c =
+    let own = row_inside _ _ _ _ _ c.self.invariant c.args.row (subst (λ (s : RowsState g.row.T.Denot). c.args.row < length s.rows) (sym c.self.view_is) c.requires.row) in
+    let count = c.self.inside.lengths.ok.0 in
+    omega (arith, own, count)
+
+pub overflow_sub-len : goal.overflow_sub-len
+overflow_sub-len g c =
+    let row = (subst (λ (s : RowsState g.row.T.Denot). c.args.row < length s.rows) (sym c.self.view_is) c.requires.row) in
+    let count = c.index-count.ensures ∙ get_or_default _ c.args.row _ 0 (row_inside _ _ _ _ _ c.self.invariant c.args.row row) in
+    let within = row_within _ _ _ _ _ c.self.invariant c.args.row _ _ row refl count in
+    let len = c.self.inside.items.ok.0 in
+    omega (arith, within, len, c.len.ensures)
+
+pub index_mut-requires : goal.index_mut-requires
+index_mut-requires g c =
+    let own = start_inside _ _ _ _ _ c.self.invariant c.args.row (subst (λ (s : RowsState g.row.T.Denot). c.args.row < length s.rows) (sym c.self.view_is) c.requires.row) in
+    let count = c.self.inside.starts.ok.0 in
+    omega (arith, own, count)
+
+pub overflow_add-count : goal.overflow_add-count
+overflow_add-count g c =
+    let row = (subst (λ (s : RowsState g.row.T.Denot). c.args.row < length s.rows) (sym c.self.view_is) c.requires.row) in
+    let count = c.index-count.ensures ∙ get_or_default _ c.args.row _ 0 (row_inside _ _ _ _ _ c.self.invariant c.args.row row) in
+    let within = row_within _ _ _ _ _ c.self.invariant c.args.row _ _ row refl count in
+    omega (arith, within, c.self.inside.items.ok.0, c.self.inside.items.ok.1, c.self.inside.items.small)
+
+pub index_mut-requires-2 : goal.index_mut-requires-2
+index_mut-requires-2 g c =
+    let own = row_inside _ _ _ _ _ c.self.invariant c.args.row (subst (λ (s : RowsState g.row.T.Denot). c.args.row < length s.rows) (sym c.self.view_is) c.requires.row) in
+    let count = c.self.inside.lengths.ok.0 in
+    omega (arith, own, count)
+
+pub invariant_of-self : goal.invariant_of-self
+invariant_of-self g c =
+    let row = (subst (λ (s : RowsState g.row.T.Denot). c.args.row < length s.rows) (sym c.self.view_is) c.requires.row) in
+    let count = c.index-count.ensures ∙ get_or_default _ c.args.row _ 0 (row_inside _ _ _ _ _ c.self.invariant c.args.row row) in
+    let last : IsLast (cut c.self.inside.lengths.items c.self.inside.items.items) c.args.row =
+    subst (λ (s : RowsState g.row.T.Denot). IsLast s.rows c.args.row) (sym c.self.view_is) c.requires.last in
+    let room : 0 < c.self.inside.room = subst (λ (s : RowsState g.row.T.Denot). 0 < s.room) (sym c.self.view_is) c.requires.room in
+    let len = c.len.ensures ∙ c.self.inside.items.ok.0 in
+    subst (λ n. FillList (set c.self.inside.starts.items c.args.row (c.len.result - c.index-count.result.now))
+    (set c.self.inside.lengths.items c.args.row (c.index-count.result.now + 1)) (length c.push_reserved.new.self.items) (c.self.inside.room - 1) n)
+    (sym c.push_reserved.ensures.capacity)
+    (subst (λ (xs : List g.row.T.Denot). FillList (set c.self.inside.starts.items c.args.row (c.len.result - c.index-count.result.now))
+    (set c.self.inside.lengths.items c.args.row (c.index-count.result.now + 1)) (length xs) (c.self.inside.room - 1) (vec_capacity c.self.inside.items))
+    (sym c.push_reserved.ensures.items)
+    (fill_push _ _ _ _ _ c.self.invariant c.args.row c.args.item row last room _ _ count len))
+
+pub returns : goal.returns
+returns g c =
+    let row = (subst (λ (s : RowsState g.row.T.Denot). c.args.row < length s.rows) (sym c.self.view_is) c.requires.row) in
+    let count = c.index-count.ensures ∙ get_or_default _ c.args.row _ 0 (row_inside _ _ _ _ _ c.self.invariant c.args.row row) in
+    let last : IsLast (cut c.self.inside.lengths.items c.self.inside.items.items) c.args.row =
+    subst (λ (s : RowsState g.row.T.Denot). IsLast s.rows c.args.row) (sym c.self.view_is) c.requires.last in
+    let room : 0 < c.self.inside.room = subst (λ (s : RowsState g.row.T.Denot). 0 < s.room) (sym c.self.view_is) c.requires.room in
+    record {
+      pushed = ap (λ xs. rows_state (cut (set c.self.inside.lengths.items c.args.row (c.index-count.result.now + 1)) xs) (c.self.inside.room - 1))
+          c.push_reserved.ensures.items
+          ∙ (ap (λ rows. rows_state rows (c.self.inside.room - 1))
+          (rows_push _ _ _ _ _ c.self.invariant c.args.row c.args.item row last room _ count)
+          ∙ ap (λ (s : RowsState g.row.T.Denot). rows_state (set s.rows c.args.row (get_or s.rows c.args.row [] ++ c.args.item ∷ [])) (s.room - 1)) c.self.view_is);
+    }
