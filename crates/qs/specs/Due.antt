@@ -18,7 +18,7 @@ use Rattle.qs_check.specs.Program.{ProgramShape}
 use Rattle.qs_core_laws.specs.CoreSchedule.{IsPlayedIn}
 use Rattle.qs_plain_laws.specs.PlainSchedule.{IsPlayed}
 use Rattle.qs_played.specs.declared.fault.PlayFault.{PlayFault}
-use Rattle.qs_played.specs.declared.played.Played.{Played}
+use Rattle.qs_played.specs.Played.{Played}
 use Rattle.qs_line.specs.Line.{Line, Request, asks, check, graph, help, line_in, play, refused, rules}
 use Rattle.qs.specs.declared.due.Due.{Due}
 use Rattle.qs.specs.declared.due.Due.TheVariants.{Text, Refused}

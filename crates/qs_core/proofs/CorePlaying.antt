@@ -6,7 +6,7 @@ use Rattle.qs_check.specs.Program.{ProgramShape}
 use Rattle.qs_syncset.specs.declared.mode.Mode.{Mode}
 use Rattle.qs_played.specs.Isolation.{IsIsolated}
 use Rattle.qs_played.specs.Schedule.{actors_of, repeated, schedule}
-use Rattle.qs_played.specs.declared.played.Played.{Played}
+use Rattle.qs_played.specs.Played.{Played}
 use Rattle.qs_played.specs.declared.actor.Actor.{Actor}
 use Rattle.qs_played.proofs.Lists.{range_more}
 use Rattle.qs_core_laws.specs.Core.{AreCodes, core_begin, core_step}

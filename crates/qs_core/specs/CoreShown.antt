@@ -5,7 +5,7 @@ use Rattle.qs_objects.specs.Journals.{HeldState}
 use Rattle.qs_objects.specs.declared.held.Ticket.{Ticket}
 use Rattle.qs_handler.specs.Handler.{act_of}
 use Rattle.qs_client.specs.Mind.{Mind, is_between, has_ended}
-use Rattle.qs_played.specs.declared.played.Played.{Played}
+use Rattle.qs_played.specs.Played.{Played}
 use Rattle.qs_core_laws.specs.Core.{Core}
 use Rattle.qs_core_laws.specs.CoreSchedule.{all_of, found_by, held_or_none}
 use Rattle.qs_core_parts.specs.CoreClients.{CoreClientState}

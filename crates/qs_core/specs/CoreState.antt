@@ -11,7 +11,7 @@ use Rattle.qs_handler.specs.Handler.{Handler, free}
 use Rattle.qs_client.specs.Mind.{Mind, fresh_mind}
 use Rattle.qs_played.specs.Isolation.{IsIsolated}
 use Rattle.qs_played.specs.declared.actor.Actor.{Actor}
-use Rattle.qs_played.specs.declared.played.Played.{Played}
+use Rattle.qs_played.specs.Played.{Played}
 use Rattle.qs_played.specs.SyncSums.{AreSyncsCounted}
 use Rattle.qs_plain.specs.Rules.{ticket_code}
 use Rattle.qs_core_laws.specs.Core.{AreCodes, Core, core_begin, core_step, fresh_held}

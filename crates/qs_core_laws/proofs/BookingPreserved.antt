@@ -78,6 +78,7 @@ module _ (program : ProgramShape) (fine : (t : Ticket) (l : Locals) → AsksOnly
     order = s.order ++ t ∷ [];
     client = put s.client c r.client;
     syncs = s.syncs;
+    sync_counts = s.sync_counts;
     down = s.down;
     up = s.up;
     spare = s.spare;

@@ -1,5 +1,6 @@
 -- A client's act keeps all but its objects, of which it says which.
 use Rattle.std.proofs.Common.{◌≡◌, ◌<◌, ◌≤◌, arith, ℕ, suc, Bool, true, false, if◌then◌else◌, ◌==◌, List, [], ◌++◌, filter, sym, ap, ◌∙◌, subst, ⊎_elim, Option, None}
+use Rattle.qs_syncset.specs.declared.sync_counts.SyncCount.{SyncCount}
 use Rattle.qs_objects.specs.Journals.{HeldState}
 use Rattle.qs_objects.specs.Parts.{part, same}
 use Rattle.qs_objects.specs.declared.held.Event.{Event}
@@ -60,8 +61,8 @@ module _ (program : ProgramShape) (s : Core) (y : LaneHistory) (g : ℕ → Hand
   abbrev pub story : LaneHistory
   story = record { page = put_at y.page t pg; sent = put_at y.sent t snt; got = put_at y.got t got; stands = put_at y.stands t (standing_at program t m m.place) }
 
-  abbrev pub moved : (ℕ → ℕ → List Parcel) → (ℕ → ℕ → Option HeldState) → (ℕ → ℕ → ℕ) → (ℕ → ℕ) → Core
-  moved down up spare syncs = record s { client = put s.client c m; trace = put_at s.trace t (s.trace t ++ events); down = down; up = up; spare = spare; syncs = syncs }
+  abbrev pub moved : (ℕ → ℕ → List Parcel) → (ℕ → ℕ → Option HeldState) → (ℕ → ℕ → ℕ) → (ℕ → ℕ) → (Ticket → List SyncCount) → Core
+  moved down up spare syncs tallies = record s { client = put s.client c m; trace = put_at s.trace t (s.trace t ++ events); down = down; up = up; spare = spare; syncs = syncs; sync_counts = tallies }
 
   begun_kept : (d : ℕ) → (put s.client c m d).begun ≡ (s.client d).begun
   begun_kept d = put_kept (λ (m : Client). m.begun) s.client c m same_begun d
@@ -85,10 +86,10 @@ module _ (program : ProgramShape) (s : Core) (y : LaneHistory) (g : ℕ → Hand
   not_this : (d j : ℕ) → (c == d) ≡ false → same t (ticket d j) ≡ false
   not_this d j n = rw n
 
-  pub client_moves : (down : ℕ → ℕ → List Parcel) (up : ℕ → ℕ → Option HeldState) (spare : ℕ → ℕ → ℕ) (syncs : ℕ → ℕ) (g' : ℕ → HandlerLog)
-      → ((h : ℕ) → IsObject (filter (λ t. reserves program t h) s.order) (fresh_held program h) (post (moved down up spare syncs) h) (deeds story h) (g' h))
-      → CoreInvariant program (moved down up spare syncs) story g'
-  client_moves down up spare syncs g' objects = record {
+  pub client_moves : (down : ℕ → ℕ → List Parcel) (up : ℕ → ℕ → Option HeldState) (spare : ℕ → ℕ → ℕ) (syncs : ℕ → ℕ) (tallies : Ticket → List SyncCount) (g' : ℕ → HandlerLog)
+      → ((h : ℕ) → IsObject (filter (λ t. reserves program t h) s.order) (fresh_held program h) (post (moved down up spare syncs tallies) h) (deeds story h) (g' h))
+      → CoreInvariant program (moved down up spare syncs tallies) story g'
+  client_moves down up spare syncs tallies g' objects = record {
     legal = kept.legal;
     counts = λ d. kept.counts d ∙ sym (begun_kept d);
     below = each_map (λ u (lt : suc u.index ≤ (s.client u.client).begun). subst (λ n. suc u.index ≤ n) (sym (begun_kept u.client)) lt) s.order kept.below;

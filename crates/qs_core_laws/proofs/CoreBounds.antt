@@ -1,6 +1,7 @@
 -- Chunks keep their size, clients beyond the program rest, and nothing is known of blocks that were not begun.
 use Rattle.std.proofs.Common.{◌≡◌, ◌<◌, ◌≤◌, ◌-◌, ℕ, zero, suc, nat_lt, ◌==◌, Bool, true, false, if◌then◌else◌, List, [], ◌∷◌, ◌++◌, length, refl, sym, ap, ◌∙◌, subst, ⊎_elim, Option, Some, None, arith}
 use Rattle.std.specs.List.{AllByRecursion}
+use Rattle.qs_syncset.specs.declared.sync_counts.SyncCount.{SyncCount}
 use Rattle.qs_objects.specs.Journals.{HeldState}
 use Rattle.qs_objects.specs.Parts.{same}
 use Rattle.qs_objects.specs.declared.held.Event.{Event}
@@ -136,10 +137,10 @@ module _ (program : ProgramShape) (sound : IsSound program) (mode : Mode) (code 
             absurd (omega (arith, none, begun))
 
     -- a client's act in a block
-    client_bounded : (c n : ℕ) (m : Client) (events : List Event) (down : ℕ → ℕ → List Parcel) (up : ℕ → ℕ → Option HeldState) (spare : ℕ → ℕ → ℕ) (syncs : ℕ → ℕ)
+    client_bounded : (c n : ℕ) (m : Client) (events : List Event) (down : ℕ → ℕ → List Parcel) (up : ℕ → ℕ → Option HeldState) (spare : ℕ → ℕ → ℕ) (syncs : ℕ → ℕ) (tallies : Ticket → List SyncCount)
         → (s.client c).begun ≡ suc n → m.begun ≡ (s.client c).begun → ((d h : ℕ) → AllByRecursion (HasSize size) (down d h))
-        → CoreBounded (record s { client = put s.client c m; trace = put_at s.trace (ticket c n) (s.trace (ticket c n) ++ events); down = down; up = up; spare = spare; syncs = syncs })
-    client_bounded c n m events down up spare syncs begun same_begun sizes = record {
+        → CoreBounded (record s { client = put s.client c m; trace = put_at s.trace (ticket c n) (s.trace (ticket c n) ++ events); down = down; up = up; spare = spare; syncs = syncs; sync_counts = tallies })
+    client_bounded c n m events down up spare syncs tallies begun same_begun sizes = record {
       sizes = sizes;
       back = b.back;
       idle = λ d out. put_there s.client c m d (apart_of d out) ∙ b.idle d out;
@@ -173,7 +174,7 @@ module _ (program : ProgramShape) (sound : IsSound program) (mode : Mode) (code 
         one_of (nat_lt (length (s.down c h)) lane_room) _ s' e
         (client_bounded c ((s.client c).begun - 1) (sent (settings_of code size c) (now c) (reserved_of code size (now c)) (s.client c) h parcel).client
         (sent (settings_of code size c) (now c) (reserved_of code size (now c)) (s.client c) h parcel).events
-        (put_lane s.down c h (s.down c h ++ parcel ∷ [])) s.up s.spare (core.synced code size s.syncs c parcel)
+        (put_lane s.down c h (s.down c h ++ parcel ∷ [])) s.up s.spare (core.synced code size s.syncs c parcel) (core.tallied code size s.sync_counts (now c) h parcel)
         (begun_of c (Send h parcel) act (λ l i a. not_send (settings_of code size c) (blocks code size c) (s.client c) l h parcel i a))
         (sent_begun (settings_of code size c) (now c) (reserved_of code size (now c)) (s.client c) h parcel)
         (lane_holds (AllByRecursion (HasSize size)) s.down c h (s.down c h ++ parcel ∷ [])
@@ -185,7 +186,7 @@ module _ (program : ProgramShape) (sound : IsSound program) (mode : Mode) (code 
         subst CoreBounded (some_is _ s' e)
         (client_bounded c ((s.client c).begun - 1) (got (settings_of code size c) (now c) (reserved_of code size (now c)) (s.client c) x (s.client c).place).client
         (got (settings_of code size c) (now c) (reserved_of code size (now c)) (s.client c) x (s.client c).place).events
-        s.down (put_lane s.up c h None) s.spare s.syncs
+        s.down (put_lane s.up c h None) s.spare s.syncs s.sync_counts
         (begun_of c (Await h) act (λ l i a. not_await (settings_of code size c) (blocks code size c) (s.client c) l h i a))
         (got_begun (settings_of code size c) (now c) (reserved_of code size (now c)) (s.client c) h x (s.client c).place) b.sizes)
 
@@ -195,7 +196,7 @@ module _ (program : ProgramShape) (sound : IsSound program) (mode : Mode) (code 
         subst CoreBounded (some_is _ s' e)
         (client_bounded c ((s.client c).begun - 1) (took_chunk (settings_of code size c) (now c) (reserved_of code size (now c)) (s.client c) h (s.client c).place).client
         (took_chunk (settings_of code size c) (now c) (reserved_of code size (now c)) (s.client c) h (s.client c).place).events
-        s.down s.up (put_lane s.spare c h n) s.syncs
+        s.down s.up (put_lane s.spare c h n) s.syncs s.sync_counts
         (begun_of c (NeedChunk h) act (λ l i a. not_need (settings_of code size c) (blocks code size c) (s.client c) l h i a))
         (chunk_begun (settings_of code size c) (now c) (reserved_of code size (now c)) (s.client c) h (s.client c).place) b.sizes)
 

@@ -1,7 +1,7 @@
 -- Each step of the optimised machine keeps the counts of Syncs.
-use Rattle.std.proofs.Common.{◌≡◌, ◌<◌, ◌≤◌, ℕ, zero, suc, ◌-◌, ◌==◌, nat_lt, Bool, true, false, if◌then◌else◌, is_some, List, [], ◌∷◌, ◌++◌, length, refl, sym, ap, ◌∙◌, subst, ⊎_elim, Option, Some, None, arith}
+use Rattle.std.proofs.Common.{◌≡◌, ◌<◌, ◌≤◌, ℕ, zero, suc, ◌-◌, ◌==◌, nat_lt, Bool, true, false, if◌then◌else◌, is_some, List, [], ◌∷◌, ◌++◌, length, map, refl, sym, ap, ◌∙◌, subst, ⊎_elim, Option, Some, None, arith}
 use Rattle.std.specs.Prelude.{sum_by}
-use Rattle.std.specs.List.{range_with_len}
+use Rattle.std.specs.List.{IsDistinct, range_with_len}
 use Rattle.std.proofs.lemmas.List.Sums.{sum_by_push}
 use Rattle.qs_objects.specs.Journals.{HeldState}
 use Rattle.qs_objects.specs.Parts.{same}
@@ -9,15 +9,18 @@ use Rattle.qs_objects.specs.declared.held.Event.{Event}
 use Rattle.qs_objects.specs.declared.held.Ticket.{Ticket}
 use Rattle.qs_objects.proofs.Choices.{apart_eqb, num_cases, ticket_cases}
 use Rattle.qs_objects.specs.declared.held.Next.TheVariants as nexts
-use Rattle.qs_check.specs.Program.{ProgramShape, blocks_of}
+use Rattle.qs_check.specs.Program.{ProgramShape, blocks_of, text_of}
 use Rattle.qs_meaning.specs.Solo.{put}
-use Rattle.qs_check.specs.Sound.{IsSound}
+use Rattle.qs_check.specs.Sound.{IsSound, is_in}
+use Rattle.qs_meaning.specs.Following.{reserves}
 use Rattle.qs_check.specs.Values.{Locals}
 use Rattle.qs_meaning.proofs.Histories.{Among}
 use Rattle.qs_meaning.proofs.SerialRuns.{legal_apart}
 use Rattle.qs_syncset.specs.declared.mode.Mode.{Mode}
 use Rattle.qs_syncset.specs.Codes.{ClientCode}
 use Rattle.qs_syncset.specs.SyncCounts.{syncs_along}
+use Rattle.qs_syncset.specs.SyncRows.{object_of, syncs_for, with_sync}
+use Rattle.qs_syncset.specs.declared.sync_counts.SyncCount.{SyncCount}
 use Rattle.qs_syncset.proofs.CountedSyncs.{code_asks}
 use Rattle.qs_syncset.proofs.SyncTrees.{IsAsking}
 use Rattle.qs_chunk.specs.declared.parcel.Parcel.{Parcel}
@@ -32,7 +35,8 @@ use Rattle.qs_client_run.specs.declared.act.Act.{Act}
 use Rattle.qs_client_run.specs.declared.act.Act.TheVariants.{Reserve, Send, Await, NeedChunk, Finished}
 use Rattle.qs_played.specs.Played.{ticket}
 use Rattle.qs_played.specs.declared.actor.Actor.{Actor}
-use Rattle.qs_played.proofs.ReservedObjects.{reserved_inside}
+use Rattle.qs_played.proofs.ReservedObjects.{distinct_objects, reserved_inside}
+use Rattle.qs_played.proofs.SyncTallies.{none_for, objects_none, objects_stay, sent_for}
 use Rattle.qs_played.proofs.Orders.{each_among, among_once, legal_among}
 use Rattle.qs_played.proofs.FunctionUpdate.{put_all, put_at_here, put_at_there}
 use Rattle.qs_played.proofs.JournalRooms.{no_block_beyond}
@@ -73,14 +77,22 @@ module _ (program : ProgramShape) (sound : IsSound program) (mode : Mode) (code 
   abbrev pub CountedBy : Core → (Ticket → ℕ → ℕ) → Type 0
   CountedBy s n = Counted s.order s.client s.syncs s.entry s.trace n
 
+  -- the counts that are kept for a ticket are those of the objects of its block's list, in order, and say these numbers
+  pub record Tells (n : Ticket → ℕ → ℕ) (counts : Ticket → List SyncCount) (t : Ticket) : Type 0 where
+    pub objects : map object_of (counts t) ≡ (text_of program t).reserved
+    pub numbers : (h : ℕ) → syncs_for (counts t) h ≡ n t h
+
+  abbrev pub AreTold : (Ticket → ℕ → ℕ) → (Ticket → List SyncCount) → Type 0
+  AreTold n counts = (t : Ticket) → Tells n counts t
+
   abbrev pub AreCounted : Core → Type 0
-  AreCounted s = (n : Ticket → ℕ → ℕ) × CountedBy s n
+  AreCounted s = (n : Ticket → ℕ → ℕ) × CountedBy s n × AreTold n s.sync_counts
 
   one_of : (b : Bool) (a s' : Core) → (if b then Some a else None) ≡ Some s' → AreCounted a → AreCounted s'
   one_of true a s' e h = subst AreCounted (some_is a s' e) h
   one_of false a s' e h = absurd (cc)
 
-  module _ (s : Core) (n : Ticket → ℕ → ℕ) (k : CountedBy s n) where
+  module _ (s : Core) (n : Ticket → ℕ → ℕ) (k : CountedBy s n) (given : AreTold n s.sync_counts) where
     -- what a client does in its block, where this is counted of it then and others stay
     in_block : (c j : ℕ) → (s.client c).begun ≡ suc j → (r : Settled) → r.client.begun ≡ (s.client c).begun → (syncs : ℕ → ℕ) (m : Ticket → ℕ → ℕ)
         → CountsOf s (ticket c j) (m (ticket c j)) r
@@ -180,12 +192,39 @@ module _ (program : ProgramShape) (sound : IsSound program) (mode : Mode) (code 
           (s.trace (now c)) (n (now c)) (s.client c)
           (k.newest c ((s.client c).begun - 1) b) h parcel act
 
-      reserved_by : (c h : ℕ) (parcel : Parcel) → asks_for c ≡ Send h parcel → (s.client c).begun ≡ suc ((s.client c).begun - 1) → h < length program.objects
-      reserved_by c h parcel act b =
+      asked_of : (c h : ℕ) (parcel : Parcel) → asks_for c ≡ Send h parcel → (s.client c).begun ≡ suc ((s.client c).begun - 1)
+          → reserves program (now c) h ≡ true
+      asked_of c h parcel act b =
           let t = now c in
-          reserved_inside program sound t h
           (send_at program t (y.sent t) (y.got t) (settings_of code size c) (blocks code size c) (s.client c) (y.page t) (s.client c).place
           (kept.places c ((s.client c).begun - 1) b) h parcel act).0
+
+      -- the count that is kept is one more for h
+      told_more : (t : Ticket) (h : ℕ) → reserves program t h ≡ true
+          → AreTold (put_ticket n t (put (n t) h (suc (n t h)))) (put_ticket s.sync_counts t (with_sync h (s.sync_counts t)))
+      told_more t h listed u =
+          let more : ℕ → ℕ = put (n t) h (suc (n t h)) in
+          let counts = with_sync h (s.sync_counts t) in
+          let own = given t in
+          ⊎_elim
+          (λ (is : t ≡ u).
+          subst (Tells (put_ticket n t more) (put_ticket s.sync_counts t counts)) is (record {
+            objects = ap (map object_of) (put_at_here s.sync_counts t counts) ∙ (objects_stay h (s.sync_counts t) ∙ own.objects);
+            numbers = λ g. ap (λ xs. syncs_for xs g) (put_at_here s.sync_counts t counts)
+                ∙ (sent_for h (s.sync_counts t) (n t) (subst (λ hs. is_in hs h ≡ true) (sym own.objects) listed)
+                (subst (IsDistinct ◌==◌) (sym own.objects) (distinct_objects program sound t)) own.numbers g
+                ∙ sym (ap (λ (f : ℕ → ℕ). f g) (put_at_here n t more)));
+          }))
+          (λ (apart : same t u ≡ false). record {
+            objects = ap (map object_of) (put_at_there s.sync_counts t counts u apart) ∙ (given u).objects;
+            numbers = λ g. ap (λ xs. syncs_for xs g) (put_at_there s.sync_counts t counts u apart)
+                ∙ ((given u).numbers g ∙ sym (ap (λ (f : ℕ → ℕ). f g) (put_at_there n t more u apart)));
+          })
+          (ticket_cases t u)
+
+      reserved_by : (c h : ℕ) (parcel : Parcel) → asks_for c ≡ Send h parcel → (s.client c).begun ≡ suc ((s.client c).begun - 1) → h < length program.objects
+      reserved_by c h parcel act b =
+          reserved_inside program sound (now c) h (asked_of c h parcel act b)
 
       begun_still : (c h : ℕ) (parcel : Parcel) → (after_sent c h parcel).client.begun ≡ (s.client c).begun
       begun_still c h parcel = sent_begun (settings_of code size c) (now c) (reserved_of code size (now c)) (s.client c) h parcel
@@ -194,12 +233,12 @@ module _ (program : ProgramShape) (sound : IsSound program) (mode : Mode) (code 
           → AreCounted (settled code size (lies code size s c h parcel) c (now c) (after_sent c h parcel))
       sent_by c h (parcels.Home x) act b =
           let parcel = parcels.Home x in
-          (n, without_sync c ((s.client c).begun - 1) b (after_sent c h parcel) (begun_still c h parcel) (sent_counts c h parcel act b))
+          (n, without_sync c ((s.client c).begun - 1) b (after_sent c h parcel) (begun_still c h parcel) (sent_counts c h parcel act b), given)
       sent_by c h (parcels.Work rs) act b =
           let parcel = parcels.Work rs in
-          (n, without_sync c ((s.client c).begun - 1) b (after_sent c h parcel) (begun_still c h parcel) (sent_counts c h parcel act b))
+          (n, without_sync c ((s.client c).begun - 1) b (after_sent c h parcel) (begun_still c h parcel) (sent_counts c h parcel act b), given)
       sent_by c h parcels.End act b =
-          (n, without_sync c ((s.client c).begun - 1) b (after_sent c h parcels.End) (begun_still c h parcels.End) (sent_counts c h parcels.End act b))
+          (n, without_sync c ((s.client c).begun - 1) b (after_sent c h parcels.End) (begun_still c h parcels.End) (sent_counts c h parcels.End act b), given)
       sent_by c h parcels.Sync act b =
           let t = now c in
           let more : ℕ → ℕ = put (n t) h (suc (n t h)) in (
@@ -208,6 +247,7 @@ module _ (program : ProgramShape) (sound : IsSound program) (mode : Mode) (code 
                 (put s.syncs c (suc (s.syncs c))) (put_ticket n t more)
                 (subst (λ f. CountsOf s t f (after_sent c h parcels.Sync)) (sym (put_at_here n t more)) (sent_counts c h parcels.Sync act b))
                 (λ u apart. put_at_there n t more u apart) (one_more c ((s.client c).begun - 1) h b (reserved_by c h parcels.Sync act b)),
+            told_more t h (asked_of c h parcels.Sync act b),
           )
 
       send_does : (c h : ℕ) (parcel : Parcel) (s' : Core) → asks_for c ≡ Send h parcel → sends code size s c h parcel ≡ Some s' → AreCounted s'
@@ -228,6 +268,7 @@ module _ (program : ProgramShape) (sound : IsSound program) (mode : Mode) (code 
             without_sync c j b r (got_begun (settings_of code size c) t (reserved_of code size t) (s.client c) h x (s.client c).place)
                 (got_counts (settings_of code size c) t (reserved_of code size t) (tree_of code size t (s.entry t)) (s.trace t) (n t) (s.client c) x
                 (s.client c).place (k.newest c j b)),
+            given,
           )
 
       chunk_does : (c h m : ℕ) (s' : Core) → asks_for c ≡ NeedChunk h → takes_chunk code size s c h m ≡ Some s' → AreCounted s'
@@ -242,6 +283,7 @@ module _ (program : ProgramShape) (sound : IsSound program) (mode : Mode) (code 
             without_sync c j b r (chunk_begun (settings_of code size c) t (reserved_of code size t) (s.client c) h (s.client c).place)
                 (chunk_counts (settings_of code size c) t (reserved_of code size t) (tree_of code size t (s.entry t)) (s.trace t) (n t) (s.client c) h
                 (s.client c).place (k.newest c j b)),
+            given,
           )
 
       -- a client between blocks holds nothing
@@ -327,7 +369,7 @@ module _ (program : ProgramShape) (sound : IsSound program) (mode : Mode) (code 
           let at = is_between program sound mode code codes size s y g kept c (s.client c).begun refl act in
           let m = (s.client c).begun in
           subst AreCounted (some_is (reserved code size s c (ticket c m) at.0 (after_booked c m at.0)) s' (sym (ap (reserves_from code size s c) at.1) ∙ e))
-          (n, reserved_counts c m at.0 refl at.1 (tree_asks c m at.0 (has_more program sound mode code codes size s y g kept c at.0 at.1 act)))
+          (n, reserved_counts c m at.0 refl at.1 (tree_asks c m at.0 (has_more program sound mode code codes size s y g kept c at.0 at.1 act)), given)
 
       client_does : (c : ℕ) (act : Act) (s' : Core) → asks_for c ≡ act → client_step code size s c act ≡ Some s' → AreCounted s'
       client_does c Reserve s' act e = reserve_does c s' act e
@@ -337,33 +379,33 @@ module _ (program : ProgramShape) (sound : IsSound program) (mode : Mode) (code 
       client_does c Finished s' act e = absurd (cc)
 
     -- the steps of handlers change nothing of this
-    handled_does : (a : Core) → CountedBy a n → (h : ℕ) (o : Option Handler) (s' : Core) → handled code size a h o ≡ Some s' → AreCounted s'
-    handled_does a counted h None s' e = absurd (cc)
-    handled_does a counted h (Some x) s' e = subst AreCounted (some_is (handles code size a h x) s' e)
-        (n, record { newest = counted.newest; older = counted.older; fresh = counted.fresh; total = counted.total })
+    handled_does : (a : Core) → CountedBy a n → AreTold n a.sync_counts → (h : ℕ) (o : Option Handler) (s' : Core) → handled code size a h o ≡ Some s' → AreCounted s'
+    handled_does a counted told h None s' e = absurd (cc)
+    handled_does a counted told h (Some x) s' e = subst AreCounted (some_is (handles code size a h x) s' e)
+        (n, record { newest = counted.newest; older = counted.older; fresh = counted.fresh; total = counted.total }, told)
 
     ticket_does : (h : ℕ) (ts : List Ticket) (s' : Core) → takes_ticket code size s h ts ≡ Some s' → AreCounted s'
     ticket_does h [] s' e = absurd (cc)
     ticket_does h (t ∷ ts) s' e =
-        handled_does (with_tickets code size s h ts) (record { newest = k.newest; older = k.older; fresh = k.fresh; total = k.total }) h
+        handled_does (with_tickets code size s h ts) (record { newest = k.newest; older = k.older; fresh = k.fresh; total = k.total }) given h
         (taken (s.handler h) (nexts.Ticket t)) s' e
 
     parcel_does : (h c : ℕ) (ps : List Parcel) (s' : Core) → takes_parcel code size s h c ps ≡ Some s' → AreCounted s'
     parcel_does h c [] s' e = absurd (cc)
     parcel_does h c (parcel ∷ ps) s' e =
-        handled_does (with_down code size s c h ps) (record { newest = k.newest; older = k.older; fresh = k.fresh; total = k.total }) h
+        handled_does (with_down code size s c h ps) (record { newest = k.newest; older = k.older; fresh = k.fresh; total = k.total }) given h
         (received (s.handler h) parcel) s' e
 
     give_does : (h c : ℕ) (x : HeldState) (o : Option HeldState) (s' : Core) → gives code size s h c x o ≡ Some s' → AreCounted s'
     give_does h c x None s' e =
         subst AreCounted (some_is (handles code size (with_up code size s c h (Some x)) h (gave (s.handler h))) s' e)
-        (n, record { newest = k.newest; older = k.older; fresh = k.fresh; total = k.total })
+        (n, record { newest = k.newest; older = k.older; fresh = k.fresh; total = k.total }, given)
     give_does h c x (Some u) s' e = absurd (cc)
 
     spare_does : (h c : ℕ) (s' : Core) → gives_chunk code size s h c ≡ Some s' → AreCounted s'
     spare_does h c s' e =
         one_of (nat_lt (s.spare c h) spare_room) (handles code size (with_spare code size s c h (suc (s.spare c h))) h (gave (s.handler h))) s' e
-        (n, record { newest = k.newest; older = k.older; fresh = k.fresh; total = k.total })
+        (n, record { newest = k.newest; older = k.older; fresh = k.fresh; total = k.total }, given)
 
     handler_does : (h : ℕ) (act : handler_acts.Act) (s' : Core) → handler_step code size s h act ≡ Some s' → AreCounted s'
     handler_does h acts.TakeTicket s' e = ticket_does h (s.tickets h) s' e
@@ -389,7 +431,7 @@ module _ (program : ProgramShape) (sound : IsSound program) (mode : Mode) (code 
       plays_both rest (core_or_stay s (core_step code size s a))
       (stays_both s (core_step code size s a) (λ s' e. (
         step_kept program sound mode code codes size s k.0.0 k.0.1 k.0.2 a s' e,
-        step_counted s k.1.0 k.1.1 k.0.0 k.0.1 k.0.2 a s' e,
+        step_counted s k.1.0 k.1.1 k.1.2 k.0.0 k.0.1 k.0.2 a s' e,
       )) k)
 
   begin_counted : CountedBy (core_begin program) (λ t h. 0)
@@ -400,5 +442,8 @@ module _ (program : ProgramShape) (sound : IsSound program) (mode : Mode) (code 
     total = sym (sum_zero (λ c. 0) (λ c. refl) (range_with_len 0 (length program.clients)));
   }
 
+  begin_told : AreTold (λ t h. 0) (core_begin program).sync_counts
+  begin_told t = record { objects = objects_none (text_of program t).reserved; numbers = λ h. none_for (text_of program t).reserved h }
+
   pub run_counted : (actors : List Actor) → KeptCounted (core_plays code size actors (core_begin program))
-  run_counted actors = plays_both actors (core_begin program) (begin_kept program sound mode code codes size, ((λ t h. 0), begin_counted))
+  run_counted actors = plays_both actors (core_begin program) (begin_kept program sound mode code codes size, ((λ t h. 0), begin_counted, begin_told))

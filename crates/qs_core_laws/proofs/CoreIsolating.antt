@@ -20,7 +20,7 @@ use Rattle.qs_client_run.specs.Client.{Place, between, runs, full, awaits, leave
 use Rattle.qs_client.specs.Mind.{is_between, has_ended}
 use Rattle.qs_played.specs.Isolation.{IsIsolated, journal_of, state_of, ticket_at, trace_of}
 use Rattle.qs_played.specs.Played.{ticket}
-use Rattle.qs_played.specs.declared.played.Played.{Played}
+use Rattle.qs_played.specs.Played.{Played}
 use Rattle.qs_played.proofs.Orders.{each_among, legal_among}
 use Rattle.qs_played.proofs.AbstractRun.{IsRun, run_isolated}
 use Rattle.qs_played.proofs.JournalRooms.{no_block_beyond}

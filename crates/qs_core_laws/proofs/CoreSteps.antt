@@ -66,6 +66,7 @@ module _ (program : ProgramShape) (sound : IsSound program) (mode : Mode) (code 
         one_of (nat_lt (length (s.down c h)) lane_room) _ s' e
         (subst (λ names. Kept (settled code size (lies code size s c h parcel) c (now c) (sent (settings_of code size c) (now c) names (s.client c) h parcel))) (sym (reserved_is program sound mode code codes size (now c)))
         (send_kept program (lined program sound) (settings_of code size c) (blocks code size c) s y g k c ((s.client c).begun - 1) h parcel (synced code size s.syncs c parcel)
+        (core.tallied code size s.sync_counts (now c) h parcel)
         (begun_by c (Send h parcel) act (λ l i a. not_send (settings_of code size c) (blocks code size c) (s.client c) l h parcel i a)) act))
 
     get_does : (c h : ℕ) (o : Option HeldState) (s' : Core) → s.up c h ≡ o → next_of c ≡ Await h → gets code size s c h o ≡ Some s' → Kept s'
@@ -104,6 +105,7 @@ module _ (program : ProgramShape) (sound : IsSound program) (mode : Mode) (code 
           order = s.order ++ t ∷ [];
           client = put s.client c r.client;
           syncs = s.syncs;
+          sync_counts = s.sync_counts;
           down = s.down;
           up = s.up;
           spare = s.spare;

@@ -1,6 +1,9 @@
 -- The Syncs of the optimised machine, counted by the traces.
-use Rattle.std.proofs.Common.{◌≡◌, ◌<◌, ◌≤◌, ℕ, suc, ◌+◌, ◌==◌, ◌&&◌, nat_lt, nat_eq, Bool, true, false, if◌then◌else◌, List, [], length, refl, sym, ap, ◌∙◌, subst, inl, inr, arith}
+use Rattle.std.proofs.Common.{◌≡◌, ◌<◌, ◌≤◌, ℕ, suc, ◌+◌, ◌==◌, ◌&&◌, nat_lt, nat_eq, Bool, true, false, if◌then◌else◌, List, [], ◌∷◌, length, map, refl, sym, ap, ◌∙◌, subst, inl, inr, arith}
+use Rattle.std.specs.Prelude.{sum_by}
+use Rattle.std.specs.List.{AllByRecursion}
 use Rattle.std.proofs.lemmas.List.{get_or-map}
+use Rattle.std.proofs.lemmas.List.Sums.{sum_by-cons}
 use Rattle.qs_objects.specs.declared.held.Event.{Event}
 use Rattle.qs_objects.specs.declared.held.Ticket.{Ticket}
 use Rattle.qs_meaning.specs.Following.{Leads, block_tree}
@@ -13,15 +16,19 @@ use Rattle.qs_syncset.specs.Modes.{is_dynamic}
 use Rattle.qs_syncset.specs.SyncCounts.{AreOrdered, IsSentBy, queries, syncs_along}
 use Rattle.qs_syncset.proofs.CountedSyncs.{syncs_are_counted}
 use Rattle.qs_syncset.specs.SyncCounts as counts
+use Rattle.qs_syncset.specs.SyncRows.{object_of, syncs_for, syncs_of}
+use Rattle.qs_syncset.proofs.QueryRuns.{runs_within}
 use Rattle.qs_client_run.specs.Client.{Client, Place, between, runs, full, awaits, leaves}
 use Rattle.qs_client_run.specs.BlockSizes.{longest}
 use Rattle.qs_client.specs.Mind.{is_between, has_ended}
 use Rattle.qs_played.specs.Isolation.{ended_of, entry_of, ticket_at, trace_of}
 use Rattle.qs_played.specs.Played.{ticket}
-use Rattle.qs_played.specs.SyncSums.{AreSent, AreSyncsCounted, IsCounted}
-use Rattle.qs_played.specs.declared.played.Played.{Played}
+use Rattle.qs_played.specs.SyncSums.{AreSent, AreSyncsCounted, IsCounted, counts_at, syncs_at}
+use Rattle.qs_played.specs.Played.{Played}
 use Rattle.qs_played.proofs.JournalRooms.{no_block_beyond}
-use Rattle.qs_played.proofs.SyncLists.{legal_blocks}
+use Rattle.qs_played.proofs.ReservedObjects.{listed_inside}
+use Rattle.qs_played.proofs.SyncLists.{legal_blocks, sum_inside, sum_of, total_of}
+use Rattle.qs_played.proofs.SyncTallies.{total_for}
 use Rattle.qs_protocol.proofs.ClientCounts.{CountAt, even_now}
 use Rattle.qs_protocol.proofs.ClientInvariants.{holding}
 use Rattle.qs_protocol.proofs.ObjectViews.{HandlerLog}
@@ -29,7 +36,7 @@ use Rattle.qs_core_laws.specs.Core.{AreCodes, Core, core_begin, reserved_of, set
 use Rattle.qs_core_laws.specs.CoreSchedule.{core_played, core_plays}
 use Rattle.qs_core_laws.specs.CoreSyncSums.{CoreSyncsAreCounted}
 use Rattle.qs_core_laws.proofs.CoreCodes.{longest_covers}
-use Rattle.qs_core_laws.proofs.CoreCounting.{CountedBy, run_counted}
+use Rattle.qs_core_laws.proofs.CoreCounting.{AreTold, CountedBy, run_counted}
 use Rattle.qs_core_laws.proofs.CoreInvariant.{LaneHistory, CoreInvariant, TicketOk}
 
 -- the same counts, said otherwise
@@ -37,15 +44,21 @@ pub sent_as : (ended : Bool) (sent counts others : ℕ → ℕ) → ((h : ℕ) �
 sent_as ended sent counts others same (inl exact) = inl (λ h. exact h ∙ same h)
 sent_as ended sent counts others same (inr one) = inr (one.0, one.1, λ h. one.2 h ∙ ap (λ k. (if one.1 == h then 1 else 0) + k) (same h))
 
+-- and of numbers that are the same
+sent_of : (ended : Bool) (sent others counts : ℕ → ℕ) → ((h : ℕ) → sent h ≡ others h) → AreSent ended sent counts → AreSent ended others counts
+sent_of ended sent others counts same (inl exact) = inl (λ h. sym (same h) ∙ exact h)
+sent_of ended sent others counts same (inr one) = inr (one.0, one.1, λ h. sym (same h) ∙ one.2 h)
+
 module _ (program : ProgramShape) (sound : IsSound program) (mode : Mode) (code : ℕ → ClientCode) (codes : AreCodes program mode code) (size : ℕ)
     (s : Core) (y : LaneHistory) (g : ℕ → HandlerLog) (kept : CoreInvariant program s y g) (n : Ticket → ℕ → ℕ)
-    (counted : CountedBy program sound mode code codes size s n) where
+    (counted : CountedBy program sound mode code codes size s n)
+    (told : AreTold program sound mode code codes size n s.sync_counts) where
   -- what a block's tree says of a trace so far
-  abbrev told : Ticket → ℕ → ℕ
-  told t h = syncs_along (code t.client).dynamic h false (tree_of code size t (s.entry t)) (s.trace t)
+  abbrev by_tree : Ticket → ℕ → ℕ
+  by_tree t h = syncs_along (code t.client).dynamic h false (tree_of code size t (s.entry t)) (s.trace t)
 
   -- the block that a client is in, or was in last
-  newest_sent : (t : Ticket) → (s.client t.client).begun ≡ suc t.index → AreSent (has_ended (s.client t.client) t.index) (n t) (told t)
+  newest_sent : (t : Ticket) → (s.client t.client).begun ≡ suc t.index → AreSent (has_ended (s.client t.client) t.index) (n t) (by_tree t)
   newest_sent t b = by_place (s.client t.client).place refl (counted.newest t.client t.index b)
     where
       m : Client
@@ -62,7 +75,7 @@ module _ (program : ProgramShape) (sound : IsSound program) (mode : Mode) (code 
 
       by_place : (pl : Place) → m.place ≡ pl → CountAt (settings_of code size t.client) t (reserved_of code size t) (tree_of code size t (s.entry t))
           (s.trace t) (n t) m pl
-          → AreSent (has_ended m t.index) (n t) (told t)
+          → AreSent (has_ended m t.index) (n t) (by_tree t)
       by_place (between l) at k = inl k
       by_place (runs tree) at k = inl (even_now (settings_of code size t.client) t (reserved_of code size t) (tree_of code size t (s.entry t)) (s.trace t)
           (n t) (holding m) tree k.0)
@@ -71,10 +84,10 @@ module _ (program : ProgramShape) (sound : IsSound program) (mode : Mode) (code 
       by_place (awaits h tree) at k = inr (open_yet (awaits h tree) at refl, h, k.now)
       by_place (leaves h hs l) at k = inl k
 
-  ticket_sent : (t : Ticket) → suc t.index ≤ (s.client t.client).begun → AreSent (has_ended (s.client t.client) t.index) (n t) (told t)
+  ticket_sent : (t : Ticket) → suc t.index ≤ (s.client t.client).begun → AreSent (has_ended (s.client t.client) t.index) (n t) (by_tree t)
   ticket_sent t low = by_test (nat_lt (suc t.index) (s.client t.client).begun) refl
     where
-      by_test : (x : Bool) → nat_lt (suc t.index) (s.client t.client).begun ≡ x → AreSent (has_ended (s.client t.client) t.index) (n t) (told t)
+      by_test : (x : Bool) → nat_lt (suc t.index) (s.client t.client).begun ≡ x → AreSent (has_ended (s.client t.client) t.index) (n t) (by_tree t)
       by_test true e = inl (counted.older t.client t.index (grind (arith, e)))
       by_test false e = newest_sent t (let last : (s.client t.client).begun ≤ suc t.index = grind (arith, e) in omega (arith, last, low))
 
@@ -110,12 +123,12 @@ module _ (program : ProgramShape) (sound : IsSound program) (mode : Mode) (code 
         (longest_covers (code t.client).blocks t.index) leads
 
     -- the tree's count, with the test as the mode says
-    told_is : (h : ℕ) → told t h ≡ syncs_along (is_dynamic mode) h false (tree_of code size t (s.entry t)) (s.trace t)
-    told_is h = ap (λ d. syncs_along d h false (tree_of code size t (s.entry t)) (s.trace t)) (codes.own t.client own_client).dynamic
+    tree_is : (h : ℕ) → by_tree t h ≡ syncs_along (is_dynamic mode) h false (tree_of code size t (s.entry t)) (s.trace t)
+    tree_is h = ap (λ d. syncs_along d h false (tree_of code size t (s.entry t)) (s.trace t)) (codes.own t.client own_client).dynamic
 
     counts_as : (others : ℕ → ℕ) → ((h : ℕ) → syncs_along (is_dynamic mode) h false (tree_of code size t (s.entry t)) (s.trace t) ≡ others h)
         → AreSent (has_ended (s.client t.client) t.index) (n t) others
-    counts_as others same = sent_as (has_ended (s.client t.client) t.index) (n t) (told t) others (λ h. told_is h ∙ same h) (ticket_sent t below)
+    counts_as others same = sent_as (has_ended (s.client t.client) t.index) (n t) (by_tree t) others (λ h. tree_is h ∙ same h) (ticket_sent t below)
 
     ended_is : ended_of r i ≡ has_ended (s.client t.client) t.index
     ended_is = get_or-map (λ (t : Ticket). has_ended (s.client t.client) t.index) s.order i (ticket 0 0) false inside
@@ -126,24 +139,46 @@ module _ (program : ProgramShape) (sound : IsSound program) (mode : Mode) (code 
     trace_is : trace_of r i ≡ s.trace t
     trace_is = get_or-map s.trace s.order i (ticket 0 0) [] inside
 
-    is_counted : IsCounted program mode r n i
+    counts_are : counts_at r i ≡ s.sync_counts t
+    counts_are = get_or-map s.sync_counts s.order i (ticket 0 0) [] inside
+
+    -- what is shown of the Syncs that were sent are these numbers
+    numbers : (h : ℕ) → syncs_at r i h ≡ n t h
+    numbers h = ap (λ xs. syncs_for xs h) counts_are ∙ (told t).numbers h
+
+    is_counted : IsCounted program mode r i
     is_counted = record {
+      listed = ap (map object_of) counts_are ∙ (told t).objects;
       plain = λ e. shown (λ es. λ h. queries h es) (counts_as (λ h. queries h (s.trace t)) (λ h. (by_mode h).plain e));
       dynamic = λ e. shown (λ es. λ h. counts.runs h es) (counts_as (λ h. counts.runs h (s.trace t)) (λ h. (by_mode h).dynamic e));
       static = λ e held decides.
-          subst (λ l. AreSent (ended_of r i) (n t) (λ h. counts.kept (text_of program t).body held l h (trace_of r i))) (sym entry_is)
+          subst (λ l. AreSent (ended_of r i) (syncs_at r i) (λ h. counts.kept (text_of program t).body held l h (trace_of r i))) (sym entry_is)
           (shown (λ es. λ h. counts.kept (text_of program t).body held (s.entry t) h es)
           (counts_as (λ h. counts.kept (text_of program t).body held (s.entry t) h (s.trace t)) (λ h. (by_mode h).static e held decides)));
       tested = λ e. (by_mode 0).tested e;
       ordered = λ held decides h.
           subst (λ l. AreOrdered (text_of program t).body l (trace_of r i) h held) (sym entry_is)
           (subst (λ es. AreOrdered (text_of program t).body (s.entry t) es h held) (sym trace_is) ((by_mode h).ordered held decides));
+      few = λ h. runs_within h (trace_of r i);
     }
       where
-        shown : (count : List Event → ℕ → ℕ) → AreSent (has_ended (s.client t.client) t.index) (n t) (count (s.trace t)) → AreSent (ended_of r i) (n t)
-            (count (trace_of r i))
-        shown count sent = subst (λ b. AreSent b (n t) (count (trace_of r i))) (sym ended_is)
-            (subst (λ es. AreSent (has_ended (s.client t.client) t.index) (n t) (count es)) (sym trace_is) sent)
+        shown : (count : List Event → ℕ → ℕ) → AreSent (has_ended (s.client t.client) t.index) (n t) (count (s.trace t)) → AreSent (ended_of r i)
+            (syncs_at r i) (count (trace_of r i))
+        shown count sent = sent_of (ended_of r i) (n t) (syncs_at r i) (count (trace_of r i)) (λ h. sym (numbers h))
+            (subst (λ b. AreSent b (n t) (count (trace_of r i))) (sym ended_is)
+            (subst (λ es. AreSent (has_ended (s.client t.client) t.index) (n t) (count es)) (sym trace_is) sent))
+
+  -- all counts together
+  all_syncs : (ts : List Ticket) → sum_by syncs_of (map s.sync_counts ts) ≡ total_of program n ts
+  all_syncs [] = refl
+  all_syncs (t ∷ ts) =
+      let first = sum_by-cons syncs_of (s.sync_counts t) (map s.sync_counts ts) in
+      let total = sum_by-cons (λ t. sum_of program (n t)) t ts in
+      let here = total_for (length program.objects) (s.sync_counts t)
+      (subst (AllByRecursion (λ h. h < length program.objects)) (sym (told t).objects) (listed_inside program sound t)) in
+      let same = sum_inside (syncs_for (s.sync_counts t)) (n t) 0 (length program.objects) (λ h low high. (told t).numbers h) in
+      let rest = all_syncs ts in
+      omega (arith, first, total, here, same, rest)
 
 pub core_syncs_counted : CoreSyncsAreCounted
 unfolding AreSyncsCounted
@@ -152,4 +187,8 @@ core_syncs_counted program sound mode code codes size actors =
     let k = run_counted program sound mode code codes size actors in
     let n = k.1.0 in
     let c = k.1.1 in
-    record { sent = n; all = sym c.total; each = is_counted program sound mode code codes size s k.0.0 k.0.1 k.0.2 n c }
+    let told = k.1.2 in
+    record {
+      all = sym c.total ∙ sym (all_syncs program sound mode code codes size s k.0.0 k.0.1 k.0.2 n c told s.order);
+      each = is_counted program sound mode code codes size s k.0.0 k.0.1 k.0.2 n c told;
+    }

@@ -2,6 +2,7 @@
 use Rattle.std.proofs.Common.{◌≡◌, ◌≢◌, ◌<◌, ◌≤◌, arith, ℕ, suc, Bool, true, false, true≢false, if◌then◌else◌, ◌==◌, List, [], ◌∷◌, ◌++◌, filter, refl, sym, ap, ◌∙◌, subst, ◌⊎◌, inl, inr, ⊎_elim, Option, Some, None}
 use Rattle.std.specs.List.{AllByRecursion}
 use Rattle.std.proofs.Math.Path.{fun_ext}
+use Rattle.qs_syncset.specs.declared.sync_counts.SyncCount.{SyncCount}
 use Rattle.qs_objects.specs.Journals.{HeldState}
 use Rattle.qs_objects.specs.Parts.{part, same}
 use Rattle.qs_objects.specs.declared.held.Event.{Event}
@@ -116,46 +117,46 @@ module _ (program : ProgramShape) (lined : (t : Ticket) → Lined (reserves prog
     abbrev Y : LaneHistory
     Y = story program s y g k c n begun m same_begun events snt got pg entry trace ok out
 
-    abbrev S : (ℕ → ℕ → List Parcel) → (ℕ → ℕ → Option HeldState) → (ℕ → ℕ → ℕ) → (ℕ → ℕ) → Core
+    abbrev S : (ℕ → ℕ → List Parcel) → (ℕ → ℕ → Option HeldState) → (ℕ → ℕ → ℕ) → (ℕ → ℕ) → (Ticket → List SyncCount) → Core
     S = moved program s y g k c n begun m same_begun events snt got pg entry trace ok out
 
     -- one object changes
-    at_object : (down : ℕ → ℕ → List Parcel) (up : ℕ → ℕ → Option HeldState) (spare : ℕ → ℕ → ℕ) (syncs : ℕ → ℕ) (h : ℕ) (b : ObjectView) (new : HandlerLog)
-        → post (S down up spare syncs) h ≡ b → ((j : ℕ) → (h == j) ≡ false → post (S down up spare syncs) j ≡ post s j)
+    at_object : (down : ℕ → ℕ → List Parcel) (up : ℕ → ℕ → Option HeldState) (spare : ℕ → ℕ → ℕ) (syncs : ℕ → ℕ) (tallies : Ticket → List SyncCount) (h : ℕ) (b : ObjectView) (new : HandlerLog)
+        → post (S down up spare syncs tallies) h ≡ b → ((j : ℕ) → (h == j) ≡ false → post (S down up spare syncs tallies) j ≡ post s j)
         → ((j : ℕ) → (h == j) ≡ false → (snt j ≡ y.sent (ticket c n) j) × (got j ≡ y.got (ticket c n) j))
         → IsObject (Mine h) (fresh_held program h) b (deeds Y h) new
-        → CoreInvariant program (S down up spare syncs) Y (put g h new)
-    at_object down up spare syncs h b new e others sides okh =
-        client_moves program s y g k c n begun m same_begun events snt got pg entry trace ok out down up spare syncs (put g h new)
+        → CoreInvariant program (S down up spare syncs tallies) Y (put g h new)
+    at_object down up spare syncs tallies h b new e others sides okh =
+        client_moves program s y g k c n begun m same_begun events snt got pg entry trace ok out down up spare syncs tallies (put g h new)
         (λ j. ⊎_elim
-        (λ (is : h ≡ j). subst (λ j. IsObject (Mine j) (fresh_held program j) (post (S down up spare syncs) j) (deeds Y j) (put g h new j)) is
-        (subst (λ (l : HandlerLog). IsObject (Mine h) (fresh_held program h) (post (S down up spare syncs) h) (deeds Y h) l) (sym (put_here g h new))
+        (λ (is : h ≡ j). subst (λ j. IsObject (Mine j) (fresh_held program j) (post (S down up spare syncs tallies) j) (deeds Y j) (put g h new j)) is
+        (subst (λ (l : HandlerLog). IsObject (Mine h) (fresh_held program h) (post (S down up spare syncs tallies) h) (deeds Y h) l) (sym (put_here g h new))
         (subst (λ b. IsObject (Mine h) (fresh_held program h) b (deeds Y h) new) (sym e) okh)))
         (λ (other : (h == j) ≡ false).
-        subst (λ (l : HandlerLog). IsObject (Mine j) (fresh_held program j) (post (S down up spare syncs) j) (deeds Y j) l) (sym (put_there g h new j other))
+        subst (λ (l : HandlerLog). IsObject (Mine j) (fresh_held program j) (post (S down up spare syncs tallies) j) (deeds Y j) l) (sym (put_there g h new j other))
         (subst (λ b. IsObject (Mine j) (fresh_held program j) b (deeds Y j) (g j)) (sym (others j other))
         (object_deeds (Mine j) (fresh_held program j) (post s j) (deeds y j) (deeds Y j) (g j)
         (λ u. sym (grown_there y.sent (ticket c n) snt j (sides j other).0 u)) (λ u. sym (grown_there y.got (ticket c n) got j (sides j other).1 u)) (k.objects j))))
         (num_cases h j))
 
     -- none changes
-    at_none : (spare : ℕ → ℕ → ℕ) (syncs : ℕ → ℕ) → ((j : ℕ) → (snt j ≡ y.sent (ticket c n) j) × (got j ≡ y.got (ticket c n) j))
-        → CoreInvariant program (S s.down s.up spare syncs) Y g
-    at_none spare syncs sides =
-        client_moves program s y g k c n begun m same_begun events snt got pg entry trace ok out s.down s.up spare syncs g
+    at_none : (spare : ℕ → ℕ → ℕ) (syncs : ℕ → ℕ) (tallies : Ticket → List SyncCount) → ((j : ℕ) → (snt j ≡ y.sent (ticket c n) j) × (got j ≡ y.got (ticket c n) j))
+        → CoreInvariant program (S s.down s.up spare syncs tallies) Y g
+    at_none spare syncs tallies sides =
+        client_moves program s y g k c n begun m same_begun events snt got pg entry trace ok out s.down s.up spare syncs tallies g
         (λ j. object_deeds (Mine j) (fresh_held program j) (post s j) (deeds y j) (deeds Y j) (g j)
         (λ u. sym (grown_there y.sent (ticket c n) snt j (sides j).0 u)) (λ u. sym (grown_there y.got (ticket c n) got j (sides j).1 u)) (k.objects j))
 
   -- the core after what a client did
-  abbrev pub after : ℕ → Ticket → Settled → (ℕ → ℕ → List Parcel) → (ℕ → ℕ → Option HeldState) → (ℕ → ℕ → ℕ) → (ℕ → ℕ) → Core
-  after c t r down up spare syncs = record s { client = put s.client c r.client; trace = put_at s.trace t (s.trace t ++ r.events); down = down; up = up; spare = spare; syncs = syncs }
+  abbrev pub after : ℕ → Ticket → Settled → (ℕ → ℕ → List Parcel) → (ℕ → ℕ → Option HeldState) → (ℕ → ℕ → ℕ) → (ℕ → ℕ) → (Ticket → List SyncCount) → Core
+  after c t r down up spare syncs tallies = record s { client = put s.client c r.client; trace = put_at s.trace t (s.trace t ++ r.events); down = down; up = up; spare = spare; syncs = syncs; sync_counts = tallies }
 
   abbrev pub Keeps : Core → Type 0
   Keeps s' = (y' : LaneHistory) × (g' : ℕ → HandlerLog) × CoreInvariant program s' y' g'
 
-  pub send_kept : (c n h : ℕ) (p : Parcel) (syncs : ℕ → ℕ) → (s.client c).begun ≡ suc n → act_of settings blocks (s.client c) ≡ Send h p
-      → Keeps (after c (ticket c n) (sent settings (ticket c n) (listed program (ticket c n)) (s.client c) h p) (put_lane s.down c h (s.down c h ++ p ∷ [])) s.up s.spare syncs)
-  send_kept c n h p syncs begun act =
+  pub send_kept : (c n h : ℕ) (p : Parcel) (syncs : ℕ → ℕ) (tallies : Ticket → List SyncCount) → (s.client c).begun ≡ suc n → act_of settings blocks (s.client c) ≡ Send h p
+      → Keeps (after c (ticket c n) (sent settings (ticket c n) (listed program (ticket c n)) (s.client c) h p) (put_lane s.down c h (s.down c h ++ p ∷ [])) s.up s.spare syncs tallies)
+  send_kept c n h p syncs tallies begun act =
       let t : Ticket = ticket c n in
       let m : Client = s.client c in
       let r : Settled = sent settings t (listed program t) m h p in
@@ -175,7 +176,7 @@ module _ (program : ProgramShape) (lined : (t : Ticket) → Lined (reserves prog
         story program s y g k c n begun r.client (sent_begun settings t (listed program t) m h p) r.events snt (y.got t) ends.0 ends.1 ends.2 ends.3 out,
         put g h new,
         at_object c n begun r.client (sent_begun settings t (listed program t) m h p) r.events snt (y.got t) ends.0 ends.1 ends.2 ends.3 out
-            (put_lane s.down c h (s.down c h ++ p ∷ [])) s.up s.spare syncs h (record (post s h) { down = put (λ c. s.down c h) c (s.down c h ++ p ∷ []) }) new
+            (put_lane s.down c h (s.down c h ++ p ∷ [])) s.up s.spare syncs tallies h (record (post s h) { down = put (λ c. s.down c h) c (s.down c h ++ p ∷ []) }) new
             (post_path _ _ refl refl (fun_ext (put_lane_at s.down c h (s.down c h ++ p ∷ []))) refl)
             (λ j other. post_path _ _ refl refl (fun_ext (λ d. put_lane_there s.down c h (s.down c h ++ p ∷ []) d j other)) refl)
             (λ j other. (put_there (y.sent t) h (y.sent t h ++ p ∷ []) j other, refl))
@@ -187,7 +188,7 @@ module _ (program : ProgramShape) (lined : (t : Ticket) → Lined (reserves prog
       )
 
   pub get_kept : (c n h : ℕ) (x : HeldState) → (s.client c).begun ≡ suc n → act_of settings blocks (s.client c) ≡ Await h → s.up c h ≡ Some x
-      → Keeps (after c (ticket c n) (clients.got settings (ticket c n) (listed program (ticket c n)) (s.client c) x (s.client c).place) s.down (put_lane s.up c h None) s.spare s.syncs)
+      → Keeps (after c (ticket c n) (clients.got settings (ticket c n) (listed program (ticket c n)) (s.client c) x (s.client c).place) s.down (put_lane s.up c h None) s.spare s.syncs s.sync_counts)
   get_kept c n h x begun act up =
       let t : Ticket = ticket c n in
       let m : Client = s.client c in
@@ -208,7 +209,7 @@ module _ (program : ProgramShape) (lined : (t : Ticket) → Lined (reserves prog
         story program s y g k c n begun r.client (got_begun settings t (listed program t) m h x m.place) r.events (y.sent t) got ends.0 ends.1 ends.2 ends.3 out,
         put g h (g h),
         at_object c n begun r.client (got_begun settings t (listed program t) m h x m.place) r.events (y.sent t) got ends.0 ends.1 ends.2 ends.3 out
-            s.down (put_lane s.up c h None) s.spare s.syncs h (record (post s h) { up = put (λ c. as_list (s.up c h)) c [] }) (g h)
+            s.down (put_lane s.up c h None) s.spare s.syncs s.sync_counts h (record (post s h) { up = put (λ c. as_list (s.up c h)) c [] }) (g h)
             (post_path _ _ refl refl refl (fun_ext (put_up_at s.up c h None)))
             (λ j other. post_path _ _ refl refl refl (fun_ext (λ d. put_up_there s.up c h None d j other)))
             (λ j other. (refl, put_there (y.got t) h (y.got t h ++ x ∷ []) j other))
@@ -237,7 +238,7 @@ module _ (program : ProgramShape) (lined : (t : Ticket) → Lined (reserves prog
           (num_cases u.index n)
 
   pub chunk_kept : (c n h : ℕ) (spare : ℕ → ℕ → ℕ) → (s.client c).begun ≡ suc n → act_of settings blocks (s.client c) ≡ NeedChunk h
-      → Keeps (after c (ticket c n) (took_chunk settings (ticket c n) (listed program (ticket c n)) (s.client c) h (s.client c).place) s.down s.up spare s.syncs)
+      → Keeps (after c (ticket c n) (took_chunk settings (ticket c n) (listed program (ticket c n)) (s.client c) h (s.client c).place) s.down s.up spare s.syncs s.sync_counts)
   chunk_kept c n h spare begun act =
       let t : Ticket = ticket c n in
       let m : Client = s.client c in
@@ -247,5 +248,5 @@ module _ (program : ProgramShape) (lined : (t : Ticket) → Lined (reserves prog
       let out = λ (j : ℕ) (no : reserves program t j ≡ false). k.outside t j no in (
         story program s y g k c n begun r.client (chunk_begun settings t (listed program t) m h m.place) r.events (y.sent t) (y.got t) ends.0 ends.1 ends.2 ends.3 out,
         g,
-        at_none c n begun r.client (chunk_begun settings t (listed program t) m h m.place) r.events (y.sent t) (y.got t) ends.0 ends.1 ends.2 ends.3 out spare s.syncs (λ j. (refl, refl)),
+        at_none c n begun r.client (chunk_begun settings t (listed program t) m h m.place) r.events (y.sent t) (y.got t) ends.0 ends.1 ends.2 ends.3 out spare s.syncs s.sync_counts (λ j. (refl, refl)),
       )

@@ -14,7 +14,7 @@ use Rattle.qs_syncset.specs.Codes.{ClientCode}
 use Rattle.qs_syncset.specs.HeldExamples.{call_in_repeat, without_inner, without_last}
 use Rattle.qs_syncset.specs.Modes.{is_dynamic}
 use Rattle.qs_played.specs.ExampleRuns.{answers}
-use Rattle.qs_played.specs.declared.played.Played.{Played}
+use Rattle.qs_played.specs.Played.{Played}
 use Rattle.qs_core_laws.specs.Core.{AreCodes}
 use Rattle.qs_core_laws.specs.CoreSchedule.{core_played, core_scheduled}
 

@@ -5,13 +5,15 @@ use Rattle.qs_objects.specs.Parts.{same}
 use Rattle.qs_objects.specs.declared.held.Event.{Event}
 use Rattle.qs_objects.specs.declared.held.Ticket.{Ticket}
 use Rattle.qs_objects.specs.declared.held.Next.TheVariants as nexts
-use Rattle.qs_check.specs.Program.{ProgramShape}
+use Rattle.qs_check.specs.Program.{ProgramShape, text_of}
 use Rattle.qs_meaning.specs.Serial.{declared, zeros}
 use Rattle.qs_meaning.specs.Solo.{put}
 use Rattle.qs_check.specs.Sound.{is_in}
 use Rattle.qs_check.specs.Values.{Locals}
 use Rattle.qs_graph.specs.Synced.{Synced}
 use Rattle.qs_syncset.specs.declared.mode.Mode.{Mode}
+use Rattle.qs_syncset.specs.SyncRows.{no_syncs, with_sync}
+use Rattle.qs_syncset.specs.declared.sync_counts.SyncCount.{SyncCount}
 use Rattle.qs_syncset.specs.Codes.{ClientCode, IsCodeOf, code_at}
 use Rattle.qs_chunk.specs.declared.parcel.Parcel.{Parcel}
 use Rattle.qs_chunk.specs.declared.parcel.Parcel.TheVariants.{Work, Sync, Home, End}
@@ -28,13 +30,14 @@ use Rattle.qs_played.specs.Played.{ticket}
 use Rattle.qs_played.specs.declared.actor.Actor.{Actor}
 use Rattle.qs_played.specs.declared.actor.Actor.TheVariants as actor
 
--- The order of reservations; each client, and the Syncs that it sent; of the lane from a client to a handler the parcels that lie there, the
+-- The order of reservations; each client, and the Syncs that it sent, also apart for each ticket and object of its block's list; of the lane from a client to a handler the parcels that lie there, the
 -- object on its way up, and how many empty chunks lie ready; each handler and its queue of tickets; of each ticket the variables at entry
 -- and the trace.
 pub record Core : Type 0 where
   pub order : List Ticket
   pub client : ℕ → Client
   pub syncs : ℕ → ℕ
+  pub sync_counts : Ticket → List SyncCount
   pub down : ℕ → ℕ → List Parcel
   pub up : ℕ → ℕ → Option HeldState
   pub spare : ℕ → ℕ → ℕ
@@ -91,6 +94,7 @@ module _ (code : ℕ → ClientCode) (size : ℕ) where
     order = s.order;
     client = put s.client c r.client;
     syncs = s.syncs;
+    sync_counts = s.sync_counts;
     down = s.down;
     up = s.up;
     spare = s.spare;
@@ -106,6 +110,7 @@ module _ (code : ℕ → ClientCode) (size : ℕ) where
     order = s.order ++ t ∷ [];
     client = put s.client c r.client;
     syncs = s.syncs;
+    sync_counts = s.sync_counts;
     down = s.down;
     up = s.up;
     spare = s.spare;
@@ -131,11 +136,19 @@ module _ (code : ℕ → ClientCode) (size : ℕ) where
   synced syncs c (Home x) = syncs
   synced syncs c End = syncs
 
+  -- and apart for the block that it is in
+  abbrev pub tallied : (Ticket → List SyncCount) → Ticket → ℕ → Parcel → Ticket → List SyncCount
+  tallied counts t h Sync = put_ticket counts t (with_sync h (counts t))
+  tallied counts t h (Work chunk) = counts
+  tallied counts t h (Home x) = counts
+  tallied counts t h End = counts
+
   abbrev pub lies : Core → ℕ → ℕ → Parcel → Core
   lies s c h parcel = record {
     order = s.order;
     client = s.client;
     syncs = synced s.syncs c parcel;
+    sync_counts = tallied s.sync_counts (current c (s.client c)) h parcel;
     down = put_lane s.down c h (s.down c h ++ parcel ∷ []);
     up = s.up;
     spare = s.spare;
@@ -159,6 +172,7 @@ module _ (code : ℕ → ClientCode) (size : ℕ) where
     order = s.order;
     client = s.client;
     syncs = s.syncs;
+    sync_counts = s.sync_counts;
     down = s.down;
     up = put_lane s.up c h x;
     spare = s.spare;
@@ -173,6 +187,7 @@ module _ (code : ℕ → ClientCode) (size : ℕ) where
     order = s.order;
     client = s.client;
     syncs = s.syncs;
+    sync_counts = s.sync_counts;
     down = s.down;
     up = s.up;
     spare = put_lane s.spare c h n;
@@ -210,6 +225,7 @@ module _ (code : ℕ → ClientCode) (size : ℕ) where
     order = s.order;
     client = s.client;
     syncs = s.syncs;
+    sync_counts = s.sync_counts;
     down = s.down;
     up = s.up;
     spare = s.spare;
@@ -224,6 +240,7 @@ module _ (code : ℕ → ClientCode) (size : ℕ) where
     order = s.order;
     client = s.client;
     syncs = s.syncs;
+    sync_counts = s.sync_counts;
     down = s.down;
     up = s.up;
     spare = s.spare;
@@ -238,6 +255,7 @@ module _ (code : ℕ → ClientCode) (size : ℕ) where
     order = s.order;
     client = s.client;
     syncs = s.syncs;
+    sync_counts = s.sync_counts;
     down = put_lane s.down c h ps;
     up = s.up;
     spare = s.spare;
@@ -294,6 +312,7 @@ core_begin p = record {
   order = [];
   client = λ c. first_client zeros;
   syncs = λ c. 0;
+  sync_counts = λ t. no_syncs (text_of p t).reserved;
   down = λ c h. [];
   up = λ c h. None;
   spare = λ c h. spare_room;

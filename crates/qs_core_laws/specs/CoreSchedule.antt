@@ -17,7 +17,7 @@ use Rattle.qs_played.specs.Isolation.{IsIsolated}
 use Rattle.qs_played.specs.Schedule.{all_named, most_rounds, schedule}
 use Rattle.qs_played.specs.declared.actor.Actor.{Actor}
 use Rattle.qs_played.specs.declared.fault.PlayFault.{PlayFault}
-use Rattle.qs_played.specs.declared.played.Played.{Played}
+use Rattle.qs_played.specs.Played.{Played}
 use Rattle.qs_played.specs.declared.fault.PlayFault.TheVariants as fault
 use Rattle.qs_core_laws.specs.Core.{Core, AreCodes, core_begin, core_step}
 
@@ -93,6 +93,7 @@ core_played p s = record {
   ended = map (λ (t : Ticket). has_ended (s.client t.client) t.index) s.order;
   entries = map s.entry s.order;
   traces = map s.trace s.order;
+  sync_counts = map s.sync_counts s.order;
   journals = map (λ h. (held_now s h).journal) (range_with_len 0 (length p.objects));
   states = map (λ h. (held_now s h).object) (range_with_len 0 (length p.objects));
   syncs = sum_by s.syncs (range_with_len 0 (length p.clients));

@@ -20,7 +20,7 @@ use Rattle.qs_meaning.proofs.SoundTrees.{blocks_ask_only}
 use Rattle.qs_meaning.proofs.TreeWalks.{unnamed}
 use Rattle.qs_played.specs.Isolation.{IsIsolated, journal_of, state_of, ticket_at, trace_of}
 use Rattle.qs_played.specs.Played.{ticket}
-use Rattle.qs_played.specs.declared.played.Played.{Played}
+use Rattle.qs_played.specs.Played.{Played}
 use Rattle.qs_played.proofs.Orders.{counts_after, legal_among, apart_kept, apart_both}
 use Rattle.qs_played.proofs.JournalRooms.{no_block_beyond}
 use Rattle.qs_played.proofs.AbstractRun.{IsRun, run_isolated}

@@ -24,7 +24,7 @@ use Rattle.qs_played.specs.Isolation.{ended_of, ticket_at, trace_of}
 use Rattle.qs_played.specs.Played.{ticket}
 use Rattle.qs_played.specs.Schedule.{queries_in}
 use Rattle.qs_played.specs.SyncSums.{AreSent}
-use Rattle.qs_played.specs.declared.played.Played.{Played}
+use Rattle.qs_played.specs.Played.{Played}
 use Rattle.qs_played.proofs.ReservedObjects.{reserved_inside}
 use Rattle.qs_played.proofs.SyncLists.{sum_of, total_of, legal_blocks, sum_add, sum_at, sum_inside, sum_legal, sum_of_client, sum_one, sum_zero}
 use Rattle.qs_played.proofs.Orders.{each_among, counts_after, legal_among}

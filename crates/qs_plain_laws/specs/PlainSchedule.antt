@@ -6,7 +6,7 @@ use Rattle.qs_check.specs.Program.{ProgramShape, blocks_of}
 use Rattle.qs_check.specs.Values.{Locals}
 use Rattle.qs_played.specs.declared.actor.Actor.{Actor}
 use Rattle.qs_played.specs.declared.fault.PlayFault.{PlayFault}
-use Rattle.qs_played.specs.declared.played.Played.{Played}
+use Rattle.qs_played.specs.Played.{Played}
 use Rattle.qs_played.specs.Schedule.{schedule, all_named, queries_in, most_rounds}
 use Rattle.qs_played.specs.declared.fault.PlayFault.TheVariants as fault
 use Rattle.qs_plain_laws.specs.Plain.{Plain, Client, Handler, Stage, out, within, waiting, begin, step, begun, client_at}

@@ -8,7 +8,7 @@ use Rattle.qs_syncset.specs.SyncCounts.{queries}
 use Rattle.qs_played.specs.Isolation.{ended_of, ticket_at, trace_of}
 use Rattle.qs_played.specs.Schedule.{queries_in}
 use Rattle.qs_played.specs.declared.actor.Actor.{Actor}
-use Rattle.qs_played.specs.declared.played.Played.{Played}
+use Rattle.qs_played.specs.Played.{Played}
 use Rattle.qs_played.specs.SyncSums.{AreSent, AreAll}
 use Rattle.qs_plain_laws.specs.Plain.{begin, begun, client_at}
 use Rattle.qs_plain_laws.specs.PlainSchedule.{played_of, plays, waits}

@@ -22,7 +22,7 @@ use Rattle.qs_meaning.proofs.Histories.{Among, Begins, Flow, InTurn, IsDone, IsP
 use Rattle.qs_meaning.proofs.SerialRuns.{Agrees, legal_apart, line, runs_serially}
 use Rattle.qs_played.specs.Isolation.{IsIsolated, IsLine, IsPlace, IsWhole, ended_of, entry_of, journal_of, no_place, place_of, queries_of, state_of, ticket_at, trace_of}
 use Rattle.qs_played.specs.Played.{ticket}
-use Rattle.qs_played.specs.declared.played.Played.{Played}
+use Rattle.qs_played.specs.Played.{Played}
 use Rattle.qs_played.proofs.Orders.{among_once}
 
 -- where a later ticket has an entry, an earlier one is through

@@ -31,7 +31,7 @@ none_for (h ∷ hs) g =
     let here = by_case (h == g) in
     omega (arith, first, rest, here)
   where
-    by_case : (b : Bool) → (if b then 0 else 0) ≡ 0
+    by_case : (b : Bool) → ◌≡◌ {A = ℕ} (if b then 0 else 0) 0
     by_case true = refl
     by_case false = refl
 
@@ -90,11 +90,11 @@ sent_for h xs n inside distinct same g =
     ⊎_elim
     (λ (is : h ≡ g).
     let here : put n h (suc (n h)) g ≡ suc (n g) = subst (λ g. put n h (suc (n h)) g ≡ suc (n g)) is (put_here n h (suc (n h))) in
-    let one : (if h == g then 1 else 0) ≡ 1 = subst (λ g. (if h == g then 1 else 0) ≡ 1) is (rw (eqb_self h) refl) in
+    let one : ◌≡◌ {A = ℕ} (if h == g then 1 else 0) 1 = subst (λ g. ◌≡◌ {A = ℕ} (if h == g then 1 else 0) 1) is (rw (eqb_self h) refl) in
     omega (arith, all, old, here, one))
     (λ (other : (h == g) ≡ false).
     let there = put_there n h (suc (n h)) g other in
-    let none : (if h == g then 1 else 0) ≡ 0 = rw other refl in
+    let none : ◌≡◌ {A = ℕ} (if h == g then 1 else 0) 0 = rw other refl in
     omega (arith, all, old, there, none))
     (num_cases h g)
 

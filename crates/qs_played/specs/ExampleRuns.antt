@@ -3,7 +3,7 @@ use Rattle.std.specs.Prelude.{ℕ, List, [], ◌∷◌, map, Option, ℤ, pos}
 use Rattle.qs_objects.specs.Act.{State, account}
 use Rattle.qs_objects.specs.declared.held.Event.{Event}
 use Rattle.qs_meaning.specs.MeaningExamples.{left_with}
-use Rattle.qs_played.specs.declared.played.Played.{Played}
+use Rattle.qs_played.specs.Played.{Played}
 
 abbrev pub answers : Played → List (List (Option ℤ))
 answers played = map (map (λ (e : Event). e.reply)) played.traces

@@ -12,7 +12,7 @@ use Rattle.qs_check.specs.Program.{ProgramShape, blocks_of}
 use Rattle.qs_meaning.specs.Serial.{IsLegal, Place, serial, declared, no_state}
 use Rattle.qs_check.specs.Values.{Locals}
 use Rattle.qs_played.specs.Played.{ticket}
-use Rattle.qs_played.specs.declared.played.Played.{Played}
+use Rattle.qs_played.specs.Played.{Played}
 
 abbrev pub no_place : Place
 no_place = record { ticket = ticket 0 0; entry = []; starts = λ h. no_state; trace = [] }

@@ -6,9 +6,11 @@ mod fault;
 mod journal_rooms;
 mod picks;
 mod played;
+mod row;
 
 pub use actor::Actor;
 pub use fault::PlayFault;
 pub use journal_rooms::declared_held;
 pub use picks::are_named;
-pub use played::{Played, Row, Traces};
+pub use played::{ClientRows, Endings, Played};
+pub use row::Row;

@@ -1,102 +1,197 @@
 //! What a run has shown.
 
-ghost use Rattle.std.specs.Prelude.{◌≡◌, ◌<◌, [], ◌∷◌, ◌++◌, length, OnOk, slice_index_or};
-ghost use Rattle.qs_played.specs.Played.{no_events};
+ghost use Rattle.std.specs.Prelude.{◌≡◌, ◌<◌, [], length, map, slice_index_or};
+ghost use Rattle.qs_objects.specs.Traces.{events_of};
+ghost use Rattle.qs_syncset.specs.SyncRows.{count_of, object_of};
+ghost use Rattle.qs_played.specs.Played.{HaveRows, no_events, shown_with};
 
+use crate::row::Row;
 use qs_check::Locals;
-use qs_objects::{Event, Journal, Object, Ticket};
-use std::alloc::{AllocError, Global};
+use qs_objects::{Event, Journal, Object, Ticket, Traces};
+use qs_syncset::SyncCounts;
 use std::marker::Model;
 
-/// Values in order, which contracts see as a list.
+/// A client's blocks: for each of them its trace, its client's variables at entry, and how many Syncs it has sent for each object of its
+/// list.
 #[derive(Drop)]
-pub struct Row<T> {
-    items: Vec<T>,
+pub struct ClientRows {
+    traces: Traces,
+    entries: Vec<Locals>,
+    counts: SyncCounts,
 }
 
-impl<T> Model for Row<T> {
-    ghost use Rattle.std.specs.Prelude.{List};
-    ghost use Rattle.std.specs.Coded.{coded_list};
+impl Model for ClientRows {
+    ghost use Rattle.qs_objects.specs.Traces.{events_of};
+    ghost use Rattle.qs_played.specs.Played as shown;
 
-    ghost Value = { List T };
+    ghost Value = { shown.ClientRows };
 
-    ghost coded = { coded_list T.code };
-
-    ghost view = { λ r. r.items.items };
+    ghost view = { λ r. record { traces = events_of r.traces; entries = r.entries.items; counts = r.counts.rows } };
 }
 
-impl<T> Row<T> {
-    /// A row of these values; takes no memory.
-    pub fn from_vec(items: Vec<T>) -> Row<T>
-        ensures value { result ≡ items.items }
+impl ClientRows {
+    /// These rows; takes no memory.
+    pub fn new(traces: Traces, entries: Vec<Locals>, counts: SyncCounts) -> ClientRows
+        ensures value { result ≡ record { traces = events_of traces; entries = entries.items; counts = counts.rows } }
     {
-        Row { items }
-    }
-
-    /// How many there are.
-    pub fn len(&self) -> usize
-        ensures value { result ≡ length self.now }
-    {
-        self.items.len()
-    }
-
-    /// The values.
-    pub fn as_slice(&self) -> &[T]
-        ensures value { result.now ≡ self.now }
-    {
-        self.items.as_slice()
-    }
-}
-
-/// Traces in order: for each, its requests with their replies.
-#[derive(Drop)]
-pub struct Traces {
-    traces: Vec<Row<Event>>,
-}
-
-impl Model for Traces {
-    ghost use Rattle.std.specs.Prelude.{List};
-    ghost use Rattle.qs_objects.specs.declared.held.Event.{Event};
-
-    ghost Value = { List (List Event) };
-
-    ghost view = { λ t. t.traces.items };
-}
-
-impl Traces {
-    /// Traces in this order; takes no memory.
-    pub fn from_vec(traces: Vec<Row<Event>>) -> Traces
-        ensures value { result ≡ traces.items }
-    {
-        Traces { traces }
-    }
-
-    /// How many traces there are.
-    pub fn len(&self) -> usize
-        ensures value { result ≡ length self.now }
-    {
-        self.traces.len()
-    }
-
-    /// A trace, by its place.
-    pub fn of(&self, place: usize) -> &[Event]
-        requires { place < length self.now }
-        ensures value { result.now ≡ slice_index_or self.now place no_events }
-    {
-        self.traces[place].as_slice()
+        ClientRows {
+            traces,
+            entries,
+            counts,
+        }
     }
 }
 
 /// What a run has shown: the tickets in the order of reservations, and for each whether its block has ended, its client's variables
-/// at entry, and its trace; for each object its journal and state; how many syncs there were, and whether the run is finished.
+/// at entry, its trace, and how many Syncs it has sent for each object of its list; for each object its journal and state; how many
+/// Syncs there were, and whether the run is finished. A ticket's trace is found by its client and number: the clients' rows are taken
+/// as they are, and no trace is copied.
 #[derive(Drop)]
 pub struct Played {
-    pub order: Row<Ticket>,
+    order: Row<Ticket>,
+    ended: Row<bool>,
+    clients: Vec<ClientRows>,
+    journals: Row<Journal>,
+    states: Row<Object>,
+    syncs: u64,
+    finished: bool,
+}
+
+impl Model for Played {
+    ghost use Rattle.qs_played.specs.Played as shown;
+    ghost use Rattle.qs_played.specs.Played.{HaveRows, shown_with};
+
+    ghost Value = { shown.Played };
+
+    ghost view = { λ p. shown_with p.order p.ended p.clients.items p.journals p.states p.syncs p.finished };
+
+    ghost invariant = { λ p. HaveRows p.clients.items p.order };
+}
+
+/// What a run shows beside the clients' rows: whether each block has ended, the objects' journals and states, how many Syncs there
+/// were, and whether the run is finished.
+#[derive(Drop)]
+pub struct Endings {
     pub ended: Row<bool>,
-    pub entries: Row<Locals>,
-    pub traces: Traces,
     pub journals: Row<Journal>,
     pub states: Row<Object>,
     pub syncs: u64,
     pub finished: bool,
+}
+
+impl Played {
+    /// What is shown of this order by these clients; takes no memory.
+    pub fn new(order: Row<Ticket>, clients: Vec<ClientRows>, endings: Endings) -> Played
+        requires rows { HaveRows clients.items order }
+        ensures value { result ≡ shown_with order endings.ended clients.items endings.journals endings.states endings.syncs endings.finished }
+    {
+        let Endings {
+            ended,
+            journals,
+            states,
+            syncs,
+            finished,
+        } = endings;
+        Played {
+            order,
+            ended,
+            clients,
+            journals,
+            states,
+            syncs,
+            finished,
+        }
+    }
+
+    /// The tickets in the order of reservations.
+    pub fn order(&self) -> &[Ticket]
+        ensures value { result.now ≡ self.now.order }
+    {
+        self.order.as_slice()
+    }
+
+    /// For each place of the order whether its block has ended.
+    pub fn ended(&self) -> &[bool]
+        ensures value { result.now ≡ self.now.ended }
+    {
+        self.ended.as_slice()
+    }
+
+    // The rows of a ticket's client, and the ticket's number among them.
+    fn rows(&self, place: usize) -> (&ClientRows, usize)
+        requires place { place < length self.now.order }
+        ensures entry { slice_index_or result.0.now.entries result.1 [] ≡ slice_index_or self.now.entries place [] }
+        ensures trace { slice_index_or result.0.now.traces result.1 [] ≡ slice_index_or self.now.traces place no_events }
+        ensures counts { slice_index_or result.0.now.counts result.1 [] ≡ slice_index_or self.now.sync_counts place [] }
+        ensures in_entries { result.1 < length result.0.now.entries }
+        ensures in_traces { result.1 < length result.0.now.traces }
+        ensures in_counts { result.1 < length result.0.now.counts }
+    {
+        let ticket = self.order.as_slice()[place];
+        (&self.clients[usize::from(ticket.client)], usize::from(ticket.index))
+    }
+
+    /// The variables at entry of the client of a place of the order.
+    pub fn entry(&self, place: usize) -> &Locals
+        requires place { place < length self.now.order }
+        ensures value { result.now ≡ slice_index_or self.now.entries place [] }
+    {
+        let (rows, block) = self.rows(place);
+        &rows.entries[block]
+    }
+
+    /// The trace of a place of the order.
+    pub fn trace(&self, place: usize) -> &[Event]
+        requires place { place < length self.now.order }
+        ensures value { result.now ≡ slice_index_or self.now.traces place no_events }
+    {
+        let (rows, block) = self.rows(place);
+        rows.traces.of(block)
+    }
+
+    /// The objects of the list of a place's block, for each of which its Syncs are counted.
+    pub fn sync_objects(&self, place: usize) -> &[u8]
+        requires place { place < length self.now.order }
+        ensures value { result.now ≡ map object_of (slice_index_or self.now.sync_counts place []) }
+    {
+        let (rows, block) = self.rows(place);
+        rows.counts.objects(block)
+    }
+
+    /// How many Syncs a place's block has sent for each of these objects.
+    pub fn sync_counts(&self, place: usize) -> &[u32]
+        requires place { place < length self.now.order }
+        ensures value { result.now ≡ map count_of (slice_index_or self.now.sync_counts place []) }
+    {
+        let (rows, block) = self.rows(place);
+        rows.counts.counts(block)
+    }
+
+    /// For each object its journal.
+    pub fn journals(&self) -> &[Journal]
+        ensures value { result.now ≡ self.now.journals }
+    {
+        self.journals.as_slice()
+    }
+
+    /// For each object its state.
+    pub fn states(&self) -> &[Object]
+        ensures value { result.now ≡ self.now.states }
+    {
+        self.states.as_slice()
+    }
+
+    /// How many Syncs were sent.
+    pub fn syncs(&self) -> u64
+        ensures value { result ≡ self.now.syncs }
+    {
+        self.syncs
+    }
+
+    /// Whether the run is finished.
+    pub fn is_finished(&self) -> bool
+        ensures value { result ≡ self.now.finished }
+    {
+        self.finished
+    }
 }

@@ -13,7 +13,7 @@ use Rattle.qs_played.specs.declared.fault.PlayFault.TheVariants as play
 use Rattle.qs_check.specs.declared.program.Declared.{Declared}
 use Rattle.qs_check.specs.Program.{ProgramShape, ClientShape, BlockShape}
 use Rattle.qs_check.specs.Statements.{end}
-use Rattle.qs_played.specs.declared.played.Played.{Played}
+use Rattle.qs_played.specs.Played.{Played}
 use Rattle.qs_report.specs.declared.faults.Fault.{Fault}
 use Rattle.qs_report.specs.declared.faults.Fault.TheVariants.{CommandLine, Input, Read, Check, Play, Memory}
 use Rattle.qs_report.specs.Report.{report_text, counts_text, state_line}

@@ -12,3 +12,4 @@ pub mod Tables
 pub mod WorkedGraphs
 pub mod WorkedSyncs
 pub mod CountRows
+pub mod QueryRuns

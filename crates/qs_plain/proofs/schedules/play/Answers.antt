@@ -7,7 +7,7 @@ use Rattle.qs_check.specs.Program.{ProgramShape}
 use Rattle.qs_meaning.specs.Serial.{IsLegal}
 use Rattle.qs_played.specs.Isolation.{IsIsolated}
 use Rattle.qs_played.specs.Schedule.{actors_of, schedule}
-use Rattle.qs_played.specs.declared.played.Played.{Played}
+use Rattle.qs_played.specs.Played.{Played}
 use Rattle.qs_played.proofs.ShownRuns.{if_shown}
 use Rattle.qs_plain_laws.specs.PlainIsolation.{queued}
 use Rattle.qs_plain_laws.specs.Plain.{Plain, begin, begun}
