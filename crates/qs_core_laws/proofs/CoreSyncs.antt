@@ -28,7 +28,7 @@ use Rattle.qs_played.specs.Played.{Played}
 use Rattle.qs_played.proofs.JournalRooms.{no_block_beyond}
 use Rattle.qs_played.proofs.ReservedObjects.{listed_inside}
 use Rattle.qs_played.proofs.SyncLists.{legal_blocks, sum_inside, sum_of, total_of}
-use Rattle.qs_played.proofs.SyncTallies.{total_for}
+use Rattle.qs_played.proofs.SyncTallies.{sent_of, total_for}
 use Rattle.qs_protocol.proofs.ClientCounts.{CountAt, even_now}
 use Rattle.qs_protocol.proofs.ClientInvariants.{holding}
 use Rattle.qs_protocol.proofs.ObjectViews.{HandlerLog}
@@ -43,11 +43,6 @@ use Rattle.qs_core_laws.proofs.CoreInvariant.{LaneHistory, CoreInvariant, Ticket
 pub sent_as : (ended : Bool) (sent counts others : ℕ → ℕ) → ((h : ℕ) → counts h ≡ others h) → AreSent ended sent counts → AreSent ended sent others
 sent_as ended sent counts others same (inl exact) = inl (λ h. exact h ∙ same h)
 sent_as ended sent counts others same (inr one) = inr (one.0, one.1, λ h. one.2 h ∙ ap (λ k. (if one.1 == h then 1 else 0) + k) (same h))
-
--- and of numbers that are the same
-sent_of : (ended : Bool) (sent others counts : ℕ → ℕ) → ((h : ℕ) → sent h ≡ others h) → AreSent ended sent counts → AreSent ended others counts
-sent_of ended sent others counts same (inl exact) = inl (λ h. sym (same h) ∙ exact h)
-sent_of ended sent others counts same (inr one) = inr (one.0, one.1, λ h. sym (same h) ∙ one.2 h)
 
 module _ (program : ProgramShape) (sound : IsSound program) (mode : Mode) (code : ℕ → ClientCode) (codes : AreCodes program mode code) (size : ℕ)
     (s : Core) (y : LaneHistory) (g : ℕ → HandlerLog) (kept : CoreInvariant program s y g) (n : Ticket → ℕ → ℕ)

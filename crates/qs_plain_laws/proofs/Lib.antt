@@ -2,6 +2,7 @@ pub mod ServedRunMoves
 pub mod ServedRuns
 pub mod Isolating
 pub mod Ordering
+pub mod PlainTallies
 pub mod PlainPreserved
 pub mod PlainSyncs
 pub mod Rooms

@@ -33,12 +33,13 @@ use Rattle.qs_played.specs.declared.actor.Actor.{Actor}
 use Rattle.qs_played.proofs.Lists.{apart}
 use Rattle.qs_played.proofs.FunctionUpdate.{put_at, put_at_here, put_at_there}
 use Rattle.qs_played.specs.declared.actor.Actor.TheVariants as actor
-use Rattle.qs_plain_laws.specs.Plain.{Plain, Client, Handler, Private, Stage, out, within, waiting, begin, begun, client_at, handler_at, client_step, goes_on, item_step, queue_step, at_handler, at_each, log_in, enter, serves, stands, traced, begins, replied, reply_to, step, fresh_client, fresh_handler, no_client, no_handler, calls, asks, ends, runs_command, runs_query, leaves_queue}
+use Rattle.qs_plain_laws.specs.Plain.{Plain, Client, counted, Handler, Private, Stage, out, within, waiting, begin, begun, client_at, handler_at, client_step, goes_on, item_step, queue_step, at_handler, at_each, log_in, enter, serves, stands, traced, begins, replied, reply_to, step, fresh_client, fresh_handler, no_client, no_handler, calls, asks, ends, runs_command, runs_query, leaves_queue}
 use Rattle.qs_plain_laws.specs.PlainSchedule.{or_stay, plays, entry_at, trace_at}
 use Rattle.qs_plain_laws.specs.declared.item.QueueItem.{QueueItem}
+use Rattle.qs_plain_laws.proofs.PlainTallies.{Tallied, asked_of, tallied_ask, tallied_begin, tallied_call, tallied_reply, tallied_stand}
 use Rattle.qs_plain_laws.proofs.ServedRuns.{ServedRun}
 use Rattle.qs_plain_laws.proofs.RunViews.{Stance, Stands, Runs, Awaits, stage_of, Standing, RunView, answered, noted_held, reserved_by}
-use Rattle.qs_plain_laws.proofs.Simulation.{Kept, call_kept, query_kept, end_kept, separate_kept, do_kept, ask_kept, end_step_kept, Asking, asking, call_within, query_within, begun_some, do_room}
+use Rattle.qs_plain_laws.proofs.Simulation.{Kept, call_kept, query_kept, end_kept, separate_kept, call_commands, waits_for_query, do_kept, ask_kept, end_step_kept, Asking, asking, call_within, query_within, begun_some, do_room}
 use Rattle.qs_plain_laws.specs.Plain as plain
 use Rattle.qs_plain_laws.specs.declared.item.QueueItem.TheVariants as item
 
@@ -87,6 +88,7 @@ pub record RunInvariant (p : ProgramShape) (sound : IsSound p) (s : Plain) : Typ
   pub stance : ℕ → Stance
   pub stages : (c : ℕ) → c < length p.clients → (client_at s c).stage ≡ stage_of (stance c)
   pub traces : (c : ℕ) → length (client_at s c).traces ≡ begun (client_at s c)
+  pub tallies : (c : ℕ) → Tallied p c (client_at s c) (asked_of (stance c))
   pub clients : length s.clients ≡ length p.clients
   pub rooms : map room_at s.handlers ≡ rooms p
   pub kept : Kept p sound (sight_of s stance)
@@ -217,6 +219,15 @@ module _ (p : ProgramShape) (sound : IsSound p) (s : Plain) (k : RunInvariant p 
         by_test true = e
         by_test false = k.traces d
 
+    tallies_are : Tallied p c it (asked_of stance) → (d : ℕ) → Tallied p d (one d) (asked_of (stance' d))
+    tallies_are e d = ⊎_elim
+        (λ (is : c ≡ d). subst (λ d. Tallied p d (one d) (asked_of (stance' d))) is
+        (subst (λ x. Tallied p c x (asked_of (stance' c))) (sym here) (subst (λ g. Tallied p c it (asked_of g)) (sym (put_here k.stance c stance)) e)))
+        (λ (other : (c == d) ≡ false).
+        subst (λ x. Tallied p d x (asked_of (stance' d))) (sym (there d other))
+        (subst (λ g. Tallied p d (client_at s d) (asked_of g)) (sym (put_there k.stance c stance d other)) (k.tallies d)))
+        (num_cases c d)
+
     -- what the change keeps of each client
     keeps : {A : Type 0} (f : Client → A) → f it ≡ f (client_at s c) → (d : ℕ) → f (one d) ≡ f (client_at s d)
     keeps f e d = ⊎_elim
@@ -308,6 +319,8 @@ module _ (p : ProgramShape) (sound : IsSound p) (s : Plain) (k : RunInvariant p 
           stance = put k.stance c (Runs next);
           stages = stages_are c less it (Runs next) refl;
           traces = traces_are c less it (Runs next) (length-set me.traces n (get_or me.traces n [] ++ event r None ∷ []) ∙ k.traces c);
+          tallies = tallies_are c less it (Runs next) (tallied_call p c me (asked_of (k.stance c)) (k.tallies c) r next
+              (λ h. ap (λ g. asked_of g h) runs) (k.traces c) start (call_commands p sound v c r next runs k.kept));
           clients = long it;
           rooms = one_room r.object _ refl;
           kept = subst (Kept p sound) (sym (sight_path refl (clients_is c less it (Runs next)) (handler_put r.object _ (reserved_within (ticket c n) r.object some))
@@ -318,13 +331,16 @@ module _ (p : ProgramShape) (sound : IsSound p) (s : Plain) (k : RunInvariant p 
 
     asked : (r : Request) (next : ℤ → Interaction) → me.stage ≡ within (Query r next) → RunInvariant p sound (asks p s c me r next)
     asked r next e =
-        let it = stands me (waiting next) in
+        let it = stands (counted me (begun me - 1) r.object) (waiting next) in
         let runs = stance_runs (Query r next) e (k.stance c) (k.stages c inside) in
         let some = query_within p sound v c r next runs k.kept in
         record {
           stance = put k.stance c (Awaits r next);
           stages = stages_are c less it (Awaits r next) refl;
           traces = traces_are c less it (Awaits r next) (k.traces c);
+          tallies = tallies_are c less it (Awaits r next) (tallied_ask p c me (asked_of (k.stance c)) (k.tallies c) r next
+              (λ h. ap (λ g. asked_of g h) runs) (begun_some p sound v c (Query r next) runs k.kept) some
+              (reserved_list p sound (ticket c (begun me - 1))).distinct);
           clients = long it;
           rooms = one_room r.object _ refl;
           kept = subst (Kept p sound) (sym (sight_path refl (clients_is c less it (Awaits r next)) (handler_put r.object _ (reserved_within (ticket c (begun me - 1)) r.object some))
@@ -342,6 +358,7 @@ module _ (p : ProgramShape) (sound : IsSound p) (s : Plain) (k : RunInvariant p 
           stance = put k.stance c (Stands l);
           stages = stages_are c less it (Stands l) refl;
           traces = traces_are c less it (Stands l) (k.traces c);
+          tallies = tallies_are c less it (Stands l) (tallied_stand p c me (asked_of (k.stance c)) (k.tallies c) (out l) (λ h. ap (λ g. asked_of g h) runs));
           clients = long it;
           rooms = each_room t (log_in t item.EndMark) (λ h. refl);
           kept = subst (Kept p sound) (sym (sight_path refl (clients_is c less it (Stands l)) (each_put t (log_in t item.EndMark))
@@ -355,13 +372,14 @@ module _ (p : ProgramShape) (sound : IsSound p) (s : Plain) (k : RunInvariant p 
         let n = begun me in
         let t = ticket c n in
         let rest = block_tree p t l in
-        let it = begins me l rest in
+        let it = begins me l rest (text_of p t).reserved in
         let at = stance_stands l e (k.stance c) (k.stages c inside) in
         let traces_long = k.traces c in
         record {
           stance = put k.stance c (Runs rest);
           stages = stages_are c less it (Runs rest) refl;
           traces = traces_are c less it (Runs rest) (length-append me.traces ([] ∷ []) ∙ (ap (λ m. m + 1) (k.traces c) ∙ sym (length-append me.entries (l ∷ []))));
+          tallies = tallies_are c less it (Runs rest) (tallied_begin p c me (asked_of (k.stance c)) (k.tallies c) l rest (λ h. ap (λ g. asked_of g h) at) (k.traces c));
           clients = long it;
           rooms = each_room t (enter t) (λ h. refl);
           kept = subst (Kept p sound) (sym (sight_path refl
@@ -425,6 +443,7 @@ module _ (p : ProgramShape) (sound : IsSound p) (s : Plain) (k : RunInvariant p 
           stance = k.stance;
           stages = k.stages;
           traces = k.traces;
+          tallies = k.tallies;
           clients = k.clients;
           rooms = one_room h _ (room_stays us.held q.ticket r);
           kept = subst (Kept p sound) (sym (sight_path refl refl
@@ -438,6 +457,7 @@ module _ (p : ProgramShape) (sound : IsSound p) (s : Plain) (k : RunInvariant p 
       stance = k.stance;
       stages = k.stages;
       traces = k.traces;
+      tallies = k.tallies;
       clients = k.clients;
       rooms = one_room h _ refl;
       kept = subst (Kept p sound) (sym (sight_path refl refl (handler_put h _ (served_by q qs e)) refl refl)) (end_step_kept p sound v h q qs items e i k.kept);
@@ -505,6 +525,9 @@ module _ (p : ProgramShape) (sound : IsSound p) (s : Plain) (k : RunInvariant p 
             stance = put k.stance c (Runs rest);
             stages = stages_are c is_client replied_to (Runs rest) refl;
             traces = traces_are c is_client replied_to (Runs rest) (length-set you.traces q.ticket.index (get_or you.traces q.ticket.index [] ++ event r v0 ∷ []) ∙ k.traces c);
+            tallies = tallies_are c is_client replied_to (Runs rest) (tallied_reply p c you r v0 q.ticket.index rest
+                (subst (λ g. Tallied p c you (asked_of g)) asks_it.stage (k.tallies c)) last (k.traces c)
+                (waits_for_query p sound v c r asks_it.next (begun you) asks_it.stage refl k.kept));
             clients = long c is_client replied_to;
             rooms = one_room h _ refl;
             kept = subst (Kept p sound) (sym (sight_path refl
@@ -587,6 +610,7 @@ module _ (p : ProgramShape) (sound : IsSound p) where
     stance = λ c. Stands zeros;
     stages = λ c inside. staged c inside;
     traces = λ c. fresh_at (λ x. length x.traces ≡ begun x) (λ n. refl) refl c;
+    tallies = λ c. fresh_at (λ x. Tallied p c x (λ h. 0)) (λ n. none_tallied c (fresh_client n) refl refl) (none_tallied c no_client refl refl) c;
     clients = length-map (range_with_len 0 (length p.clients)) fresh_client ∙ length-range_with_len 0 (length p.clients);
     rooms = map-map room_at (fresh_handler p) (range_with_len 0 (length p.objects));
     kept = (
@@ -613,6 +637,13 @@ module _ (p : ProgramShape) (sound : IsSound p) where
     );
   }
     where
+      none_tallied : (c : ℕ) (it : Client) → begun it ≡ 0 → length it.counts ≡ 0 → Tallied p c it (λ h. 0)
+      none_tallied c it none counts = record {
+        long = omega (arith, none, counts);
+        objects = λ i inside. absurd (omega (arith, none, inside));
+        numbers = λ i inside h. absurd (omega (arith, none, inside));
+      }
+
       staged : (c : ℕ) → c < length p.clients → (client_at (begin p) c).stage ≡ out zeros
       staged c inside = ap (λ (x : Client). x.stage) (get_or-map-range_with_len fresh_client 0 (length p.clients) c c no_client inside (omega arith))
 

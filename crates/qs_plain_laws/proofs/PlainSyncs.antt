@@ -1,8 +1,8 @@
 -- The synchronisations under the plain rules, counted by the traces.
-use Rattle.std.proofs.Common.{◌≡◌, ◌<◌, ◌≤◌, ℕ, zero, suc, ◌+◌, ◌-◌, ◌==◌, ◌&&◌, nat_lt, nat_eq, Bool, true, false, if◌then◌else◌, List, [], ◌∷◌, length, get_or, refl, sym, ap, ◌∙◌, subst, inl, inr, arith}
+use Rattle.std.proofs.Common.{◌≡◌, ◌<◌, ◌≤◌, ℕ, zero, suc, ◌+◌, ◌-◌, ◌==◌, ◌&&◌, nat_lt, nat_eq, Bool, true, false, if◌then◌else◌, List, [], ◌∷◌, length, get_or, map, refl, sym, ap, ◌∙◌, subst, inl, inr, arith}
 use Rattle.std.specs.Prelude.{sum_by}
 use Rattle.std.specs.List.{AllByRecursion, range_with_len}
-use Rattle.std.proofs.lemmas.List.{get_or-map}
+use Rattle.std.proofs.lemmas.List.{get_or-map, length-map}
 use Rattle.std.proofs.lemmas.List.Sums.{sum_by-cons}
 use Rattle.qs_objects.specs.declared.held.Event.{Event}
 use Rattle.qs_objects.specs.declared.held.Ticket.{Ticket}
@@ -10,7 +10,7 @@ use Rattle.qs_objects.specs.declared.Request.{Request}
 use Rattle.qs_objects.proofs.Choices.{apart_eqb, eqb_apart, eqb_self}
 use Rattle.qs_meaning.specs.Following.{AsksOnly, Leads, block_tree, reserves}
 use Rattle.qs_meaning.specs.Interaction.{Interaction, Done, Call, Query}
-use Rattle.qs_check.specs.Program.{ProgramShape, blocks_of}
+use Rattle.qs_check.specs.Program.{ProgramShape, blocks_of, text_of}
 use Rattle.qs_meaning.specs.Serial.{IsLegal}
 use Rattle.qs_meaning.specs.Solo.{value_of}
 use Rattle.qs_check.specs.Sound.{IsSound}
@@ -19,22 +19,25 @@ use Rattle.qs_meaning.proofs.Histories.{Among, IsPage}
 use Rattle.qs_meaning.proofs.Each.{each_map}
 use Rattle.qs_meaning.proofs.SoundTrees.{blocks_ask_only}
 use Rattle.qs_syncset.specs.SyncCounts.{asks, queries}
+use Rattle.qs_syncset.specs.SyncRows.{object_of, syncs_for, syncs_of as syncs_of_row}
 use Rattle.qs_syncset.proofs.SyncTrees.{command_asks_none, query_counts}
 use Rattle.qs_played.specs.Isolation.{ended_of, ticket_at, trace_of}
 use Rattle.qs_played.specs.Played.{ticket}
 use Rattle.qs_played.specs.Schedule.{queries_in}
-use Rattle.qs_played.specs.SyncSums.{AreSent}
+use Rattle.qs_played.specs.SyncSums.{AreSent, counts_at, syncs_at}
 use Rattle.qs_played.specs.Played.{Played}
-use Rattle.qs_played.proofs.ReservedObjects.{reserved_inside}
+use Rattle.qs_played.proofs.ReservedObjects.{listed_inside, reserved_inside}
+use Rattle.qs_played.proofs.SyncTallies.{sent_of, total_for}
 use Rattle.qs_played.proofs.SyncLists.{sum_of, total_of, legal_blocks, sum_add, sum_at, sum_inside, sum_legal, sum_of_client, sum_one, sum_zero}
 use Rattle.qs_played.proofs.Orders.{each_among, counts_after, legal_among}
 use Rattle.qs_played.proofs.JournalRooms.{no_block_beyond}
 use Rattle.qs_plain_laws.specs.Plain.{Plain, Client, begin, begun, client_at, no_client}
-use Rattle.qs_plain_laws.specs.PlainSchedule.{ended_at, has_ended, is_out, played_of, plays, syncs_of, trace_at, waits}
+use Rattle.qs_plain_laws.specs.PlainSchedule.{counts_of, ended_at, has_ended, is_out, played_of, plays, syncs_of, trace_at, waits}
 use Rattle.qs_plain_laws.specs.PlainSyncSums.{AreQueriesCounted, PlainSyncsAreCounted, waiting}
 use Rattle.qs_plain_laws.proofs.ServedRunMoves.{asks_left}
 use Rattle.qs_plain_laws.proofs.ServedRuns.{ServedRun, IsServedRun}
 use Rattle.qs_plain_laws.proofs.PlainPreserved.{RunInvariant, run_kept, sight_of}
+use Rattle.qs_plain_laws.proofs.PlainTallies.{asked_of}
 use Rattle.qs_plain_laws.proofs.RunViews.{RunView, Stance, Stands, Runs, Awaits, stage_of}
 use Rattle.qs_plain_laws.proofs.Simulation.{Simulates, StandsAt}
 use Rattle.qs_plain_laws.specs.Plain as plain
@@ -78,12 +81,6 @@ queries_by_object m (e ∷ es) inside = by_event (asks e) refl (queries_by_objec
         let each = sum_inside (λ h. queries h (e ∷ es)) (λ h. queries h es) 0 m (λ h low high. command_asks_none h e es is) in
         let whole : queries_in (e ∷ es) ≡ 0 + queries_in es = all ∙ ap (λ b. (if b then 1 else 0) + queries_in es) is in
         omega (arith, each, whole, rest)
-
--- the query that a client waits for, by its object
-abbrev asked_of : Stance → ℕ → ℕ
-asked_of (Stands l) h = 0
-asked_of (Runs rest) h = 0
-asked_of (Awaits r next) h = if r.object == h then 1 else 0
 
 module _ (p : ProgramShape) (sound : IsSound p) (s : Plain) (k : RunInvariant p sound s) where
   abbrev v : RunView
@@ -231,26 +228,58 @@ module _ (p : ProgramShape) (sound : IsSound p) (s : Plain) (k : RunInvariant p 
           (by_stance (grind (arith, is)) (k.stance t.client) refl)
       by_case false out = inl (λ h. rw out (omega arith))
 
-  place_sent : (i : ℕ) → i < length s.order → AreSent (ended_of r i) (sent (ticket_at r i)) (λ h. queries h (trace_of r i))
-  place_sent i inside =
-      let t = ticket_at r i in
-      let own = AllByRecursion-get_or (λ (t : Ticket). t.index < blocks_of p t.client) s.order i (ticket 0 0) (legal_blocks p (λ _. 0) s.order legal) inside in
-      subst (λ es. AreSent (ended_of r i) (sent t) (λ h. queries h es)) (sym (get_or-map (trace_at s) s.order i (ticket 0 0) [] inside))
-      (subst (λ b. AreSent b (sent t) (λ h. queries h (trace_at s t))) (sym (get_or-map (ended_at s) s.order i (ticket 0 0) false inside))
-      (ticket_sent t (no_block_beyond p t.client (omega (arith, own)))))
+  -- the counts that the clients keep say this
+  module _ (i : ℕ) (inside : i < length s.order) where
+    abbrev t : Ticket
+    t = ticket_at r i
 
-  -- over all objects, one more exactly where its client waits in it
-  place_more : (i : ℕ) → i < length s.order → sum_of p (sent (ticket_at r i)) ≡ waiting s (ticket_at r i) + queries_in (trace_of r i)
-  place_more i inside =
-      let t = ticket_at r i in
-      let booked = AllByRecursion-get_or (λ (t : Ticket). suc t.index ≤ w.booked t.client) s.order i (ticket 0 0)
-      (subst (AllByRecursion (λ (t : Ticket). suc t.index ≤ w.booked t.client)) sim.order good.below) inside in
-      let less : t.index < begun (client_at s t.client) = let same = sim.booked t.client in omega (arith, booked, same) in
-      let own = AllByRecursion-get_or (λ (t : Ticket). t.index < blocks_of p t.client) s.order i (ticket 0 0) (legal_blocks p (λ _. 0) s.order legal) inside in
-      let stage = k.stages t.client (no_block_beyond p t.client (omega (arith, own))) in
-      block_sent t.client t.index less
-      ∙ (ap (λ g. (if suc t.index == begun (client_at s t.client) then waits g else 0) + queries_in (trace_at s t)) (sym stage)
-      ∙ ap (λ es. waiting s t + queries_in es) (sym (get_or-map (trace_at s) s.order i (ticket 0 0) [] inside)))
+    own : t.index < blocks_of p t.client
+    own = AllByRecursion-get_or (λ (t : Ticket). t.index < blocks_of p t.client) s.order i (ticket 0 0) (legal_blocks p (λ _. 0) s.order legal) inside
+
+    less : t.index < begun (client_at s t.client)
+    less =
+        let booked = AllByRecursion-get_or (λ (t : Ticket). suc t.index ≤ w.booked t.client) s.order i (ticket 0 0)
+        (subst (AllByRecursion (λ (t : Ticket). suc t.index ≤ w.booked t.client)) sim.order good.below) inside in
+        let same = sim.booked t.client in
+        omega (arith, booked, same)
+
+    counts_are : counts_at r i ≡ counts_of s t
+    counts_are = get_or-map (counts_of s) s.order i (ticket 0 0) [] inside
+
+    numbers : (h : ℕ) → sent t h ≡ syncs_at r i h
+    numbers h = sym (ap (λ xs. syncs_for xs h) counts_are ∙ (k.tallies t.client).numbers t.index less h)
+
+    place_listed : map object_of (counts_at r i) ≡ (text_of p t).reserved
+    place_listed = ap (map object_of) counts_are ∙ (k.tallies t.client).objects t.index less
+
+    place_sent : AreSent (ended_of r i) (syncs_at r i) (λ h. queries h (trace_of r i))
+    place_sent =
+        sent_of (ended_of r i) (sent t) (syncs_at r i) (λ h. queries h (trace_of r i)) numbers
+        (subst (λ es. AreSent (ended_of r i) (sent t) (λ h. queries h es)) (sym (get_or-map (trace_at s) s.order i (ticket 0 0) [] inside))
+        (subst (λ b. AreSent b (sent t) (λ h. queries h (trace_at s t))) (sym (get_or-map (ended_at s) s.order i (ticket 0 0) false inside))
+        (ticket_sent t (no_block_beyond p t.client (let some = own in omega (arith, some))))))
+
+    -- over all objects, one more exactly where its client waits in it
+    place_more : syncs_of_row (counts_at r i) ≡ waiting s t + queries_in (trace_of r i)
+    place_more =
+        let stage = k.stages t.client (no_block_beyond p t.client (let some = own in omega (arith, some))) in
+        total_for (length p.objects) (counts_at r i) (subst (AllByRecursion (λ h. h < length p.objects)) (sym place_listed) (listed_inside p sound t))
+        ∙ (sum_inside (syncs_at r i) (sent t) 0 (length p.objects) (λ h low high. sym (numbers h))
+        ∙ (block_sent t.client t.index less
+        ∙ (ap (λ g. (if suc t.index == begun (client_at s t.client) then waits g else 0) + queries_in (trace_at s t)) (sym stage)
+        ∙ ap (λ es. waiting s t + queries_in es) (sym (get_or-map (trace_at s) s.order i (ticket 0 0) [] inside)))))
+
+  -- all counts together
+  all_counts : sum_by syncs_of_row r.sync_counts ≡ total_of p sent s.order
+  all_counts =
+      let listed = sum_at syncs_of_row [] r.sync_counts in
+      let many = length-map s.order (counts_of s) in
+      let tickets = sum_at (λ t. sum_of p (sent t)) (ticket 0 0) s.order in
+      let each = sum_inside (λ i. syncs_of_row (counts_at r i)) (λ i. sum_of p (sent (ticket_at r i))) 0 (length s.order) (λ i low high.
+      let inside : i < length s.order = omega (arith, high) in
+      total_for (length p.objects) (counts_at r i) (subst (AllByRecursion (λ h. h < length p.objects)) (sym (place_listed i inside)) (listed_inside p sound (ticket_at r i)))
+      ∙ sum_inside (syncs_at r i) (sent (ticket_at r i)) 0 (length p.objects) (λ h low high. sym (numbers i inside h))) in
+      listed ∙ (ap (λ m. sum_by (λ i. syncs_of_row (counts_at r i)) (range_with_len 0 m)) many ∙ (each ∙ sym tickets))
 
 -- after every list of actors
 pub plain_syncs_counted : PlainSyncsAreCounted
@@ -258,4 +287,7 @@ unfolding AreQueriesCounted
 plain_syncs_counted p sound actors =
     let s = plays p actors (begin p) in
     let k = run_kept p sound actors in
-    record { sent = sent p sound s k; all = all_sent p sound s k; each = λ i inside. record { each = place_sent p sound s k i inside; more = place_more p sound s k i inside } }
+    record {
+      all = all_sent p sound s k ∙ sym (all_counts p sound s k);
+      each = λ i inside. record { listed = place_listed p sound s k i inside; each = place_sent p sound s k i inside; more = place_more p sound s k i inside };
+    }

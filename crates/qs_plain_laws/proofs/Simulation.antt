@@ -5,6 +5,7 @@ use Rattle.std.proofs.lemmas.List.{map-append}
 use Rattle.std.proofs.lemmas.Simd.{map-map}
 use Rattle.qs_objects.specs.Act.{State}
 use Rattle.qs_objects.specs.Journals.{after, answer}
+use Rattle.qs_objects.specs.Operations.{is_query}
 use Rattle.qs_objects.specs.Parts.{logged, stamp, same}
 use Rattle.qs_objects.specs.declared.held.Entry.{Entry}
 use Rattle.qs_objects.specs.declared.held.Event.{Event}
@@ -22,7 +23,7 @@ use Rattle.qs_meaning.proofs.Histories.{Page, IsPage, IsDone, Begins, Among, Apa
 use Rattle.qs_meaning.proofs.TreeWalks.{put_here, put_there}
 use Rattle.qs_played.specs.Played.{ticket}
 use Rattle.qs_played.specs.JournalRooms.{room_of}
-use Rattle.qs_played.proofs.Orders.{each_among, legal_among}
+use Rattle.qs_played.proofs.Orders.{counts_after, each_among, legal_among}
 use Rattle.qs_played.proofs.FunctionUpdate.{put_at, put_at_here, put_at_there, put_at_field, put_field, put_at_kept, put_kept, put_all, put_both}
 use Rattle.qs_plain_laws.specs.Plain.{Private, Handler, put_item, log_in, enter}
 use Rattle.qs_plain_laws.specs.declared.item.QueueItem.{QueueItem}
@@ -183,6 +184,25 @@ module _ (p : ProgramShape) (sound : IsSound p) where
 
   pub query_within : (s : RunView) (c : ℕ) (r : Request) (next : ℤ → Interaction) → (s.client c).stage ≡ Runs (Query r next) → Kept s → reserves p (current s c) r.object ≡ true
   query_within s c r next is kept = (asks_here s c (Query r next) is kept).1
+
+  -- and its commands are commands, its queries queries
+  pub call_commands : (s : RunView) (c : ℕ) (r : Request) (next : Interaction) → (s.client c).stage ≡ Runs (Call r next) → Kept s → is_query r.op ≡ false
+  call_commands s c r next is kept = (asks_here s c (Call r next) is kept).0
+
+  pub waits_for_query : (s : RunView) (c : ℕ) (r : Request) (next : ℤ → Interaction) (n : ℕ) → (s.client c).stage ≡ Awaits r next → (s.client c).begun ≡ n
+      → Kept s → is_query r.op ≡ true
+  waits_for_query s c r next zero is b kept =
+      absurd (subst (λ n. StandsAt (kept.0).page c (Awaits r next) n) b (subst (λ g. StandsAt (kept.0).page c g (s.client c).begun) is (kept.2.stands c)))
+  waits_for_query s c r next (suc i) is b kept =
+      let w = kept.0 in
+      let t = ticket c i in
+      let rest : (w.page t).rest ≡ Query r next =
+      subst (λ n. StandsAt w.page c (Awaits r next) n) b (subst (λ g. StandsAt w.page c g (s.client c).begun) is (kept.2.stands c)) in
+      let many : counts_after (λ _. 0) w.order c ≡ suc i = kept.1.counts c ∙ (kept.2.booked c ∙ b) in
+      let member = legal_among p (λ _. 0) w.order c i kept.1.legal (omega arith) (omega (arith, many)) in
+      let page = each_among (λ t. IsPage p t (w.page t)) t w.order kept.1.pages member in
+      let asking : AsksOnly (reserves p t) (Query r next) = subst (AsksOnly (reserves p t)) rest (asks_left p sound w t page) in
+      asking.0
 
   pub call_kept : (s : RunView) (c : ℕ) (r : Request) (next : Interaction) → (s.client c).stage ≡ Runs (Call r next) → Kept s → Kept (call s c r next)
   call_kept s c r next is kept =

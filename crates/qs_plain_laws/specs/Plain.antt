@@ -11,6 +11,8 @@ use Rattle.qs_meaning.specs.Serial.{declared, zeros, no_state}
 use Rattle.qs_meaning.specs.Solo.{value_of, event}
 use Rattle.qs_check.specs.Values.{Locals}
 use Rattle.qs_meaning.specs.Interaction.{Interaction, Done, Call, Query, tree_of}
+use Rattle.qs_syncset.specs.SyncRows.{no_syncs, with_sync}
+use Rattle.qs_syncset.specs.declared.sync_counts.SyncCount.{SyncCount}
 use Rattle.qs_played.specs.declared.actor.Actor.{Actor}
 use Rattle.qs_played.specs.Played.{ticket}
 use Rattle.qs_played.specs.JournalRooms.{room_of}
@@ -28,11 +30,12 @@ pub data Stage : Type 0 where
   within : (rest : Interaction) → Stage
   waiting : (next : ℤ → Interaction) → Stage
 
--- its blocks that were begun: the variables at entry, and the traces
+-- its blocks that were begun: the variables at entry, the traces, and the queries that were asked, for each object of the block's list
 pub record Client : Type 0 where
   pub stage : Stage
   pub entries : List Locals
   pub traces : List (List Event)
+  pub counts : List (List SyncCount)
 
 pub record Handler : Type 0 where
   pub queues : List Private
@@ -44,7 +47,7 @@ pub record Plain : Type 0 where
   pub handlers : List Handler
 
 abbrev pub no_client : Client
-no_client = record { stage = out []; entries = []; traces = [] }
+no_client = record { stage = out []; entries = []; traces = []; counts = [] }
 
 abbrev pub no_handler : Handler
 no_handler = record { queues = []; held = record { object = no_state; journal = []; room = 0 } }
@@ -83,14 +86,33 @@ at_each f hs [] = hs
 at_each f hs (h ∷ rest) = at_each f (at_handler f hs h) rest
 
 abbrev pub stands : Client → Stage → Client
-stands it stage = record { stage = stage; entries = it.entries; traces = it.traces }
+stands it stage = record { stage = stage; entries = it.entries; traces = it.traces; counts = it.counts }
 
 -- an event at the end of the k-th trace
 abbrev pub traced : Client → ℕ → Event → Client
-traced it k e = record { stage = it.stage; entries = it.entries; traces = slice_set it.traces k (slice_index_or it.traces k [] ++ e ∷ []) }
+traced it k e = record {
+  stage = it.stage;
+  entries = it.entries;
+  traces = slice_set it.traces k (slice_index_or it.traces k [] ++ e ∷ []);
+  counts = it.counts;
+}
 
-abbrev pub begins : Client → Locals → Interaction → Client
-begins it l rest = record { stage = within rest; entries = it.entries ++ l ∷ []; traces = it.traces ++ [] ∷ [] }
+-- one query more for object h in the k-th block
+abbrev pub counted : Client → ℕ → ℕ → Client
+counted it k h = record {
+  stage = it.stage;
+  entries = it.entries;
+  traces = it.traces;
+  counts = slice_set it.counts k (with_sync h (slice_index_or it.counts k []));
+}
+
+abbrev pub begins : Client → Locals → Interaction → List ℕ → Client
+begins it l rest reserved = record {
+  stage = within rest;
+  entries = it.entries ++ l ∷ [];
+  traces = it.traces ++ [] ∷ [];
+  counts = it.counts ++ no_syncs reserved ∷ [];
+}
 
 -- the client's own block: reserve, log a command, log a query, log the end marks
 module _ (p : ProgramShape) where
@@ -99,7 +121,7 @@ module _ (p : ProgramShape) where
       let t = ticket c (begun it) in
       record {
         order = s.order ++ t ∷ [];
-        clients = slice_set s.clients c (begins it l (tree_of (text_of p t).body l));
+        clients = slice_set s.clients c (begins it l (tree_of (text_of p t).body l) (text_of p t).reserved);
         handlers = at_each (enter t) s.handlers (text_of p t).reserved;
       }
 
@@ -113,7 +135,7 @@ module _ (p : ProgramShape) where
   abbrev pub asks : Plain → ℕ → Client → Request → (ℤ → Interaction) → Plain
   asks s c it r next = record {
     order = s.order;
-    clients = slice_set s.clients c (stands it (waiting next));
+    clients = slice_set s.clients c (stands (counted it (begun it - 1) r.object) (waiting next));
     handlers = at_handler (log_in (current c it) (item.Query r)) s.handlers r.object;
   }
 
@@ -190,7 +212,7 @@ step p s (actor.Handler h) = handler_step s h (handler_at s.handlers h)
 
 -- before its first block, with all variables 0
 abbrev pub fresh_client : ℕ → Client
-fresh_client c = record { stage = out zeros; entries = []; traces = [] }
+fresh_client c = record { stage = out zeros; entries = []; traces = []; counts = [] }
 
 -- it serves nobody, and its object is as declared
 abbrev pub fresh_handler : ProgramShape → ℕ → Handler

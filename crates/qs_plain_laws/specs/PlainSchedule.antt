@@ -4,6 +4,7 @@ use Rattle.qs_objects.specs.declared.held.Event.{Event}
 use Rattle.qs_objects.specs.declared.held.Ticket.{Ticket}
 use Rattle.qs_check.specs.Program.{ProgramShape, blocks_of}
 use Rattle.qs_check.specs.Values.{Locals}
+use Rattle.qs_syncset.specs.declared.sync_counts.SyncCount.{SyncCount}
 use Rattle.qs_played.specs.declared.actor.Actor.{Actor}
 use Rattle.qs_played.specs.declared.fault.PlayFault.{PlayFault}
 use Rattle.qs_played.specs.Played.{Played}
@@ -68,6 +69,9 @@ entry_at s t = slice_index_or (client_at s t.client).entries t.index []
 abbrev pub trace_at : Plain → Ticket → List Event
 trace_at s t = slice_index_or (client_at s t.client).traces t.index []
 
+abbrev pub counts_of : Plain → Ticket → List SyncCount
+counts_of s t = slice_index_or (client_at s t.client).counts t.index []
+
 -- what a run has shown
 abbrev pub played_of : ProgramShape → Plain → Played
 played_of p s = record {
@@ -75,6 +79,7 @@ played_of p s = record {
   ended = map (ended_at s) s.order;
   entries = map (entry_at s) s.order;
   traces = map (trace_at s) s.order;
+  sync_counts = map (counts_of s) s.order;
   journals = map (λ (h : Handler). h.held.journal) s.handlers;
   states = map (λ (h : Handler). h.held.object) s.handlers;
   syncs = sum_by syncs_of s.clients;

@@ -1,5 +1,5 @@
 -- The counts of a block, object by object: what a Sync more changes, and what they make up together.
-use Rattle.std.proofs.Common.{◌≡◌, ◌<◌, ℕ, suc, ◌+◌, ◌==◌, Bool, true, false, if◌then◌else◌, List, [], ◌∷◌, map, refl, sym, ap, ◌∙◌, subst, ⊎_elim, arith}
+use Rattle.std.proofs.Common.{◌≡◌, ◌<◌, ℕ, suc, ◌+◌, ◌==◌, Bool, true, false, if◌then◌else◌, List, [], ◌∷◌, map, refl, sym, ap, ◌∙◌, subst, ⊎_elim, inl, inr, arith}
 use Rattle.std.specs.Prelude.{sum_by}
 use Rattle.std.specs.List.{AllByRecursion, IsDistinct, range_with_len}
 use Rattle.std.proofs.lemmas.List.Sums.{sum_by-cons}
@@ -10,6 +10,7 @@ use Rattle.qs_meaning.proofs.TreeWalks.{put_here, put_there}
 use Rattle.qs_check.specs.Sound.{is_in}
 use Rattle.qs_syncset.specs.SyncRows.{no_syncs, object_of, sync_count, syncs_for, syncs_of, with_sync}
 use Rattle.qs_syncset.specs.declared.sync_counts.SyncCount.{SyncCount}
+use Rattle.qs_played.specs.SyncSums.{AreSent}
 use Rattle.qs_played.proofs.SyncLists.{sum_add, sum_inside, sum_one, sum_zero}
 
 pub objects_stay : (h : ℕ) (xs : List SyncCount) → map object_of (with_sync h xs) ≡ map object_of xs
@@ -50,7 +51,8 @@ not_there h (x ∷ xs) none g =
     let rest = not_there h xs none.1 g in
     omega (arith, first, old, here, rest)
 
-one_more_for : (h : ℕ) (xs : List SyncCount) → is_in (map object_of xs) h ≡ true → IsDistinct ◌==◌ (map object_of xs) → (g : ℕ)
+-- where each object stands once
+pub one_more_for : (h : ℕ) (xs : List SyncCount) → is_in (map object_of xs) h ≡ true → IsDistinct ◌==◌ (map object_of xs) → (g : ℕ)
     → syncs_for (with_sync h xs) g ≡ (if h == g then 1 else 0) + syncs_for xs g
 one_more_for h [] inside distinct g = absurd (cc)
 one_more_for h (x ∷ xs) inside distinct g = ⊎_elim
@@ -111,3 +113,8 @@ total_for m (x ∷ xs) inside =
     (λ i out. rw out refl) inside.0 in
     let rest = total_for m xs inside.1 in
     omega (arith, whole, each, both, none, one, rest)
+
+-- what was sent, by numbers that are the same
+pub sent_of : (ended : Bool) (sent others counts : ℕ → ℕ) → ((h : ℕ) → sent h ≡ others h) → AreSent ended sent counts → AreSent ended others counts
+sent_of ended sent others counts same (inl exact) = inl (λ h. sym (same h) ∙ exact h)
+sent_of ended sent others counts same (inr one) = inr (one.0, one.1, λ h. sym (same h) ∙ one.2 h)

@@ -1,5 +1,5 @@
 -- Schedules: first the picks, one step each, then rounds, each of them one step of every client and of every handler in text order.
-use Rattle.std.specs.Prelude.{ℕ, zero, suc, ◌+◌, Bool, true, ◌&&◌, nat_lt, if◌then◌else◌, List, [], ◌∷◌, ◌++◌, map, length, sum_by}
+use Rattle.std.specs.Prelude.{ℕ, zero, suc, Bool, true, ◌&&◌, nat_lt, if◌then◌else◌, List, [], ◌∷◌, ◌++◌, map, length, sum_by}
 use Rattle.std.specs.List.{range_with_len}
 use Rattle.qs_objects.specs.Operations.{is_query}
 use Rattle.qs_objects.specs.declared.held.Event.{Event}
