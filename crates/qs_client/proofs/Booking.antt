@@ -167,6 +167,7 @@ entered m t = record {
   run = begins_at m.run;
   entries = m.entries ++ m.run.way.locals ∷ [];
   syncs = m.syncs;
+  counts = m.counts;
   handed = m.handed;
 }
 
@@ -194,6 +195,8 @@ module _ (m : MindState) (w : IsKept m) (t : Ticket) (asked : Asks (mind_of m) a
     counts = length-replicate {A = ℕ} (length m.run.way.counts) 0 ∙ w.counts;
     ticket = omega (arith, length_entered m t, is);
     later = λ k past below. w.later k (omega (arith, past, length_entered m t)) below;
+    tallies = w.tallies;
+    few_each = w.few_each;
   }
 
   pub entered_running : IsRunning (code_at m.code t.index).graph m.size t.index limit (begins_at m.run)

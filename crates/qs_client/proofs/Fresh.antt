@@ -8,6 +8,8 @@ use Rattle.qs_objects.specs.declared.Request.{Request}
 use Rattle.qs_check.specs.Values.{Locals}
 use Rattle.qs_meaning.specs.Serial.{zeros}
 use Rattle.qs_graph.specs.Steps.{limit}
+use Rattle.qs_syncset.specs.SyncRows.{AreFew, CountsState, counts_state, fresh_rows, no_syncs}
+use Rattle.qs_syncset.proofs.CountRows.{few_none}
 use Rattle.qs_syncset.specs.Codes.{BlockCode, ClientCode, IsCode, no_code}
 use Rattle.qs_chunk.specs.Batch.{Batch}
 use Rattle.qs_client_run.specs.Beginning.{fresh_run}
@@ -19,7 +21,7 @@ use Rattle.qs_objects.specs.Traces.{TraceState, empty_trace, events_of, trace_st
 use Rattle.qs_client_run.specs.declared.run.Run.{Run}
 use Rattle.qs_client_run.specs.declared.stage.Handed.TheVariants as handeds
 use Rattle.qs_client.specs.Kept.{IsKept}
-use Rattle.qs_client.specs.Mind.{fresh_mind}
+use Rattle.qs_client.specs.Mind.{lists_of, fresh_mind}
 use Rattle.qs_client.specs.MindState.{MindState, mind_of}
 
 none_at : {X : Type 0} (n i : ℕ) (d : X) → get_or (replicate n d) i d ≡ d
@@ -32,26 +34,32 @@ no_events [] = refl
 no_events (b ∷ bs) = ap (λ (es : List (List Event)). [] ∷ es) (no_events bs)
 
 -- the data of a mind before its first block, with this run and these entries
-abbrev pub fresh_with : ClientCode → ℕ → Run → List Locals → MindState
-fresh_with code size run entries = record {
+abbrev pub fresh_with : ClientCode → ℕ → Run → List Locals → CountsState → MindState
+fresh_with code size run entries counts = record {
   code = code;
   size = size;
   ticket = record { client = 0; index = 0 };
   run = run;
   entries = entries;
   syncs = 0;
+  counts = counts;
   handed = handeds.Nothing;
 }
 
-abbrev pub fresh_state : ClientCode → ℕ → MindState
-fresh_state code size = fresh_with code size (fresh_run code.blocks) []
+abbrev pub fresh_state : ClientCode → ℕ → ℕ → MindState
+fresh_state code size room = fresh_with code size (fresh_run code.blocks) [] (counts_state (fresh_rows (lists_of code.blocks)) room)
+
+none_sent : (lists : List (List ℕ)) (k : ℕ) → AreFew 1 (get_or (fresh_rows lists) k [])
+none_sent [] k = tt
+none_sent (hs ∷ lists) zero = few_none 0 hs
+none_sent (hs ∷ lists) (suc k) = none_sent lists k
 
 no_nodes : 0 + 0 ≤ 0 * limit
 unfolding limit
 no_nodes = omega arith
 
-pub fresh_kept : (code : ClientCode) (size : ℕ) → IsCode code → (1 ≤ size) × (size ≤ 32) → IsKept (fresh_state code size)
-fresh_kept code size ok sized = record {
+pub fresh_kept : (code : ClientCode) (size room : ℕ) → IsCode code → (1 ≤ size) × (size ≤ 32) → IsKept (fresh_state code size room)
+fresh_kept code size room ok sized = record {
   code = ok;
   size = sized;
   blocks = omega arith;
@@ -61,6 +69,8 @@ fresh_kept code size ok sized = record {
   first = λ none. (refl, refl);
   left = 0;
   few = no_nodes;
+  tallies = length-map (lists_of code.blocks) no_syncs ∙ length-map code.blocks (λ (b : BlockCode). b.reserved);
+  few_each = none_sent (lists_of code.blocks);
   standing = record { held = refl; chunks = refl; opened = λ h. subst (IsOpen size) (sym (none_at {X = Option (Batch Request)} 8 h None)) tt };
   gone = tt;
   later = λ k past inside.
@@ -68,9 +78,9 @@ fresh_kept code size ok sized = record {
       ∙ ap empty_trace (get_or-map room_for code.blocks k no_code 0 inside);
 }
 
-pub fresh_is : (code : ClientCode) (size : ℕ) → mind_of (fresh_state code size) ≡ fresh_mind code size
+pub fresh_is : (code : ClientCode) (size room : ℕ) → mind_of (fresh_state code size room) ≡ fresh_mind code size
 unfolding mind_of
-fresh_is code size = λ i. record {
+fresh_is code size room = λ i. record {
   code = code;
   size = size;
   ticket = record { client = 0; index = 0 };
@@ -83,5 +93,6 @@ fresh_is code size = λ i. record {
   entries = [];
   traces = no_events code.blocks i;
   syncs = 0;
+  counts = fresh_rows (lists_of code.blocks);
   handed = handeds.Nothing;
 }

@@ -1,14 +1,17 @@
 -- What a mind's call does is what its definition says, and keeps what holds of every mind.
-use Rattle.std.proofs.Common.{◌≡◌, inl, inr, ℕ, zero, suc, ◌+◌, ◌*◌, ◌<◌, ◌≤◌, true, false, ◌==◌, List, [], ◌++◌, length, length-set, get_or, set, refl, sym, ap, ◌∙◌, subst, arith, append-nil, ⊎_elim}
+use Rattle.std.proofs.Common.{◌≡◌, inl, inr, ℕ, zero, suc, ◌+◌, ◌*◌, ◌<◌, ◌≤◌, true, false, ◌==◌, List, [], ◌++◌, length, length-set, get_or, get_or-set_same, get_or-set_other, set, refl, sym, ap, ◌∙◌, subst, arith, append-nil, ⊎_elim}
 use Rattle.std.proofs.Math.ListN.{get_or-map}
 use Rattle.std.proofs.lemmas.Bool.{cases_lt, ne_eqb}
-use Rattle.std.proofs.lemmas.List.{ext_get_or, get_or-set_same, get_or-set_other, length-map, set-get_or}
+use Rattle.std.proofs.lemmas.List.{ext_get_or, length-map, set-get_or}
 use Rattle.qs_objects.specs.Journals.{HeldState}
 use Rattle.qs_objects.specs.declared.held.Event.{Event}
-use Rattle.qs_objects.proofs.Choices.{eqb_self, num_cases}
+use Rattle.qs_objects.proofs.Choices.{apart_eqb, eqb_self, num_cases}
 use Rattle.qs_graph.specs.Steps.{limit}
 use Rattle.qs_graph.specs.Walk.{Spot, walk, Within}
 use Rattle.qs_graph.specs.Nodes as places
+use Rattle.qs_syncset.specs.SyncRows.{AreFew, CountsState, counts_state, with_sync}
+use Rattle.qs_syncset.specs.declared.sync_counts.SyncCount.{SyncCount}
+use Rattle.qs_syncset.proofs.CountRows.{few_in, few_more}
 use Rattle.qs_syncset.specs.Codes.{BlockCode, IsCode, code_at}
 use Rattle.qs_client_run.specs.Acting.{HasActed, Wants, IsQuiet}
 use Rattle.qs_client_run.specs.Client.{Settled, got, took_chunk}
@@ -27,7 +30,7 @@ use Rattle.qs_client_run.specs.declared.act.Act.TheVariants as acts
 use Rattle.qs_client_run.specs.declared.stage.Handed.TheVariants as handeds
 use Rattle.qs_client_run.specs.declared.stage.Stage.TheVariants as stages
 use Rattle.qs_client.specs.Kept.{IsKept}
-use Rattle.qs_client.specs.Mind.{Asks, Mind, asked_of, chunk_mind, comes_to, done, extended, got_mind, hands_out, is_between}
+use Rattle.qs_client.specs.Mind.{Asks, Mind, asked_of, chunk_mind, comes_to, done, extended, got_mind, hands_out, is_between, tallied}
 use Rattle.qs_client.specs.MindState.{MindState, IsMind, block_of, client_in, mind_of, settings_in}
 
 events_at : (rows : List TraceState) (j : ℕ) → get_or (events_of rows) j [] ≡ (trace_at rows j).events
@@ -71,6 +74,7 @@ with_run m run = record {
   run = run;
   entries = m.entries;
   syncs = m.syncs;
+  counts = m.counts;
   handed = handeds.Nothing;
 }
 
@@ -89,6 +93,7 @@ comes_mind m by most new w =
       entries = m.entries;
       traces = rows i;
       syncs = m.syncs;
+      counts = m.counts.rows;
       handed = handeds.Nothing;
     }
 
@@ -101,6 +106,8 @@ pub record IsSteady (m : MindState) : Type 0 where
   pub counts : length m.run.way.counts ≡ longest m.code.blocks
   pub ticket : m.ticket.index + 1 ≡ length m.entries
   pub later : (k : ℕ) → length m.entries ≤ k → k < length m.code.blocks → trace_at m.run.traces k ≡ empty_trace (room_for (code_at m.code k))
+  pub tallies : length m.counts.rows ≡ length m.code.blocks
+  pub few_each : (k : ℕ) → AreFew (suc m.syncs) (get_or m.counts.rows k [])
 
 pub steady : (m : MindState) → 0 < length m.entries → IsKept m → IsSteady m
 steady m some w = record {
@@ -111,6 +118,8 @@ steady m some w = record {
   counts = w.counts;
   ticket = w.ticket some;
   later = w.later;
+  tallies = w.tallies;
+  few_each = w.few_each;
 }
 
 nothing_gone : (g : List places.Place) (s : Run) (stage : Stage) → IsGone g handeds.Nothing s stage
@@ -133,6 +142,8 @@ come_kept m by most new s w few = record {
   first = λ none. absurd (omega (arith, s.ticket, none));
   left = most;
   few = few;
+  tallies = s.tallies;
+  few_each = s.few_each;
   standing = w.standing;
   gone = nothing_gone (block_of m).graph new new.stage;
   later = λ k past inside.
@@ -152,20 +163,50 @@ block_inside m w some = omega (arith, w.ticket some, w.blocks)
 few_counted : (handed : Handed) → count_sync handed ≤ 1
 few_counted handeds.Nothing = omega arith
 few_counted handeds.Value = omega arith
-few_counted handeds.Sync = omega arith
+few_counted (handeds.Sync h) = omega arith
 few_counted handeds.End = omega arith
+
+-- a Sync that is counted
+tallied_length : (handed : Handed) (k : ℕ) (rows : List (List SyncCount)) → length (tallied handed k rows) ≡ length rows
+tallied_length handeds.Nothing k rows = refl
+tallied_length handeds.Value k rows = refl
+tallied_length (handeds.Sync h) k rows = length-set rows k (with_sync h (get_or rows k []))
+tallied_length handeds.End k rows = refl
+
+tallied_few : (handed : Handed) (k n : ℕ) (rows : List (List SyncCount)) → k < length rows → ((j : ℕ) → AreFew (suc n) (get_or rows j []))
+    → (j : ℕ) → AreFew (suc (n + count_sync handed)) (get_or (tallied handed k rows) j [])
+tallied_few handeds.Nothing k n rows inside few j = few_in (suc n) (suc (n + 0)) (get_or rows j []) (omega arith) (few j)
+tallied_few handeds.Value k n rows inside few j = few_in (suc n) (suc (n + 0)) (get_or rows j []) (omega arith) (few j)
+tallied_few handeds.End k n rows inside few j = few_in (suc n) (suc (n + 0)) (get_or rows j []) (omega arith) (few j)
+tallied_few (handeds.Sync h) k n rows inside few j = ⊎_elim
+    (λ (is : k ≡ j). subst (λ j. AreFew (suc (n + 1)) (get_or (set rows k more) j [])) is
+    (subst (AreFew (suc (n + 1))) (sym (get_or-set_same rows k more [] inside))
+    (few_in (suc (suc n)) (suc (n + 1)) more (omega arith) (few_more (suc n) h (get_or rows k []) (few k)))))
+    (λ (other : (k == j) ≡ false).
+    subst (AreFew (suc (n + 1))) (sym (get_or-set_other rows k j more [] (λ e. apart_eqb k j other (sym e))))
+    (few_in (suc n) (suc (n + 1)) (get_or rows j []) (omega arith) (few j)))
+    (num_cases k j)
+  where
+    more : List SyncCount
+    more = with_sync h (get_or rows k [])
+
+-- the counts of a block have room for one Sync more
+pub counts_fit : (m : MindState) → IsKept m → (k : ℕ) → AreFew 4294967295 (get_or m.counts.rows k [])
+unfolding limit
+counts_fit m w k =
+    few_in (suc m.syncs) 4294967295 (get_or m.counts.rows k []) (omega (arith, w.few, w.blocks, few_blocks m.code w.code)) (w.few_each k)
 
 -- the number of Syncs stays small
 pub syncs_fit : (m : MindState) → IsKept m → m.syncs + count_sync m.handed < 18446744073709551616
 unfolding limit
 syncs_fit m w = omega (arith, w.few, w.blocks, few_blocks m.code w.code, few_counted m.handed)
 
-node_left : (b : BlockCode) (size k most : ℕ) (s : Run) (stage : Stage) → IsStanding b size k most s stage → IsGone b.graph handeds.Sync s stage → 1 ≤ most
-node_left b size k most s stages.Between w gone = absurd gone
-node_left b size k most s (stages.Full h) w gone = absurd gone
-node_left b size k most s (stages.Awaits h) w gone = absurd gone
-node_left b size k most s (stages.Leaves i) w gone = absurd gone
-node_left b size k most s stages.Runs w gone = some w.0 w.1 w.2.within
+node_left : (b : BlockCode) (size k most h : ℕ) (s : Run) (stage : Stage) → IsStanding b size k most s stage → IsGone b.graph (handeds.Sync h) s stage → 1 ≤ most
+node_left b size k most h s stages.Between w gone = absurd gone
+node_left b size k most h s (stages.Full o) w gone = absurd gone
+node_left b size k most h s (stages.Awaits o) w gone = absurd gone
+node_left b size k most h s (stages.Leaves i) w gone = absurd gone
+node_left b size k most h s stages.Runs w gone = some w.0 w.1 w.2.within
   where
     some : (n : ℕ) → n ≤ most → Within b.graph n s.way → 1 ≤ most
     some zero few within = absurd within
@@ -179,8 +220,8 @@ few_after m w = by_handed m.handed w.gone
         → m.syncs + count_sync handed + left_after handed w.left ≤ length m.entries * limit
     by_handed handeds.Nothing gone = omega (arith, w.few)
     by_handed handeds.Value gone = omega (arith, w.few)
-    by_handed handeds.Sync gone =
-        omega (arith, w.few, node_left (block_of m) m.size m.ticket.index w.left m.run m.run.stage w.standing gone)
+    by_handed (handeds.Sync h) gone =
+        omega (arith, w.few, node_left (block_of m) m.size m.ticket.index w.left h m.run m.run.stage w.standing gone)
     by_handed handeds.End gone = omega (arith, w.few)
 
 pub kept_mind : (m : MindState) → IsKept m → IsMind (mind_of m)
@@ -191,6 +232,7 @@ kept_mind m w = record {
   entries = refl;
   blocks = w.blocks;
   traces = length_events m.run.traces ∙ w.rows;
+  counts = w.tallies;
   ticket = w.ticket;
   syncs = omega (arith, w.few);
   first = λ none. ap (λ (stage : Stage). is_between (place_by stage (block_of m).reserved (walk (block_of m).graph limit m.run.way) m.run.way.locals)) (w.first none).0;
@@ -205,6 +247,7 @@ hands_over m run handed = record {
   run = run;
   entries = m.entries;
   syncs = m.syncs;
+  counts = m.counts;
   handed = handed;
 }
 
@@ -248,22 +291,27 @@ taken_is m most h new none w =
     ∙ comes_mind m (took_chunk (settings_in m) m.ticket (block_of m).reserved (client_in m) h (client_in m).place) most new w
 
 -- what was sent is done
-abbrev pub with_syncs : MindState → ℕ → MindState
-with_syncs m syncs = record {
+abbrev pub with_syncs : MindState → ℕ → CountsState → MindState
+with_syncs m syncs counts = record {
   code = m.code;
   size = m.size;
   ticket = m.ticket;
   run = m.run;
   entries = m.entries;
   syncs = syncs;
+  counts = counts;
   handed = m.handed;
 }
 
+-- with the Sync counted that was sent, if one was
+abbrev pub tallied_state : MindState → CountsState
+tallied_state m = counts_state (tallied m.handed m.ticket.index m.counts.rows) m.counts.room
+
 pub done_is : (m : MindState) (most : ℕ) (new : Run) → HasSent (block_of m) (settings_in m) m.ticket (length m.entries) most m.handed m.run new
-    → mind_of (with_run (with_syncs m (m.syncs + count_sync m.handed)) new) ≡ done (mind_of m)
+    → mind_of (with_run (with_syncs m (m.syncs + count_sync m.handed) (tallied_state m)) new) ≡ done (mind_of m)
 unfolding mind_of
 done_is m most new w =
-    comes_mind (with_syncs m (m.syncs + count_sync m.handed))
+    comes_mind (with_syncs m (m.syncs + count_sync m.handed) (tallied_state m))
     (after_send (settings_in m) m.ticket (block_of m).reserved m.handed (client_in m)) (left_after m.handed most) new w
 
 -- with nothing to be done a mind stays as it is
@@ -279,18 +327,29 @@ done_none m none =
       entries = m.entries;
       traces = sym (extended_none (events_of m.run.traces) m.ticket.index) i;
       syncs = (let same : m.syncs ≡ m.syncs + 0 = omega arith in same) i;
+      counts = m.counts.rows;
       handed = handeds.Nothing;
     })
     ∙ (λ i. done (mind_of (hands_over m m.run (sym none i))))
 
 pub finish_kept : (m : MindState) (new : Run) (w : IsKept m) → 0 < length m.entries
     → HasSent (block_of m) (settings_in m) m.ticket (length m.entries) w.left m.handed m.run new
-    → IsKept (with_run (with_syncs m (m.syncs + count_sync m.handed)) new)
+    → IsKept (with_run (with_syncs m (m.syncs + count_sync m.handed) (tallied_state m)) new)
 finish_kept m new w some sent =
     let s = steady m some w in
-    come_kept (with_syncs m (m.syncs + count_sync m.handed))
+    come_kept (with_syncs m (m.syncs + count_sync m.handed) (tallied_state m))
     (after_send (settings_in m) m.ticket (block_of m).reserved m.handed (client_in m)) (left_after m.handed w.left) new
-    (record { code = s.code; size = s.size; blocks = s.blocks; rows = s.rows; counts = s.counts; ticket = s.ticket; later = s.later })
+    (record {
+      code = s.code;
+      size = s.size;
+      blocks = s.blocks;
+      rows = s.rows;
+      counts = s.counts;
+      ticket = s.ticket;
+      later = s.later;
+      tallies = tallied_length m.handed m.ticket.index m.counts.rows ∙ s.tallies;
+      few_each = tallied_few m.handed m.ticket.index m.syncs m.counts.rows (omega (arith, s.ticket, s.blocks, s.tallies)) s.few_each;
+    })
     sent (few_after m w)
 
 -- the next act
@@ -311,6 +370,8 @@ acts_kept m w given new a = record {
   );
   left = w.left;
   few = w.few;
+  tallies = w.tallies;
+  few_each = w.few_each;
   standing = a.standing;
   gone = a.gone;
   later = λ k past inside. ap (λ (ts : List TraceState). trace_at ts k) a.traces ∙ w.later k past inside;
@@ -328,6 +389,7 @@ acts_is m most given new a = λ i. record {
   entries = m.entries;
   traces = events_of (a.traces i);
   syncs = m.syncs;
+  counts = m.counts.rows;
   handed = handed_of given;
 }
 

@@ -1,6 +1,7 @@
 -- What holds of a client's mind as it is kept.
-use Rattle.std.specs.Prelude.{◌≡◌, ◌<◌, ◌≤◌, ℕ, ◌+◌, ◌*◌, length}
+use Rattle.std.specs.Prelude.{◌≡◌, ◌<◌, ◌≤◌, ℕ, suc, ◌+◌, ◌*◌, [], length, slice_index_or}
 use Rattle.qs_graph.specs.Steps.{limit}
+use Rattle.qs_syncset.specs.SyncRows.{AreFew}
 use Rattle.qs_syncset.specs.Codes.{IsCode, code_at}
 use Rattle.qs_client_run.specs.BlockSizes.{longest, room_for}
 use Rattle.qs_client_run.specs.Standing.{IsGone, IsStanding}
@@ -21,6 +22,9 @@ pub record IsKept (m : MindState) : Type 0 where
   -- a Sync is followed by a node, so there are no more of them than nodes that were passed
   pub left : ℕ
   pub few : m.syncs + left ≤ length m.entries * limit
+  -- each block has its counts, none of which is more than all Syncs
+  pub tallies : length m.counts.rows ≡ length m.code.blocks
+  pub few_each : (k : ℕ) → AreFew (suc m.syncs) (slice_index_or m.counts.rows k [])
   pub standing : IsStanding (block_of m) m.size m.ticket.index left m.run m.run.stage
   pub gone : IsGone (block_of m).graph m.handed m.run m.run.stage
   pub later : (k : ℕ) → length m.entries ≤ k → k < length m.code.blocks → trace_at m.run.traces k ≡ empty_trace (room_for (code_at m.code k))

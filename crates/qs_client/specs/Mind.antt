@@ -1,5 +1,5 @@
 -- A client's mind: what it has come to, and what each call does to it.
-use Rattle.std.specs.Prelude.{◌≡◌, ℕ, suc, ◌&&◌, ◌||◌, nat_lt, nat_eq, ◌+◌, ◌-◌, Bool, true, false, if◌then◌else◌, List, [], ◌∷◌, ◌++◌, length, replicate, slice_index_or, slice_set}
+use Rattle.std.specs.Prelude.{◌≡◌, ℕ, suc, ◌&&◌, ◌||◌, nat_lt, nat_eq, ◌+◌, ◌-◌, Bool, true, false, if◌then◌else◌, List, [], ◌∷◌, ◌++◌, length, map, replicate, slice_index_or, slice_set}
 use Rattle.qs_objects.specs.Journals.{HeldState}
 use Rattle.qs_objects.specs.declared.held.Event.{Event}
 use Rattle.qs_objects.specs.declared.held.Ticket.{Ticket}
@@ -8,7 +8,9 @@ use Rattle.qs_meaning.specs.Serial.{zeros}
 use Rattle.qs_graph.specs.Steps.{limit}
 use Rattle.qs_graph.specs.Synced.{Synced}
 use Rattle.qs_graph.specs.Walk.{entry, walk}
-use Rattle.qs_syncset.specs.Codes.{ClientCode, code_at}
+use Rattle.qs_syncset.specs.Codes.{BlockCode, ClientCode, code_at}
+use Rattle.qs_syncset.specs.SyncRows.{fresh_rows, with_sync}
+use Rattle.qs_syncset.specs.declared.sync_counts.SyncCount.{SyncCount}
 use Rattle.qs_client_run.specs.Client.{Client, Place, Settings, Settled, act_of, between, runs, full, awaits, leaves, booked, first_client, got, took_chunk}
 use Rattle.qs_client_run.specs.ClientLaws.{with_act}
 use Rattle.qs_client_run.specs.Standing.{after_send, gave, handed_of, count_sync}
@@ -21,8 +23,12 @@ use Rattle.qs_client_run.specs.declared.stage.Handed.TheVariants as handeds
 abbrev pub tree_at : ClientCode → ℕ → Locals → Synced
 tree_at code k l = walk (code_at code k).graph limit (entry l (replicate (longest code.blocks) 0))
 
+-- the lists of objects that the blocks reserve
+abbrev pub lists_of : List BlockCode → List (List ℕ)
+lists_of blocks = map (λ (b : BlockCode). b.reserved) blocks
+
 -- the code and the chunks' size; the ticket of the block that was begun last; the client; for each block that was begun the variables at
--- entry, and for each block the trace so far; the Syncs that were sent; and what is still to be done for the last act once it was done
+-- entry, and for each block the trace so far; the Syncs that were sent, all and for each block and each object of its list; and what is still to be done for the last act once it was done
 pub record Mind : Type 0 where
   pub code : ClientCode
   pub size : ℕ
@@ -31,6 +37,7 @@ pub record Mind : Type 0 where
   pub entries : List Locals
   pub traces : List (List Event)
   pub syncs : ℕ
+  pub counts : List (List SyncCount)
   pub handed : Handed
 
 abbrev pub settings_of : Mind → Settings
@@ -54,8 +61,16 @@ comes_to m s = record {
   entries = m.entries;
   traces = extended m.traces m.ticket.index s.events;
   syncs = m.syncs;
+  counts = m.counts;
   handed = handeds.Nothing;
 }
+
+-- a Sync is counted for the block and the object that it was sent for
+abbrev pub tallied : Handed → ℕ → List (List SyncCount) → List (List SyncCount)
+tallied (handeds.Sync h) k rows = slice_set rows k (with_sync h (slice_index_or rows k []))
+tallied handeds.Nothing k rows = rows
+tallied handeds.Value k rows = rows
+tallied handeds.End k rows = rows
 
 abbrev pub counted : Mind → Mind
 counted m = record {
@@ -66,6 +81,7 @@ counted m = record {
   entries = m.entries;
   traces = m.traces;
   syncs = m.syncs + count_sync m.handed;
+  counts = tallied m.handed m.ticket.index m.counts;
   handed = m.handed;
 }
 
@@ -90,6 +106,7 @@ hands_out m act = record {
   entries = m.entries;
   traces = m.traces;
   syncs = m.syncs;
+  counts = m.counts;
   handed = handed_of act;
 }
 
@@ -106,6 +123,7 @@ whole m act = record {
   entries = m.entries;
   traces = m.traces;
   syncs = m.syncs;
+  counts = m.counts;
   handed = handeds.Nothing;
 }
 
@@ -129,6 +147,7 @@ enters m t l = record {
   entries = m.entries ++ l ∷ [];
   traces = m.traces;
   syncs = m.syncs;
+  counts = m.counts;
   handed = m.handed;
 }
 
@@ -169,6 +188,7 @@ fresh_mind code size = record {
   entries = [];
   traces = replicate (length code.blocks) [];
   syncs = 0;
+  counts = fresh_rows (lists_of code.blocks);
   handed = handeds.Nothing;
 }
 

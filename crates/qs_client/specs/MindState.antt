@@ -4,6 +4,7 @@ use Rattle.qs_objects.specs.declared.held.Event.{Event}
 use Rattle.qs_objects.specs.declared.held.Ticket.{Ticket}
 use Rattle.qs_check.specs.Values.{Locals}
 use Rattle.qs_graph.specs.Steps.{limit}
+use Rattle.qs_syncset.specs.SyncRows.{CountsState}
 use Rattle.qs_syncset.specs.Codes.{BlockCode, ClientCode, IsCode, code_at}
 use Rattle.qs_client_run.specs.Client.{Client, Settings}
 use Rattle.qs_client_run.specs.Minds.{client_of}
@@ -13,7 +14,7 @@ use Rattle.qs_client_run.specs.declared.stage.Handed.{Handed}
 use Rattle.qs_client.specs.Mind.{Mind, is_between}
 
 -- the code and the chunks' size; the ticket of the block that was begun last, and where the client stands in it; the variables at entry of
--- the blocks that were begun; the Syncs that were sent; and what the last act carried
+-- the blocks that were begun; the Syncs that were sent, all and for each block and each object of its list; and what the last act carried
 pub record MindState : Type 0 where
   pub code : ClientCode
   pub size : ℕ
@@ -21,6 +22,7 @@ pub record MindState : Type 0 where
   pub run : Run
   pub entries : List Locals
   pub syncs : ℕ
+  pub counts : CountsState
   pub handed : Handed
 
 -- the code of the block that was begun last
@@ -44,6 +46,7 @@ mind_of m = record {
   entries = m.entries;
   traces = events_of m.run.traces;
   syncs = m.syncs;
+  counts = m.counts.rows;
   handed = m.handed;
 }
 
@@ -54,6 +57,7 @@ pub record IsMind (m : Mind) : Type 0 where
   pub entries : length m.entries ≡ m.client.begun
   pub blocks : m.client.begun ≤ length m.code.blocks
   pub traces : length m.traces ≡ length m.code.blocks
+  pub counts : length m.counts ≡ length m.code.blocks
   pub ticket : 0 < m.client.begun → m.ticket.index + 1 ≡ m.client.begun
   pub syncs : m.syncs ≤ m.client.begun * limit
   -- before its first block it stands between blocks

@@ -1,8 +1,9 @@
 //! A client's mind.
 
-ghost use Rattle.std.specs.Prelude.{◌≡◌, ◌<◌, ℕ, [], IfOk, length, option_copied};
+ghost use Rattle.std.specs.Prelude.{◌≡◌, ◌<◌, ℕ, [], IfOk, length, option_copied, slice_index_or};
 ghost use Rattle.qs_chunk.specs.Batch.{batch};
-ghost use Rattle.qs_client.specs.Mind.{Asks, booked_mind, chunk_mind, done, ended_by, fresh_mind, got_mind, is_between, next_act, next_mind};
+ghost use Rattle.qs_client.specs.Mind.{Asks, lists_of, tallied, booked_mind, chunk_mind, done, ended_by, fresh_mind, got_mind, is_between, next_act, next_mind};
+ghost use Rattle.qs_syncset.specs.SyncRows.{AreFew, all_counts, counts_state, fresh_rows};
 ghost use Rattle.qs_client_run.specs.Acting.{IsQuiet};
 ghost use Rattle.qs_client.specs.MindState.{IsMind, mind_of};
 ghost use Rattle.qs_objects.specs.Rows.{joined};
@@ -12,7 +13,7 @@ use qs_check::Locals;
 use qs_chunk::{Chunk, ChunkSize};
 use qs_client_run::{Act, Handed, Run, Stage};
 use qs_objects::{Event, Held, Request, Ticket, Traces};
-use qs_syncset::Code;
+use qs_syncset::{Code, SyncCounts};
 use std::alloc::{AllocError, Global};
 use std::marker::Model;
 
@@ -25,6 +26,7 @@ pub struct Mind {
     run: Run,
     entries: Vec<Locals>,
     syncs: u64,
+    counts: SyncCounts,
     handed: Handed,
 }
 
@@ -42,6 +44,7 @@ impl Model for Mind {
       run = m.run;
       entries = m.entries.items;
       syncs = m.syncs;
+      counts = m.counts;
       handed = m.handed;
     } };
 
@@ -52,8 +55,37 @@ impl Model for Mind {
       run = m.run;
       entries = m.entries.items;
       syncs = m.syncs;
+      counts = m.counts;
       handed = m.handed;
     }) };
+}
+
+// Of each block of a code no Sync is counted yet.
+fn fresh_counts(alloc: Global, code: &Code) -> Result<SyncCounts, AllocError>
+    ensures fresh { IfOk result (λ counts. counts.rows ≡ fresh_rows (lists_of code.now.blocks)) }
+{
+    code.is_code();
+    let blocks = code.blocks();
+    let mut room = 0;
+    for block in 0..blocks {
+        room += code.reserved(block).len();
+    }
+    let mut counts = SyncCounts::new(alloc, blocks, room)?;
+    for block in 0..blocks {
+        counts.push_list(block, code.reserved(block));
+    }
+    Ok(counts)
+}
+
+// A Sync that was sent is counted.
+fn tally(counts: &mut SyncCounts, handed: Handed, block: usize)
+    requires block { block < length counts.old.rows }
+    requires few { AreFew 4294967295 (slice_index_or counts.old.rows block []) }
+    ensures counted { counts.new ≡ counts_state (tallied handed block counts.old.rows) counts.old.room }
+{
+    if let Handed::Sync(handler) = handed {
+        counts.add(block, handler);
+    }
 }
 
 impl Mind {
@@ -64,6 +96,7 @@ impl Mind {
         code.is_code();
         let _ = size.get();
         let run = Run::new(alloc, &code)?;
+        let counts = fresh_counts(alloc, &code)?;
         let entries = Vec::with_capacity(alloc, code.blocks())?;
         Ok(Mind {
             code,
@@ -75,6 +108,7 @@ impl Mind {
             run,
             entries,
             syncs: 0,
+            counts,
             handed: Handed::Nothing,
         })
     }
@@ -94,6 +128,7 @@ impl Mind {
             return;
         }
         self.syncs += self.handed.syncs();
+        tally(&mut self.counts, self.handed, usize::from(self.ticket.index));
         self.run.sent(&self.code, self.ticket, self.handed);
         self.handed = Handed::Nothing;
     }
@@ -196,6 +231,14 @@ impl Mind {
         self.syncs
     }
 
+    /// How many Syncs were sent, as the act after each comes: a count for each block and each object of its list, in order.
+    #[tactic(auto, unfolding(crate::specs::MindState::mind_of))]
+    pub fn sync_counts(&self) -> &[u32]
+        ensures value { result.now ≡ joined (all_counts (mind_of self.now).counts) }
+    {
+        self.counts.joined()
+    }
+
     /// The traces so far, of all blocks.
     #[tactic(auto, unfolding(crate::specs::MindState::mind_of))]
     pub fn traces(&self) -> &Traces
@@ -229,11 +272,12 @@ impl Mind {
         self.run.hands.held(handler)
     }
 
-    /// The traces of all blocks and the variables at entry of those that were begun.
+    /// The traces of all blocks, the variables at entry of those that were begun, and the counts of Syncs.
     #[tactic(auto, unfolding(crate::specs::MindState::mind_of))]
-    pub fn into_rows(self) -> (Traces, Vec<Locals>)
+    pub fn into_rows(self) -> (Traces, Vec<Locals>, SyncCounts)
         ensures traces { events_of result.0 ≡ (mind_of self).traces }
         ensures entries { result.1.items ≡ (mind_of self).entries }
+        ensures counts { result.2.rows ≡ (mind_of self).counts }
     {
         let Mind {
             code: _,
@@ -242,8 +286,9 @@ impl Mind {
             run,
             entries,
             syncs: _,
+            counts,
             handed: _,
         } = self;
-        (run.into_traces(), entries)
+        (run.into_traces(), entries, counts)
     }
 }

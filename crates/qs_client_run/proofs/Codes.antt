@@ -7,6 +7,7 @@ use Rattle.qs_objects.proofs.Choices.{num_cases}
 use Rattle.qs_check.specs.Program.{ProgramShape, block_at, blocks_of, client_at, no_client}
 use Rattle.qs_check.specs.Sound.{IsSound, IsSoundBlock, IsSoundClient, is_in}
 use Rattle.qs_check.proofs.Bounds.{AllByRecursion-get_or, sound_block}
+use Rattle.qs_syncset.proofs.ShortLists.{few_reserved}
 use Rattle.qs_syncset.specs.Codes.{ClientCode, IsCode, code_at}
 
 -- a client that has blocks is a client of the program
@@ -52,3 +53,12 @@ few_blocks code w = elim (cases_lt 0 (length code.blocks)) [
       omega (arith, client.blocks, w.of.count)
   | inr le ↦ omega (arith, le)
 ]
+
+-- a block reserves at most 8 objects
+pub few_objects : (code : ClientCode) (k : ℕ) → IsCode code → k < length code.blocks → length (code_at code k).reserved ≤ 8
+few_objects code k w inside =
+    let p = w.program in
+    let here : k < blocks_of p w.client = omega (arith, inside, w.of.count) in
+    let few = few_reserved p w.client k w.sound (client_inside p w.client k here) here in
+    let same = ap (λ (hs : List ℕ). length hs) (w.of.blocks k here).reserved in
+    omega (arith, few, same)

@@ -30,13 +30,13 @@ module _ (b : BlockCode) (settings : Settings) (ticket : Ticket) (begun : ℕ) w
   abbrev tr : Run → List Event
   tr s = (trace_at s.traces ticket.index).events
 
-  awaits_by : (n most : ℕ) (s : Run) (m : Move) → suc n ≤ most → Ready b.graph settings terms b.reserved begun (between []) n s m → IsSyncing m
-      → HasSent b settings ticket begun most handeds.Sync s (synced_by m s)
-  awaits_by n most s (Goes t) few w loud = absurd loud
-  awaits_by n most s Ends few w loud = absurd loud
-  awaits_by n most s (Calls r t) few w loud = absurd loud
-  awaits_by n most s (Queries r t) few w loud = absurd loud
-  awaits_by n most s (Syncs h t) few w loud = record {
+  awaits_by : (o n most : ℕ) (s : Run) (m : Move) → suc n ≤ most → Ready b.graph settings terms b.reserved begun (between []) n s m → IsSyncing m
+      → HasSent b settings ticket begun most (handeds.Sync o) s (synced_by m s)
+  awaits_by o n most s (Goes t) few w loud = absurd loud
+  awaits_by o n most s Ends few w loud = absurd loud
+  awaits_by o n most s (Calls r t) few w loud = absurd loud
+  awaits_by o n most s (Queries r t) few w loud = absurd loud
+  awaits_by o n most s (Syncs h t) few w loud = record {
     standing = (
       n,
       omega (arith, few),
@@ -65,11 +65,11 @@ module _ (b : BlockCode) (settings : Settings) (ticket : Ticket) (begun : ℕ) w
         });
   }
 
-  pub awaits_sent : (n most : ℕ) (s : Run) → n ≤ most → IsGraph b.graph → s.stage ≡ stages.Runs → IsRunning b.graph settings.size ticket.index n s
-      → IsSyncing (move b.graph s.way) → HasSent b settings ticket begun most handeds.Sync s (synced_on b.graph s)
-  awaits_sent zero most s few ok stands w loud = absurd w.within
-  awaits_sent (suc n) most s few ok stands w loud =
-      awaits_by n most s (move b.graph s.way) few (ready b.graph settings terms b.reserved begun (between []) n s ok refl stands w) loud
+  pub awaits_sent : (o n most : ℕ) (s : Run) → n ≤ most → IsGraph b.graph → s.stage ≡ stages.Runs → IsRunning b.graph settings.size ticket.index n s
+      → IsSyncing (move b.graph s.way) → HasSent b settings ticket begun most (handeds.Sync o) s (synced_on b.graph s)
+  awaits_sent o zero most s few ok stands w loud = absurd w.within
+  awaits_sent o (suc n) most s few ok stands w loud =
+      awaits_by o n most s (move b.graph s.way) few (ready b.graph settings terms b.reserved begun (between []) n s ok refl stands w) loud
 
   -- a client that stands here
   abbrev at : Spot → HandsState → List TraceState → Stage → Run

@@ -23,14 +23,14 @@ use Rattle.qs_client_run.specs.declared.act.Act.TheVariants as acts
 use Rattle.qs_client_run.specs.declared.stage.Stage.TheVariants as stages
 
 abbrev pub count_sync : Handed → ℕ
-count_sync handeds.Sync = 1
+count_sync (handeds.Sync h) = 1
 count_sync handed = 0
 
 -- what a parcel leaves to be done once it was sent
 abbrev pub handed_of : Act → Handed
 handed_of (acts.Send h (parcels.Home x)) = handeds.Value
 handed_of (acts.Send h (parcels.Work c)) = handeds.Value
-handed_of (acts.Send h parcels.Sync) = handeds.Sync
+handed_of (acts.Send h parcels.Sync) = handeds.Sync h
 handed_of (acts.Send h parcels.End) = handeds.End
 handed_of act = handeds.Nothing
 
@@ -51,7 +51,7 @@ module _ (settings : Settings) (ticket : Ticket) (reserved : List ℕ) where
   abbrev pub after_send : Handed → Client → Settled
   after_send handeds.Nothing m = stays m m.place
   after_send handeds.Value m = resumed m m.place
-  after_send handeds.Sync m = sent_sync settings ticket reserved m m.place
+  after_send (handeds.Sync h) m = sent_sync settings ticket reserved m m.place
   after_send handeds.End m = sent_end settings ticket reserved m m.place
 
 -- after a Sync was sent the object is awaited
@@ -100,8 +100,8 @@ IsSyncing m = ⊥
 -- a full chunk that was handed out is gone, and a Sync was sent at a synchronisation
 abbrev pub IsGone : List GraphPlace → Handed → Run → Stage → Type 0
 IsGone g handeds.Value s (stages.Full h) = chunk_at s.hands h ≡ None
-IsGone g handeds.Sync s stages.Runs = IsSyncing (move g s.way)
-IsGone g handeds.Sync s stage = ⊥
+IsGone g (handeds.Sync h) s stages.Runs = IsSyncing (move g s.way)
+IsGone g (handeds.Sync h) s stage = ⊥
 IsGone g handed s stage = Unit {0}
 
 -- a client that has come to its next act, within at most `most` nodes of its block's end, by all that this says
@@ -113,7 +113,7 @@ pub record HasCome (b : BlockCode) (settings : Settings) (ticket : Ticket) (begu
 
 -- a Sync that was sent took one of so many nodes
 abbrev pub left_after : Handed → ℕ → ℕ
-left_after handeds.Sync most = most - 1
+left_after (handeds.Sync h) most = most - 1
 left_after handed most = most
 
 -- the client once what it handed out was sent, up to its next act

@@ -24,13 +24,13 @@ impl Act {
     pub fn leaves(&self) -> Handed
         ensures value { result ≡ handed_of self.now }
     {
-        let Act::Send(_, parcel) = self else {
+        let Act::Send(handler, parcel) = self else {
             return Handed::Nothing;
         };
         match parcel {
             Parcel::Home(_) => Handed::Value,
             Parcel::Work(_) => Handed::Value,
-            Parcel::Sync => Handed::Sync,
+            Parcel::Sync => Handed::Sync(*handler),
             Parcel::End => Handed::End,
         }
     }

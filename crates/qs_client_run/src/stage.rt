@@ -14,12 +14,12 @@ pub enum Stage {
     Leaves(usize),
 }
 
-/// What the last act carried: nothing that is sent, an object or a chunk, a wish for the object, or the end of the block.
+/// What the last act carried: nothing that is sent, an object or a chunk, a wish for this handler's object, or the end of the block.
 #[derive(Clone, Copy)]
 pub enum Handed {
     Nothing,
     Value,
-    Sync,
+    Sync(u8),
     End,
 }
 
@@ -29,7 +29,7 @@ impl Handed {
         ensures value { result ≡ count_sync self }
     {
         match self {
-            Handed::Sync => 1,
+            Handed::Sync(_) => 1,
             Handed::Nothing | Handed::Value | Handed::End => 0,
         }
     }

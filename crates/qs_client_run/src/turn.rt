@@ -79,7 +79,7 @@ impl Run {
                 Stage::Leaves(_) => {}
                 Stage::Between => {}
             },
-            Handed::Sync => {
+            Handed::Sync(_) => {
                 if let Stage::Runs = self.stage {
                     self.await_object(graph);
                 }

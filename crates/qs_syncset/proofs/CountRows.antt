@@ -1,6 +1,8 @@
 -- Objects with their counts, row by row: what each row is, and what an object or a Sync more changes.
-use Rattle.std.proofs.Common.{◌≡◌, ◌<◌, ℕ, zero, suc, List, [], ◌∷◌, ◌++◌, length, get_or, set, map, take, drop, replicate, refl, sym, ap, ◌∙◌, arith}
-use Rattle.qs_syncset.specs.SyncRows.{HaveCounts, all_counts, count_of, object_of, paired, sync_count, with_counts}
+use Rattle.std.proofs.Common.{◌≡◌, ◌<◌, ◌≤◌, ℕ, zero, suc, ◌+◌, ◌==◌, Bool, true, false, if◌then◌else◌, List, [], ◌∷◌, ◌++◌, length, get_or, set, map, take, drop, replicate, refl, sym, ap, ◌∙◌, subst, arith, append_assoc, drop-cons, get_or-set_same, set-set}
+use Rattle.std.proofs.lemmas.List.{drop_all, take_more}
+use Rattle.qs_syncset.specs.declared.sync_counts.SyncCount.{SyncCount}
+use Rattle.qs_syncset.specs.SyncRows.{AreFew, HaveCounts, all_counts, begun_rows, count_of, fresh_rows, no_syncs, object_of, objects_in, paired, sync_count, with_counts, with_sync}
 
 pub length_paired : (os cs : List ℕ) → length cs ≡ length os → length (paired os cs) ≡ length os
 length_paired [] cs same = refl
@@ -126,9 +128,9 @@ have_set (os ∷ oss) (cs ∷ css) zero i n have = (length_same cs i n ∙ have.
     length_same (x ∷ xs) (suc i) n = ap suc (length_same xs i n)
 have_set (os ∷ oss) (cs ∷ css) (suc k) i n have = (have.0, have_set oss css k i n have.1)
 
-pub fresh_rows : (blocks : ℕ) → HaveCounts (replicate blocks []) (replicate blocks [])
-fresh_rows zero = tt
-fresh_rows (suc blocks) = (refl, fresh_rows blocks)
+pub have_fresh : (blocks : ℕ) → HaveCounts (replicate blocks []) (replicate blocks [])
+have_fresh zero = tt
+have_fresh (suc blocks) = (refl, have_fresh blocks)
 
 pub fresh_counts : (blocks : ℕ) → with_counts (replicate blocks []) (replicate blocks []) ≡ replicate blocks []
 fresh_counts zero = refl
@@ -160,3 +162,80 @@ module _ {X : Type 0} (f : X → X) where
   pub front_all : (xs : List X) → changed_front (length xs) xs ≡ map f xs
   front_all [] = refl
   front_all (x ∷ xs) = ap (λ rest. f x ∷ rest) (front_all xs)
+
+-- the counts of blocks whose lists come one after another
+pub length_begun : (n : ℕ) (lists : List (List ℕ)) → length (begun_rows n lists) ≡ length lists
+length_begun n [] = refl
+length_begun zero (hs ∷ lists) = ap suc (length_begun zero lists)
+length_begun (suc n) (hs ∷ lists) = ap suc (length_begun n lists)
+
+pub begun_none : (lists : List (List ℕ)) → begun_rows 0 lists ≡ replicate (length lists) []
+begun_none [] = refl
+begun_none (hs ∷ lists) = ap (λ rest. [] ∷ rest) (begun_none lists)
+
+pub begun_all : (lists : List (List ℕ)) → begun_rows (length lists) lists ≡ fresh_rows lists
+begun_all [] = refl
+begun_all (hs ∷ lists) = ap (λ rest. no_syncs hs ∷ rest) (begun_all lists)
+
+none_begun : (lists : List (List ℕ)) (j : ℕ) → get_or (begun_rows 0 lists) j [] ≡ []
+none_begun [] j = refl
+none_begun (hs ∷ lists) zero = refl
+none_begun (hs ∷ lists) (suc j) = none_begun lists j
+
+-- a block to come has no objects yet
+pub begun_beyond : (n : ℕ) (lists : List (List ℕ)) (j : ℕ) → n ≤ j → get_or (begun_rows n lists) j [] ≡ []
+begun_beyond n [] j beyond = refl
+begun_beyond zero (hs ∷ lists) zero beyond = refl
+begun_beyond zero (hs ∷ lists) (suc j) beyond = none_begun lists j
+begun_beyond (suc n) (hs ∷ lists) zero beyond = absurd (omega (arith, beyond))
+begun_beyond (suc n) (hs ∷ lists) (suc j) beyond = begun_beyond n lists j (omega (arith, beyond))
+
+-- one block more
+pub begun_next : (n : ℕ) (lists : List (List ℕ)) → n < length lists
+    → set (begun_rows n lists) n (get_or (begun_rows n lists) n [] ++ no_syncs (get_or lists n [])) ≡ begun_rows (suc n) lists
+begun_next n [] inside = absurd (omega (arith, inside))
+begun_next zero (hs ∷ lists) inside = refl
+begun_next (suc n) (hs ∷ lists) inside = ap (λ rest. no_syncs hs ∷ rest) (begun_next n lists (omega (arith, inside)))
+
+-- each count is smaller than a larger number, and a Sync more makes it larger by 1 at most
+pub few_in : (m n : ℕ) (xs : List SyncCount) → m ≤ n → AreFew m xs → AreFew n xs
+few_in m n [] less few = tt
+few_in m n (x ∷ xs) less few = (omega (arith, less, few.0), few_in m n xs less few.1)
+
+pub few_more : (n h : ℕ) (xs : List SyncCount) → AreFew n xs → AreFew (suc n) (with_sync h xs)
+few_more n h [] few = tt
+few_more n h (x ∷ xs) few = (by_case (x.object == h), few_more n h xs few.1)
+  where
+    by_case : (b : Bool) → (if b then suc x.count else x.count) < suc n
+    by_case true = let one = few.0 in omega (arith, one)
+    by_case false = let one = few.0 in omega (arith, one)
+
+pub few_none : (n : ℕ) (hs : List ℕ) → AreFew (suc n) (no_syncs hs)
+few_none n [] = tt
+few_none n (h ∷ hs) = (omega arith, few_none n hs)
+
+no_syncs_push : (hs : List ℕ) (h : ℕ) → no_syncs (hs ++ h ∷ []) ≡ no_syncs hs ++ sync_count h 0 ∷ []
+no_syncs_push [] h = refl
+no_syncs_push (g ∷ hs) h = ap (λ rest. sync_count g 0 ∷ rest) (no_syncs_push hs h)
+
+-- a list comes to a block, object after object
+pub list_push : (rows : List (List SyncCount)) (k n : ℕ) (hs : List ℕ) (now : List (List SyncCount)) → k < length rows → n < length hs
+    → now ≡ set rows k (get_or rows k [] ++ no_syncs (take n hs))
+    → set now k (get_or now k [] ++ sync_count (get_or hs n 0) 0 ∷ []) ≡ set rows k (get_or rows k [] ++ no_syncs (take (n + 1) hs))
+list_push rows k n hs now inside less is =
+    let row : List SyncCount = get_or rows k [] ++ no_syncs (take n hs) in
+    let next = sync_count (get_or hs n 0) 0 ∷ [] in
+    (λ i. set (is i) k (get_or (is i) k [] ++ next))
+    ∙ (set-set rows k row (get_or (set rows k row) k [] ++ next)
+    ∙ (ap (λ xs. set rows k (xs ++ next)) (get_or-set_same rows k row [] inside)
+    ∙ (ap (set rows k) (append_assoc (get_or rows k []) (no_syncs (take n hs)) next)
+    ∙ ap (λ xs. set rows k (get_or rows k [] ++ xs)) (sym (no_syncs_push (take n hs) (get_or hs n 0)) ∙ ap no_syncs (sym (take_more hs n 0 less))))))
+
+-- the objects of the lists from one on
+pub objects_next : (lists : List (List ℕ)) (n : ℕ) → n < length lists → objects_in (drop n lists) ≡ length (get_or lists n []) + objects_in (drop (n + 1) lists)
+objects_next lists n inside =
+    let on : n + 1 ≡ suc n = omega arith in
+    ap objects_in (drop-cons lists n [] inside) ∙ sym (ap (λ m. length (get_or lists n []) + objects_in (drop m lists)) on)
+
+pub objects_end : (lists : List (List ℕ)) (n : ℕ) → length lists ≤ n → objects_in (drop n lists) ≡ 0
+objects_end lists n end = ap objects_in (drop_all n lists end)

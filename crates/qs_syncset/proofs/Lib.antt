@@ -13,3 +13,4 @@ pub mod WorkedGraphs
 pub mod WorkedSyncs
 pub mod CountRows
 pub mod QueryRuns
+pub mod ShortLists

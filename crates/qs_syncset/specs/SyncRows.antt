@@ -1,5 +1,5 @@
 -- How many Syncs the blocks of a client have sent, for each object of their lists.
-use Rattle.std.specs.Prelude.{◌≡◌, ◌<◌, ℕ, suc, ◌==◌, if◌then◌else◌, List, [], ◌∷◌, map, length, sum_by}
+use Rattle.std.specs.Prelude.{◌≡◌, ◌<◌, ℕ, zero, suc, ◌+◌, ◌==◌, if◌then◌else◌, List, [], ◌∷◌, map, length, sum_by}
 use Rattle.std.specs.List.{AllByRecursion}
 use Rattle.qs_objects.specs.Rows.{RowsState}
 use Rattle.qs_syncset.specs.declared.sync_counts.SyncCount.{SyncCount}
@@ -70,3 +70,18 @@ HaveCounts (os ∷ oss) (cs ∷ css) = (length cs ≡ length os) × HaveCounts o
 pub record AreAlike (objects counts : RowsState ℕ) : Type 0 where
   pub each : HaveCounts objects.rows counts.rows
   pub room : counts.room ≡ objects.room
+
+-- the counts of the first n blocks with these lists, where later blocks have no objects yet
+abbrev pub begun_rows : ℕ → List (List ℕ) → List (List SyncCount)
+begun_rows n [] = []
+begun_rows zero (hs ∷ lists) = [] ∷ begun_rows zero lists
+begun_rows (suc n) (hs ∷ lists) = no_syncs hs ∷ begun_rows n lists
+
+-- none yet, in all blocks with these lists
+abbrev pub fresh_rows : List (List ℕ) → List (List SyncCount)
+fresh_rows lists = map no_syncs lists
+
+-- how many objects these lists have together
+abbrev pub objects_in : List (List ℕ) → ℕ
+objects_in [] = 0
+objects_in (hs ∷ lists) = length hs + objects_in lists

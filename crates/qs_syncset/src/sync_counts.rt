@@ -1,8 +1,8 @@
 //! How many Syncs a client has sent, for each block and each object of its list.
 
-ghost use Rattle.std.specs.Prelude.{◌≡◌, ◌<◌, ◌-◌, ◌==◌, suc, if◌then◌else◌, [], ◌∷◌, ◌++◌, IfOk, length, map, replicate, slice_index_or, slice_set};
+ghost use Rattle.std.specs.Prelude.{◌≡◌, ◌<◌, ◌≤◌, ◌-◌, ◌==◌, suc, if◌then◌else◌, [], ◌∷◌, ◌++◌, IfOk, length, map, replicate, slice_index_or, slice_set};
 ghost use Rattle.qs_objects.specs.Rows.{IsLast, joined};
-ghost use Rattle.qs_syncset.specs.SyncRows.{AreFew, all_counts, count_of, counts_state, object_of, one_more, sync_count, with_sync};
+ghost use Rattle.qs_syncset.specs.SyncRows.{AreFew, all_counts, count_of, counts_state, no_syncs, object_of, one_more, sync_count, with_sync};
 
 use qs_objects::Rows;
 use std::alloc::{AllocError, Global};
@@ -66,6 +66,18 @@ impl SyncCounts {
     {
         self.objects.push(block, object);
         self.counts.push(block, 0);
+    }
+
+    /// Adds the objects of a list at the end of a block's, each without a Sync; later blocks have none yet.
+    pub fn push_list(&mut self, block: usize, list: &[u8])
+        requires block { block < length self.old.rows }
+        requires last { IsLast self.old.rows block }
+        requires room { length list.now ≤ self.old.room }
+        ensures pushed { self.new ≡ counts_state (slice_set self.old.rows block (slice_index_or self.old.rows block [] ++ no_syncs list.now)) (self.old.room - length list.now) }
+    {
+        for object in list {
+            self.push(block, *object);
+        }
     }
 
     /// How many blocks there are.

@@ -46,6 +46,7 @@ invariant_of-self c =
         run = c.begin.new.self;
         entries = es;
         syncs = m.syncs;
+        counts = m.counts;
         handed = m.handed;
       })) (sym entries) (entered_kept m w t asked is c.begin.new.self (entered_comes m w t asked is c.begin.new.self settled)),
     )
@@ -68,6 +69,7 @@ returns c =
         run = c.begin.new.self;
         entries = es;
         syncs = m.syncs;
+        counts = m.counts;
         handed = m.handed;
       })) entries
           ∙ booked_is m w t asked is c.begin.new.self (entered_comes m w t asked is c.begin.new.self settled)

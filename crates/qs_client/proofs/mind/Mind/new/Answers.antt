@@ -1,4 +1,5 @@
 use Rattle.std.proofs.Common.{◌≡◌, ◌≤◌, sym, ◌∙◌, subst, arith}
+use Rattle.qs_syncset.specs.SyncRows.{counts_state}
 use Rattle.qs_client_run.specs.Beginning.{fresh_run}
 use Rattle.qs_client.specs.Kept.{IsKept}
 use Rattle.qs_client.specs.MindState.{mind_of}
@@ -11,8 +12,8 @@ invariant_of-result c =
     let sized : (1 ≤ c.args.size) × (c.args.size ≤ 32) = subst (λ n. (1 ≤ n) × (n ≤ 32)) c.get.ensures.size c.get.ensures.within in
     let none = c.in_ok-entries.ensures.items in (
       omega (arith, c.in_ok-entries.ensures.capacity, c.blocks-2.ensures.value),
-      subst IsKept (λ i. fresh_with c.args.code c.args.size (sym run i) (sym none i))
-          (fresh_kept c.args.code c.args.size c.is_code.ensures.code sized),
+      subst IsKept (λ i. fresh_with c.args.code c.args.size (sym run i) (sym none i) (counts_state (sym c.in_ok-counts.ensures.fresh i) c.in_ok-counts.counts.room))
+          (fresh_kept c.args.code c.args.size c.in_ok-counts.counts.room c.is_code.ensures.code sized),
     )
 
 pub returns : goal.returns
@@ -20,5 +21,6 @@ returns c =
     let run : c.in_ok-run.run' ≡ fresh_run c.args.code.blocks = c.in_ok-run.ensures.fresh in
     let none = c.in_ok-entries.ensures.items in
     record {
-      fresh = (λ i. mind_of (fresh_with c.args.code c.args.size (run i) (none i))) ∙ fresh_is c.args.code c.args.size;
+      fresh = (λ i. mind_of (fresh_with c.args.code c.args.size (run i) (none i) (counts_state (c.in_ok-counts.ensures.fresh i) c.in_ok-counts.counts.room)))
+          ∙ fresh_is c.args.code c.args.size c.in_ok-counts.counts.room;
     }

@@ -46,12 +46,12 @@ returns-in-Runs-stage c =
     record {
       sent = λ settings begun most dynamic standing.
           let w = subst (IsStanding b settings.size c.args.ticket.index most s) c.in-Runs-stage.is standing in
-          let gone = subst (IsGone b.graph handeds.Sync s) c.in-Runs-stage.is (subst (λ x. IsGone b.graph x s s.stage) c.in-Sync.is c.requires.gone) in
+          let gone = subst (IsGone b.graph (handeds.Sync c.in-Sync.field-0) s) c.in-Runs-stage.is (subst (λ x. IsGone b.graph x s s.stage) c.in-Sync.is c.requires.gone) in
           let new : c.await_object.new.self ≡ synced_on b.graph s = c.await_object.ensures.new ∙ ap (λ (g : List places.Place). synced_on g s) graph in
           subst (λ x. HasSent b settings c.args.ticket begun most x s c.await_object.new.self) (sym c.in-Sync.is)
           (
-          subst (λ t. HasSent b settings c.args.ticket begun most handeds.Sync s t) (sym new)
-          (awaits_sent b settings c.args.ticket begun w.0 most s w.1 (subst IsGraph graph c.is_graph.ensures.graph) c.in-Runs-stage.is w.2 gone)
+          subst (λ t. HasSent b settings c.args.ticket begun most (handeds.Sync c.in-Sync.field-0) s t) (sym new)
+          (awaits_sent b settings c.args.ticket begun c.in-Sync.field-0 w.0 most s w.1 (subst IsGraph graph c.is_graph.ensures.graph) c.in-Runs-stage.is w.2 gone)
           );
     }
 

@@ -1,14 +1,14 @@
 use Rattle.std.proofs.Common.{ℕ, [], replicate, refl, sym, ap, ◌∙◌, subst}
 use Rattle.qs_objects.specs.Rows.{RowsState, rows_state}
 use Rattle.qs_syncset.specs.SyncRows.{AreAlike, counts_state, with_counts}
-use Rattle.qs_syncset.proofs.CountRows.{fresh_counts, fresh_rows}
+use Rattle.qs_syncset.proofs.CountRows.{fresh_counts, have_fresh}
 use Rattle.qs_syncset.proofs.sync_counts.SyncCounts.new.Goals as goal
 
 pub invariant_of-result : goal.invariant_of-result
 invariant_of-result c =
     subst (λ s. AreAlike s c.in_ok-counts.counts) (sym c.in_ok-objects.ensures.fresh)
     (subst (AreAlike (rows_state (replicate c.args.blocks []) c.args.room)) (sym c.in_ok-counts.ensures.fresh)
-    (record { each = fresh_rows c.args.blocks; room = refl }))
+    (record { each = have_fresh c.args.blocks; room = refl }))
 
 pub returns : goal.returns
 returns c = record {
