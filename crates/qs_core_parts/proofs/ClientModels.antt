@@ -10,7 +10,8 @@ use Rattle.qs_syncset.specs.Codes.{ClientCode}
 use Rattle.qs_chunk.specs.Batch.{Batch}
 use Rattle.qs_chunk.specs.declared.parcel.Parcel.{Parcel}
 use Rattle.qs_client_run.specs.Client.{Settled}
-use Rattle.qs_client.specs.Mind.{Asks, Mind, asked_of, chunk_mind, comes_to, counted, done, extended, got_mind, hands_out, next_act, next_mind, settings_of, whole, booked_mind, enters, fresh_mind, locals_at}
+use Rattle.qs_syncset.specs.SyncRows.{fresh_rows}
+use Rattle.qs_client.specs.Mind.{Asks, Mind, lists_of, asked_of, chunk_mind, comes_to, counted, done, extended, got_mind, hands_out, next_act, next_mind, settings_of, whole, booked_mind, enters, fresh_mind, locals_at}
 use Rattle.qs_client.specs.MindState.{MindState, mind_of}
 use Rattle.qs_client_run.specs.declared.act.Act.{Act}
 use Rattle.qs_client_run.proofs.Parting.{acts_lose_nothing}
@@ -32,6 +33,7 @@ come_stays m r = λ k. record {
   entries = m.entries;
   traces = extended_by_none (extended m.traces m.ticket.index r.events) m.ticket.index k;
   syncs = add-zero m.syncs k;
+  counts = m.counts;
   handed = (comes_to m r).handed;
 }
 
@@ -45,6 +47,7 @@ whole_again m r = λ k. record {
   entries = m.entries;
   traces = (comes_to m r).traces;
   syncs = m.syncs;
+  counts = m.counts;
   handed = (comes_to m r).handed;
 }
 
@@ -236,6 +239,7 @@ module _ (code : ClientCode) (size : ℕ) where
     entries = [];
     traces = extended_by_none first.traces 0 k;
     syncs = 0;
+    counts = fresh_rows (lists_of code.blocks);
     handed = first.handed;
   }
 
@@ -248,6 +252,7 @@ module _ (code : ClientCode) (size : ℕ) where
     entries = [];
     traces = first.traces;
     syncs = 0;
+    counts = fresh_rows (lists_of code.blocks);
     handed = first.handed;
   }
 

@@ -47,6 +47,7 @@ whole_mind s kept ok =
       blocks = subst (λ n. n ≤ length (whole_of s).code.blocks) begun given.blocks;
       traces = given.traces;
       ticket = λ less. given.ticket (subst (λ n. 0 < n) (sym begun) less) ∙ begun;
+      counts = given.counts;
       syncs = subst (λ n. (whole_of s).syncs ≤ n * limit) begun given.syncs;
       first = λ none. ap is_between (sym (gave_place (whole_of s).client s.act)) ∙ given.first (begun ∙ none);
     }

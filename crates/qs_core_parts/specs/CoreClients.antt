@@ -8,6 +8,7 @@ use Rattle.qs_client.specs.Mind.{Mind, asked_of, chunk_mind, done, got_mind, han
 use Rattle.qs_client.specs.MindState.{MindState, mind_of}
 use Rattle.qs_client_run.specs.declared.act.Act.{Act}
 use Rattle.qs_client_run.specs.declared.act.Act.TheVariants as acts
+use Rattle.qs_played.specs.Played.{ClientRows}
 use Rattle.qs_core_parts.specs.CoreHandlers.{CoreHandlerState, LaneSteps as HandlerSteps}
 use Rattle.qs_core_parts.specs.LaneStates.{IsStocked, LaneState, lane_at, with_down, with_spare, with_up}
 
@@ -20,6 +21,10 @@ pub record CoreClientState : Type 0 where
 -- the mind with what the act carries
 unfoldable pub whole_of : CoreClientState → Mind
 whole_of s = whole (mind_of s.mind) s.act
+
+-- what the blocks of a mind have shown
+abbrev pub rows_of : Mind → ClientRows
+rows_of m = record { traces = m.traces; entries = m.entries; counts = m.counts }
 
 -- the act is the next one of the client, and the mind is without what it carries
 pub record IsCoreClient (s : CoreClientState) : Type 0 where

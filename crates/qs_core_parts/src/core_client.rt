@@ -7,18 +7,17 @@ ghost use Rattle.qs_client.specs.MindState.{IsMind, mind_of};
 ghost use Rattle.qs_chunk.specs.declared.parcel.Parcel.{Parcel as ParcelShape};
 ghost use Rattle.qs_client_run.specs.declared.act.Act.TheVariants as acts;
 ghost use Rattle.qs_core_parts.specs.CoreHandlers.{MayCome, handler_of, lane_step as handler_lane_step};
-ghost use Rattle.qs_core_parts.specs.CoreClients.{Meets, AreStocked, HasLane, IsCoreClient, LaneStays, LaneSteps, is_reserve, turns_to, whole_of};
+ghost use Rattle.qs_core_parts.specs.CoreClients.{Meets, AreStocked, HasLane, IsCoreClient, LaneStays, LaneSteps, is_reserve, rows_of, turns_to, whole_of};
 ghost use Rattle.qs_chunk.specs.LaneParts.{away_at, home_of};
 ghost use Rattle.qs_client.specs.Mind.{has_ended};
 ghost use Rattle.qs_core_parts.specs.LaneStates.{fresh_lane, lane_at};
 
 use crate::core_handler::CoreHandler;
 use crate::lane::Lane;
-use qs_check::Locals;
 use qs_chunk::{ChunkSize, Parcel};
 use qs_client::{Act, Mind};
-use qs_objects::{Event, Held, Ticket};
-use qs_played::Row;
+use qs_objects::{Held, Ticket};
+use qs_played::ClientRows;
 use qs_syncset::Code;
 use std::alloc::{AllocError, Global};
 use std::marker::Model;
@@ -218,24 +217,17 @@ impl CoreClient {
         next < self.mind.begun() || (next == self.mind.begun() && self.mind.is_between())
     }
 
-    /// The variables at entry of the block of this number.
-    pub fn entry(&self, index: u8) -> Locals
-        requires { index < length (whole_of self.now).entries }
-        ensures value { result ≡ slice_index_or (whole_of self.now).entries index [] }
+    /// What its blocks have shown, by move.
+    pub fn into_rows(self) -> ClientRows
+        ensures value { result ≡ rows_of (whole_of self) }
     {
-        self.mind.entries()[usize::from(index)]
-    }
-
-    /// The trace of the block of this number.
-    pub fn trace(&self, alloc: Global, index: u8) -> Result<Row<Event>, AllocError>
-        requires { index < length (whole_of self.now).traces }
-        ensures value { IfOk result (λ events. events ≡ slice_index_or (whole_of self.now).traces index []) }
-    {
-        let mut events = Vec::new(alloc);
-        for event in self.mind.traces().of(usize::from(index)) {
-            events.push(event.copied())?;
-        }
-        Ok(Row::from_vec(events))
+        let CoreClient {
+            mind,
+            act: _,
+            lanes: _,
+        } = self;
+        let (traces, entries, counts) = mind.into_rows();
+        ClientRows::new(traces, entries, counts)
     }
 
     /// How many Syncs it sent.
