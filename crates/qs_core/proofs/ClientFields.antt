@@ -8,6 +8,8 @@ use Rattle.qs_objects.specs.declared.Request.{Request}
 use Rattle.qs_meaning.specs.Solo.{put}
 use Rattle.qs_check.specs.Values.{Locals}
 use Rattle.qs_syncset.specs.Codes.{ClientCode, code_at}
+use Rattle.qs_syncset.specs.SyncRows.{with_sync}
+use Rattle.qs_syncset.specs.declared.sync_counts.SyncCount.{SyncCount}
 use Rattle.qs_chunk.specs.Batch.{Batch}
 use Rattle.qs_chunk.specs.declared.parcel.Parcel.{Parcel}
 use Rattle.qs_chunk.specs.declared.parcel.Parcel.TheVariants as parcels
@@ -25,7 +27,7 @@ use Rattle.qs_core_parts.specs.CoreClients.{lane_step, turns_to}
 use Rattle.qs_core_parts.specs.LaneStates.{LaneState, lane_at, with_down}
 use Rattle.qs_core_parts.specs.LaneStates as lanes
 use Rattle.qs_core.specs.CoreState.{Side, core_from}
-use Rattle.qs_core.proofs.CoreFields.{each, field_put, in_lanes, lanes_put, lanes_kept, tickets_kept, tickets_put}
+use Rattle.qs_core.proofs.CoreFields.{by_ticket, each, field_put, in_lanes, lanes_put, lanes_kept, tickets_kept, tickets_put}
 
 -- what a client has of each block
 abbrev pub entries_in : Side → ℕ → Locals
@@ -33,6 +35,9 @@ entries_in s k = get_or s.mind.entries k []
 
 abbrev pub traces_in : Side → ℕ → List Event
 traces_in s k = get_or s.mind.traces k []
+
+abbrev pub counts_in : Side → ℕ → List SyncCount
+counts_in s k = get_or s.mind.counts k []
 
 abbrev pub with_events : List (List Event) → ℕ → List Event → ℕ → List Event
 with_events ts k es n = get_or (extended ts k es) n []
@@ -51,7 +56,7 @@ module _ (order : List Ticket) (sides : ℕ → Side) (handler : ℕ → Handler
   abbrev pub now : Ticket
   now = current code own.size c own.client
 
-  module _ (ticket_is : own.ticket ≡ now) (traced : now.index < length own.traces) (h : ℕ) (inside : h < length (sides c).lanes) where
+  module _ (ticket_is : own.ticket ≡ now) (traced : now.index < length own.traces) (tallied_there : now.index < length own.counts) (h : ℕ) (inside : h < length (sides c).lanes) where
     abbrev pub lane : LaneState
     lane = lane_at (sides c).lanes h
 
@@ -63,11 +68,12 @@ module _ (order : List Ticket) (sides : ℕ → Side) (handler : ℕ → Handler
     after n l = core_from order (put sides c (side_with n l)) handler tickets
 
     -- the machine with these lanes and counts of Syncs
-    abbrev pub between : (ℕ → ℕ) → (ℕ → ℕ → List Parcel) → (ℕ → ℕ → Option HeldState) → (ℕ → ℕ → ℕ) → Core
-    between syncs down up spare = record {
+    abbrev pub between : (ℕ → ℕ) → (Ticket → List SyncCount) → (ℕ → ℕ → List Parcel) → (ℕ → ℕ → Option HeldState) → (ℕ → ℕ → ℕ) → Core
+    between syncs tallies down up spare = record {
       order = order;
       client = before.client;
       syncs = syncs;
+      sync_counts = tallies;
       down = down;
       up = up;
       spare = spare;
@@ -78,17 +84,19 @@ module _ (order : List Ticket) (sides : ℕ → Side) (handler : ℕ → Handler
     }
 
     -- all of it, where the client has come to this
-    pub comes : (r : Settled) (n : Mind) (l : LaneState) (syncs : ℕ → ℕ) (down : ℕ → ℕ → List Parcel) (up : ℕ → ℕ → Option HeldState) (spare : ℕ → ℕ → ℕ)
+    pub comes : (r : Settled) (n : Mind) (l : LaneState) (syncs : ℕ → ℕ) (tallies : Ticket → List SyncCount) (down : ℕ → ℕ → List Parcel) (up : ℕ → ℕ → Option HeldState) (spare : ℕ → ℕ → ℕ)
         → n.client ≡ r.client → n.traces ≡ extended own.traces now.index r.events → n.entries ≡ own.entries
         → put (each (λ (s : Side). s.mind.syncs) sides) c n.syncs ≡ syncs
+        → by_ticket counts_in (put sides c (side_with n l)) ≡ tallies
         → in_lanes (λ (k : LaneState). k.down) (put sides c (side_with n l)) ≡ down
         → in_lanes (λ (k : LaneState). k.up) (put sides c (side_with n l)) ≡ up
         → in_lanes (λ (k : LaneState). length k.spare) (put sides c (side_with n l)) ≡ spare
-        → settled code own.size (between syncs down up spare) c now r ≡ after n l
-    comes r n l syncs down up spare client_is traces_are entries_are syncs_are down_is up_is spare_is = λ k. record {
+        → settled code own.size (between syncs tallies down up spare) c now r ≡ after n l
+    comes r n l syncs tallies down up spare client_is traces_are entries_are syncs_are tallies_are down_is up_is spare_is = λ k. record {
       order = order;
       client = (ap (put before.client c) (sym client_is) ∙ sym (field_put (λ (s : Side). s.mind.client) sides c v)) k;
       syncs = (sym syncs_are ∙ sym (field_put (λ (s : Side). s.mind.syncs) sides c v)) k;
+      sync_counts = sym tallies_are k;
       down = sym down_is k;
       up = sym up_is k;
       spare = sym spare_is k;
@@ -120,11 +128,12 @@ module _ (order : List Ticket) (sides : ℕ → Side) (handler : ℕ → Handler
           ∙ sym (parted (settings_of own) now (code_at own.code now.index).reserved (length own.code.blocks) own.client h p asked)
 
       pub sends_steps : nat_lt (length lane.down) 16 ≡ true → core_step code own.size before (actor.Client c) ≡ Some (after sent_on (with_down lane (lane.down ++ p ∷ [])))
-      sends_steps room = rw asked (rw room (ap Some (comes by_parcel sent_on (with_down lane (lane.down ++ p ∷ [])) _ _ _ _
+      sends_steps room = rw asked (rw room (ap Some (comes by_parcel sent_on (with_down lane (lane.down ++ p ∷ [])) _ _ _ _ _
           (ap (λ (r : Settled). r.client) settled_as)
           (ap (λ (r : Settled). extended own.traces own.ticket.index r.events) settled_as ∙ ap (λ (t : Ticket). extended own.traces t.index by_parcel.events) ticket_is)
           refl
           (syncs_are p)
+          (tallies_are p)
           (lanes_put (λ (k : LaneState). k.down) sides c _ h _ inside refl)
           (lanes_kept (λ (k : LaneState). k.up) sides c _ h _ inside refl refl)
           (lanes_kept (λ (k : LaneState). length k.spare) sides c _ h _ inside refl refl))))
@@ -135,17 +144,35 @@ module _ (order : List Ticket) (sides : ℕ → Side) (handler : ℕ → Handler
           syncs_are (parcels.Home x) = put_same _ c _ (sym (add-zero own.syncs))
           syncs_are parcels.End = put_same _ c _ (sym (add-zero own.syncs))
 
+          side_after : Parcel → Side
+          side_after q = side_with (done (hands_out own (acts.Send h q))) (with_down lane (lane.down ++ p ∷ []))
+
+          more : List SyncCount
+          more = with_sync h (get_or own.counts now.index [])
+
+          counted_there : counts_in (side_after parcels.Sync) ≡ put (counts_in (sides c)) now.index more
+          counted_there =
+              ap (λ (t : Ticket). λ (m : ℕ). get_or (set own.counts t.index (with_sync h (get_or own.counts t.index []))) m []) ticket_is
+              ∙ (λ k m. put_set_at own.counts now.index more [] tallied_there m k)
+
+          tallies_are : (q : Parcel) → by_ticket counts_in (put sides c (side_after q)) ≡ (lies code own.size before c h q).sync_counts
+          tallies_are (parcels.Work b) = tickets_kept counts_in sides c (side_after (parcels.Work b)) refl
+          tallies_are parcels.Sync = tickets_put counts_in sides c now.index (side_after parcels.Sync) more counted_there
+          tallies_are (parcels.Home x) = tickets_kept counts_in sides c (side_after (parcels.Home x)) refl
+          tallies_are parcels.End = tickets_kept counts_in sides c (side_after parcels.End) refl
+
       pub sends_stay : nat_lt (length lane.down) 16 ≡ false → core_step code own.size before (actor.Client c) ≡ None
       sends_stay full = rw asked (rw full refl)
 
     -- the object came
     module _ (asked : asked_of own ≡ acts.Await h) where
       pub gets_steps : (x : HeldState) → lane.up ≡ Some x → core_step code own.size before (actor.Client c) ≡ Some (after (got_mind own x) (lanes.with_up lane None))
-      gets_steps x lies_there = rw asked (rw lies_there (ap Some (comes _ (got_mind own x) (lanes.with_up lane None) _ _ _ _
+      gets_steps x lies_there = rw asked (rw lies_there (ap Some (comes _ (got_mind own x) (lanes.with_up lane None) _ _ _ _ _
           (ap (λ (t : Ticket). (came t).client) ticket_is)
           (ap (λ (t : Ticket). extended own.traces t.index (came t).events) ticket_is)
           refl
           (put_same _ c _ refl)
+          (tickets_kept counts_in sides c _ refl)
           (lanes_kept (λ (k : LaneState). k.down) sides c _ h _ inside refl refl)
           (lanes_put (λ (k : LaneState). k.up) sides c _ h _ inside refl)
           (lanes_kept (λ (k : LaneState). length k.spare) sides c _ h _ inside refl refl))))
@@ -159,11 +186,12 @@ module _ (order : List Ticket) (sides : ℕ → Side) (handler : ℕ → Handler
     -- an empty chunk came
     module _ (asked : asked_of own ≡ acts.NeedChunk h) where
       pub takes_steps : (b : Batch Request) (bs : List (Batch Request)) → lane.spare ≡ b ∷ bs → core_step code own.size before (actor.Client c) ≡ Some (after (chunk_mind own h) (lanes.with_spare lane bs))
-      takes_steps b bs lies_there = rw asked (rw lies_there (ap Some (comes _ (chunk_mind own h) (lanes.with_spare lane bs) _ _ _ _
+      takes_steps b bs lies_there = rw asked (rw lies_there (ap Some (comes _ (chunk_mind own h) (lanes.with_spare lane bs) _ _ _ _ _
           (ap (λ (t : Ticket). (came t).client) ticket_is)
           (ap (λ (t : Ticket). extended own.traces t.index (came t).events) ticket_is)
           refl
           (put_same _ c _ refl)
+          (tickets_kept counts_in sides c _ refl)
           (lanes_kept (λ (k : LaneState). k.down) sides c _ h _ inside refl refl)
           (lanes_kept (λ (k : LaneState). k.up) sides c _ h _ inside refl refl)
           (lanes_put (λ (k : LaneState). length k.spare) sides c _ h _ inside refl))))

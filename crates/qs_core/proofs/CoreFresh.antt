@@ -6,12 +6,15 @@ use Rattle.std.proofs.lemmas.List.{length-map}
 use Rattle.std.proofs.lemmas.List.Sums.{sum_by-cons}
 use Rattle.qs_objects.specs.declared.held.Event.{Event}
 use Rattle.qs_objects.specs.declared.held.Ticket.{Ticket}
-use Rattle.qs_check.specs.Program.{ClientShape, ProgramShape, blocks_of, no_client}
+use Rattle.qs_check.specs.Program.{ClientShape, ProgramShape, blocks_of, no_client, text_of}
+use Rattle.qs_check.specs.Sound.{IsSound}
 use Rattle.qs_syncset.specs.declared.mode.Mode.{Mode}
-use Rattle.qs_syncset.specs.Codes.{ClientCode, IsCodeOf}
+use Rattle.qs_syncset.specs.Codes.{BlockCode, ClientCode, IsCodeOf, code_at, no_code}
+use Rattle.qs_syncset.specs.SyncRows.{fresh_rows, no_syncs}
 use Rattle.qs_handler.specs.Handler.{free}
-use Rattle.qs_client.specs.Mind.{Mind, fresh_mind}
+use Rattle.qs_client.specs.Mind.{Mind, fresh_mind, lists_of}
 use Rattle.qs_core_laws.specs.Core.{AreCodes, core_begin, fresh_held}
+use Rattle.qs_core_laws.proofs.CoreCodes.{reserved_is}
 use Rattle.qs_core_parts.specs.CoreClients.{AreStocked, CoreClientState, whole_of}
 use Rattle.qs_core_parts.specs.CoreHandlers.{CoreHandlerState, handler_of, no_seat}
 use Rattle.qs_core_parts.specs.LaneStates.{IsStocked, LaneState, fresh_lane, lane_at}
@@ -37,6 +40,12 @@ none_at : (n k : ℕ) → get_or (replicate n no_events) k [] ≡ []
 none_at zero k = refl
 none_at (suc n) zero = refl
 none_at (suc n) (suc k) = none_at n k
+
+-- no Sync of a block is counted before the first
+none_counted : (blocks : List BlockCode) (k : ℕ) → get_or (fresh_rows (lists_of blocks)) k [] ≡ no_syncs (get_or blocks k no_code).reserved
+none_counted [] k = refl
+none_counted (b ∷ blocks) zero = refl
+none_counted (b ∷ blocks) (suc k) = none_counted blocks k
 
 -- any lane of a client that has begun nothing
 lane_fresh : (size n h : ℕ) → (lane_at (replicate n (fresh_lane size)) h ≡ fresh_lane size) ⊎ (lane_at (replicate n (fresh_lane size)) h ≡ fresh_lane 0)
@@ -65,7 +74,7 @@ pub record IsFreshSide (s : Side) : Type 0 where
   pub mind : s.mind ≡ fresh_mind code chunk
   pub lanes : s.lanes ≡ replicate lanes_of (fresh_lane chunk)
 
-module _ (p : ProgramShape) (mode : Mode) (chunk room : ℕ) (cs : List CoreClientState) (hs : List CoreHandlerState) (clients : AreFreshClients p mode chunk cs) (handlers : AreFreshHandlers p room hs) where
+module _ (p : ProgramShape) (mode : Mode) (chunk room : ℕ) (cs : List CoreClientState) (hs : List CoreHandlerState) (clients : AreFreshClients p mode chunk cs) (handlers : AreFreshHandlers p room hs) (sound : IsSound p) where
   abbrev made : CoreState
   made = record { program = p; size = chunk; order = []; clients = cs; handlers = hs }
 
@@ -129,12 +138,19 @@ module _ (p : ProgramShape) (mode : Mode) (chunk room : ℕ) (cs : List CoreClie
           let out : length p.objects ≤ h = grind (arith, e) in
           out_of (map queue_of hs) h [] (let m : length (map queue_of hs) ≡ length hs = length-map hs queue_of in omega (arith, m, handlers.many, out))
 
+  counts_are : (t : Ticket) → get_or (side_at cs t.client).mind.counts t.index [] ≡ no_syncs (text_of p t).reserved
+  counts_are t =
+      ap (λ (m : Mind). get_or m.counts t.index []) (fresh_side t.client).mind
+      ∙ (none_counted (fresh_side t.client).code.blocks t.index
+      ∙ ap no_syncs (ap (λ (m : Mind). (code_at m.code t.index).reserved) (sym (fresh_side t.client).mind) ∙ reserved_is p sound mode (codes_of made) codes_are chunk t))
+
   pub begins : core_of made ≡ core_begin p
   unfolding core_of
   begins = λ k. record {
     order = [];
     client = fun_ext (λ c. ap (λ (m : Mind). m.client) (fresh_side c).mind) k;
     syncs = fun_ext (λ c. ap (λ (m : Mind). m.syncs) (fresh_side c).mind) k;
+    sync_counts = fun_ext counts_are k;
     down = fun_ext (λ c. fun_ext (λ h. (λ i. (lane_at ((fresh_side c).lanes i) h).down) ∙ lane_field (λ (l : LaneState). l.down) [] (λ n. refl) (fresh_side c).chunk (fresh_side c).lanes_of h)) k;
     up = fun_ext (λ c. fun_ext (λ h. (λ i. (lane_at ((fresh_side c).lanes i) h).up) ∙ lane_field (λ (l : LaneState). l.up) None (λ n. refl) (fresh_side c).chunk (fresh_side c).lanes_of h)) k;
     spare = fun_ext (λ c. fun_ext (λ h. (λ i. length (lane_at ((fresh_side c).lanes i) h).spare) ∙ lane_field (λ (l : LaneState). length l.spare) 4 (λ n. refl) (fresh_side c).chunk (fresh_side c).lanes_of h)) k;

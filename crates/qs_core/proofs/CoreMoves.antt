@@ -79,6 +79,9 @@ module _ (s : CoreState) (kept : IsCoreState s) (c : ℕ) (inside : c < length s
   traced : (side_at s.clients c).mind.client.begun - 1 < length (side_at s.clients c).mind.traces
   traced = subst (λ (x : Side). x.mind.client.begun - 1 < length x.mind.traces) (sym here) (omega (arith, own_ok.traces, own_ok.blocks, some))
 
+  counted : (side_at s.clients c).mind.client.begun - 1 < length (side_at s.clients c).mind.counts
+  counted = subst (λ (x : Side). x.mind.client.begun - 1 < length x.mind.counts) (sym here) (omega (arith, own_ok.counts, own_ok.blocks, some))
+
   lane_here : moves.handler < length (side_at s.clients c).lanes
   lane_here = subst (λ (x : Side). moves.handler < length x.lanes) (sym here) (has_lane moves.handler moves.turned)
 
@@ -86,12 +89,12 @@ module _ (s : CoreState) (kept : IsCoreState s) (c : ℕ) (inside : c < length s
   sides = side_at s.clients
 
   abbrev result_of : Option (Mind × LaneState) → Option Core
-  result_of = clients.result_of s.order sides (handler_at s.program s.handlers) (tickets_at s.handlers) c owned traced moves.handler lane_here
+  result_of = clients.result_of s.order sides (handler_at s.program s.handlers) (tickets_at s.handlers) c owned traced counted moves.handler lane_here
 
   stepped : core_step (codes_of s) (sides c).mind.size (core_from s.order sides (handler_at s.program s.handlers) (tickets_at s.handlers)) (actor.Client c)
       ≡ result_of (lane_step (sides c).mind old.act (lane_at (sides c).lanes moves.handler))
   stepped =
-      clients.at_lane s.order sides (handler_at s.program s.handlers) (tickets_at s.handlers) c owned traced moves.handler lane_here sends_are_parted old.act
+      clients.at_lane s.order sides (handler_at s.program s.handlers) (tickets_at s.handlers) c owned traced counted moves.handler lane_here sends_are_parted old.act
       (ap asked_of own_here ∙ sym seat.act) moves.turned
 
   sides_are : put sides c (record { mind = whole_of new; lanes = set (sides c).lanes moves.handler moves.lane }) ≡ side_at (set s.clients c new)
@@ -170,10 +173,12 @@ module _ (s : CoreState) (kept : IsCoreState s) (c : ℕ) (inside : c < length s
       subst (λ (x : Side). x.mind.ticket ≡ ticket c (x.mind.client.begun - 1)) (sym here) (λ k. record { client = owner k; index = index k }) in
       let traced : (side_at s.clients c).mind.client.begun - 1 < length (side_at s.clients c).mind.traces =
       subst (λ (x : Side). x.mind.client.begun - 1 < length x.mind.traces) (sym here) (omega (arith, ok'.traces, ok'.blocks, some)) in
+      let counted : (side_at s.clients c).mind.client.begun - 1 < length (side_at s.clients c).mind.counts =
+      subst (λ (x : Side). x.mind.client.begun - 1 < length x.mind.counts) (sym here) (omega (arith, ok'.counts, ok'.blocks, some)) in
       let lane_here : h < length (side_at s.clients c).lanes = subst (λ (x : Side). h < length x.lanes) (sym here) (has_lane h turned) in
-      let result = clients.result_of s.order (side_at s.clients) (handler_at s.program s.handlers) (tickets_at s.handlers) c owned traced h lane_here in
+      let result = clients.result_of s.order (side_at s.clients) (handler_at s.program s.handlers) (tickets_at s.handlers) c owned traced counted h lane_here in
       subst (λ n. core_step (codes_of s) n (core_of s) (actor.Client c) ≡ None) size_is
-      (clients.at_lane s.order (side_at s.clients) (handler_at s.program s.handlers) (tickets_at s.handlers) c owned traced h lane_here sends_are_parted old.act asked turned
+      (clients.at_lane s.order (side_at s.clients) (handler_at s.program s.handlers) (tickets_at s.handlers) c owned traced counted h lane_here sends_are_parted old.act asked turned
       ∙ ap (λ (x : Side). result (lane_step x.mind old.act (lane_at x.lanes h))) here
       ∙ ap result (stays h turned))
 

@@ -124,6 +124,7 @@ shown_is s is = λ k. record {
   ended = (shown_by s.order s.clients s.handlers).ended;
   entries = (shown_by s.order s.clients s.handlers).entries;
   traces = (shown_by s.order s.clients s.handlers).traces;
+  sync_counts = (shown_by s.order s.clients s.handlers).sync_counts;
   journals = of_objects (λ (x : HeldState). x.journal) s is k;
   states = of_objects (λ (x : HeldState). x.object) s is k;
   syncs = sum_by (λ c. (side_at s.clients c).mind.syncs) (range_with_len 0 (sym is.clients k));

@@ -16,7 +16,7 @@ use Rattle.qs_played.specs.declared.actor.Actor.TheVariants as actor
 use Rattle.qs_core_laws.specs.Core.{core_step, may, reserves_from}
 use Rattle.qs_core_parts.specs.LaneStates.{LaneState}
 use Rattle.qs_core.specs.CoreState.{Side, core_from}
-use Rattle.qs_core.proofs.ClientFields.{entries_in, traces_in}
+use Rattle.qs_core.proofs.ClientFields.{counts_in, entries_in, traces_in}
 use Rattle.qs_core.proofs.CoreFields.{field_put, field_kept, lanes_stay, tickets_put}
 
 -- a list with one more at its end
@@ -54,6 +54,7 @@ module _ (order : List Ticket) (sides : ℕ → Side) (handler : ℕ → Handler
     order = order ++ next_of ∷ [];
     client = sym (field_put (λ (s : Side). s.mind.client) sides c reserved_side) k;
     syncs = sym (field_kept (λ (s : Side). s.mind.syncs) sides c reserved_side refl) k;
+    sync_counts = sym (tickets_kept counts_in sides c reserved_side refl) k;
     down = sym (lanes_stay (λ (x : LaneState). x.down) sides c reserved_side refl) k;
     up = sym (lanes_stay (λ (x : LaneState). x.up) sides c reserved_side refl) k;
     spare = sym (lanes_stay (λ (x : LaneState). length x.spare) sides c reserved_side refl) k;

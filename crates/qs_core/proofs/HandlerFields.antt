@@ -18,7 +18,7 @@ use Rattle.qs_core_laws.specs.Core as core
 use Rattle.qs_core_parts.specs.CoreHandlers.{beside, gives_up, lane_step, takes_first, turns_to}
 use Rattle.qs_core_parts.specs.LaneStates.{LaneState, lane_at, with_down, with_spare, with_up}
 use Rattle.qs_core.specs.CoreState.{Side, core_from}
-use Rattle.qs_core.proofs.ClientFields.{entries_in, traces_in}
+use Rattle.qs_core.proofs.ClientFields.{counts_in, entries_in, traces_in}
 use Rattle.qs_core.proofs.CoreFields.{field_kept, in_lanes, lanes_put, lanes_kept, tickets_kept}
 
 one_more : {A : Type 0} (xs : List A) (x : A) → length (xs ++ x ∷ []) ≡ suc (length xs)
@@ -54,6 +54,7 @@ module _ (code : ℕ → ClientCode) (size : ℕ) (order : List Ticket) (sides :
       order = order;
       client = before.client;
       syncs = before.syncs;
+      sync_counts = before.sync_counts;
       down = down;
       up = up;
       spare = spare;
@@ -72,6 +73,7 @@ module _ (code : ℕ → ClientCode) (size : ℕ) (order : List Ticket) (sides :
       order = order;
       client = sym (field_kept (λ (s : Side). s.mind.client) sides c (side_with l) refl) k;
       syncs = sym (field_kept (λ (s : Side). s.mind.syncs) sides c (side_with l) refl) k;
+      sync_counts = sym (tickets_kept counts_in sides c (side_with l) refl) k;
       down = sym down_is k;
       up = sym up_is k;
       spare = sym spare_is k;

@@ -15,3 +15,4 @@ pub mod CoreReserving
 pub mod ServiceFieldLemmas
 pub mod CoreShowing
 pub mod CoreFieldLemmas
+pub mod CoreRows

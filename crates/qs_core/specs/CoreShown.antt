@@ -1,14 +1,16 @@
 -- What the code of the optimised machine shows of a run, by its lists of clients and handlers.
 use Rattle.std.specs.Prelude.{◌≡◌, ◌<◌, ◌≤◌, ℕ, Bool, ◌&&◌, IsSome, List, [], length, map, sum_by, slice_index_or, nat_eq, Option, Some}
-use Rattle.std.specs.List.{range_with_len}
+use Rattle.std.specs.List.{AllByRecursion, range_with_len}
 use Rattle.qs_objects.specs.Journals.{HeldState}
 use Rattle.qs_objects.specs.declared.held.Ticket.{Ticket}
 use Rattle.qs_handler.specs.Handler.{act_of}
 use Rattle.qs_client.specs.Mind.{Mind, is_between, has_ended}
-use Rattle.qs_played.specs.Played.{Played}
+use Rattle.qs_played.specs.Played.{ClientRows, Played}
+use Rattle.qs_played.specs.declared.played.Endings.{Endings}
+use Rattle.qs_client.specs.MindState.{IsMind}
 use Rattle.qs_core_laws.specs.Core.{Core}
 use Rattle.qs_core_laws.specs.CoreSchedule.{all_of, found_by, held_or_none}
-use Rattle.qs_core_parts.specs.CoreClients.{CoreClientState}
+use Rattle.qs_core_parts.specs.CoreClients.{CoreClientState, rows_of, whole_of}
 use Rattle.qs_core_parts.specs.CoreHandlers.{CoreHandlerState, handler_of, seat_at, turns_to, is_waiting}
 use Rattle.qs_core_parts.specs.LaneStates.{LaneState, lane_at}
 use Rattle.qs_core.specs.CoreState.{core_from, side_at}
@@ -69,6 +71,24 @@ held_at cs hs h = held_or_none (object_at cs hs h)
 abbrev pub AreSomewhere : List CoreClientState → List CoreHandlerState → Type 0
 AreSomewhere cs hs = (h : ℕ) → h < length hs → IsSome (object_at cs hs h)
 
+-- what the run has shown beside the clients' rows
+unfoldable pub endings_by : List Ticket → List CoreClientState → List CoreHandlerState → Endings
+endings_by order cs hs = record {
+  ended = map (λ (t : Ticket). has_ended (side_at cs t.client).mind.client t.index) order;
+  journals = map (λ h. (held_at cs hs h).journal) (range_with_len 0 (length hs));
+  states = map (λ h. (held_at cs hs h).object) (range_with_len 0 (length hs));
+  syncs = sum_by (λ c. (side_at cs c).mind.syncs) (range_with_len 0 (length cs));
+  finished = are_through cs && are_waiting cs hs;
+}
+
+-- and the clients' rows
+abbrev pub rows_by : List CoreClientState → List ClientRows
+rows_by cs = map (λ (s : CoreClientState). rows_of (whole_of s)) cs
+
+-- what holds of the mind of each client
+abbrev pub AreMinds : List CoreClientState → Type 0
+AreMinds cs = AllByRecursion (λ (s : CoreClientState). IsMind (whole_of s)) cs
+
 -- what the run has shown, by these lists
 unfoldable pub shown_by : List Ticket → List CoreClientState → List CoreHandlerState → Played
 shown_by order cs hs = record {
@@ -76,6 +96,7 @@ shown_by order cs hs = record {
   ended = map (λ (t : Ticket). has_ended (side_at cs t.client).mind.client t.index) order;
   entries = map (λ (t : Ticket). slice_index_or (side_at cs t.client).mind.entries t.index []) order;
   traces = map (λ (t : Ticket). slice_index_or (side_at cs t.client).mind.traces t.index []) order;
+  sync_counts = map (λ (t : Ticket). slice_index_or (side_at cs t.client).mind.counts t.index []) order;
   journals = map (λ h. (held_at cs hs h).journal) (range_with_len 0 (length hs));
   states = map (λ h. (held_at cs hs h).object) (range_with_len 0 (length hs));
   syncs = sum_by (λ c. (side_at cs c).mind.syncs) (range_with_len 0 (length cs));

@@ -55,6 +55,7 @@ core_from order sides handler tickets = record {
   order = order;
   client = λ c. (sides c).mind.client;
   syncs = λ c. (sides c).mind.syncs;
+  sync_counts = λ t. slice_index_or (sides t.client).mind.counts t.index [];
   down = λ c h. (lane_at (sides c).lanes h).down;
   up = λ c h. (lane_at (sides c).lanes h).up;
   spare = λ c h. length (lane_at (sides c).lanes h).spare;

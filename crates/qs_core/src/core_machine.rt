@@ -264,11 +264,11 @@ impl<'p> CoreMachine<'p> {
     }
 
     /// What the run has shown.
-    pub(crate) fn shown(&self, alloc: Global) -> Result<Played, AllocError>
-        requires keeps { CoreKeeps self.now }
-        ensures shown { IfOk result (λ played. played ≡ core_played self.now.program (core_of self.now)) }
+    pub(crate) fn into_played(self, alloc: Global) -> Result<Played, AllocError>
+        requires keeps { CoreKeeps self }
+        ensures shown { IfOk result (λ played. played ≡ core_played self.program (core_of self)) }
     {
         self.program.is_sound();
-        core_showing::shown(alloc, &self.order, &self.clients, &self.handlers)
+        core_showing::shown(alloc, self.order, self.clients, &self.handlers)
     }
 }

@@ -60,5 +60,5 @@ fn play_core(
     for _round in 0..rounds {
         core.round();
     }
-    core.shown(alloc)
+    core.into_played(alloc)
 }

@@ -6,14 +6,13 @@ ghost use Rattle.qs_objects.specs.declared.held.Ticket.{Ticket as TicketShape};
 ghost use Rattle.qs_core_parts.specs.CoreClients.{whole_of};
 ghost use Rattle.qs_client.specs.Mind.{has_ended};
 ghost use Rattle.qs_core_parts.specs.CoreHandlers.{is_waiting};
-ghost use Rattle.qs_core.specs.CoreShown.{AreBegunBy, AreShowable, AreSomewhere, HaveLane, HaveLanes, IsBegunBy, TurnTo, TurnsTo, are_clear, are_through, are_waiting, held_at, object_at, shown_by};
+ghost use Rattle.qs_core.specs.CoreShown.{AreBegunBy, AreShowable, AreMinds, AreSomewhere, HaveLane, HaveLanes, IsBegunBy, TurnTo, TurnsTo, are_clear, are_through, are_waiting, endings_by, held_at, object_at, rows_by, shown_by};
 ghost use Rattle.qs_core.specs.CoreState.{side_at};
 ghost use Rattle.qs_core_parts.specs.CoreHandlers.{IsCoreHandler, seat_at};
 
-use qs_check::Locals;
 use qs_core_parts::{CoreClient, CoreHandler};
 use qs_objects::{Held, Journal, Object, Ticket};
-use qs_played::{Played, Row, Traces};
+use qs_played::{ClientRows, Endings, Played, Row};
 use std::alloc::{AllocError, Global};
 
 // A client by its number.
@@ -25,16 +24,12 @@ fn seat(clients: &[CoreClient], number: usize) -> &CoreClient
     &clients[number]
 }
 
-// The client of a ticket, which has the block's variables at entry and its trace.
+// The client of a ticket.
 fn seat_of<'a>(clients: &'a [CoreClient], ticket: &Ticket) -> &'a CoreClient
     requires begun { IsBegunBy clients.now ticket.now }
     ensures mind { whole_of result.now ≡ (side_at clients.now ticket.now.client).mind }
-    ensures entries { ticket.now.index < length (whole_of result.now).entries }
-    ensures traces { ticket.now.index < length (whole_of result.now).traces }
 {
-    let client = seat(clients, usize::from(ticket.client));
-    client.is_seat();
-    client
+    seat(clients, usize::from(ticket.client))
 }
 
 /// For each ticket whether its block has ended.
@@ -51,38 +46,6 @@ pub(crate) fn endings(
         row.push(seat_of(clients, ticket).has_ended(ticket.index))?;
     }
     Ok(Row::from_vec(row))
-}
-
-/// For each ticket its client's variables at entry.
-pub(crate) fn entries(
-    alloc: Global,
-    clients: &[CoreClient],
-    order: &[Ticket],
-) -> Result<Row<Locals>, AllocError>
-    requires begun { AreBegunBy clients.now order.now }
-    ensures value { IfOk result (λ row. row ≡ map (λ (t : TicketShape). slice_index_or (side_at clients.now t.client).mind.entries t.index []) order.now) }
-{
-    let mut row = Vec::new(alloc);
-    for ticket in order {
-        row.push(seat_of(clients, ticket).entry(ticket.index))?;
-    }
-    Ok(Row::from_vec(row))
-}
-
-/// For each ticket its block's trace.
-pub(crate) fn traces(
-    alloc: Global,
-    clients: &[CoreClient],
-    order: &[Ticket],
-) -> Result<Traces, AllocError>
-    requires begun { AreBegunBy clients.now order.now }
-    ensures value { IfOk result (λ traces. traces ≡ map (λ (t : TicketShape). slice_index_or (side_at clients.now t.client).mind.traces t.index []) order.now) }
-{
-    let mut row = Vec::new(alloc);
-    for ticket in order {
-        row.push(seat_of(clients, ticket).trace(alloc, ticket.index)?)?;
-    }
-    Ok(Traces::from_vec(row))
 }
 
 // How many Syncs a client has sent: at most so many in each of its blocks.
@@ -237,32 +200,53 @@ pub(crate) fn parts(
     Ok((Row::from_vec(journals), Row::from_vec(states)))
 }
 
-/// What the run has shown, by the order of reservations, the clients and the handlers.
-pub(crate) fn shown(
+// What the run has shown beside the clients' rows.
+fn shown_endings(
     alloc: Global,
     order: &[Ticket],
     clients: &[CoreClient],
     handlers: &[CoreHandler],
-) -> Result<Played, AllocError>
+) -> Result<Endings, AllocError>
     requires showable { AreShowable order.now clients.now handlers.now }
-    ensures shown { IfOk result (λ played. played ≡ shown_by order.now clients.now handlers.now) }
+    ensures shown { IfOk result (λ endings. endings ≡ endings_by order.now clients.now handlers.now) }
 {
-    let mut tickets = Vec::new(alloc);
-    tickets.extend_from_slice(order)?;
     let ended = endings(alloc, clients, order)?;
-    let entries = entries(alloc, clients, order)?;
-    let traces = traces(alloc, clients, order)?;
     let syncs = syncs(clients);
     let finished = are_finished(clients, handlers);
     let (journals, states) = parts(alloc, clients, handlers)?;
-    Ok(Played {
-        order: Row::from_vec(tickets),
+    Ok(Endings {
         ended,
-        entries,
-        traces,
         journals,
         states,
         syncs,
         finished,
     })
+}
+
+// The clients' rows, by move.
+fn rows(alloc: Global, clients: Vec<CoreClient>) -> Result<Vec<ClientRows>, AllocError>
+    ensures rows { IfOk result (λ rows. rows.items ≡ rows_by clients.items) }
+    ensures minds { IfOk result (λ rows. AreMinds clients.items) }
+{
+    let mut rows = Vec::new(alloc);
+    for client in clients {
+        client.is_seat();
+        rows.push(client.into_rows())?;
+    }
+    Ok(rows)
+}
+
+/// What the run has shown, by the order of reservations, the clients and the handlers.
+pub(crate) fn shown(
+    alloc: Global,
+    order: Vec<Ticket>,
+    clients: Vec<CoreClient>,
+    handlers: &[CoreHandler],
+) -> Result<Played, AllocError>
+    requires showable { AreShowable order.items clients.items handlers.now }
+    ensures shown { IfOk result (λ played. played ≡ shown_by order.items clients.items handlers.now) }
+{
+    let endings = shown_endings(alloc, &order, &clients, handlers)?;
+    let rows = rows(alloc, clients)?;
+    Ok(Played::new(Row::from_vec(order), rows, endings))
 }

@@ -99,13 +99,13 @@ impl<'p> Core<'p> {
     }
 
     /// What the run has shown.
-    pub(crate) fn shown(&self, alloc: Global) -> Result<Played, AllocError>
-        ensures shown { IfOk result (λ played. played ≡ core_played self.now.program (core_of self.now)) }
-        ensures isolated { CoreIsIsolated self.now }
-        ensures counted { CoreIsCounted self.now }
+    pub(crate) fn into_played(self, alloc: Global) -> Result<Played, AllocError>
+        ensures shown { IfOk result (λ played. played ≡ core_played self.program (core_of self)) }
+        ensures isolated { CoreIsIsolated self }
+        ensures counted { CoreIsCounted self }
     {
         self.machine.program().is_sound();
         self.machine.is_machine();
-        self.machine.shown(alloc)
+        self.machine.into_played(alloc)
     }
 }

@@ -18,7 +18,7 @@ use Rattle.qs_plain_laws.specs.Plain as plain
 use Rattle.qs_plain_client.specs.ClientMoves.{Begins}
 use Rattle.qs_plain_client.specs.Clients.{ClientState, IsClient, IsStaged, IsReady, block_of, client_of, stage_of, absent, client_at}
 use Rattle.qs_plain_client.specs.Frames.{rest, next_of, load_left}
-use Rattle.qs_plain_client.specs.Traces.{TraceState}
+use Rattle.qs_objects.specs.Traces.{TraceState}
 use Rattle.qs_plain_client.specs.Queues.{QueueState}
 use Rattle.qs_plain_client.specs.PreparedBlock.{IsReadyQueue}
 use Rattle.qs_plain_client.proofs.FrameMoves.{AllByRecursion-push}

@@ -22,7 +22,7 @@ use Rattle.qs_plain_client.specs.ClientMoves.{moved}
 use Rattle.qs_plain_client.specs.Clients.{ClientState, IsClient, IsWithin, current_block, client_of, stage_of, absent, client_at}
 use Rattle.qs_plain_client.specs.Frames.{Frame, next_of, load_left}
 use Rattle.qs_plain_client.specs.TraceMoves.{noted_in, last_of, no_trace}
-use Rattle.qs_plain_client.specs.Traces.{TraceState, trace_state}
+use Rattle.qs_objects.specs.Traces.{TraceState, trace_state}
 use Rattle.qs_plain_client.specs.declared.stage.Stage.{Stage}
 use Rattle.qs_plain_client.proofs.ClientPreserved.{within_of}
 use Rattle.qs_plain_client.specs.declared.stage.Stage.TheVariants as stage

@@ -19,7 +19,7 @@ use Rattle.qs_plain_client.specs.Clients.{ClientState, IsClient, client_of, stag
 use Rattle.qs_plain_client.specs.Frames.{next_of}
 use Rattle.qs_plain_client.specs.TraceMoves.{noted_in, last_of, no_trace}
 use Rattle.qs_plain_client.specs.Queues.{QueueState}
-use Rattle.qs_plain_client.specs.Traces.{TraceState, trace_state}
+use Rattle.qs_objects.specs.Traces.{TraceState, trace_state}
 use Rattle.qs_plain_client.specs.declared.stage.Stage.{Stage}
 use Rattle.qs_plain_client.specs.ReplyDelivery.{Hears}
 use Rattle.qs_plain_client.specs.declared.stage.Stage.TheVariants as stage

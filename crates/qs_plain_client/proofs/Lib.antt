@@ -1,3 +1,4 @@
 pub mod ClientPreserved
 pub mod Mapping
 pub mod FrameMoves
+pub mod StoredClients

@@ -4,19 +4,20 @@ use Rattle.qs_objects.specs.declared.Request.{Request}
 use Rattle.qs_meaning.specs.Interaction.{Done, Call, Query}
 use Rattle.qs_meaning.specs.Solo.{event, value_of}
 use Rattle.qs_check.specs.Sound.{is_in}
+use Rattle.qs_syncset.specs.declared.sync_counts.SyncCount.{SyncCount}
 use Rattle.qs_plain_client.specs.Clients.{ClientState, block_of}
 use Rattle.qs_plain_client.specs.PreparedBlock.{PreparedState}
-use Rattle.qs_plain_client.specs.TraceMoves.{noted_in}
+use Rattle.qs_plain_client.specs.TraceMoves.{counted_in, noted_in}
 use Rattle.qs_plain_client.specs.Frames.{Frame, rest, next_of}
 use Rattle.qs_plain_client.specs.Queues.{QueueState}
-use Rattle.qs_plain_client.specs.Traces.{TraceState}
+use Rattle.qs_objects.specs.Traces.{TraceState}
 use Rattle.qs_plain_client.specs.declared.client.Asked.{Asked}
 use Rattle.qs_plain_client.specs.declared.stage.Stage.{Stage}
 use Rattle.qs_plain_client.specs.declared.client.Asked.TheVariants as asked
 use Rattle.qs_plain_client.specs.declared.stage.Stage.TheVariants as stage
 
-abbrev pub moved : ClientState → Stage → List ℤ → List Frame → List TraceState → ClientState
-moved d s l fs ts = record {
+abbrev pub moved : ClientState → Stage → List ℤ → List Frame → List TraceState → List (List SyncCount) → ClientState
+moved d s l fs ts cs = record {
   program = d.program;
   number = d.number;
   stage = s;
@@ -25,6 +26,7 @@ moved d s l fs ts = record {
   depth = d.depth;
   entries = d.entries;
   traces = ts;
+  counts = cs;
   prepared = d.prepared;
 }
 
@@ -39,6 +41,7 @@ begun_with d x later = record {
   depth = d.depth;
   entries = d.entries ++ d.locals ∷ [];
   traces = d.traces ++ x.trace ∷ [];
+  counts = d.counts ++ x.counts ∷ [];
   prepared = later;
 }
 
@@ -52,12 +55,12 @@ pub record Begins (old : ClientState) (queues : List (ℕ × QueueState)) (new :
 abbrev pub Goes : Asked → ClientState → ClientState → Type 0
 Goes (asked.Command r) old new =
     (next_of old.frames old.locals ≡ Call r (next_of new.frames new.locals))
-    × (new ≡ moved old stage.Within new.locals new.frames (noted_in old.traces (event r None)))
+    × (new ≡ moved old stage.Within new.locals new.frames (noted_in old.traces (event r None)) old.counts)
 Goes (asked.Query r) old new =
     (x : ℕ) × (next_of old.frames old.locals ≡ Query r (λ v. next_of new.frames (slice_set new.locals x v)))
-    × (new ≡ moved old (stage.Waiting x) new.locals new.frames old.traces)
+    × (new ≡ moved old (stage.Waiting x) new.locals new.frames old.traces (counted_in old.counts r.object))
 Goes asked.End old new =
-    (next_of old.frames old.locals ≡ Done new.locals) × (new ≡ moved old stage.Out new.locals [] old.traces)
+    (next_of old.frames old.locals ≡ Done new.locals) × (new ≡ moved old stage.Out new.locals [] old.traces old.counts)
 
 -- how many requests on an object it makes
 abbrev pub requested_of : Asked → ℕ → ℕ
@@ -76,7 +79,7 @@ abbrev pub RepliesAt : Stage → ClientState → Request → Option ℤ → Clie
 RepliesAt stage.Out old r v new = new ≡ old
 RepliesAt stage.Within old r v new = new ≡ old
 RepliesAt (stage.Waiting x) old r v new =
-    new ≡ moved old stage.Within (slice_set old.locals x (value_of v)) old.frames (noted_in old.traces (event r v))
+    new ≡ moved old stage.Within (slice_set old.locals x (value_of v)) old.frames (noted_in old.traces (event r v)) old.counts
 
 abbrev pub Replies : ClientState → Request → Option ℤ → ClientState → Type 0
 Replies old r v new = RepliesAt old.stage old r v new

@@ -9,4 +9,3 @@ pub mod ReplyDelivery
 pub mod TraceMoves
 pub mod Queues
 pub mod PreparedBlock
-pub mod Traces

@@ -1,41 +1,43 @@
 //! Clients under the plain rules.
 
-ghost use Rattle.qs_check.specs.Program.{block_at, blocks_of};
-ghost use Rattle.qs_plain_client.specs.PreparedBlock.{IsStocked};
+ghost use Rattle.qs_check.specs.Program.{block_at, block_load, blocks_of};
+ghost use Rattle.qs_plain_client.specs.PreparedBlock.{AreQueues, lists_of, rooms_of};
+ghost use Rattle.qs_objects.specs.Traces.{empty_trace};
+ghost use Rattle.qs_syncset.specs.SyncRows.{fresh_rows};
+ghost use Rattle.qs_played.specs.Schedule.{queries_in};
 ghost use Rattle.qs_plain_client.specs.ReplyDelivery.{Hears};
 ghost use Rattle.qs_plain_client.specs.FreshClients.{AreFresh};
-ghost use Rattle.std.specs.Prelude.{◌≡◌, ◌+◌, ◌<◌, ◌≤◌, ℕ, IfOk, length, nat_lt, slice_index_or, slice_set, [], vec_len, vec_capacity};
+ghost use Rattle.std.specs.Prelude.{◌≡◌, ◌+◌, ◌<◌, ◌≤◌, ℕ, IfOk, length, map, nat_lt, slice_set};
 ghost use Rattle.qs_plain_client.specs.Frames.{load_left};
-ghost use Rattle.qs_plain_client.specs.TraceMoves.{last_of, noted_in};
 ghost use Rattle.qs_plain_client.specs.declared.stage.Stage.TheVariants as stages;
 
 use crate::frames::{Ask, Frames, grow};
 use crate::private_queue::PrivateQueue;
 use crate::stage::Stage;
-use crate::trace::Trace;
 use qs_check::{Locals, Program};
-use qs_objects::{Event, Request, Ticket};
-use qs_played::Row;
+use qs_objects::{Event, Request, Ticket, Traces};
+use qs_played::ClientRows;
+use qs_syncset::SyncCounts;
 use std::alloc::{AllocError, Global};
 use std::collections::VecDeque;
 use std::marker::Model;
 
-/// What is prepared for a block: its trace, and its private queues, each with its object.
+/// What is prepared for a block: its private queues, each with its object.
 #[derive(Drop)]
 pub struct Prepared {
-    trace: Trace,
     queues: VecDeque<(u8, PrivateQueue)>,
 }
 
 impl Model for Prepared {
-    ghost use Rattle.qs_plain_client.specs.Clients.{prepared_code};
-    ghost use Rattle.qs_plain_client.specs.PreparedBlock.{PreparedState};
+    ghost use Rattle.std.specs.Prelude.{List, ℕ};
+    ghost use Rattle.qs_plain_client.specs.Clients.{queues_code};
+    ghost use Rattle.qs_plain_client.specs.Queues.{QueueState};
 
-    ghost Value = { PreparedState };
+    ghost Value = { List (ℕ × QueueState) };
 
-    ghost coded = { prepared_code };
+    ghost coded = { queues_code };
 
-    ghost view = { λ p. record { trace = p.trace; queues = p.queues.items } };
+    ghost view = { λ p. p.queues.items };
 }
 
 /// What a client asked.
@@ -55,47 +57,30 @@ pub struct ClientState<'p> {
     locals: Locals,
     frames: Frames<'p>,
     entries: Vec<Locals>,
-    traces: Vec<Trace>,
+    traces: Traces,
+    counts: SyncCounts,
     prepared: VecDeque<Prepared>,
 }
 
 impl<'p> Model for ClientState<'p> {
-    ghost use Rattle.std.specs.Prelude.{◌≤◌, ◌+◌, vec_len, vec_capacity};
+    ghost use Rattle.std.specs.Prelude.{◌≤◌, ◌+◌, length, vec_len, vec_capacity};
     ghost use Rattle.std.specs.VecDeque.{deque_len};
-    ghost use Rattle.qs_plain_client.specs.Clients.{ClientState as State, client_code, IsClient};
+    ghost use Rattle.qs_plain_client.specs.Clients.{AreStored, ClientState as State, client_code, client_from, IsClient};
 
     ghost Value = { State };
 
     ghost coded = { client_code };
 
-    ghost view = { λ c. record {
-      program = c.program.now;
-      number = c.number;
-      stage = c.stage;
-      locals = c.locals;
-      frames = c.frames.frames;
-      depth = c.frames.room;
-      entries = c.entries.items;
-      traces = c.traces.items;
-      prepared = c.prepared.items;
-    } };
+    ghost view = { λ c. client_from c.program.now c.number c.stage c.locals c.frames.frames c.frames.room c.entries.items c.traces c.counts.rows c.prepared.items };
 
-    ghost invariant = { λ c. IsClient (record {
-      program = c.program.now;
-      number = c.number;
-      stage = c.stage;
-      locals = c.locals;
-      frames = c.frames.frames;
-      depth = c.frames.room;
-      entries = c.entries.items;
-      traces = c.traces.items;
-      prepared = c.prepared.items;
-    })
-        × (vec_len c.entries + deque_len c.prepared ≤ vec_capacity c.entries) × (vec_len c.traces + deque_len c.prepared ≤ vec_capacity c.traces) };
+    ghost invariant = { λ c.
+        IsClient (client_from c.program.now c.number c.stage c.locals c.frames.frames c.frames.room c.entries.items c.traces c.counts.rows c.prepared.items)
+        × AreStored (length c.entries.items) c.traces c.counts.rows (length c.prepared.items)
+        × (vec_len c.entries + deque_len c.prepared ≤ vec_capacity c.entries) };
 }
 
 impl<'p> ClientState<'p> {
-    ghost use Rattle.qs_plain_client.specs.Clients.{IsClient, IsFresh, client_of, current_block};
+    ghost use Rattle.qs_plain_client.specs.Clients.{AreRowsOf, IsClient, IsFresh, client_of, current_block};
     ghost use Rattle.qs_plain_laws.specs.PlainSchedule.{has_ended, is_done, syncs_of, waits};
     ghost use Rattle.qs_plain_client.specs.ClientMoves.{Begins, Goes, Replies, requested_of, IsReserved};
 
@@ -123,7 +108,8 @@ impl<'p> ClientState<'p> {
             locals: [0; 16],
             frames: Frames::over(frames),
             entries: Vec::with_capacity(alloc, count)?,
-            traces: Vec::with_capacity(alloc, count)?,
+            traces: fresh_traces(alloc, program, number)?,
+            counts: fresh_counts(alloc, program, number)?,
             prepared,
         })
     }
@@ -168,20 +154,22 @@ impl<'p> ClientState<'p> {
         next < self.entries.len() || (next == self.entries.len() && self.stage == Stage::Out)
     }
 
-    /// The variables at entry of the block of this number.
-    pub fn entry(&self, index: u8) -> Locals
-        requires { index < length self.now.entries }
-        ensures value { result ≡ slice_index_or self.now.entries index [] }
+    /// What its blocks have shown, by move: the traces and counts of all blocks, and the entries of those that were begun.
+    pub fn into_rows(self) -> ClientRows
+        ensures rows { AreRowsOf result (client_of self.entry) }
     {
-        self.entries[usize::from(index)]
-    }
-
-    /// The trace of the block of this number.
-    pub fn trace(&self, alloc: Global, index: u8) -> Result<Row<Event>, AllocError>
-        requires { index < length self.now.entries }
-        ensures value { IfOk result (λ events. events ≡ slice_index_or (client_of self.now).traces index []) }
-    {
-        self.traces[usize::from(index)].copied(alloc)
+        let ClientState {
+            program: _,
+            number: _,
+            stage: _,
+            locals: _,
+            frames: _,
+            entries,
+            traces,
+            counts,
+            prepared: _,
+        } = self;
+        ClientRows::new(traces, entries, counts)
     }
 
     /// How many queries it has asked.
@@ -191,8 +179,8 @@ impl<'p> ClientState<'p> {
     {
         self.program.is_sound();
         let mut syncs = self.waits();
-        for trace in &self.traces {
-            syncs += trace.queries();
+        for block in 0..self.entries.len() {
+            syncs += queries(self.traces.of(block));
         }
         syncs
     }
@@ -219,10 +207,9 @@ impl<'p> ClientState<'p> {
         let Some(prepared) = self.prepared.pop_front() else {
             unreachable!();
         };
-        let Prepared { trace, queues } = prepared;
+        let Prepared { queues } = prepared;
         self.frames.enter(program.block(self.number, index).body());
         self.entries.push_reserved(self.locals);
-        self.traces.push_reserved(trace);
         self.stage = Stage::Within;
         queues
     }
@@ -241,12 +228,14 @@ impl<'p> ClientState<'p> {
                     request: request.copied(),
                     reply: None,
                 };
-                note(&mut self.traces, event);
+                self.traces.note(self.entries.len() - 1, event);
                 Asked::Command(request)
             }
             Ask::Query(variable, call) => {
                 self.stage = Stage::Waiting(variable);
-                Asked::Query(call.request(alloc, &self.locals))
+                let request = call.request(alloc, &self.locals);
+                self.counts.add(self.entries.len() - 1, request.object);
+                Asked::Query(request)
             }
             Ask::End => {
                 self.stage = Stage::Out;
@@ -262,7 +251,8 @@ impl<'p> ClientState<'p> {
     {
         if let Stage::Waiting(variable) = self.stage {
             store(&mut self.locals, variable, reply.unwrap_or(0));
-            note(&mut self.traces, Event { request, reply });
+            self.traces
+                .note(self.entries.len() - 1, Event { request, reply });
             self.stage = Stage::Within;
         }
     }
@@ -295,16 +285,14 @@ pub fn answer(clients: &mut Vec<ClientState>, ticket: Ticket, request: Request, 
     }
 }
 
-/// What a block needs: a trace with room for its load, and for each object of its list a private queue with room for
-/// the load there and the end mark.
+/// What a block needs: for each object of its list a private queue with room for the load there and the end mark.
 fn prepare(alloc: Global, program: &Program, number: u8, index: u8) -> Result<Prepared, AllocError>
     requires client { number < length program.now.clients }
     requires block { index < blocks_of program.now number }
-    ensures ready { IfOk result (IsStocked number index (block_at program.now number index)) }
+    ensures ready { IfOk result (AreQueues number index (block_at program.now number index)) }
 {
     program.is_sound();
     let mut queues = VecDeque::new(alloc);
-    let mut load = 0;
     for object in program.block(number, index).reserved() {
         let requests = program.load_of(number, index, *object) as usize;
         let ticket = Ticket {
@@ -312,22 +300,74 @@ fn prepare(alloc: Global, program: &Program, number: u8, index: u8) -> Result<Pr
             index,
         };
         queues.push_back((*object, PrivateQueue::new(alloc, ticket, requests + 1)?))?;
-        load += requests;
     }
-    let trace = Trace::new(alloc, load)?;
-    Ok(Prepared { trace, queues })
+    Ok(Prepared { queues })
 }
 
-/// Adds an event at the end of the last trace.
-fn note(traces: &mut Vec<Trace>, event: Event)
-    requires { 0 < (last_of traces.old.items).room }
-    ensures noted { traces.new.items ≡ noted_in traces.old.items event }
-    ensures len { vec_len traces.new ≡ vec_len traces.old }
-    ensures capacity { vec_capacity traces.new ≡ vec_capacity traces.old }
+// How many requests a block can make.
+fn room_of(program: &Program, number: u8, index: u8) -> usize
+    requires client { number < length program.now.clients }
+    requires block { index < blocks_of program.now number }
+    ensures value { result ≡ block_load (block_at program.now number index) }
+    ensures few { result ≤ 100000 }
 {
-    let last = traces.len() - 1;
-    let trace = &mut traces[last];
-    trace.push(event);
+    program.is_sound();
+    let mut room = 0;
+    for object in program.block(number, index).reserved() {
+        room += program.load_of(number, index, *object) as usize;
+    }
+    room
+}
+
+// The empty traces of all blocks of a client, each with room for its block's load.
+fn fresh_traces(alloc: Global, program: &Program, number: u8) -> Result<Traces, AllocError>
+    requires { number < length program.now.clients }
+    ensures fresh { IfOk result (λ traces. traces ≡ map empty_trace (rooms_of program.now number)) }
+{
+    program.is_sound();
+    let count = program.blocks_of(number);
+    let mut rooms = Vec::with_capacity(alloc, count)?;
+    let mut room = 0;
+    for index in 0..count as u8 {
+        let requests = room_of(program, number, index);
+        rooms.push_reserved(requests);
+        room += requests;
+    }
+    Traces::new(alloc, rooms, room)
+}
+
+// Of each block of a client no query is counted yet.
+fn fresh_counts(alloc: Global, program: &Program, number: u8) -> Result<SyncCounts, AllocError>
+    requires { number < length program.now.clients }
+    ensures fresh { IfOk result (λ counts. counts.rows ≡ fresh_rows (lists_of program.now number)) }
+{
+    program.is_sound();
+    let count = program.blocks_of(number);
+    let mut room = 0;
+    for index in 0..count as u8 {
+        room += program.block(number, index).reserved().len();
+    }
+    let mut counts = SyncCounts::new(alloc, count, room)?;
+    for index in 0..count as u8 {
+        let block = program.block(number, index);
+        counts.push_list(usize::from(index), block.reserved());
+    }
+    Ok(counts)
+}
+
+// How many of these events are queries.
+fn queries(events: &[Event]) -> u64
+    requires few { length events.now ≤ 100000 }
+    ensures value { result ≡ queries_in events.now }
+    ensures limit { result ≤ 100000 }
+{
+    let mut queries = 0;
+    for event in events {
+        if event.request.op.is_query() {
+            queries += 1;
+        }
+    }
+    queries
 }
 
 /// Sets a variable.

@@ -5,10 +5,8 @@ mod client;
 mod frames;
 mod private_queue;
 mod stage;
-mod trace;
 
 pub use client::{Asked, ClientState, Prepared, answer, fresh_clients};
 pub use frames::{Ask, Frame, Frames, grow};
 pub use private_queue::PrivateQueue;
 pub use stage::Stage;
-pub use trace::Trace;

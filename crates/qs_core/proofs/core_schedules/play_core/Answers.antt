@@ -23,19 +23,19 @@ pub returns-clause-shown : goal.returns-clause-shown
 returns-clause-shown c =
     let all_rounds : c.loop-round._round ≡ c.args.rounds = omega (arith, c.loop-round-test.false, c.loop-round.auto._round-end) in
     let on = subst (λ n. IsPlayedOn c.args.program.now c.args.mode c.args.size (schedule c.args.program.now c.args.picks.now n) c.loop-round.core) all_rounds c.loop-round.invariant in
-    if_shown (IsShown c.args.program.now c.args.mode c.args.size c.args.picks.now c.args.rounds) c.shown.result (core_played c.loop-round.core.program (core_of c.loop-round.core)) c.shown.ensures.shown
+    if_shown (IsShown c.args.program.now c.args.mode c.args.size c.args.picks.now c.args.rounds) c.into_played.result (core_played c.loop-round.core.program (core_of c.loop-round.core)) c.into_played.ensures.shown
     (λ played is. schedule_shown c.args.program.now c.args.mode c.args.size c.args.picks.now c.args.rounds c.loop-round.core played on is)
 
 pub returns-clause-isolated : goal.returns-clause-isolated
 returns-clause-isolated c =
     let all_rounds : c.loop-round._round ≡ c.args.rounds = omega (arith, c.loop-round-test.false, c.loop-round.auto._round-end) in
     let on = subst (λ n. IsPlayedOn c.args.program.now c.args.mode c.args.size (schedule c.args.program.now c.args.picks.now n) c.loop-round.core) all_rounds c.loop-round.invariant in
-    if_shown (IsShownIsolated c.args.program.now c.args.mode c.args.size c.args.picks.now c.args.rounds) c.shown.result (core_played c.loop-round.core.program (core_of c.loop-round.core)) c.shown.ensures.shown
-    (λ played is. schedule_isolated c.args.program.now c.args.mode c.args.size c.args.picks.now c.args.rounds c.loop-round.core played on is c.shown.ensures.isolated)
+    if_shown (IsShownIsolated c.args.program.now c.args.mode c.args.size c.args.picks.now c.args.rounds) c.into_played.result (core_played c.loop-round.core.program (core_of c.loop-round.core)) c.into_played.ensures.shown
+    (λ played is. schedule_isolated c.args.program.now c.args.mode c.args.size c.args.picks.now c.args.rounds c.loop-round.core played on is c.into_played.ensures.isolated)
 
 pub returns-clause-counted : goal.returns-clause-counted
 returns-clause-counted c =
     let all_rounds : c.loop-round._round ≡ c.args.rounds = omega (arith, c.loop-round-test.false, c.loop-round.auto._round-end) in
     let on = subst (λ n. IsPlayedOn c.args.program.now c.args.mode c.args.size (schedule c.args.program.now c.args.picks.now n) c.loop-round.core) all_rounds c.loop-round.invariant in
-    if_shown (AreSyncsCounted c.args.program.now c.args.mode) c.shown.result (core_played c.loop-round.core.program (core_of c.loop-round.core)) c.shown.ensures.shown
-    (λ played is. schedule_counted c.args.program.now c.args.mode c.args.size c.args.picks.now c.args.rounds c.loop-round.core played on is c.shown.ensures.counted)
+    if_shown (AreSyncsCounted c.args.program.now c.args.mode) c.into_played.result (core_played c.loop-round.core.program (core_of c.loop-round.core)) c.into_played.ensures.shown
+    (λ played is. schedule_counted c.args.program.now c.args.mode c.args.size c.args.picks.now c.args.rounds c.loop-round.core played on is c.into_played.ensures.counted)

@@ -8,7 +8,6 @@ use Rattle.qs_plain_client.proofs.client.prepare.Given as goal
 
 abbrev pub invariant-loop-object : goal.invariant-loop-object
 invariant-loop-object l = record {
-  load : l.load ≡ sum_by (load_of (block_at l.program l.number l.index).body) (take l.object-index l.object-items);
   objects : map (λ (q : ℕ × QueueState). q.0) l.queues.items ≡ take l.object-index l.object-items;
   queues : AllByRecursion (IsReadyQueue l.number l.index (block_at l.program l.number l.index)) l.queues.items;
 }

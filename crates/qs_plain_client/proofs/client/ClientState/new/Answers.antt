@@ -4,7 +4,7 @@ use Rattle.qs_check.specs.Program.{BlockShape, block_at}
 use Rattle.qs_check.specs.Statements.{Statements}
 use Rattle.qs_played.proofs.Lists.{each_more}
 use Rattle.qs_plain_client.specs.Frames.{rest, places_of}
-use Rattle.qs_plain_client.specs.PreparedBlock.{IsStocked}
+use Rattle.qs_plain_client.specs.PreparedBlock.{AreQueues}
 use Rattle.qs_plain_client.proofs.client.ClientState.new.Goals as goal
 
 pub loop-index-preserved : goal.loop-index-preserved
@@ -19,5 +19,11 @@ loop-index-preserved c =
       fits = below_more _ c.loop-index.index (λ j lt. omega (arith, c.loop-index.invariant.fits j lt, grown.larger)) here;
       many = rw c.in_ok-push_back.ensures.items (simp length-append (omega (arith, c.loop-index.invariant.many)));
       stocked = rw c.in_ok-push_back.ensures.items
-          (each_more (λ j. IsStocked c.args.number j (block_at p c.args.number j)) c.loop-index.prepared.items _ c.loop-index.index c.loop-index.invariant.many c.loop-index.invariant.stocked c.in_ok-prepare.ensures.ready);
+          (each_more (λ j. AreQueues c.args.number j (block_at p c.args.number j)) c.loop-index.prepared.items _ c.loop-index.index c.loop-index.invariant.many c.loop-index.invariant.stocked c.in_ok-prepare.ensures.ready);
     }
+
+pub invariant_of-result : goal.invariant_of-result
+invariant_of-result c = ?
+
+pub returns : goal.returns
+returns c = ?

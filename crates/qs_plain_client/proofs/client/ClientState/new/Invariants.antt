@@ -1,7 +1,8 @@
-use Rattle.std.proofs.Common.{◌≡◌, ◌<◌, ◌≤◌, ℕ, [], length, get_or, vec_capacity}
+use Rattle.std.proofs.Common.{◌≡◌, ◌<◌, ◌≤◌, ℕ, List, [], length, get_or, vec_capacity}
 use Rattle.qs_check.specs.Program.{block_at}
 use Rattle.qs_plain_client.specs.Frames.{rest, places_of}
-use Rattle.qs_plain_client.specs.PreparedBlock.{PreparedState, IsStocked}
+use Rattle.qs_plain_client.specs.PreparedBlock.{AreQueues}
+use Rattle.qs_plain_client.specs.Queues.{QueueState}
 use Rattle.qs_plain_client.proofs.client.ClientState.new.Given as goal
 
 abbrev pub invariant-loop-index : goal.invariant-loop-index
@@ -9,5 +10,5 @@ invariant-loop-index l = record {
   frames : l.frames.items ≡ [];
   fits : (j : ℕ) → j < l.index → places_of (rest (block_at l.program l.number j).body) ≤ vec_capacity l.frames;
   many : length l.prepared.items ≡ l.index;
-  stocked : (j : ℕ) (x : PreparedState) → j < l.index → IsStocked l.number j (block_at l.program l.number j) (get_or l.prepared.items j x);
+  stocked : (j : ℕ) (x : List (ℕ × QueueState)) → j < l.index → AreQueues l.number j (block_at l.program l.number j) (get_or l.prepared.items j x);
 }

@@ -7,7 +7,7 @@ use Rattle.qs_core_parts.specs.CoreHandlers.{CoreHandlerState}
 use Rattle.qs_core.specs.CoreShown.{AreShowable, shown_by}
 use Rattle.qs_core.specs.CoreState.{CoreState, IsCoreState}
 use Rattle.qs_core.proofs.CoreReadings.{shown_is, showable}
-use Rattle.qs_core.proofs.core_machine.CoreMachine.shown.Goals as goal
+use Rattle.qs_core.proofs.core_machine.CoreMachine.into_played.Goals as goal
 
 pub shown-requires : goal.shown-requires
 shown-requires c =

@@ -3,10 +3,10 @@ use Rattle.qs_check.specs.Sound.{IsSound}
 use Rattle.qs_core.specs.CoreState.{CoreIsIsolated, CoreIsCounted}
 use Rattle.qs_core.proofs.CoreCounted.{core_is_counted}
 use Rattle.qs_core.proofs.CoreReaching.{core_is_isolated, core_keeps}
-use Rattle.qs_core.proofs.optimised.Core.shown.Goals as goal
+use Rattle.qs_core.proofs.optimised.Core.into_played.Goals as goal
 
-pub shown-requires : goal.shown-requires
-shown-requires c = record { keeps = core_keeps c.self.inside.machine (subst IsSound c.program.ensures.value c.is_sound.ensures.sound) c.is_machine.ensures.state c.self.invariant }
+pub into_played-requires : goal.into_played-requires
+into_played-requires c = record { keeps = core_keeps c.self.inside.machine (subst IsSound c.program.ensures.value c.is_sound.ensures.sound) c.is_machine.ensures.state c.self.invariant }
 
 pub returns-clause-isolated : goal.returns-clause-isolated
 returns-clause-isolated c = subst CoreIsIsolated c.self.view_is (core_is_isolated c.self.inside.machine (subst IsSound c.program.ensures.value c.is_sound.ensures.sound) c.is_machine.ensures.state c.self.invariant)
