@@ -143,7 +143,10 @@ impl<'p> ClientState<'p> {
     pub fn is_done(&self) -> bool
         ensures value { result ≡ is_done self.now.program self.now.number (client_of self.now) }
     {
-        self.stage == Stage::Out && self.prepared.is_empty()
+        match self.stage {
+            Stage::Out => self.prepared.is_empty(),
+            _ => false,
+        }
     }
 
     /// Whether the block of this number has ended.

@@ -1,4 +1,4 @@
-use Rattle.std.proofs.Common.{◌≡◌, ◌<◌, ◌≤◌, ◌*◌, ◌+◌, ℕ, List, [], ◌∷◌, ◌++◌, get_or, length, map, take, refl, sym, ap, ◌∙◌, arith}
+use Rattle.std.proofs.Common.{◌≡◌, ◌<◌, ◌+◌, ℕ, List, [], ◌∷◌, ◌++◌, get_or, length, sym, ap, ◌∙◌, arith}
 use Rattle.std.proofs.lemmas.List.{get_or-map, length-map, take_more}
 use Rattle.qs_objects.specs.Sums.{total}
 use Rattle.qs_check.specs.Program.{block_load, client_at, no_block}
@@ -9,18 +9,15 @@ total_push : (ns : List ℕ) (n : ℕ) → total (ns ++ n ∷ []) ≡ total ns +
 total_push [] n = omega arith
 total_push (m ∷ ns) n = let rest = total_push ns n in omega (arith, rest)
 
-pub room_of-requires : goal.room_of-requires
-room_of-requires c = ?
-
 pub loop-index-preserved : goal.loop-index-preserved
 loop-index-preserved c =
     let blocks = (client_at c.args.program.now c.args.number).blocks in
     let n = c.loop-index.index in
-    let inside : n < length blocks = ? in
+    let inside : n < length blocks = omega (arith, c.loop-index-test.true, c.blocks_of-count.ensures.value) in
     let pushed = c.push_reserved.ensures.items in
     let sum = ap total pushed ∙ total_push c.loop-index.rooms.items c.room_of-requests.result in
-    let here = get_or-map block_load blocks n no_block 0 inside in
-    let long = length-map blocks block_load in
+    let here : get_or (rooms_of c.args.program.now c.args.number) n 0 ≡ block_load (get_or blocks n no_block) = get_or-map block_load blocks n no_block 0 inside in
+    let long : length (rooms_of c.args.program.now c.args.number) ≡ length blocks = length-map blocks block_load in
     record {
       rooms = pushed
           ∙ ((λ i. c.loop-index.invariant.rooms i ++ (c.room_of-requests.ensures.value ∙ sym here) i ∷ [])

@@ -1,6 +1,5 @@
-use Rattle.std.proofs.Common.{◌≡◌, ℕ, map, take, sum_by}
+use Rattle.std.proofs.Common.{◌≡◌, ℕ, map, take}
 use Rattle.std.specs.List.{AllByRecursion}
-use Rattle.qs_check.specs.Loads.{load_of}
 use Rattle.qs_check.specs.Program.{block_at}
 use Rattle.qs_plain_client.specs.Queues.{QueueState}
 use Rattle.qs_plain_client.specs.PreparedBlock.{IsReadyQueue}
