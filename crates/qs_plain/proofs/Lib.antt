@@ -3,6 +3,7 @@ pub mod HandlersPreserved
 pub mod HandlersSteps
 pub mod Playing
 pub mod ReadingOff
+pub mod ReadRows
 pub mod RulesBegin
 pub mod RulesFresh
 pub mod RulesGo

@@ -161,13 +161,13 @@ module _ (r : RulesState) (kept : IsRules r) (sound : IsSound r.program) (c : �
   abbrev pub after : List Ticket → RulesState
   after order = record { program = r.program; order = order; clients = set r.clients c new; handlers = entered_all r.handlers queues }
 
-  new_client : client_of new ≡ plain.begins (client_of old) old.locals (tree_of block.body old.locals)
+  new_client : client_of new ≡ plain.begins (client_of old) old.locals (tree_of block.body old.locals) block.reserved
   new_client =
       let none : old.frames ≡ [] = subst (IsStaged old) out isc.staged in
       let frames : old.frames ++ rest (block_of old here).body ∷ [] ≡ rest block.body ∷ [] = ap (λ fs. fs ++ rest (block_of old here).body ∷ []) none ∙ ap (λ (b : BlockShape). rest b.body ∷ []) same_block in
       let traces : map (λ (t : TraceState). t.events) (old.traces ++ begins.first.trace ∷ []) ≡ map (λ (t : TraceState). t.events) old.traces ++ [] ∷ [] =
       map-append (λ (t : TraceState). t.events) old.traces (begins.first.trace ∷ []) ∙ ap (λ es. map (λ (t : TraceState). t.events) old.traces ++ es ∷ []) ready.stocked.trace in
-      ap client_of begins.client ∙ (λ k. record { stage = plain.within (next_of (frames k) old.locals); entries = old.entries ++ old.locals ∷ []; traces = traces k })
+      ap client_of begins.client ∙ (λ k. record { stage = plain.within (next_of (frames k) old.locals); entries = old.entries ++ old.locals ∷ []; traces = traces k; counts = old.counts ++ ready.stocked.counts k ∷ [] })
 
   separates : plain.separate r.program (plain_of r) c (client_of old) old.locals ≡ plain_of (after (r.order ++ ticket c here ∷ []))
   separates = λ k. record {

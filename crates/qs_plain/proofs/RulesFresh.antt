@@ -24,8 +24,8 @@ listed f g (x ∷ xs) d a each =
 
 fresh_is : (p : ProgramShape) (c : ℕ) (d : ClientState) → IsFresh p c d → client_of d ≡ fresh_client c
 fresh_is p c d f =
-    (λ k. record { stage = stage_of (f.stage k) d.frames d.locals; entries = f.entries k; traces = map (λ t. t.events) (f.traces k) })
-    ∙ (λ k. record { stage = plain.out (f.locals k); entries = []; traces = [] })
+    (λ k. record { stage = stage_of (f.stage k) d.frames d.locals; entries = f.entries k; traces = map (λ t. t.events) (f.traces k); counts = f.counts k })
+    ∙ (λ k. record { stage = plain.out (f.locals k); entries = []; traces = []; counts = [] })
 
 to_come_is : (cs : List ClientState) (ds : List ClientShape) → length cs ≡ length ds → ((i : ℕ) → i < length ds → length (get_or cs i absent).prepared ≡ length (get_or ds i no_client).blocks)
     → to_come cs ≡ sum_by (λ (d : ClientShape). length d.blocks) ds

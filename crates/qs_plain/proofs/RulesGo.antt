@@ -21,7 +21,9 @@ use Rattle.qs_plain_laws.specs.declared.item.QueueItem.TheVariants as item
 use Rattle.qs_plain_client.specs.ClientMoves.{moved}
 use Rattle.qs_plain_client.specs.Clients.{ClientState, IsClient, IsWithin, current_block, client_of, stage_of, absent, client_at}
 use Rattle.qs_plain_client.specs.Frames.{Frame, next_of, load_left}
-use Rattle.qs_plain_client.specs.TraceMoves.{noted_in, last_of, no_trace}
+use Rattle.qs_plain_client.specs.TraceMoves.{counted_in, noted_in, last_of, no_trace}
+use Rattle.qs_syncset.specs.SyncRows.{with_sync}
+use Rattle.qs_syncset.specs.declared.sync_counts.SyncCount.{SyncCount}
 use Rattle.qs_objects.specs.Traces.{TraceState, trace_state}
 use Rattle.qs_plain_client.specs.declared.stage.Stage.{Stage}
 use Rattle.qs_plain_client.proofs.ClientPreserved.{within_of}
@@ -96,7 +98,7 @@ module _ (r : RulesState) (kept : IsRules r) (sound : IsSound r.program) (c : �
   pub can_log_all : CanLogAll now r.handlers block.reserved
   can_log_all = (each_implies (λ h. h < length r.handlers) (CanLog now r.handlers) block.reserved can_log_at in_hall, block_sound.distinct)
 
-  module _ (s : Stage) (l : List ℤ) (fs : List Frame) (ts : List TraceState) (new : ClientState) (new_is : new ≡ moved old s l fs ts) (load : (h : ℕ) → load_left fs h ≤ load_left old.frames h) where
+  module _ (s : Stage) (l : List ℤ) (fs : List Frame) (ts : List TraceState) (xs : List (List SyncCount)) (new : ClientState) (new_is : new ≡ moved old s l fs ts xs) (load : (h : ℕ) → load_left fs h ≤ load_left old.frames h) where
     pub continues : Continues old new
     continues = record {
       program = ap (λ (d : ClientState). d.program) new_is;
@@ -107,17 +109,17 @@ module _ (r : RulesState) (kept : IsRules r) (sound : IsSound r.program) (c : �
       load = λ h. subst (λ (d : ClientState). load_left d.frames h ≤ load_left old.frames h) (sym new_is) (load h);
     }
 
-  pub moved_to_come : (s : Stage) (l : List ℤ) (fs : List Frame) (ts : List TraceState) (new : ClientState) → new ≡ moved old s l fs ts → to_come (set r.clients c new) ≡ to_come r.clients
-  moved_to_come s l fs ts new new_is =
+  pub moved_to_come : (s : Stage) (l : List ℤ) (fs : List Frame) (ts : List TraceState) (xs : List (List SyncCount)) (new : ClientState) → new ≡ moved old s l fs ts xs → to_come (set r.clients c new) ≡ to_come r.clients
+  moved_to_come s l fs ts xs new new_is =
       let counted = sum_by-set (λ (d : ClientState). length d.prepared) r.clients c new absent inside in
       omega (arith, counted, ap (λ (d : ClientState). length d.prepared) new_is)
 
   -- a request was logged
-  pub asked_kept : (s : Stage) (l : List ℤ) (fs : List Frame) (ts : List TraceState) (new : ClientState) → new ≡ moved old s l fs ts → (h : ℕ) → is_in (current_block old).reserved h ≡ true → (i : QueueItem)
+  pub asked_kept : (s : Stage) (l : List ℤ) (fs : List Frame) (ts : List TraceState) (xs : List (List SyncCount)) (new : ClientState) → new ≡ moved old s l fs ts xs → (h : ℕ) → is_in (current_block old).reserved h ≡ true → (i : QueueItem)
       → ((k : ℕ) → (if h == k then 1 else 0) + load_left fs k ≤ load_left old.frames k)
       → IsRules (record { program = r.program; order = r.order; clients = set r.clients c new; handlers = logged_at now i r.handlers h })
-  asked_kept s l fs ts new new_is h member i load =
-      logged_kept r kept c new now i (logged_at now i r.handlers h) inside (continues s l fs ts new new_is (λ k. omega (arith, load k))) refl (length-set r.handlers h (logged now i (handler_at r.handlers h)))
+  asked_kept s l fs ts xs new new_is h member i load =
+      logged_kept r kept c new now i (logged_at now i r.handlers h) inside (continues s l fs ts xs new new_is (λ k. omega (arith, load k))) refl (length-set r.handlers h (logged now i (handler_at r.handlers h)))
       (λ k. at_place k (equal_or_not k h)) (λ k e. asked k (equal_or_not k h))
     where
       less : h < length r.handlers
@@ -135,10 +137,10 @@ module _ (r : RulesState) (kept : IsRules r) (sound : IsSound r.program) (c : �
       asked k (inr other) = inl (get_or-set_other r.handlers h k (logged now i (handler_at r.handlers h)) nobody other)
 
   -- the block has ended
-  pub ended_kept : (l : List ℤ) (new : ClientState) → new ≡ moved old stage.Out l [] old.traces
+  pub ended_kept : (l : List ℤ) (new : ClientState) → new ≡ moved old stage.Out l [] old.traces old.counts
       → IsRules (record { program = r.program; order = r.order; clients = set r.clients c new; handlers = logged_all now item.EndMark r.handlers block.reserved })
   ended_kept l new new_is =
-      logged_kept r kept c new now item.EndMark (logged_all now item.EndMark r.handlers block.reserved) inside (continues stage.Out l [] old.traces new new_is (λ k. omega arith)) refl
+      logged_kept r kept c new now item.EndMark (logged_all now item.EndMark r.handlers block.reserved) inside (continues stage.Out l [] old.traces old.counts new new_is (λ k. omega arith)) refl
       (length-logged_all now item.EndMark r.handlers block.reserved) (logged_each now item.EndMark r.handlers block.reserved block_sound.distinct in_hall)
       (λ h e. absurd (out_of e))
     where
@@ -161,7 +163,7 @@ module _ (r : RulesState) (kept : IsRules r) (sound : IsSound r.program) (c : �
       ∙ ap (λ n. set (map (λ (t : TraceState). t.events) old.traces) (n - 1) ((last_of old.traces).events ++ e ∷ [])) isc.traces
       ∙ ap (λ es. set (map (λ (t : TraceState). t.events) old.traces) here (es ++ e ∷ [])) (ap (λ (t : TraceState). t.events) last ∙ sym (get_or-map (λ (t : TraceState). t.events) old.traces here no_trace))
 
-  pub command_steps : (q : Request) (l : List ℤ) (fs : List Frame) (new : ClientState) → next_of old.frames old.locals ≡ Call q (next_of fs l) → new ≡ moved old stage.Within l fs (noted_in old.traces (event q None))
+  pub command_steps : (q : Request) (l : List ℤ) (fs : List Frame) (new : ClientState) → next_of old.frames old.locals ≡ Call q (next_of fs l) → new ≡ moved old stage.Within l fs (noted_in old.traces (event q None)) old.counts
       → step r.program (plain_of r) (actor.Client c) ≡ Some (plain_of (record { program = r.program; order = r.order; clients = set r.clients c new; handlers = logged_at now (item.Command q) r.handlers q.object }))
   command_steps q l fs new is new_is = goes_within (record { program = r.program; order = r.order; clients = set r.clients c new; handlers = logged_at now (item.Command q) r.handlers q.object }) _ is (λ k. record {
     order = r.order;
@@ -170,17 +172,24 @@ module _ (r : RulesState) (kept : IsRules r) (sound : IsSound r.program) (c : �
   })
     where
       client : client_of new ≡ plain.stands (plain.traced (client_of old) here (event q None)) (plain.within (next_of fs l))
-      client = ap client_of new_is ∙ (λ k. record { stage = plain.within (next_of fs l); entries = old.entries; traces = events-noted (event q None) k })
+      client = ap client_of new_is ∙ (λ k. record { stage = plain.within (next_of fs l); entries = old.entries; traces = events-noted (event q None) k; counts = old.counts })
 
-  pub query_steps : (q : Request) (x : ℕ) (l : List ℤ) (fs : List Frame) (new : ClientState) → next_of old.frames old.locals ≡ Query q (λ v. next_of fs (set l x v)) → new ≡ moved old (stage.Waiting x) l fs old.traces
+  pub query_steps : (q : Request) (x : ℕ) (l : List ℤ) (fs : List Frame) (new : ClientState) → next_of old.frames old.locals ≡ Query q (λ v. next_of fs (set l x v)) → new ≡ moved old (stage.Waiting x) l fs old.traces (counted_in old.counts q.object)
       → step r.program (plain_of r) (actor.Client c) ≡ Some (plain_of (record { program = r.program; order = r.order; clients = set r.clients c new; handlers = logged_at now (item.Query q) r.handlers q.object }))
   query_steps q x l fs new is new_is = goes_within (record { program = r.program; order = r.order; clients = set r.clients c new; handlers = logged_at now (item.Query q) r.handlers q.object }) _ is (λ k. record {
     order = r.order;
-    clients = (ap (set (map client_of r.clients) c) (sym (ap client_of new_is)) ∙ sym (map-set client_of r.clients c new)) k;
+    clients = (ap (set (map client_of r.clients) c) (sym client) ∙ sym (map-set client_of r.clients c new)) k;
     handlers = sym (plain-logged_at now (item.Query q) r.handlers q.object) k;
   })
+    where
+      counts : counted_in old.counts q.object ≡ set old.counts here (with_sync q.object (get_or old.counts here []))
+      counts = ap (λ n. set old.counts (n - 1) (with_sync q.object (get_or old.counts (n - 1) []))) isc.counts
 
-  pub end_steps : (l : List ℤ) (new : ClientState) → next_of old.frames old.locals ≡ Done l → new ≡ moved old stage.Out l [] old.traces
+      client : client_of new ≡ plain.stands (plain.counted (client_of old) here q.object) (plain.waiting (λ v. next_of fs (set l x v)))
+      client = ap client_of new_is
+          ∙ (λ k. record { stage = plain.waiting (λ v. next_of fs (set l x v)); entries = old.entries; traces = map (λ (t : TraceState). t.events) old.traces; counts = counts k })
+
+  pub end_steps : (l : List ℤ) (new : ClientState) → next_of old.frames old.locals ≡ Done l → new ≡ moved old stage.Out l [] old.traces old.counts
       → step r.program (plain_of r) (actor.Client c) ≡ Some (plain_of (record { program = r.program; order = r.order; clients = set r.clients c new; handlers = logged_all now item.EndMark r.handlers block.reserved }))
   end_steps l new is new_is = goes_within (record { program = r.program; order = r.order; clients = set r.clients c new; handlers = logged_all now item.EndMark r.handlers block.reserved }) _ is (λ k. record {
     order = r.order;

@@ -144,7 +144,7 @@ module _ (d new : ClientState) (q : Request) (v : Option ℤ) (isc : IsClient d)
   replied_at stage.Out sv = ap client_of (sym sv)
   replied_at stage.Within sv = ap client_of (sym sv)
   replied_at (stage.Waiting x) sv =
-      (λ k. record { stage = plain.within (next_of d.frames (set d.locals x (value_of v))); entries = d.entries; traces = sym (events-noted d isc (event q v)) k }) ∙ ap client_of (sym sv)
+      (λ k. record { stage = plain.within (next_of d.frames (set d.locals x (value_of v))); entries = d.entries; traces = sym (events-noted d isc (event q v)) k; counts = d.counts }) ∙ ap client_of (sym sv)
 
   pub replied_is : Replies d q v new → replied (client_of d) q v ≡ client_of new
   replied_is sv = replied_at d.stage sv

@@ -1,8 +1,9 @@
 -- What the code reads off when a run is over.
-use Rattle.std.specs.Prelude.{◌≡◌, ◌<◌, ℕ, List, length, slice_index_or}
+use Rattle.std.specs.Prelude.{◌≡◌, ◌<◌, ℕ, List, [], ◌∷◌, length, slice_index_or}
 use Rattle.qs_objects.specs.declared.held.Ticket.{Ticket}
 use Rattle.qs_check.specs.Program.{ProgramShape}
-use Rattle.qs_plain_client.specs.Clients.{ClientState, client_at}
+use Rattle.qs_played.specs.Played.{ClientRows}
+use Rattle.qs_plain_client.specs.Clients.{AreRowsOf, ClientState, client_at, client_of}
 
 -- each ticket names a block that was begun
 abbrev pub AreBegun : List ClientState → List Ticket → Type 0
@@ -12,3 +13,10 @@ AreBegun cs order = (i : ℕ) (d : Ticket) → i < length order →
 -- the clients of a program, each with its number
 abbrev pub AreOwn : ProgramShape → List ClientState → Type 0
 AreOwn p cs = (c : ℕ) → c < length cs → ((client_at cs c).program ≡ p) × ((client_at cs c).number ≡ c)
+
+-- the rows of each client
+abbrev pub AreRows : List ClientRows → List ClientState → Type 0
+AreRows [] [] = Unit {0}
+AreRows [] (d ∷ cs) = ⊥
+AreRows (r ∷ rows) [] = ⊥
+AreRows (r ∷ rows) (d ∷ cs) = AreRowsOf r (client_of d) × AreRows rows cs

@@ -13,7 +13,7 @@ use qs_check::Program;
 use qs_objects::Ticket;
 use qs_plain_client::{Asked, ClientState, Stage, answer, fresh_clients};
 use qs_plain_laws::QueueItem;
-use qs_played::{Actor, Played, Row};
+use qs_played::{Actor, Endings, Played, Row};
 use std::alloc::{AllocError, Global};
 use std::marker::Model;
 
@@ -213,20 +213,17 @@ impl<'p> Machine<'p> {
     {
         self.program.is_sound();
         let ended = showing::endings(alloc, &self.clients, &self.order)?;
-        let entries = showing::entries(alloc, &self.clients, &self.order)?;
-        let traces = showing::traces(alloc, &self.clients, &self.order)?;
         let syncs = showing::syncs(&self.clients);
         let finished = showing::are_done(&self.clients) && showing::are_idle(&self.handlers);
         let (journals, states) = showing::parts(alloc, self.handlers)?;
-        Ok(Played {
-            order: Row::from_vec(self.order),
+        let clients = showing::rows(alloc, self.clients)?;
+        let endings = Endings {
             ended,
-            entries,
-            traces,
             journals,
             states,
             syncs,
             finished,
-        })
+        };
+        Ok(Played::new(Row::from_vec(self.order), clients, endings))
     }
 }

@@ -1,19 +1,18 @@
 //! What a run has shown, read off when it is over.
 
-ghost use Rattle.std.specs.Prelude.{◌≡◌, ◌≤◌, ◌∷◌, IfOk, length, map, sum_by, slice_index_or, []};
+ghost use Rattle.std.specs.Prelude.{◌≡◌, ◌≤◌, ◌∷◌, IfOk, length, map, sum_by};
 ghost use Rattle.qs_objects.specs.declared.held.Ticket.{Ticket as TicketShape};
 ghost use Rattle.qs_check.specs.Program.{ProgramShape};
 ghost use Rattle.qs_plain_client.specs.Clients.{ClientState as State, client_of};
 ghost use Rattle.qs_plain_client.specs.Clients.{client_at};
 ghost use Rattle.qs_plain_laws.specs.PlainSchedule.{all_done, all_idle, has_ended, syncs_of};
 ghost use Rattle.qs_plain.specs.Served.{HandlerState as Serving, handler_of};
-ghost use Rattle.qs_plain.specs.BegunBlocks.{AreBegun, AreOwn};
+ghost use Rattle.qs_plain.specs.BegunBlocks.{AreBegun, AreOwn, AreRows};
 
 use crate::handler::HandlerState;
-use qs_check::Locals;
 use qs_objects::{Journal, Object, Ticket};
 use qs_plain_client::ClientState;
-use qs_played::{Row, Traces};
+use qs_played::{ClientRows, Row};
 use std::alloc::{AllocError, Global};
 
 /// For each ticket whether its block has ended.
@@ -32,36 +31,15 @@ pub(crate) fn endings(
     Ok(Row::from_vec(row))
 }
 
-/// For each ticket its client's variables at entry.
-pub(crate) fn entries(
-    alloc: Global,
-    clients: &[ClientState],
-    order: &[Ticket],
-) -> Result<Row<Locals>, AllocError>
-    requires { AreBegun clients.now order.now }
-    ensures value { IfOk result (λ row. row ≡ map (λ (t : TicketShape). slice_index_or (client_at clients.now t.client).entries t.index []) order.now) }
+/// What each client's blocks have shown, taken from it.
+pub(crate) fn rows(alloc: Global, clients: Vec<ClientState>) -> Result<Vec<ClientRows>, AllocError>
+    ensures value { IfOk result (λ rows. AreRows rows.items clients.entry.items) }
 {
-    let mut row = Vec::new(alloc);
-    for ticket in order {
-        row.push(clients[usize::from(ticket.client)].entry(ticket.index))?;
+    let mut rows = Vec::new(alloc);
+    for client in clients {
+        rows.push(client.into_rows())?;
     }
-    Ok(Row::from_vec(row))
-}
-
-/// For each ticket its block's trace.
-pub(crate) fn traces(
-    alloc: Global,
-    clients: &[ClientState],
-    order: &[Ticket],
-) -> Result<Traces, AllocError>
-    requires { AreBegun clients.now order.now }
-    ensures value { IfOk result (λ traces. traces ≡ map (λ (t : TicketShape). slice_index_or (client_of (client_at clients.now t.client)).traces t.index []) order.now) }
-{
-    let mut row = Vec::new(alloc);
-    for ticket in order {
-        row.push(clients[usize::from(ticket.client)].trace(alloc, ticket.index)?)?;
-    }
-    Ok(Traces::from_vec(row))
+    Ok(rows)
 }
 
 /// How many queries the clients have asked.

@@ -49,8 +49,8 @@ invariant_of-self c =
     let r : RulesState = record { program = c.self.inside.program.now; order = c.self.inside.order.items; clients = c.self.inside.clients.items; handlers = c.self.inside.handlers.items } in
     let same = c.log_once.ensures.logged ∙ ap (λ t. logged_at t (item.Command request) c.self.inside.handlers.items request.object) now in (
       made_kept r c.self.inside.order.items number c.from.result new _ c.log_once.new.handlers.items c.from.ensures same
-          (asked_kept r kept sound number less isc stays stage.Within new.locals new.frames _ new goes.1 request.object member (item.Command request) load),
-      omega (arith, c.self.invariant.1, moved_to_come r kept sound number less isc stays stage.Within new.locals new.frames _ new goes.1, ap (λ n. to_come (set c.self.inside.clients.items n new)) c.from.ensures),
+          (asked_kept r kept sound number less isc stays stage.Within new.locals new.frames _ _ new goes.1 request.object member (item.Command request) load),
+      omega (arith, c.self.invariant.1, moved_to_come r kept sound number less isc stays stage.Within new.locals new.frames _ _ new goes.1, ap (λ n. to_come (set c.self.inside.clients.items n new)) c.from.ensures),
     )
 
 pub log_once-requires-in-Query : goal.log_once-requires-in-Query
@@ -85,8 +85,8 @@ invariant_of-self-in-Query c =
     let r : RulesState = record { program = c.self.inside.program.now; order = c.self.inside.order.items; clients = c.self.inside.clients.items; handlers = c.self.inside.handlers.items } in
     let same = c.log_once-in-Query.ensures.logged ∙ ap (λ t. logged_at t (item.Query request) c.self.inside.handlers.items request.object) now in (
       made_kept r c.self.inside.order.items number c.from.result new _ c.log_once-in-Query.new.handlers.items c.from.ensures same
-          (asked_kept r kept sound number less isc stays (stage.Waiting goes.0) new.locals new.frames _ new goes.2 request.object member (item.Query request) load),
-      omega (arith, c.self.invariant.1, moved_to_come r kept sound number less isc stays (stage.Waiting goes.0) new.locals new.frames _ new goes.2, ap (λ n. to_come (set c.self.inside.clients.items n new)) c.from.ensures),
+          (asked_kept r kept sound number less isc stays (stage.Waiting goes.0) new.locals new.frames _ _ new goes.2 request.object member (item.Query request) load),
+      omega (arith, c.self.invariant.1, moved_to_come r kept sound number less isc stays (stage.Waiting goes.0) new.locals new.frames _ _ new goes.2, ap (λ n. to_come (set c.self.inside.clients.items n new)) c.from.ensures),
     )
 
 pub log_all-requires : goal.log_all-requires
@@ -118,7 +118,7 @@ invariant_of-self-in-End c =
     let r : RulesState = record { program = c.self.inside.program.now; order = c.self.inside.order.items; clients = c.self.inside.clients.items; handlers = c.self.inside.handlers.items } in
     let same = logged_all_of _ _ item.EndMark c.self.inside.handlers.items c.log_all.new.handlers.items _ _ now block c.log_all.ensures.logged in (
       made_kept r c.self.inside.order.items number c.from.result new _ c.log_all.new.handlers.items c.from.ensures same (ended_kept r kept sound number less isc stays new.locals new goes.1),
-      omega (arith, c.self.invariant.1, moved_to_come r kept sound number less isc stays stage.Out new.locals [] _ new goes.1, ap (λ n. to_come (set c.self.inside.clients.items n new)) c.from.ensures),
+      omega (arith, c.self.invariant.1, moved_to_come r kept sound number less isc stays stage.Out new.locals [] _ _ new goes.1, ap (λ n. to_come (set c.self.inside.clients.items n new)) c.from.ensures),
     )
 
 pub returns-in-Command : goal.returns-in-Command
