@@ -3,7 +3,7 @@
 ghost use Rattle.std.specs.Prelude.{◌≡◌, ◌||◌, false, IsTrue, not, MatchBool};
 ghost use Rattle.std.specs.Io.KnownBytes.{Appends};
 ghost use Rattle.qs_report.specs.Texts.{AppendsFront};
-ghost use Rattle.qs.specs.Due.{IsDone, due_text};
+ghost use Rattle.qs_serve.specs.Due.{IsDone, due_text};
 
 use crate::due::Due;
 use qs_report::{Watch, fault_line_watched, write_text};

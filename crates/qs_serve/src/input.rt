@@ -2,7 +2,7 @@
 
 ghost use Rattle.std.specs.Prelude.{◌≡◌, ◌+◌, ◌-◌, ◌^◌, min, ◌<◌, ◌≤◌, ◌||◌, false, length, take, drop, is_none, vec_len, IfOk, IfSome};
 ghost use Rattle.std.specs.Io.KnownBytes.{Consumes, IsAtEnd};
-ghost use Rattle.qs.specs.Input.{is_read_fault};
+ghost use Rattle.qs_serve.specs.Input.{is_read_fault};
 
 use std::alloc::{AllocError, Global};
 use std::io::Read;
@@ -18,7 +18,7 @@ pub struct Counted<R: Read> {
 }
 
 impl<R: Read> Model for Counted<R> {
-    ghost use Rattle.qs.specs.Reading.{Reading};
+    ghost use Rattle.qs_serve.specs.Reading.{Reading};
 
     ghost Value = { Reading };
 

@@ -1,5 +1,6 @@
 -- What a run has to write, and its status.
-use Rattle.std.specs.Prelude.{◌≡◌, ℕ, ◌⊎◌, List, take, Bool, true, false, Option, Some, None, Ok, Err, ⊤, IfSome, MatchBool}
+use Rattle.std.specs.Prelude.{◌≡◌, ℕ, ◌⊎◌, List, take, Bool, true, false, Option, Some, None, Ok, Err, Result, Vec, ⊤, IfSome, MatchBool}
+use Rattle.std.specs.Global.{Global}
 use Rattle.std.specs.Io.KnownBytes.{Appends}
 use Rattle.qs_script.specs.declared.fault.ReadFault.TheVariants as read
 use Rattle.qs_check.specs.declared.fault.CheckFault.TheVariants as check_fault
@@ -20,8 +21,8 @@ use Rattle.qs_plain_laws.specs.PlainSchedule.{IsPlayed}
 use Rattle.qs_played.specs.declared.fault.PlayFault.{PlayFault}
 use Rattle.qs_played.specs.declared.played.Played.{Played}
 use Rattle.qs_line.specs.Line.{Line, Request, asks, check, graph, help, line_in, play, refused, rules}
-use Rattle.qs.specs.declared.due.Due.{Due}
-use Rattle.qs.specs.declared.due.Due.TheVariants.{Text, Refused}
+use Rattle.qs_serve.specs.declared.due.Due.{Due}
+use Rattle.qs_serve.specs.declared.due.Due.TheVariants.{Text, Refused}
 
 abbrev pub due_text : Due → List ℕ
 due_text (Text bytes) = bytes.items
@@ -43,6 +44,16 @@ IsOutOfMemory (Refused (fault.Read read.Memory)) = Unit {0}
 IsOutOfMemory (Refused (fault.Check check_fault.Memory)) = Unit {0}
 IsOutOfMemory (Refused (fault.Play play_fault.Memory)) = Unit {0}
 IsOutOfMemory _ = ⊥
+
+-- a text that was made, or that an allocation failed
+abbrev pub IsTextOf : {E : Type 0} → Result (Vec ℕ Global) E → Due → Type 0
+IsTextOf (Ok bytes) due = due ≡ Text bytes
+IsTextOf (Err e) due = due ≡ Refused fault.Memory
+
+-- the report of what was played, or that an allocation failed
+abbrev pub IsReportOf : ProgramShape → Played → Due → Type 0
+IsReportOf p played (Text bytes) = bytes.items ≡ report_text p played
+IsReportOf p played (Refused f) = f ≡ fault.Memory
 
 -- what a request makes of a program: its counts; its graphs; or the report of its run by the plain rules or in the optimised machine,
 -- with so many rounds after its picks

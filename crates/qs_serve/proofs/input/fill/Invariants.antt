@@ -1,7 +1,7 @@
 -- What is filled was consumed, each turn filled at least one place, and nothing new has failed.
 use Rattle.std.proofs.Common.{◌≡◌, ◌≤◌, ◌+◌, length, take}
 use Rattle.std.specs.Io.KnownBytes.{Consumes}
-use Rattle.qs.proofs.input.fill.Given as goal
+use Rattle.qs_serve.proofs.input.fill.Given as goal
 
 abbrev pub invariant-loop-turn : goal.invariant-loop-turn
 invariant-loop-turn g l = record {

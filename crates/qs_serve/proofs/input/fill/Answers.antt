@@ -2,7 +2,7 @@ use Rattle.std.proofs.Common.{rules, arith, ◌++◌, take, drop, sym, ap, ◌�
 use Rattle.std.specs.Io.KnownBytes.{Consumes}
 use Rattle.std.proofs.KnownBytes.{Consumes-trans}
 use lib.Seq.{take-add}
-use Rattle.qs.proofs.input.fill.Goals as goal
+use Rattle.qs_serve.proofs.input.fill.Goals as goal
 
 pub loop-turn-preserved : goal.loop-turn-preserved
 loop-turn-preserved g c =

@@ -1,7 +1,7 @@
 use Rattle.std.proofs.Common.{◌≡◌, ◌⊎◌, ◌∙◌, Bool, ℕ, true, false, refl, sym, inl, inr}
 use Rattle.std.specs.Prelude.{MatchBool, IsTrue}
-use Rattle.qs.proofs.Dues.{four_is_due}
-use Rattle.qs.proofs.serving.serve.Goals as goal
+use Rattle.qs_serve.proofs.Dues.{four_is_due}
+use Rattle.qs_serve.proofs.serving.serve.Goals as goal
 
 -- a status of 4 is that of a failed write, or what is due
 by_watch : (P : Type 0) (failed : Bool) (status due : ℕ) → MatchBool failed (status ≡ 4) (P × (status ≡ due)) → status ≡ 4

@@ -1,13 +1,15 @@
 // The program over a reader and a writer.
 
-ghost use Rattle.std.specs.Prelude.{◌≡◌, ◌+◌, ◌≤◌, ◌⊎◌, false, None, map, IsTrue};
+ghost use Rattle.std.specs.Prelude.{◌≡◌, ◌+◌, ◌≤◌, ◌⊎◌, false, None, map, IsTrue, MatchBool};
 ghost use Rattle.qs_line.specs.Line.{line_in, request_by};
-ghost use Rattle.qs.specs.Due.{Serves, longest};
+ghost use Rattle.qs_report.specs.Faults.{fault_text};
+ghost use Rattle.qs_report.specs.Texts.{AppendsFront};
+ghost use Rattle.qs_serve.specs.Due.{IsDone, Serves, longest};
 
-use crate::due::due_of;
+use crate::due::{Due, due_of};
 use crate::input::Counted;
 use crate::output::finish;
-use qs_report::Watch;
+use qs_report::{Fault, Watch};
 use std::alloc::Global;
 use std::io::{Read, Write};
 
@@ -31,5 +33,15 @@ pub fn serve<'a, R: Read, W: Write>(
     ensures flushed { watch.new.has_failed ≡ false → IsTrue watch.new.is_flushed }
 {
     let due = due_of(alloc, words, input);
+    finish(out, watch, &due)
+}
+
+/// Where the words themselves are not there: the line of that fault, and its status, or 4 where a write or the flush fails.
+pub fn refuse<W: Write>(fault: Fault, out: &mut W, watch: &mut Watch<W>) -> u8
+    requires fine { watch.old.has_failed ≡ false }
+    ensures front { AppendsFront (W.contents out.old) (W.contents out.new) (fault_text fault) }
+    ensures status { MatchBool watch.new.has_failed (result ≡ 4) (IsDone (W.contents out.old) (W.contents out.new) (Due.Refused fault) result) }
+{
+    let due = Due::Refused(fault);
     finish(out, watch, &due)
 }
