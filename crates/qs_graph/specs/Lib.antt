@@ -1,6 +1,7 @@
 pub mod Nodes
 pub mod Shapes
 pub mod Graphs
+pub mod Drawn
 pub mod Paths
 pub mod WellFormed
 pub mod SoundNodes

@@ -3,6 +3,7 @@
 ghost use Rattle.std.specs.Prelude.{◌≡◌, ◌<◌, ◌≤◌, ◌+◌, ◌++◌, length, vec_capacity, IfOk, OnOk};
 ghost use Rattle.qs_check.specs.Program.{block_at, blocks_of};
 ghost use Rattle.qs_check.specs.Views.{single};
+ghost use Rattle.qs_graph.specs.Drawn.{IsDrawing};
 ghost use Rattle.qs_graph.specs.Graphs.{node_count, first_node as first_of, places_of, block_graph};
 
 use crate::copies::copied;
@@ -17,6 +18,7 @@ pub fn graph(alloc: Global, program: &Program, client: u8, block: u8) -> Result<
     requires client { client < length program.now.clients }
     requires block { block < blocks_of program.now client }
     ensures graph_of { IfOk result (λ graph. graph ≡ block_graph (block_at program.now client block).body) }
+    ensures drawn { IfOk result (λ graph. IsDrawing graph (block_at program.now client block).body) }
 {
     program.is_sound();
     let places = block_places(alloc, program.block(client, block).body())?;

@@ -1,7 +1,9 @@
 use Rattle.std.proofs.Common.{sym, subst, ◌∙◌, ap}
-use Rattle.qs_check.specs.Program.{BlockShape}
+use Rattle.qs_check.specs.Program.{BlockShape, block_at}
+use Rattle.qs_graph.specs.Drawn.{IsDrawing}
 use Rattle.qs_graph.specs.WellFormed.{IsGraph}
 use Rattle.qs_graph.specs.Graphs.{block_graph}
+use Rattle.qs_graph.proofs.Drawings.{graph_drawn}
 use Rattle.qs_graph.proofs.Ranges.{blocks_have_graphs}
 use Rattle.qs_graph.proofs.build.graph.Goals as goal
 
@@ -10,3 +12,10 @@ of-requires c =
     let program = c.args.program.now in
     let same = c.in_ok-places.ensures.ok ∙ ap block_graph (c.body.ensures.value ∙ ap (λ (b : BlockShape). b.body) c.block.ensures.value) in
     record { graph = subst IsGraph (sym same) (blocks_have_graphs program c.args.client c.args.block c.is_sound.ensures.sound).graph }
+
+pub returns-clause-drawn : goal.returns-clause-drawn
+returns-clause-drawn c =
+    let program = c.args.program.now in
+    let body = (block_at program c.args.client c.args.block).body in
+    let same = c.of.ensures.value ∙ c.in_ok-places.ensures.ok ∙ ap block_graph (c.body.ensures.value ∙ ap (λ (b : BlockShape). b.body) c.block.ensures.value) in
+    subst (λ g. IsDrawing g body) (sym same) (graph_drawn body)
