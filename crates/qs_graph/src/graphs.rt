@@ -6,6 +6,7 @@ ghost use Rattle.qs_graph.specs.WellFormed.{IsGraph};
 
 use crate::node::{Action, Node};
 use std::marker::Model;
+use std::mem;
 
 /// The numbers of the nodes that a node leads to.
 #[derive(Clone, Copy)]
@@ -154,6 +155,6 @@ impl Graph {
         requires sync { IsSync (place_at self.old n).node }
         ensures change { self.new ≡ slice_set self.old n (made_local (place_at self.old n)) }
     {
-        self.places[n].node = Node::Local(Action::Nothing);
+        drop(mem::replace(&mut self.places[n].node, Node::Local(Action::Nothing)));
     }
 }
