@@ -6,9 +6,9 @@ ghost use Rattle.qs_check.specs.Loads.{load_of};
 ghost use Rattle.qs_syncset.specs.Codes.{IsCode, IsCodeOf, IsBlockCode, IsGraphOf, code_at, load_at};
 ghost use Rattle.qs_syncset.specs.Modes.{is_static};
 
+use crate::fixpoint::held_sets;
 use crate::mode::Mode;
 use crate::removal::coalesce;
-use crate::rows::held_sets;
 use qs_check::Program;
 use qs_graph::{Graph, graph};
 use std::alloc::{AllocError, Global};

@@ -3,12 +3,12 @@
 #![tactic(auto)]
 
 mod code;
+mod fixpoint;
 pub mod laws;
 mod mode;
 mod removal;
-mod rows;
 
 pub use code::{Code, compile};
+pub use fixpoint::{Sets, held_sets};
 pub use mode::Mode;
 pub use removal::coalesce;
-pub use rows::{Sets, held_sets};

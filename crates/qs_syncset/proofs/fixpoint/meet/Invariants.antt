@@ -2,7 +2,7 @@ use Rattle.std.proofs.Common.{◌≡◌, ℕ, ◌+◌, ◌<◌, ◌≤◌, true,
 use Rattle.std.specs.Prelude.{◌&&◌}
 use Rattle.std.specs.List.{count_by}
 use Rattle.qs_syncset.specs.RowsOf.{holding}
-use Rattle.qs_syncset.proofs.rows.meet.Given as goal
+use Rattle.qs_syncset.proofs.fixpoint.meet.Given as goal
 
 abbrev pub invariant-loop-k : goal.invariant-loop-k
 invariant-loop-k l = record {

@@ -5,7 +5,7 @@ use Rattle.std.proofs.lemmas.Bool.{cases_eq, cases_lt}
 use Rattle.std.proofs.lemmas.List.{length-map, get_or-map, get_or_past, length-set, get_or-set_other}
 use Rattle.qs_graph.specs.Nodes.{Place, place_at, exit}
 use Rattle.qs_graph.specs.Paths.{IsAmong, HasEdge}
-use Rattle.qs_syncset.specs.declared.rows.Row.{Row}
+use Rattle.qs_syncset.specs.declared.fixpoint.Row.{Row}
 use Rattle.qs_syncset.specs.Flow.{Holding, held_after, IsReached, IsMissed, HasArrived, IsPassedOn}
 use Rattle.qs_syncset.specs.RowsOf.{no_row, row_at, holding, reached_in, held_in, HasMet, AreRowsOf, sets_of}
 use Rattle.qs_syncset.specs.Table.{AreSetsOf, has}

@@ -3,7 +3,7 @@ use Rattle.qs_graph.specs.Nodes.{place_at}
 use Rattle.qs_graph.specs.Paths.{IsAmong}
 use Rattle.qs_syncset.specs.Flow.{held_after, HasArrived}
 use Rattle.qs_syncset.specs.RowsOf.{AreRowsOf, weights, reached_in, held_in}
-use Rattle.qs_syncset.proofs.rows.visit.Given as goal
+use Rattle.qs_syncset.proofs.fixpoint.visit.Given as goal
 
 abbrev pub invariant-loop-to : goal.invariant-loop-to
 invariant-loop-to l = record {

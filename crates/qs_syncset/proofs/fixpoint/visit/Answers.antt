@@ -3,11 +3,11 @@ use Rattle.std.proofs.lemmas.List.{take_all}
 use Rattle.qs_graph.specs.Nodes.{Place, place_at}
 use Rattle.qs_graph.specs.Paths.{IsAmong, HasEdge}
 use Rattle.qs_graph.specs.declared.node.Node.{Node}
-use Rattle.qs_syncset.specs.declared.rows.Row.{Row}
+use Rattle.qs_syncset.specs.declared.fixpoint.Row.{Row}
 use Rattle.qs_syncset.specs.Flow.{held_after, HasArrived}
 use Rattle.qs_syncset.specs.RowsOf.{holding, reached_in, held_in, weights}
-use Rattle.qs_syncset.proofs.Passing.{fair_edge, rows_met, arrived_same, among_at, arrived_more, or_first, or_second, falls_by}
-use Rattle.qs_syncset.proofs.rows.visit.Goals as goal
+use Rattle.qs_syncset.proofs.Transfer.{fair_edge, rows_met, arrived_same, among_at, arrived_more, or_first, or_second, falls_by}
+use Rattle.qs_syncset.proofs.fixpoint.visit.Goals as goal
 
 -- what goes out of m has come to n
 abbrev Come : List Place → ℕ → List Row → ℕ → Type 0

@@ -1,7 +1,7 @@
 use Rattle.std.proofs.Common.{◌≡◌, ℕ, ◌+◌, ◌<◌, ◌≤◌, true, false, cond}
 use Rattle.qs_syncset.specs.Flow.{IsPassedOn}
 use Rattle.qs_syncset.specs.RowsOf.{AreRowsOf, weights, reached_in, held_in}
-use Rattle.qs_syncset.proofs.rows.pass.Given as goal
+use Rattle.qs_syncset.proofs.fixpoint.pass.Given as goal
 
 abbrev pub invariant-loop-m : goal.invariant-loop-m
 invariant-loop-m l = record {

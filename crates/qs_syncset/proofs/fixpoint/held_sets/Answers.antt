@@ -1,7 +1,7 @@
 use Rattle.std.proofs.Common.{◌≡◌, ◌++◌, length, take, drop, arith}
 use Rattle.std.proofs.lemmas.List.{take_at}
-use Rattle.qs_syncset.proofs.Passing.{sets_of_rows}
-use Rattle.qs_syncset.proofs.rows.held_sets.Goals as goal
+use Rattle.qs_syncset.proofs.Transfer.{sets_of_rows}
+use Rattle.qs_syncset.proofs.fixpoint.held_sets.Goals as goal
 
 pub returns : goal.returns
 returns c =

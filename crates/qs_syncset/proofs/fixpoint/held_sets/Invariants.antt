@@ -1,5 +1,5 @@
 use Rattle.qs_syncset.specs.RowsOf.{AreRowsOf, weights}
-use Rattle.qs_syncset.proofs.rows.held_sets.Given as goal
+use Rattle.qs_syncset.proofs.fixpoint.held_sets.Given as goal
 
 abbrev pub invariant-passes : goal.invariant-passes
 invariant-passes l = AreRowsOf l.graph l.rows.items

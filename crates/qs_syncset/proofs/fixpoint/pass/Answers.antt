@@ -1,9 +1,9 @@
 use Rattle.std.proofs.Common.{◌≡◌, ℕ, ◌<◌, true, List, below_more, sym, subst}
-use Rattle.qs_syncset.specs.declared.rows.Row.{Row}
+use Rattle.qs_syncset.specs.declared.fixpoint.Row.{Row}
 use Rattle.qs_syncset.specs.Flow.{IsPassedOn}
 use Rattle.qs_syncset.specs.RowsOf.{reached_in, held_in, weights}
-use Rattle.qs_syncset.proofs.Passing.{or_first, or_second, falls_by}
-use Rattle.qs_syncset.proofs.rows.pass.Goals as goal
+use Rattle.qs_syncset.proofs.Transfer.{or_first, or_second, falls_by}
+use Rattle.qs_syncset.proofs.fixpoint.pass.Goals as goal
 
 pub loop-m-preserved : goal.loop-m-preserved
 loop-m-preserved c = record {
