@@ -1,4 +1,5 @@
 pub mod Nodes
+pub mod Names
 pub mod Shapes
 pub mod Graphs
 pub mod Drawn

@@ -4,14 +4,16 @@ ghost use Rattle.std.specs.Prelude.{◌≡◌, ◌<◌, ◌≤◌, ◌+◌, ◌+
 ghost use Rattle.qs_check.specs.Program.{block_at, blocks_of};
 ghost use Rattle.qs_check.specs.Views.{single};
 ghost use Rattle.qs_graph.specs.declared.node.Node.TheVariants.{Branch, Call, Query, Sync};
+ghost use Rattle.qs_graph.specs.Names.{names_of};
 ghost use Rattle.qs_graph.specs.Nodes.{to, to_either};
+ghost use Rattle.std.specs.List.{AllByRecursion};
 ghost use Rattle.qs_graph.specs.Drawn.{IsDrawing};
 ghost use Rattle.qs_graph.specs.Graphs.{node_count, first_node as first_of, places_of, block_graph};
 
 use crate::copies::copied;
 use crate::counts::{nodes_of, nodes_of_stmt};
 use crate::graphs::{Graph, Place};
-use crate::node::{Action, Choice, Node};
+use crate::node::{Action, Choice, Named, Node};
 use qs_check::{Body, Call as Request, Program, Stmt};
 use std::alloc::{AllocError, Global};
 
@@ -19,12 +21,52 @@ use std::alloc::{AllocError, Global};
 pub fn graph(alloc: Global, program: &Program, client: u8, block: u8) -> Result<Graph, AllocError>
     requires client { client < length program.now.clients }
     requires block { block < blocks_of program.now client }
-    ensures graph_of { IfOk result (λ graph. graph ≡ block_graph (block_at program.now client block).body) }
-    ensures drawn { IfOk result (λ graph. IsDrawing graph (block_at program.now client block).body) }
+    ensures graph_of { IfOk result (λ graph. graph.nodes ≡ block_graph (block_at program.now client block).body) }
+    ensures drawn { IfOk result (λ graph. IsDrawing graph.nodes (block_at program.now client block).body) }
+    ensures names { IfOk result (λ graph. graph.names ≡ names_of program.now (block_at program.now client block)) }
+{
+    let names = block_names(alloc, program, client, block)?;
+    program.is_sound();
+    match block_places(alloc, program.block(client, block).body()) {
+        Ok(places) => Ok(Graph::of(places, names)),
+        Err(error) => {
+            drop(names);
+            Err(error)
+        }
+    }
+}
+
+// The names of a block's list, with the kinds of their objects.
+fn block_names(
+    alloc: Global,
+    program: &Program,
+    client: u8,
+    block: u8,
+) -> Result<Vec<Named>, AllocError>
+    requires client { client < length program.now.clients }
+    requires block { block < blocks_of program.now client }
+    ensures names { IfOk result (λ names. names.items ≡ names_of program.now (block_at program.now client block)) }
+{
+    let reserved = reserved_by(program, client, block);
+    let mut names = Vec::with_capacity(alloc, reserved.len())?;
+    for name in reserved {
+        names.push_reserved(Named {
+            name: *name,
+            kind: program.kind(*name),
+        });
+    }
+    Ok(names)
+}
+
+// The objects that a block reserves.
+fn reserved_by(program: &Program, client: u8, block: u8) -> &[u8]
+    requires client { client < length program.now.clients }
+    requires block { block < blocks_of program.now client }
+    ensures value { result.now ≡ (block_at program.now client block).reserved }
+    ensures inside { AllByRecursion (λ h. h < length program.now.objects) result.now }
 {
     program.is_sound();
-    let places = block_places(alloc, program.block(client, block).body())?;
-    Ok(Graph::of(places))
+    program.block(client, block).reserved()
 }
 
 // All room is taken at once; where it was given, there are fewer nodes than the greatest number.

@@ -4,7 +4,7 @@ ghost use Rattle.std.specs.Prelude.{◌≡◌, ◌<◌, length, slice_set};
 ghost use Rattle.qs_graph.specs.Nodes.{to, to_either, exit, place_at, first_target, second_target, made_local, IsSync};
 ghost use Rattle.qs_graph.specs.WellFormed.{IsGraph};
 
-use crate::node::{Action, Node};
+use crate::node::{Action, Named, Node};
 use std::marker::Model;
 use std::mem;
 
@@ -76,84 +76,93 @@ impl Place {
     }
 }
 
-/// The control-flow graph of a block: nodes by number, each with its edges in order.
+/// The control-flow graph of a block: nodes by number, each with its edges in order, and the names of the block's list.
 #[derive(Drop)]
 pub struct Graph {
     places: Vec<Place>,
+    names: Vec<Named>,
 }
 
 impl Model for Graph {
-    ghost use Rattle.std.specs.Prelude.{List};
-    ghost use Rattle.qs_graph.specs.Nodes as nodes;
+    ghost use Rattle.qs_graph.specs.Nodes.{ControlGraph};
     ghost use Rattle.qs_graph.specs.WellFormed.{IsGraph};
 
-    ghost Value = { List nodes.Place };
+    ghost Value = { ControlGraph };
 
-    ghost view = { λ g. g.places.items };
+    ghost view = { λ g. record { nodes = g.places.items; names = g.names.items } };
 
     ghost invariant = { λ g. IsGraph g.places.items };
 }
 
 impl Graph {
     /// A graph of places that are known to be one.
-    pub(crate) fn of(places: Vec<Place>) -> Graph
+    pub(crate) fn of(places: Vec<Place>, names: Vec<Named>) -> Graph
         requires graph { IsGraph places.items }
-        ensures value { result ≡ places.items }
+        ensures value { result.nodes ≡ places.items }
+        ensures names { result.names ≡ names.items }
     {
-        Graph { places }
+        Graph { places, names }
     }
 
     /// What holds of every graph: node 0 is Entry, edges lead to nodes, and numbers are in range. It does nothing.
     pub fn is_graph(&self)
-        ensures graph { IsGraph self.now }
+        ensures graph { IsGraph self.now.nodes }
     {
         let _ = &self.places;
     }
 
     /// How many nodes there are; takes no memory, as no call of a graph does.
     pub fn len(&self) -> usize
-        ensures value { result ≡ length self.now }
+        ensures value { result ≡ length self.now.nodes }
     {
         self.places.len()
     }
 
+    /// The names of the block's list, in its order.
+    pub fn names(&self) -> &[Named]
+        ensures value { result.now ≡ self.now.names }
+    {
+        self.names.as_slice()
+    }
+
     /// A node by its number.
     pub fn node(&self, n: usize) -> &Node
-        requires in_range { n < length self.now }
-        ensures value { result.now ≡ (place_at self.now n).node }
+        requires in_range { n < length self.now.nodes }
+        ensures value { result.now ≡ (place_at self.now.nodes n).node }
     {
         &self.places[n].node
     }
 
     /// The numbers of the nodes that a node leads to, in order.
     pub fn edges(&self, n: usize) -> &[usize]
-        requires in_range { n < length self.now }
-        ensures value { result.now ≡ (place_at self.now n).edges }
+        requires in_range { n < length self.now.nodes }
+        ensures value { result.now ≡ (place_at self.now.nodes n).edges }
     {
         self.places[n].edges()
     }
 
     /// The first node that a node leads to, or 0 where it leads to none.
     pub fn first_target(&self, n: usize) -> usize
-        requires in_range { n < length self.now }
-        ensures value { result ≡ first_target (place_at self.now n) }
+        requires in_range { n < length self.now.nodes }
+        ensures value { result ≡ first_target (place_at self.now.nodes n) }
     {
         self.edges(n).first().copied().unwrap_or(0)
     }
 
     /// The second node that a branch leads to, or 0 where a node leads to fewer than two.
     pub fn second_target(&self, n: usize) -> usize
-        requires in_range { n < length self.now }
-        ensures value { result ≡ second_target (place_at self.now n) }
+        requires in_range { n < length self.now.nodes }
+        ensures value { result ≡ second_target (place_at self.now.nodes n) }
     {
         self.edges(n).get(1).copied().unwrap_or(0)
     }
 
     /// Removes a synchronisation: the node does nothing from now on, and leads where it led.
     pub fn make_local(&mut self, n: usize)
-        requires in_range { n < length self.old }
-        requires sync { IsSync (place_at self.old n).node }
-        ensures change { self.new ≡ slice_set self.old n (made_local (place_at self.old n)) }
+        requires in_range { n < length self.old.nodes }
+        requires sync { IsSync (place_at self.old.nodes n).node }
+        ensures change { self.new.nodes ≡ slice_set self.old.nodes n (made_local (place_at self.old.nodes n)) }
+        ensures same_names { self.new.names ≡ self.old.names }
     {
         drop(mem::replace(&mut self.places[n].node, Node::Local(Action::Nothing)));
     }

@@ -43,9 +43,9 @@ fn put_label(
     sets: &Sets,
     n: usize,
 ) -> Result<(), AllocError>
-    requires node { n < length graph.now }
-    requires sets { length sets.now ≡ length graph.now }
-    ensures ok { OnOk result (out.new.items ≡ out.old.items ++ label_text program.now (has sets.now n) (place_at graph.now n).node) }
+    requires node { n < length graph.now.nodes }
+    requires sets { length sets.now ≡ length graph.now.nodes }
+    ensures ok { OnOk result (out.new.items ≡ out.old.items ++ label_text program.now (has sets.now n) (place_at graph.now.nodes n).node) }
 {
     graph.is_graph();
     match graph.node(n) {
@@ -112,9 +112,9 @@ fn put_step(
     sets: &Sets,
     n: usize,
 ) -> Result<(), AllocError>
-    requires node { n < length graph.now }
-    requires sets { length sets.now ≡ length graph.now }
-    ensures ok { OnOk result (out.new.items ≡ out.old.items ++ step_text program.now graph.now sets.now n) }
+    requires node { n < length graph.now.nodes }
+    requires sets { length sets.now ≡ length graph.now.nodes }
+    ensures ok { OnOk result (out.new.items ≡ out.old.items ++ step_text program.now graph.now.nodes sets.now n) }
 {
     let mut buffer = Buffer::new();
     put_all(out, &[buffer.format(n).as_bytes(), b" "])?;
@@ -151,10 +151,10 @@ fn put_node(
     sets: &Sets,
     n: usize,
 ) -> Result<(), AllocError>
-    requires node { n < length graph.now }
-    requires sets { length sets.now ≡ length graph.now }
+    requires node { n < length graph.now.nodes }
+    requires sets { length sets.now ≡ length graph.now.nodes }
     requires handlers { AllByRecursion (λ h. h < 8) reserved.now }
-    ensures ok { OnOk result (out.new.items ≡ out.old.items ++ node_line program.now reserved.now graph.now sets.now n) }
+    ensures ok { OnOk result (out.new.items ≡ out.old.items ++ node_line program.now reserved.now graph.now.nodes sets.now n) }
 {
     put_step(out, program, graph, sets, n)?;
     put(out, b" held")?;
@@ -170,9 +170,9 @@ fn put_nodes(
     graph: &Graph,
     sets: &Sets,
 ) -> Result<(), AllocError>
-    requires sets { length sets.now ≡ length graph.now }
+    requires sets { length sets.now ≡ length graph.now.nodes }
     requires handlers { AllByRecursion (λ h. h < 8) reserved.now }
-    ensures ok { OnOk result (out.new.items ≡ out.old.items ++ nodes_text program.now reserved.now graph.now sets.now) }
+    ensures ok { OnOk result (out.new.items ≡ out.old.items ++ nodes_text program.now reserved.now graph.now.nodes sets.now) }
 {
     for n in 0..graph.len() {
         put_node(alloc, out, program, reserved, graph, sets, n)?;
@@ -216,7 +216,7 @@ fn put_graph(
     graph: &Graph,
 ) -> Result<(), AllocError>
     requires handlers { AllByRecursion (λ h. h < 8) reserved.now }
-    ensures ok { OnOk result (IsAdded (AreNodesText program.now reserved.now graph.now) out.old.items out.new.items) }
+    ensures ok { OnOk result (IsAdded (AreNodesText program.now reserved.now graph.now.nodes) out.old.items out.new.items) }
 {
     let sets = held_sets(alloc, graph)?;
     let put = put_nodes(alloc, out, program, reserved, graph, &sets);

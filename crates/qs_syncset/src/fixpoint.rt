@@ -87,12 +87,12 @@ fn pass_to(rows: &mut [Row], to: usize, out: [bool; 8]) -> bool
 
 // Passes on along a node's edges, if a path leads to it; whether that changed anything.
 fn visit(graph: &Graph, rows: &mut [Row], m: usize) -> bool
-    requires rows { AreRowsOf graph.now rows.old }
-    requires node { m < length graph.now }
-    ensures rows { AreRowsOf graph.now rows.new }
+    requires rows { AreRowsOf graph.now.nodes rows.old }
+    requires node { m < length graph.now.nodes }
+    ensures rows { AreRowsOf graph.now.nodes rows.new }
     ensures same { result ≡ false → rows.new ≡ rows.old }
     ensures closed { result ≡ false → reached_in rows.new m ≡ true
-        → IsPassedOn graph.now (reached_in rows.new) (held_in rows.new) m }
+        → IsPassedOn graph.now.nodes (reached_in rows.new) (held_in rows.new) m }
     ensures less { weights rows.new + cond result 1 0 ≤ weights rows.old }
 {
     graph.is_graph();
@@ -110,10 +110,10 @@ fn visit(graph: &Graph, rows: &mut [Row], m: usize) -> bool
 
 // Passes on along every node's edges, in the order of the nodes; whether that changed anything.
 fn pass(graph: &Graph, rows: &mut [Row]) -> bool
-    requires rows { AreRowsOf graph.now rows.old }
-    ensures rows { AreRowsOf graph.now rows.new }
-    ensures closed { result ≡ false → (m : ℕ) → m < length graph.now → reached_in rows.new m ≡ true
-        → IsPassedOn graph.now (reached_in rows.new) (held_in rows.new) m }
+    requires rows { AreRowsOf graph.now.nodes rows.old }
+    ensures rows { AreRowsOf graph.now.nodes rows.new }
+    ensures closed { result ≡ false → (m : ℕ) → m < length graph.now.nodes → reached_in rows.new m ≡ true
+        → IsPassedOn graph.now.nodes (reached_in rows.new) (held_in rows.new) m }
     ensures less { weights rows.new + cond result 1 0 ≤ weights rows.old }
 {
     let mut changed = false;
@@ -125,7 +125,7 @@ fn pass(graph: &Graph, rows: &mut [Row]) -> bool
 
 /// The held sets of a graph.
 pub fn held_sets(alloc: Global, graph: &Graph) -> Result<Sets, AllocError>
-    ensures sets { IfOk result (λ sets. AreSetsOf graph.now sets) }
+    ensures sets { IfOk result (λ sets. AreSetsOf graph.now.nodes sets) }
 {
     graph.is_graph();
     let unreached = Row {

@@ -9,8 +9,9 @@ use qs_graph::{Graph, Node};
 
 /// Removes each synchronisation whose own handler is held as it is reached; takes no memory.
 pub fn coalesce(mut graph: Graph, sets: &Sets) -> Graph
-    requires sets { AreSetsOf graph sets.now }
-    ensures coalesced { IsCoalesced graph result }
+    requires sets { AreSetsOf graph.nodes sets.now }
+    ensures coalesced { IsCoalesced graph.nodes result.nodes }
+    ensures same_names { result.names ≡ graph.names }
 {
     graph.is_graph();
     for n in 0..graph.len() {

@@ -8,4 +8,4 @@ returns c =
     let e : take c.passes.rows.len (c.pass.new.rows ++ drop (length c.pass.new.rows) c.passes.rows.items) ≡ c.pass.new.rows =
     take_at c.pass.new.rows (drop (length c.pass.new.rows) c.passes.rows.items) c.passes.rows.len
     (omega (arith, c.pass.ensures.rows.count, c.passes.invariant.count, c.passes.rows.ok.0)) in
-    rw e (record { sets = sets_of_rows c.args.graph.now c.pass.new.rows c.pass.ensures.rows (c.pass.ensures.closed c.if-not-pass.true) })
+    rw e (record { sets = sets_of_rows c.args.graph.now.nodes c.pass.new.rows c.pass.ensures.rows (c.pass.ensures.closed c.if-not-pass.true) })

@@ -12,9 +12,9 @@ loop-m-preserved c = record {
       let before = or_first c.loop-m.changed c.visit-changed.result f in
       let here = or_second c.loop-m.changed c.visit-changed.result f in
       below_more (λ k. reached_in c.visit-changed.new.rows k ≡ true
-      → IsPassedOn c.args.graph.now (reached_in c.visit-changed.new.rows) (held_in c.visit-changed.new.rows) k) _
+      → IsPassedOn c.args.graph.now.nodes (reached_in c.visit-changed.new.rows) (held_in c.visit-changed.new.rows) k) _
       (subst (λ (r : List Row). (m : ℕ) → m < c.loop-m.m → reached_in r m ≡ true
-      → IsPassedOn c.args.graph.now (reached_in r) (held_in r) m)
+      → IsPassedOn c.args.graph.now.nodes (reached_in r) (held_in r) m)
       (sym (c.visit-changed.ensures.same here)) (c.loop-m.invariant.closed before))
       (c.visit-changed.ensures.closed here);
   less = falls_by c.loop-m.changed c.visit-changed.result

@@ -5,8 +5,8 @@ use Rattle.qs_syncset.proofs.fixpoint.pass.Given as goal
 
 abbrev pub invariant-loop-m : goal.invariant-loop-m
 invariant-loop-m l = record {
-  rows : AreRowsOf l.graph l.rows;
+  rows : AreRowsOf l.graph.nodes l.rows;
   closed : l.changed ≡ false → (m : ℕ) → m < l.m → reached_in l.rows m ≡ true
-      → IsPassedOn l.graph (reached_in l.rows) (held_in l.rows) m;
+      → IsPassedOn l.graph.nodes (reached_in l.rows) (held_in l.rows) m;
   less : weights l.rows + cond l.changed 1 0 ≤ weights l.fn.rows;
 }

@@ -15,7 +15,7 @@ Come g m rows n = HasArrived (reached_in rows) (held_in rows) n (held_after (pla
 
 pub loop-to-preserved : goal.loop-to-preserved
 loop-to-preserved c =
-    let g = c.args.graph.now in
+    let g = c.args.graph.now.nodes in
     let m = c.args.m in
     let edges = c.edges-to-items.result.now in
     let to : ℕ = get_or edges c.loop-to.to-index 0 in
