@@ -1,26 +1,11 @@
 //! The program: a script on standard input, a text on standard output.
 #![tactic(auto)]
 
-ghost use Rattle.std.specs.Prelude.{◌≡◌, ◌⊎◌, false, map, string_bytes, IfErr, IfOk, MatchBool};
-ghost use Rattle.qs.specs.Due.{IsDone};
+ghost use Rattle.std.specs.Prelude.{◌≡◌, ◌⊎◌, map, string_bytes, IfErr, IfOk};
 ghost use Rattle.qs_report.specs.declared.faults.Fault.TheVariants as fault;
-ghost use Rattle.qs_report.specs.Faults.{fault_text};
-ghost use Rattle.qs_report.specs.Texts.{AppendsFront};
 
-mod due;
-mod input;
-mod output;
-mod serving;
-#[cfg(test)]
-mod tests;
-
-use due::Due;
-use input::Counted;
-use output::finish;
-use qs_report::{Fault, Watch};
-use serving::serve;
+use qs_serve::{Counted, Fault, Watch, refuse, serve};
 use std::alloc::{AllocError, Global};
-use std::io::Write;
 use std::process::ExitCode;
 use std::rt::Env;
 use std::{env, io};
@@ -47,25 +32,15 @@ fn texts(alloc: Global, words: &Vec<String>) -> Result<Vec<&str>, AllocError>
     Ok(texts)
 }
 
-// Tells a fault of the arguments, and answers the status.
-fn give_up<W: Write>(fault: Fault, out: &mut W, watch: &mut Watch<W>) -> u8
-    requires fine { watch.old.has_failed ≡ false }
-    ensures front { AppendsFront (W.contents out.old) (W.contents out.new) (fault_text fault) }
-    ensures status { MatchBool watch.new.has_failed (result ≡ 4) (IsDone (W.contents out.old) (W.contents out.new) (Due.Refused fault) result) }
-{
-    let due = Due::Refused(fault);
-    finish(out, watch, &due)
-}
-
 fn main(rt: HostRuntime) -> ExitCode {
     let mut input = Counted::new(rt.reader());
     let mut out = io::writer(&rt);
     let words = match arguments(&rt) {
         Ok(words) => words,
-        Err(fault) => return ExitCode::from(give_up(fault, &mut out, &mut Watch::new())),
+        Err(fault) => return ExitCode::from(refuse(fault, &mut out, &mut Watch::new())),
     };
     let Ok(texts) = texts(rt.alloc(), &words) else {
-        return ExitCode::from(give_up(Fault::Memory, &mut out, &mut Watch::new()));
+        return ExitCode::from(refuse(Fault::Memory, &mut out, &mut Watch::new()));
     };
     ExitCode::from(serve(
         rt.alloc(),

@@ -68,10 +68,10 @@ impl Hands {
 impl Run {
     // At a call or a synchronisation.
     fn act_at_node(&mut self, graph: &Graph) -> Act
-        requires inside { self.old.way.node < length graph.now }
-        requires loud { IsLoud (move graph.now self.old.way) }
-        ensures act { result ≡ act_by self.old.hands (move graph.now self.old.way) }
-        ensures rest { self.new ≡ with_hands self.old (hands_by self.old.hands (move graph.now self.old.way)) }
+        requires inside { self.old.way.node < length graph.now.nodes }
+        requires loud { IsLoud (move graph.now.nodes self.old.way) }
+        ensures act { result ≡ act_by self.old.hands (move graph.now.nodes self.old.way) }
+        ensures rest { self.new ≡ with_hands self.old (hands_by self.old.hands (move graph.now.nodes self.old.way)) }
     {
         graph.is_graph();
         match graph.node(self.way.node()) {

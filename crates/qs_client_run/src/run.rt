@@ -134,9 +134,9 @@ impl Run {
 
     /// One quiet move; answers whether another may follow.
     fn step(&mut self, graph: &Graph, reserved: &[u8], terms: Terms) -> bool
-        requires running { (size : ℕ) × (n : ℕ) × IsRunning graph.now size terms.ticket.index n self.old }
-        ensures new { self.new ≡ (moved graph.now terms reserved.now self.old).0 }
-        ensures on { result ≡ (moved graph.now terms reserved.now self.old).1 }
+        requires running { (size : ℕ) × (n : ℕ) × IsRunning graph.now.nodes size terms.ticket.index n self.old }
+        ensures new { self.new ≡ (moved graph.now.nodes terms reserved.now self.old).0 }
+        ensures on { result ≡ (moved graph.now.nodes terms reserved.now self.old).1 }
     {
         graph.is_graph();
         self.hands.are_8();
@@ -171,10 +171,10 @@ impl Run {
     /// All quiet moves, up to the next act.
     pub fn settle(&mut self, graph: &Graph, reserved: &[u8], terms: Terms)
         requires stands { self.old.stage ≡ stages.Runs }
-        requires running { (size : ℕ) × (n : ℕ) × IsRunning graph.now size terms.ticket.index n self.old }
+        requires running { (size : ℕ) × (n : ℕ) × IsRunning graph.now.nodes size terms.ticket.index n self.old }
         ensures settled { (settings : Settings) (begun : ℕ) (p : Place) (n : ℕ) → settings.dynamic ≡ terms.dynamic
-            → IsRunning graph.now settings.size terms.ticket.index n self.old
-            → HasSettled graph.now settings terms.ticket reserved.now begun p n self.old self.new }
+            → IsRunning graph.now.nodes settings.size terms.ticket.index n self.old
+            → HasSettled graph.now.nodes settings terms.ticket reserved.now begun p n self.old self.new }
     {
         graph.is_graph();
         for _turn in 0..LIMIT {

@@ -34,8 +34,8 @@ impl Run {
 
     /// After a Sync was sent: the object is awaited.
     pub fn await_object(&mut self, graph: &Graph)
-        requires inside { self.old.way.node < length graph.now }
-        ensures new { self.new ≡ synced_on graph.now self.old }
+        requires inside { self.old.way.node < length graph.now.nodes }
+        ensures new { self.new ≡ synced_on graph.now.nodes self.old }
     {
         let node = self.way.node();
         if let Node::Sync(handler) = graph.node(node) {

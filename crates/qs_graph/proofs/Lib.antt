@@ -1,4 +1,5 @@
 pub mod Standing
+pub mod Drawings
 pub mod Saying
 pub mod Following
 pub mod Counting

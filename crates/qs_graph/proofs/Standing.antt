@@ -47,7 +47,7 @@ stands_rest g at n (x ∷ xs) ys e h =
     let same : (at + 1) + length xs ≡ at + n = omega arith in
     rw (← same) (stands_rest g (at + 1) (length xs) xs ys refl h.2)
 
-at_end : (pre : List Place) (p : Place) (ps : List Place) → place_at (pre ++ p ∷ ps) (length pre) ≡ p
+pub at_end : (pre : List Place) (p : Place) (ps : List Place) → place_at (pre ++ p ∷ ps) (length pre) ≡ p
 at_end [] p ps = refl
 at_end (q ∷ pre) p ps = at_end pre p ps
 

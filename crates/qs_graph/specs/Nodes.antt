@@ -1,5 +1,6 @@
 -- The places of a control-flow graph: nodes by number, each with its edges.
 use Rattle.std.specs.Prelude.{ℕ, List, [], ◌∷◌, slice_index_or}
+use Rattle.qs_graph.specs.declared.node.Named.{Named}
 use Rattle.qs_graph.specs.declared.node.Node.{Node}
 use Rattle.qs_graph.specs.declared.node.Node.TheVariants.{Local, Sync, Exit}
 use Rattle.qs_graph.specs.declared.node.Action.TheVariants.{Nothing}
@@ -8,6 +9,11 @@ use Rattle.qs_graph.specs.declared.node.Action.TheVariants.{Nothing}
 pub record Place : Type 0 where
   pub node : Node
   pub edges : List ℕ
+
+-- a block's graph: its nodes by number, and the names of the block's list with their kinds
+pub record ControlGraph : Type 0 where
+  pub nodes : List Place
+  pub names : List Named
 
 -- a node with one edge
 abbrev pub to : Node → ℕ → Place

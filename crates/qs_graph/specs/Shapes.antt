@@ -2,8 +2,8 @@
 use Rattle.std.specs.Prelude.{ℕ, List, [], refl}
 use Rattle.std.specs.Coded.{Coded, code_by, coded×, coded_list, coded_ℕ, codes}
 use Rattle.qs_graph.specs.declared.node.Node.{Node}
-use Rattle.qs_graph.specs.declared.flow.Targets.{Targets}
-use Rattle.qs_graph.specs.declared.flow.Targets.TheVariants.{None, One, Two}
+use Rattle.qs_graph.specs.declared.graphs.Targets.{Targets}
+use Rattle.qs_graph.specs.declared.graphs.Targets.TheVariants.{None, One, Two}
 use Rattle.qs_graph.specs.Nodes.{Place}
 
 abbrev pub edges_of : Targets → List ℕ

@@ -1,26 +1,72 @@
 //! The graph of a block, made in one pass: where a statement leads is known from how many nodes there are before it.
 
-ghost use Rattle.std.specs.Prelude.{◌≡◌, ◌<◌, ◌≤◌, ◌+◌, ◌++◌, length, vec_capacity, IfOk, OnOk};
+ghost use Rattle.std.specs.Prelude.{◌≡◌, ◌<◌, ◌≤◌, ◌+◌, ◌++◌, ◌∷◌, [], length, vec_capacity, IfOk, OnOk};
 ghost use Rattle.qs_check.specs.Program.{block_at, blocks_of};
 ghost use Rattle.qs_check.specs.Views.{single};
+ghost use Rattle.qs_graph.specs.declared.node.Node.TheVariants.{Branch, Call, Query, Sync};
+ghost use Rattle.qs_graph.specs.Names.{names_of};
+ghost use Rattle.qs_graph.specs.Nodes.{to, to_either};
+ghost use Rattle.std.specs.List.{AllByRecursion};
+ghost use Rattle.qs_graph.specs.Drawn.{IsDrawing};
 ghost use Rattle.qs_graph.specs.Graphs.{node_count, first_node as first_of, places_of, block_graph};
 
 use crate::copies::copied;
 use crate::counts::{nodes_of, nodes_of_stmt};
-use crate::flow::{Graph, Place};
-use crate::node::{Action, Choice, Node};
-use qs_check::{Body, Program, Stmt};
+use crate::graphs::{Graph, Place};
+use crate::node::{Action, Choice, Named, Node};
+use qs_check::{Body, Call as Request, Program, Stmt};
 use std::alloc::{AllocError, Global};
 
 /// The control-flow graph of a block.
 pub fn graph(alloc: Global, program: &Program, client: u8, block: u8) -> Result<Graph, AllocError>
     requires client { client < length program.now.clients }
     requires block { block < blocks_of program.now client }
-    ensures graph_of { IfOk result (λ graph. graph ≡ block_graph (block_at program.now client block).body) }
+    ensures graph_of { IfOk result (λ graph. graph.nodes ≡ block_graph (block_at program.now client block).body) }
+    ensures drawn { IfOk result (λ graph. IsDrawing graph.nodes (block_at program.now client block).body) }
+    ensures names { IfOk result (λ graph. graph.names ≡ names_of program.now (block_at program.now client block)) }
+{
+    let names = block_names(alloc, program, client, block)?;
+    program.is_sound();
+    match block_places(alloc, program.block(client, block).body()) {
+        Ok(places) => Ok(Graph::of(places, names)),
+        Err(error) => {
+            drop(names);
+            Err(error)
+        }
+    }
+}
+
+// The names of a block's list, with the kinds of their objects.
+fn block_names(
+    alloc: Global,
+    program: &Program,
+    client: u8,
+    block: u8,
+) -> Result<Vec<Named>, AllocError>
+    requires client { client < length program.now.clients }
+    requires block { block < blocks_of program.now client }
+    ensures names { IfOk result (λ names. names.items ≡ names_of program.now (block_at program.now client block)) }
+{
+    let reserved = reserved_by(program, client, block);
+    let mut names = Vec::with_capacity(alloc, reserved.len())?;
+    for name in reserved {
+        names.push_reserved(Named {
+            name: *name,
+            kind: program.kind(*name),
+        });
+    }
+    Ok(names)
+}
+
+// The objects that a block reserves.
+fn reserved_by(program: &Program, client: u8, block: u8) -> &[u8]
+    requires client { client < length program.now.clients }
+    requires block { block < blocks_of program.now client }
+    ensures value { result.now ≡ (block_at program.now client block).reserved }
+    ensures inside { AllByRecursion (λ h. h < length program.now.objects) result.now }
 {
     program.is_sound();
-    let places = block_places(alloc, program.block(client, block).body())?;
-    Ok(Graph::of(places))
+    program.block(client, block).reserved()
 }
 
 // All room is taken at once; where it was given, there are fewer nodes than the greatest number.
@@ -41,6 +87,58 @@ fn first_node(body: &Body, at: usize, next: usize) -> usize
     ensures value { result ≡ first_of at next body.now }
 {
     if body.as_slice().is_empty() { next } else { at }
+}
+
+// Adds a node with one edge.
+fn add_to(places: &mut Vec<Place>, node: Node, next: usize)
+    requires room { length places.old.items < vec_capacity places.old }
+    ensures added { places.new.items ≡ places.old.items ++ to node next ∷ [] }
+    ensures room { vec_capacity places.new ≡ vec_capacity places.old }
+{
+    places.push_reserved(Place::to(node, next));
+}
+
+// Adds a branch.
+fn add_branch(places: &mut Vec<Place>, choice: Choice, first: usize, second: usize)
+    requires room { length places.old.items < vec_capacity places.old }
+    ensures added { places.new.items ≡ places.old.items ++ to_either (Branch choice) first second ∷ [] }
+    ensures room { vec_capacity places.new ≡ vec_capacity places.old }
+{
+    places.push_reserved(Place::to_either(Node::Branch(choice), first, second));
+}
+
+// Adds the node of a command.
+fn add_call(
+    alloc: Global,
+    places: &mut Vec<Place>,
+    call: &Request,
+    next: usize,
+) -> Result<(), AllocError>
+    requires room { length places.old.items < vec_capacity places.old }
+    ensures added { OnOk result (places.new.items ≡ places.old.items ++ to (Call call.now) next ∷ []) }
+    ensures room { OnOk result (vec_capacity places.new ≡ vec_capacity places.old) }
+{
+    add_to(places, Node::Call(copied(alloc, call)?), next);
+    Ok(())
+}
+
+// Adds the nodes of a query, which are numbered from `at`.
+fn add_query(
+    alloc: Global,
+    places: &mut Vec<Place>,
+    variable: u8,
+    call: &Request,
+    next: usize,
+) -> Result<(), AllocError>
+    requires room { length places.old.items + 1 < vec_capacity places.old }
+    ensures added { OnOk result (places.new.items
+        ≡ places.old.items ++ to (Sync call.now.object) (length places.old.items + 1) ∷ to (Query variable call.now) next ∷ []) }
+    ensures room { OnOk result (vec_capacity places.new ≡ vec_capacity places.old) }
+{
+    let after = places.len() + 1;
+    add_to(places, Node::Sync(call.object), after);
+    add_to(places, Node::Query(variable, copied(alloc, call)?), next);
+    Ok(())
 }
 
 // Adds the places of statements, where `next` comes after them and a `leave` goes to `out`.
@@ -83,15 +181,10 @@ fn add_stmt(
     let at = places.len();
     match stmt {
         Stmt::Assign(variable, expr) => {
-            places.push_reserved(Place::to(Node::Local(Action::Assign(*variable, *expr)), next));
+            add_to(places, Node::Local(Action::Assign(*variable, *expr)), next);
         }
-        Stmt::Command(call) => {
-            places.push_reserved(Place::to(Node::Call(copied(alloc, call)?), next));
-        }
-        Stmt::Query(variable, call) => {
-            places.push_reserved(Place::to(Node::Sync(call.object), at + 1));
-            places.push_reserved(Place::to(Node::Query(*variable, copied(alloc, call)?), next));
-        }
+        Stmt::Command(call) => add_call(alloc, places, call, next)?,
+        Stmt::Query(variable, call) => add_query(alloc, places, *variable, call, next)?,
         Stmt::If {
             test,
             first,
@@ -100,19 +193,18 @@ fn add_stmt(
         } => {
             let inside = first_node(first, at + 1, next);
             let otherwise = first_node(other, at + 1 + nodes_of(first), next);
-            let branch = Node::Branch(Choice::If(*test));
-            places.push_reserved(Place::to_either(branch, inside, otherwise));
+            add_branch(places, Choice::If(*test), inside, otherwise);
             add_body(alloc, places, first, next, out)?;
             add_body(alloc, places, other, next, out)?;
         }
         Stmt::Repeat(count, body) => {
             let inside = first_node(body, at + 2, at + 1);
-            places.push_reserved(Place::to(Node::Local(Action::SetCount(*count)), at + 1));
-            places.push_reserved(Place::to_either(Node::Branch(Choice::Repeat), inside, next));
+            add_to(places, Node::Local(Action::SetCount(*count)), at + 1);
+            add_branch(places, Choice::Repeat, inside, next);
             add_body(alloc, places, body, at + 1, next)?;
         }
         Stmt::Leave => {
-            places.push_reserved(Place::to(Node::Local(Action::Nothing), out));
+            add_to(places, Node::Local(Action::Nothing), out);
         }
     }
     Ok(())

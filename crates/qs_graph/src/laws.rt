@@ -1,5 +1,6 @@
 //! What the definitions of graphs and walks promise; and worked graphs.
 
+ghost use Rattle.qs_graph.specs.Drawn.{GraphsAreDrawings};
 ghost use Rattle.qs_graph.specs.GraphExamples.{GraphExamples};
 ghost use Rattle.qs_graph.specs.Removal.{RemovalsKeepWalks};
 ghost use Rattle.qs_graph.specs.SyncedExamples.{SyncedExamples};
@@ -17,6 +18,11 @@ ghost use Rattle.qs_graph.specs.WalkLaws.{
 /// Blocks with their graphs, computed by the definitions; it does nothing.
 pub fn graph_examples()
     ensures examples { GraphExamples }
+{}
+
+/// The graph of a block is drawn from its statements, by what comes next after each, and no other graph is; it does nothing.
+pub fn graphs_are_drawings()
+    ensures law { GraphsAreDrawings }
 {}
 
 /// Blocks with their trees with synchronisations, computed by the definitions; it does nothing.

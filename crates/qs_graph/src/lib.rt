@@ -4,10 +4,10 @@
 mod build;
 mod copies;
 mod counts;
-mod flow;
+mod graphs;
 pub mod laws;
 mod node;
 
 pub use build::graph;
-pub use flow::Graph;
-pub use node::{Action, Choice, Node};
+pub use graphs::Graph;
+pub use node::{Action, Choice, Named, Node};

@@ -1,6 +1,7 @@
 //! What the nodes of a graph do, with the expressions of their statements.
 
 use qs_check::{Call, Expr, Test};
+use qs_objects::Kind;
 
 /// What a local node does.
 #[derive(Clone, Copy, Debug)]
@@ -20,6 +21,13 @@ pub enum Choice {
     If(Test),
     /// The first edge while the repeat's count is above 0, and the count goes down by one.
     Repeat,
+}
+
+/// A name of a block's list: the number by which nodes name it, and the kind of the object that it stands for.
+#[derive(Clone, Copy)]
+pub struct Named {
+    pub name: u8,
+    pub kind: Kind,
 }
 
 /// A node of a graph. A handler is named by its object's number, as it stands in the block's text.

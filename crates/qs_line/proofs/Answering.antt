@@ -1,5 +1,5 @@
 -- From the kinds of error that clap lists to the fault of a line.
-use Rattle.std.proofs.Common.{◌≡◌, ◌≢◌, ◌∙◌, [], ◌∷◌, Option, Result, Ok, Err, true, false, refl, sym, ap, inl, inr}
+use Rattle.std.proofs.Common.{◌≡◌, ◌≢◌, ◌∙◌, [], ◌∷◌, Option, Result, Ok, Err, false, refl, sym, ap, inl, inr}
 use Rattle.std.specs.Result.{IsErrAnd}
 use Rattle.clap.specs.Kinds.{HasKind, IsAmong, Kinds}
 use Rattle.clap.specs.Values.{kind_of}

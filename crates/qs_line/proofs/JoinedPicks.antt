@@ -1,7 +1,7 @@
 -- A list of picks is the actors whose texts, joined by commas, are its text: the cut at commas gives each actor's text back, and an
 -- actor's text is read as that actor.
-use Rattle.std.proofs.Common.{◌≡◌, ◌≤◌, ◌<◌, ◌+◌, ◌-◌, ◌++◌, ◌∙◌, ◌↔◌, ℕ, Bool, List, [], ◌∷◌, Option, Some, None, true, false, refl, sym, ap, ap₂, subst, arith, length, map, option_map, option_and_then}
-use Rattle.std.specs.Prelude.{◌==◌, ◌&&◌, nat_le, if◌then◌else◌, unwrap_or}
+use Rattle.std.proofs.Common.{◌≡◌, ◌≤◌, ◌<◌, ◌+◌, ◌-◌, ◌∙◌, ℕ, Bool, List, [], ◌∷◌, Option, Some, None, true, false, refl, sym, ap, ap₂, subst, arith, length, map, option_map, option_and_then}
+use Rattle.std.specs.Prelude.{◌==◌, nat_le, if◌then◌else◌, unwrap_or}
 use Rattle.std.specs.List.{join_with_byte, onto_first, slice_split}
 use Rattle.std.proofs.lemmas.Bool.{eqb-true, false_from_ne_true, le-leb, leb-true}
 use Rattle.std.proofs.lemmas.List.{length-map}

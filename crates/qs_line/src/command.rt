@@ -1,7 +1,7 @@
 // The command as `clap` has it.
 
 ghost use Rattle.std.specs.Prelude.{◌≡◌, IfOk, codes, false};
-ghost use Rattle.clap.specs.Words.{app_of, rule_of};
+ghost use Rattle.clap.specs.Words.{app_of, rule_of, with_subcommand};
 ghost use Rattle.clap.specs.declared.Command.TheViews.{out-Command as fields_of};
 ghost use Rattle.qs_line.specs.Command.{chunk_rule, defaulted_rule, machine_app, option_rule, play_app, qs_app, rules_app, texts_app};
 
@@ -65,11 +65,35 @@ fn texts_command<'a>(alloc: Global) -> Result<Command<'a>, AllocError>
         .subcommand(Command::new(alloc, "graph"))
 }
 
+// With the word `rules`.
+fn with_rules<'a>(alloc: Global, command: Command<'a>) -> Result<Command<'a>, AllocError>
+    ensures app { IfOk result (λ whole. app_of whole ≡ with_subcommand (app_of command.entry) rules_app.top) }
+{
+    match rules_command(alloc) {
+        Ok(rules) => command.subcommand(rules),
+        Err(error) => {
+            drop(command);
+            Err(error)
+        }
+    }
+}
+
+// With the word `play`.
+fn with_play<'a>(alloc: Global, command: Command<'a>) -> Result<Command<'a>, AllocError>
+    ensures app { IfOk result (λ whole. app_of whole ≡ with_subcommand (app_of command.entry) play_app.top) }
+{
+    match play_command(alloc) {
+        Ok(play) => command.subcommand(play),
+        Err(error) => {
+            drop(command);
+            Err(error)
+        }
+    }
+}
+
 /// The whole command.
 pub fn command<'a>(alloc: Global) -> Result<Command<'a>, AllocError>
     ensures app { IfOk result (λ command. app_of command ≡ qs_app) }
 {
-    texts_command(alloc)?
-        .subcommand(rules_command(alloc)?)?
-        .subcommand(play_command(alloc)?)
+    with_play(alloc, with_rules(alloc, texts_command(alloc)?)?)
 }

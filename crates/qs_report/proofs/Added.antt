@@ -1,28 +1,27 @@
 -- The texts of graphs, part by part.
-use Rattle.std.proofs.Common.{◌≡◌, ℕ, ◌+◌, ◌<◌, Bool, List, [], ◌∷◌, ◌++◌, codes, length, flat_map, refl, ap, subst, ◌∙◌, append_assoc, add-one, arith}
+use Rattle.std.proofs.Common.{◌≡◌, ℕ, ◌+◌, ◌<◌, List, [], ◌∷◌, ◌++◌, codes, length, flat_map, refl, ap, subst, ◌∙◌, append_assoc, add-one, arith}
 use Rattle.qs_check.specs.Program.{ProgramShape, block_at}
 use Rattle.qs_graph.specs.Graphs.{block_graph}
 use Rattle.qs_graph.specs.Nodes.{Place}
 use Rattle.qs_syncset.specs.Table.{AreSetsOf}
-use Rattle.qs_report.specs.GraphText.{listed, nodes_text, block_line, IsBlockText, AreTextsUpTo, IsAdded}
+use Rattle.qs_report.specs.GraphText.{listed, nodes_text, block_line, AreNodesText, IsBlockText, AreTextsUpTo, IsAdded}
 
 pub listed_some : {X : Type 0} (text : X → List ℕ) (xs : List X) → 0 < length xs → listed text xs ≡ flat_map (λ y. codes " " ++ text y) xs
 listed_some text [] some = absurd (omega arith)
 listed_some text (x ∷ xs) some = refl
 
 -- the text of a block, by any name of its list and its graph
-pub block_added : (p : ProgramShape) (c k : ℕ) (reserved : List ℕ) (g : List Place) (sets : List (List Bool)) (first line all : List ℕ)
-    → reserved ≡ (block_at p c k).reserved → g ≡ block_graph (block_at p c k).body → AreSetsOf g sets
-    → line ≡ first ++ block_line p c k → all ≡ line ++ nodes_text p reserved g sets → IsAdded (IsBlockText p c k) first all
-block_added p c k reserved g sets first line all r e held f h =
+pub block_added : (p : ProgramShape) (c k : ℕ) (reserved : List ℕ) (g : List Place) (first line all : List ℕ)
+    → reserved ≡ (block_at p c k).reserved → g ≡ block_graph (block_at p c k).body
+    → line ≡ first ++ block_line p c k → IsAdded (AreNodesText p reserved g) line all → IsAdded (IsBlockText p c k) first all
+block_added p c k reserved g first line all r e f (text, (sets, held, t), h) =
     let own = (block_at p c k).reserved in
     let built = block_graph (block_at p c k).body in
-    let nodes : nodes_text p reserved g sets ≡ nodes_text p own built sets =
-    ap (λ rs. nodes_text p rs g sets) r ∙ ap (λ q. nodes_text p own q sets) e in (
+    let nodes : text ≡ nodes_text p own built sets =
+    t ∙ ap (λ rs. nodes_text p rs g sets) r ∙ ap (λ q. nodes_text p own q sets) e in (
       block_line p c k ++ nodes_text p own built sets,
       record { sets = sets; held = subst (λ q. AreSetsOf q sets) e held; lines = refl },
-      h ∙ ap (λ l. l ++ nodes_text p reserved g sets) f ∙ append_assoc first (block_line p c k) (nodes_text p reserved g sets)
-          ∙ ap (λ l. first ++ (block_line p c k ++ l)) nodes,
+      h ∙ ap (λ l. l ++ text) f ∙ append_assoc first (block_line p c k) text ∙ ap (λ l. first ++ (block_line p c k ++ l)) nodes,
     )
 
 -- the text of one more place

@@ -1,10 +1,10 @@
 -- Texts by their places.
-use Rattle.std.proofs.Common.{◌≡◌, ℕ, zero, suc, ◌+◌, ◌≤◌, List, [], ◌∷◌, ◌++◌, codes, length, take, get_or, flat_map, refl, sym, ap, ◌∙◌, append_assoc, append-nil, add-one, arith, ℤ, pos, false, nat_eq}
+use Rattle.std.proofs.Common.{◌≡◌, ℕ, zero, suc, ◌+◌, ◌<◌, ◌≤◌, List, [], ◌∷◌, ◌++◌, codes, length, take, get_or, flat_map, refl, sym, ap, ◌∙◌, append_assoc, append-nil, add-one, arith, ℤ, pos, false, nat_eq}
 use Rattle.std.proofs.lemmas.Bool.Decides.{nat_tests}
 use Rattle.std.specs.Fmt.{signed_decimal}
 use Rattle.std.specs.List.{join_by}
 use Rattle.std.proofs.Math.Seq.{take-suc}
-use Rattle.std.proofs.lemmas.List.{flat_map_more, take_all}
+use Rattle.std.proofs.lemmas.List.{flat_map_more, take_all, take_more}
 use Rattle.qs_report.specs.Texts.{texts_up_to, spaced}
 
 -- the text of one more place
@@ -12,6 +12,13 @@ pub one_place_more : (text : ℕ → List ℕ) (n : ℕ) (first before after : L
     → after ≡ first ++ texts_up_to (n + 1) text
 one_place_more text n first before after e h =
     rw add-one (h ∙ ap (λ l. l ++ text n) e ∙ append_assoc first (texts_up_to n text) (text n))
+
+-- the text of one more item of a list
+pub one_item_more : {X : Type 0} (text : X → List ℕ) (xs : List X) (i : ℕ) (d : X) (first before after : List ℕ) → i < length xs
+    → before ≡ first ++ flat_map text (take i xs) → after ≡ before ++ text (get_or xs i d) → after ≡ first ++ flat_map text (take (i + 1) xs)
+one_item_more text xs i d first before after within e h =
+    h ∙ ap (λ l. l ++ text (get_or xs i d)) e ∙ flat_map_more text first (take i xs) (get_or xs i d)
+    ∙ ap (λ l. first ++ flat_map text l) (sym (take_more xs i d within))
 
 -- a later place has a space
 spaced_later : (x : ℤ) (xs : List ℤ) (n : ℕ) → spaced (x ∷ xs) (suc n) ≡ codes " " ++ signed_decimal (get_or xs n (pos 0))

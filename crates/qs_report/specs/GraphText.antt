@@ -33,6 +33,11 @@ label_text p held (Query x c) = codes "query " ++ name_of p c.object
 label_text p held (Call c) = codes "call " ++ name_of p c.object
 label_text p held Exit = codes "exit"
 
+-- the first part of a node's line: its number, what it does and where it leads
+abbrev pub step_text : ProgramShape → List Place → (sets : List (List Bool)) → ℕ → List ℕ
+step_text p g sets n =
+    decimal n ++ codes " " ++ label_text p (has sets n) (place_at g n).node ++ codes " ->" ++ listed decimal (place_at g n).edges
+
 -- a node of a graph: its number, what it does, where it leads, and which objects of the block's list are held there, in the list's order
 abbrev pub node_line : ProgramShape → (reserved : List ℕ) → List Place → (sets : List (List Bool)) → ℕ → List ℕ
 node_line p reserved g sets n =
@@ -42,6 +47,10 @@ node_line p reserved g sets n =
 
 abbrev pub nodes_text : ProgramShape → (reserved : List ℕ) → List Place → (sets : List (List Bool)) → List ℕ
 nodes_text p reserved g sets = texts_up_to (length g) (node_line p reserved g sets)
+
+-- the nodes of a graph, with what is held at each on every path
+abbrev pub AreNodesText : ProgramShape → (reserved : List ℕ) → List Place → List ℕ → Type 0
+AreNodesText p reserved g text = (sets : List (List Bool)) × AreSetsOf g sets × (text ≡ nodes_text p reserved g sets)
 
 abbrev pub block_line : ProgramShape → (c k : ℕ) → List ℕ
 block_line p c k = codes "block " ++ (client_at p c).name ++ codes " " ++ decimal k ++ codes "\n"

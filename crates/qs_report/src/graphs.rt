@@ -5,8 +5,8 @@ ghost use Rattle.std.specs.List.{AllByRecursion, filter};
 ghost use Rattle.qs_check.specs.Program.{block_at, blocks_of};
 ghost use Rattle.qs_graph.specs.Nodes.{place_at};
 ghost use Rattle.qs_syncset.specs.Table.{has};
-ghost use Rattle.qs_report.specs.GraphText.{listed, name_of, removed_text, label_text, node_line, nodes_text, block_line};
-ghost use Rattle.qs_report.specs.GraphText.{IsBlockText, IsClientText, IsGraphText, IsAdded};
+ghost use Rattle.qs_report.specs.GraphText.{listed, name_of, removed_text, label_text, node_line, nodes_text, block_line, step_text};
+ghost use Rattle.qs_report.specs.GraphText.{AreNodesText, IsBlockText, IsClientText, IsGraphText, IsAdded};
 
 use crate::bytes::{put, put_all};
 use crate::names::{client_name, object_name};
@@ -43,9 +43,9 @@ fn put_label(
     sets: &Sets,
     n: usize,
 ) -> Result<(), AllocError>
-    requires node { n < length graph.now }
-    requires sets { length sets.now ≡ length graph.now }
-    ensures ok { OnOk result (out.new.items ≡ out.old.items ++ label_text program.now (has sets.now n) (place_at graph.now n).node) }
+    requires node { n < length graph.now.nodes }
+    requires sets { length sets.now ≡ length graph.now.nodes }
+    ensures ok { OnOk result (out.new.items ≡ out.old.items ++ label_text program.now (has sets.now n) (place_at graph.now.nodes n).node) }
 {
     graph.is_graph();
     match graph.node(n) {
@@ -104,6 +104,44 @@ fn put_names(out: &mut Vec<u8>, program: &Program, objects: &[u8]) -> Result<(),
     Ok(())
 }
 
+// The number of a node, what it does, and the numbers of the nodes that it leads to.
+fn put_step(
+    out: &mut Vec<u8>,
+    program: &Program,
+    graph: &Graph,
+    sets: &Sets,
+    n: usize,
+) -> Result<(), AllocError>
+    requires node { n < length graph.now.nodes }
+    requires sets { length sets.now ≡ length graph.now.nodes }
+    ensures ok { OnOk result (out.new.items ≡ out.old.items ++ step_text program.now graph.now.nodes sets.now n) }
+{
+    let mut buffer = Buffer::new();
+    put_all(out, &[buffer.format(n).as_bytes(), b" "])?;
+    put_label(out, program, graph, sets, n)?;
+    put(out, b" ->")?;
+    put_targets(out, graph.edges(n))
+}
+
+// The names of the objects of a block's list that are held at a node.
+fn put_held(
+    alloc: Global,
+    out: &mut Vec<u8>,
+    program: &Program,
+    reserved: &[u8],
+    sets: &Sets,
+    n: usize,
+) -> Result<(), AllocError>
+    requires node { n < length sets.now }
+    requires handlers { AllByRecursion (λ h. h < 8) reserved.now }
+    ensures ok { OnOk result (out.new.items ≡ out.old.items ++ listed (name_of program.now) (filter (has sets.now n) reserved.now)) }
+{
+    let held = held_at(alloc, reserved, sets, n)?;
+    let put = put_names(out, program, held.as_slice());
+    drop(held);
+    put
+}
+
 fn put_node(
     alloc: Global,
     out: &mut Vec<u8>,
@@ -113,19 +151,14 @@ fn put_node(
     sets: &Sets,
     n: usize,
 ) -> Result<(), AllocError>
-    requires node { n < length graph.now }
-    requires sets { length sets.now ≡ length graph.now }
+    requires node { n < length graph.now.nodes }
+    requires sets { length sets.now ≡ length graph.now.nodes }
     requires handlers { AllByRecursion (λ h. h < 8) reserved.now }
-    ensures ok { OnOk result (out.new.items ≡ out.old.items ++ node_line program.now reserved.now graph.now sets.now n) }
+    ensures ok { OnOk result (out.new.items ≡ out.old.items ++ node_line program.now reserved.now graph.now.nodes sets.now n) }
 {
-    let mut buffer = Buffer::new();
-    let held = held_at(alloc, reserved, sets, n)?;
-    put_all(out, &[buffer.format(n).as_bytes(), b" "])?;
-    put_label(out, program, graph, sets, n)?;
-    put(out, b" ->")?;
-    put_targets(out, graph.edges(n))?;
+    put_step(out, program, graph, sets, n)?;
     put(out, b" held")?;
-    put_names(out, program, held.as_slice())?;
+    put_held(alloc, out, program, reserved, sets, n)?;
     put(out, b"\n")
 }
 
@@ -137,9 +170,9 @@ fn put_nodes(
     graph: &Graph,
     sets: &Sets,
 ) -> Result<(), AllocError>
-    requires sets { length sets.now ≡ length graph.now }
+    requires sets { length sets.now ≡ length graph.now.nodes }
     requires handlers { AllByRecursion (λ h. h < 8) reserved.now }
-    ensures ok { OnOk result (out.new.items ≡ out.old.items ++ nodes_text program.now reserved.now graph.now sets.now) }
+    ensures ok { OnOk result (out.new.items ≡ out.old.items ++ nodes_text program.now reserved.now graph.now.nodes sets.now) }
 {
     for n in 0..graph.len() {
         put_node(alloc, out, program, reserved, graph, sets, n)?;
@@ -174,6 +207,23 @@ fn reserved_by(program: &Program, client: u8, block: u8) -> &[u8]
     program.block(client, block).reserved()
 }
 
+// The nodes of a graph, with what is held at each.
+fn put_graph(
+    alloc: Global,
+    out: &mut Vec<u8>,
+    program: &Program,
+    reserved: &[u8],
+    graph: &Graph,
+) -> Result<(), AllocError>
+    requires handlers { AllByRecursion (λ h. h < 8) reserved.now }
+    ensures ok { OnOk result (IsAdded (AreNodesText program.now reserved.now graph.now.nodes) out.old.items out.new.items) }
+{
+    let sets = held_sets(alloc, graph)?;
+    let put = put_nodes(alloc, out, program, reserved, graph, &sets);
+    drop(sets);
+    put
+}
+
 fn put_block(
     alloc: Global,
     out: &mut Vec<u8>,
@@ -185,11 +235,17 @@ fn put_block(
     requires block { block < blocks_of program.now client }
     ensures ok { OnOk result (IsAdded (IsBlockText program.now client block) out.old.items out.new.items) }
 {
-    let graph = graph(alloc, program, client, block)?;
-    let sets = held_sets(alloc, &graph)?;
-    let reserved = reserved_by(program, client, block);
     put_block_line(out, program, client, block)?;
-    put_nodes(alloc, out, program, reserved, &graph, &sets)
+    let graph = graph(alloc, program, client, block)?;
+    let put = put_graph(
+        alloc,
+        out,
+        program,
+        reserved_by(program, client, block),
+        &graph,
+    );
+    drop(graph);
+    put
 }
 
 fn put_blocks(

@@ -1,5 +1,5 @@
 pub mod Paths
-pub mod Passing
+pub mod Transfer
 pub mod Removing
 pub mod Moves
 pub mod SoundTrees

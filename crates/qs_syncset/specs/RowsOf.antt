@@ -2,7 +2,7 @@
 use Rattle.std.specs.Prelude.{◌≡◌, ℕ, ◌+◌, ◌<◌, Bool, true, false, cond, ◌&&◌, List, [], length, map, slice_index_or}
 use Rattle.std.specs.List.{sum_by, count_by}
 use Rattle.qs_graph.specs.Nodes.{Place}
-use Rattle.qs_syncset.specs.declared.rows.Row.{Row}
+use Rattle.qs_syncset.specs.declared.fixpoint.Row.{Row}
 use Rattle.qs_syncset.specs.Flow.{Holding, AreWitnessed, IsAtEntry}
 
 abbrev pub no_row : Row

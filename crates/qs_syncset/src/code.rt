@@ -6,9 +6,9 @@ ghost use Rattle.qs_check.specs.Loads.{load_of};
 ghost use Rattle.qs_syncset.specs.Codes.{IsCode, IsCodeOf, IsBlockCode, IsGraphOf, code_at, load_at};
 ghost use Rattle.qs_syncset.specs.Modes.{is_static};
 
+use crate::fixpoint::held_sets;
 use crate::mode::Mode;
 use crate::removal::coalesce;
-use crate::rows::held_sets;
 use qs_check::Program;
 use qs_graph::{Graph, graph};
 use std::alloc::{AllocError, Global};
@@ -31,7 +31,7 @@ impl Model for BlockCode {
 
     ghost coded = { coded_block };
 
-    ghost view = { λ b. record { reserved = b.reserved.items; graph = b.graph; loads = b.loads } };
+    ghost view = { λ b. record { reserved = b.reserved.items; graph = b.graph.nodes; loads = b.loads } };
 
     ghost invariant = { λ b. (h : ℕ) → slice_index_or b.loads h 0 ≤ 100000 };
 }
@@ -44,7 +44,7 @@ impl BlockCode {
     }
 
     fn graph(&self) -> &Graph
-        ensures value { result.now ≡ self.now.graph }
+        ensures value { result.now.nodes ≡ self.now.graph }
     {
         &self.graph
     }
@@ -119,7 +119,7 @@ impl Code {
     /// The graph that the client walks through in a block.
     pub fn graph(&self, block: usize) -> &Graph
         requires block { block < length self.now.blocks }
-        ensures value { result.now ≡ (code_at self.now block).graph }
+        ensures value { result.now.nodes ≡ (code_at self.now block).graph }
     {
         self.block(block).graph()
     }
@@ -145,7 +145,7 @@ fn block_graph_in(
 ) -> Result<Graph, AllocError>
     requires client { client < length program.now.clients }
     requires block { block < blocks_of program.now client }
-    ensures graph { IfOk result (λ g. IsGraphOf (is_static mode) (block_at program.now client block).body g) }
+    ensures graph { IfOk result (λ g. IsGraphOf (is_static mode) (block_at program.now client block).body g.nodes) }
 {
     let built = graph(alloc, program, client, block)?;
     if !mode.is_static() {

@@ -3,14 +3,14 @@
 #![tactic(auto)]
 
 mod code;
+mod fixpoint;
 pub mod laws;
 mod mode;
 mod removal;
-mod rows;
 mod sync_counts;
 
 pub use code::{Code, compile};
+pub use fixpoint::{Sets, held_sets};
 pub use mode::Mode;
 pub use removal::coalesce;
-pub use rows::{Sets, held_sets};
 pub use sync_counts::{SyncCount, SyncCounts};

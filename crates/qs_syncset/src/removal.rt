@@ -4,13 +4,14 @@ ghost use Rattle.std.specs.Prelude.{◌≡◌, length};
 ghost use Rattle.qs_syncset.specs.Coalesced.{IsCoalesced};
 ghost use Rattle.qs_syncset.specs.Table.{AreSetsOf};
 
-use crate::rows::Sets;
+use crate::fixpoint::Sets;
 use qs_graph::{Graph, Node};
 
 /// Removes each synchronisation whose own handler is held as it is reached; takes no memory.
 pub fn coalesce(mut graph: Graph, sets: &Sets) -> Graph
-    requires sets { AreSetsOf graph sets.now }
-    ensures coalesced { IsCoalesced graph result }
+    requires sets { AreSetsOf graph.nodes sets.now }
+    ensures coalesced { IsCoalesced graph.nodes result.nodes }
+    ensures same_names { result.names ≡ graph.names }
 {
     graph.is_graph();
     for n in 0..graph.len() {

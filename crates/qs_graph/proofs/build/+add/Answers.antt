@@ -47,17 +47,18 @@ add_body-loop-i-preserved t c =
 pub add_stmt-add_body-requires-in-If : goal.add_stmt-add_body-requires-in-If
 add_stmt-add_body-requires-in-If t c =
     let count = ap (λ s. node_count (single s)) c.in-If.is in
-    let one = longer c.push_reserved-in-If.new.self.items c.add_body.new.places.items
+    let branch = to_either (Branch (If c.in-If.test)) c.first_node-inside.result c.first_node-otherwise.result in
+    let one = longer c.add_branch.new.places.items c.add_body.new.places.items
     c.args.next c.args.out c.in-If.first c.in_ok-add_body-in-If.ensures.added in (
       omega (arith, c.decreases, count),
       omega (
         arith,
         one,
         count,
-        ap length c.push_reserved-in-If.ensures.items,
-        length-append c.args.places.now.items (c.to_either.result ∷ []),
+        ap length c.add_branch.ensures.added,
+        length-append c.args.places.now.items (branch ∷ []),
         c.in_ok-add_body-in-If.ensures.room,
-        c.push_reserved-in-If.ensures.capacity,
+        c.add_branch.ensures.room,
         c.requires.room,
       ),
     )
@@ -76,10 +77,11 @@ add_stmt-returns-in_ok-add_body-in-If-2-clause-added t c =
     c.first_node-inside.ensures.value ∙ ap (λ n. first_node (n + 1) c.args.next first) long in
     let other_is : c.first_node-otherwise.result ≡ first_node (at + 1 + node_count first) c.args.next other =
     c.first_node-otherwise.ensures.value ∙ ap (λ n. first_node n c.args.next other) at_other in
-    let branch : c.to_either.result ≡ to_either (Branch (If c.in-If.test)) (first_node (at + 1) c.args.next first)
+    let made = to_either (Branch (If c.in-If.test)) c.first_node-inside.result c.first_node-otherwise.result in
+    let branch : made ≡ to_either (Branch (If c.in-If.test)) (first_node (at + 1) c.args.next first)
     (first_node (at + 1 + node_count first) c.args.next other) =
-    c.to_either.ensures.value ∙ (λ i. to_either (Branch (If c.in-If.test)) (first_is i) (other_is i)) in
-    if_done c.args.places.now.items c.push_reserved-in-If.new.self.items c.add_body.new.places.items c.add_body-in-If.new.places.items
-    c.to_either.result c.in-If.test c.in-If.has_else first other c.args.next c.args.out
-    c.push_reserved-in-If.ensures.items c.in_ok-add_body-in-If.ensures.added c.in_ok-add_body-in-If-2.ensures.added branch
+    (λ i. to_either (Branch (If c.in-If.test)) (first_is i) (other_is i)) in
+    if_done c.args.places.now.items c.add_branch.new.places.items c.add_body.new.places.items c.add_body-in-If.new.places.items
+    made c.in-If.test c.in-If.has_else first other c.args.next c.args.out
+    c.add_branch.ensures.added c.in_ok-add_body-in-If.ensures.added c.in_ok-add_body-in-If-2.ensures.added branch
     ∙ ap (λ s. c.args.places.now.items ++ places_of at c.args.next c.args.out (single s)) (sym c.in-If.is)

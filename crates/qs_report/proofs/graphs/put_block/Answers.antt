@@ -4,8 +4,8 @@ use Rattle.qs_report.proofs.graphs.put_block.Goals as goal
 
 pub returns : goal.returns
 returns c = record {
-  ok = on_ok_weaker c.put_nodes.result
-      (block_added c.args.program.now c.args.client c.args.block _ _ _ c.args.out.now.items _ _
-      c.reserved_by-reserved.ensures.value c.in_ok-graph.ensures.graph_of c.in_ok-sets.ensures.sets c.in_ok-put_block_line.ensures.ok)
-      c.put_nodes.ensures.ok;
+  ok = on_ok_weaker c.put_graph-put.result
+      (block_added c.args.program.now c.args.client c.args.block _ _ c.args.out.now.items _ _
+      c.reserved_by.ensures.value c.in_ok-graph.ensures.graph_of c.in_ok-put_block_line.ensures.ok)
+      c.put_graph-put.ensures.ok;
 }

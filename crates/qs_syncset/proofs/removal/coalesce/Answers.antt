@@ -1,7 +1,8 @@
 use Rattle.std.proofs.Common.{◌≡◌, ℕ, ◌+◌, ◌<◌, true, false, arith, sym, ap, ◌∙◌, length, subst, List}
 use Rattle.std.specs.Prelude.{◌↔◌}
 use Rattle.qs_graph.specs.declared.node.Node.TheVariants.{Sync}
-use Rattle.qs_graph.specs.Nodes.{Place, place_at}
+use Rattle.qs_graph.specs.declared.node.Named.{Named}
+use Rattle.qs_graph.specs.Nodes.{ControlGraph, Place, place_at}
 use Rattle.qs_graph.specs.WellFormed.{IsInRange, IsPlace}
 use Rattle.qs_graph.specs.Nodes.{exit}
 use Rattle.qs_check.proofs.Bounds.{AllByRecursion-get_or}
@@ -11,41 +12,56 @@ use Rattle.qs_syncset.proofs.Removing.{IsDone, done_kept, done_set, removed, not
 use Rattle.qs_syncset.proofs.removal.coalesce.Goals as goal
 use Rattle.qs_syncset.proofs.removal.coalesce.Goals.{in-Sync+then-holds, in-Sync+else-holds, in_default}
 
-inside : (c : goal.Joined-node) → c.loop-n.n < length c.args.graph
+-- so far, with the names as they were
+abbrev IsDoneWith : List Place → List Named → ℕ → ControlGraph → Type 0
+IsDoneWith g names n now = record { done : IsDone g now.nodes n; names : now.names ≡ names }
+
+inside : (c : goal.Joined-node) → c.loop-n.n < length c.args.graph.nodes
 inside c = omega (arith, c.loop-n-test.true, c.len-n-end.ensures.value)
 
-handler_known : (c : goal.Joined-node) (h : ℕ) → (place_at c.args.graph c.loop-n.n).node ≡ Sync h → h < 8
+handler_known : (c : goal.Joined-node) (h : ℕ) → (place_at c.args.graph.nodes c.loop-n.n).node ≡ Sync h → h < 8
 handler_known c h e =
-    let here : IsPlace (length c.args.graph) (place_at c.args.graph c.loop-n.n) =
-    AllByRecursion-get_or (IsPlace (length c.args.graph)) c.args.graph c.loop-n.n exit c.is_graph.ensures.graph.places (inside c) in
+    let here : IsPlace (length c.args.graph.nodes) (place_at c.args.graph.nodes c.loop-n.n) =
+    AllByRecursion-get_or (IsPlace (length c.args.graph.nodes)) c.args.graph.nodes c.loop-n.n exit c.is_graph.ensures.graph.places (inside c) in
     subst IsInRange e here.in_range
 
-exact : (c : goal.Joined-node) (h : ℕ) → (place_at c.args.graph c.loop-n.n).node ≡ Sync h
-    → (has c.args.sets.now c.loop-n.n h ≡ true) ↔ IsHeld c.args.graph c.loop-n.n h
+exact : (c : goal.Joined-node) (h : ℕ) → (place_at c.args.graph.nodes c.loop-n.n).node ≡ Sync h
+    → (has c.args.sets.now c.loop-n.n h ≡ true) ↔ IsHeld c.args.graph.nodes c.loop-n.n h
 exact c h e = c.requires.sets.exact c.loop-n.n h (inside c) (handler_known c h e)
 
 pub loop-n-preserved : goal.loop-n-preserved
 loop-n-preserved c =
-    let g = c.args.graph in
+    let g = c.args.graph.nodes in
     let n = c.loop-n.n in
     let node_same : (place_at g n).node ≡ c.node.result.now =
-    ap (λ (p : Place). p.node) (sym (c.loop-n.invariant.rest n (omega arith))) ∙ sym c.node.ensures.value in
+    ap (λ (p : Place). p.node) (sym (c.loop-n.invariant.done.rest n (omega arith))) ∙ sym c.node.ensures.value in
+    let kept = c.loop-n.invariant.names in
     elim c.match-node.branch [
       | in-Sync+then-holds w ↦
           let is : (place_at g n).node ≡ Sync w.in-Sync.handler = node_same ∙ w.in-Sync.is in
           let held : IsHeld g n w.in-Sync.handler = (exact c w.in-Sync.handler is).0 (sym w.holds.ensures.value ∙ w.if-holds.true) in
-          subst (λ (now : List Place). IsDone g now (n + 1)) (sym (w.graph-is ∙ w.make_local.ensures.change))
-          (done_set g c.loop-n.graph n (omega (arith, inside c, c.loop-n.invariant.count)) c.loop-n.invariant
-          (removed (IsHeld g n) w.in-Sync.handler (place_at g n) is held))
+          subst (IsDoneWith g c.args.graph.names (n + 1)) (sym w.graph-is)
+          (record {
+            done = subst (λ (now : List Place). IsDone g now (n + 1)) (sym w.make_local.ensures.change)
+                (done_set g c.loop-n.graph.nodes n (omega (arith, inside c, c.loop-n.invariant.done.count)) c.loop-n.invariant.done
+                (removed (IsHeld g n) w.in-Sync.handler (place_at g n) is held));
+            names = w.make_local.ensures.same_names ∙ kept;
+          })
       | in-Sync+else-holds w ↦
           let is : (place_at g n).node ≡ Sync w.in-Sync.handler = node_same ∙ w.in-Sync.is in
           let missing : has c.args.sets.now n w.in-Sync.handler ≡ false = sym w.holds.ensures.value ∙ w.if-holds.false in
-          subst (λ (now : List Place). IsDone g now (n + 1)) (sym w.graph-is)
-          (done_kept g c.loop-n.graph n c.loop-n.invariant
-          (not_held (IsHeld g n) w.in-Sync.handler (place_at g n) is (λ held.
-          let never : true ≡ false = sym ((exact c w.in-Sync.handler is).1 held) ∙ missing in cc)))
+          subst (IsDoneWith g c.args.graph.names (n + 1)) (sym w.graph-is)
+          (record {
+            done = done_kept g c.loop-n.graph.nodes n c.loop-n.invariant.done
+                (not_held (IsHeld g n) w.in-Sync.handler (place_at g n) is (λ held.
+                let never : true ≡ false = sym ((exact c w.in-Sync.handler is).1 held) ∙ missing in cc));
+            names = kept;
+          })
       | in_default w ↦
-          subst (λ (now : List Place). IsDone g now (n + 1)) (sym w.graph-is)
-          (done_kept g c.loop-n.graph n c.loop-n.invariant
-          (no_sync (IsHeld g n) (place_at g n) (λ h e. w.in_default.not-Sync h (sym node_same ∙ e))))
+          subst (IsDoneWith g c.args.graph.names (n + 1)) (sym w.graph-is)
+          (record {
+            done = done_kept g c.loop-n.graph.nodes n c.loop-n.invariant.done
+                (no_sync (IsHeld g n) (place_at g n) (λ h e. w.in_default.not-Sync h (sym node_same ∙ e)));
+            names = kept;
+          })
     ]

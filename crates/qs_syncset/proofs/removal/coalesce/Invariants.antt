@@ -1,5 +1,9 @@
+use Rattle.std.proofs.Common.{◌≡◌}
 use Rattle.qs_syncset.proofs.Removing.{IsDone}
 use Rattle.qs_syncset.proofs.removal.coalesce.Given as goal
 
 abbrev pub invariant-loop-n : goal.invariant-loop-n
-invariant-loop-n l = IsDone l.fn.graph l.graph l.n
+invariant-loop-n l = record {
+  done : IsDone l.fn.graph.nodes l.graph.nodes l.n;
+  names : l.graph.names ≡ l.fn.graph.names;
+}

@@ -19,7 +19,7 @@ returns-in-Runs c =
     let s : Run = c.args.self.now in
     let k = c.args.ticket.index in
     let b : BlockCode = code_at c.args.code.now k in
-    let graph : c.graph-graph.result.now ≡ b.graph = c.graph-graph.ensures.value ∙ ap (λ n. (code_at c.args.code.now n).graph) c.from-block.ensures in
+    let graph : c.graph-graph.result.now.nodes ≡ b.graph = c.graph-graph.ensures.value ∙ ap (λ n. (code_at c.args.code.now n).graph) c.from-block.ensures in
     record {
       acted = λ settings most standing.
           let w = subst (IsStanding b settings.size k most s) c.in-Runs.is standing in

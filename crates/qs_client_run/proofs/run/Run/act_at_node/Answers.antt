@@ -22,7 +22,7 @@ neither nodes.Exit s a b loud sync call = loud
 pub unreachable-requires : goal.unreachable-requires
 unreachable-requires c =
     let s : Run = c.args.self.now in
-    let g = c.args.graph.now in
+    let g = c.args.graph.now.nodes in
     let is : c.node-2.result.now ≡ (place_at g s.way.node).node = c.node-2.ensures.value ∙ ap (λ n. (place_at g n).node) c.node.ensures.value in
     neither (place_at g s.way.node).node s.way (first_target (place_at g s.way.node)) (second_target (place_at g s.way.node))
     (subst IsLoud (moves g s.way (place_at g s.way.node).node refl) c.requires.loud)
@@ -32,7 +32,7 @@ unreachable-requires c =
 pub returns-in-Call : goal.returns-in-Call
 returns-in-Call c =
     let s : Run = c.args.self.now in
-    let g = c.args.graph.now in
+    let g = c.args.graph.now.nodes in
     let is = ap (λ n. (place_at g n).node) (sym c.node.ensures.value) ∙ sym c.node-2.ensures.value ∙ c.in-Call.is in
     let at = sym (moves g s.way (nodes.Call c.in-Call.call) is) in
     record {
@@ -43,7 +43,7 @@ returns-in-Call c =
 pub returns-in-Sync : goal.returns-in-Sync
 returns-in-Sync c =
     let s : Run = c.args.self.now in
-    let g = c.args.graph.now in
+    let g = c.args.graph.now.nodes in
     let is = ap (λ n. (place_at g n).node) (sym c.node.ensures.value) ∙ sym c.node-2.ensures.value ∙ c.in-Sync.is in
     let at = sym (moves g s.way (nodes.Sync c.in-Sync.handler) is) in
     record {

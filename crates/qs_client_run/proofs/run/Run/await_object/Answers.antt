@@ -11,7 +11,7 @@ use Rattle.qs_client_run.proofs.run.Run.await_object.Goals as goal
 pub returns-in-Sync : goal.returns-in-Sync
 returns-in-Sync c =
     let s : Run = c.args.self.now in
-    let g = c.args.graph.now in
+    let g = c.args.graph.now.nodes in
     let next = c.go_to.ensures.value ∙ ap (at_node s.way) (c.first_target.ensures.value ∙ ap (λ n. first_target (place_at g n)) c.node-node.ensures.value) in
     let is = ap (λ n. (place_at g n).node) (sym c.node-node.ensures.value) ∙ sym c.node.ensures.value ∙ c.in-Sync.is in
     record {
@@ -22,7 +22,7 @@ returns-in-Sync c =
 pub returns-in_default : goal.returns-in_default
 returns-in_default c =
     let s : Run = c.args.self.now in
-    let g = c.args.graph.now in
+    let g = c.args.graph.now.nodes in
     let is : c.node.result.now ≡ (place_at g s.way.node).node = c.node.ensures.value ∙ ap (λ n. (place_at g n).node) c.node-node.ensures.value in
     record {
       new = sym (ap (λ (m : Move). synced_by m s) (moves g s.way (place_at g s.way.node).node refl)

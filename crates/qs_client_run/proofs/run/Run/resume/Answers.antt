@@ -9,7 +9,7 @@ use Rattle.qs_client_run.proofs.run.Run.resume.Goals as goal
 pub returns : goal.returns
 returns c =
     let k = c.args.ticket.index in
-    let graph : c.graph.result.now ≡ (code_at c.args.code.now k).graph = c.graph.ensures.value ∙ ap (λ n. (code_at c.args.code.now n).graph) c.from-block.ensures in
+    let graph : c.graph.result.now.nodes ≡ (code_at c.args.code.now k).graph = c.graph.ensures.value ∙ ap (λ n. (code_at c.args.code.now n).graph) c.from-block.ensures in
     let list : c.reserved.result.now ≡ (code_at c.args.code.now k).reserved = c.reserved.ensures.value ∙ ap (λ n. (code_at c.args.code.now n).reserved) c.from-block.ensures in
     record {
       settled = λ settings begun p n dynamic w.

@@ -42,7 +42,7 @@ pub returns-in-Runs-stage : goal.returns-in-Runs-stage
 returns-in-Runs-stage c =
     let s : Run = c.args.self.now in
     let b : BlockCode = code_at c.args.code.now c.args.ticket.index in
-    let graph : c.graph-graph.result.now ≡ b.graph = c.graph-graph.ensures.value ∙ ap (λ n. (code_at c.args.code.now n).graph) c.from-block.ensures in
+    let graph : c.graph-graph.result.now.nodes ≡ b.graph = c.graph-graph.ensures.value ∙ ap (λ n. (code_at c.args.code.now n).graph) c.from-block.ensures in
     record {
       sent = λ settings begun most dynamic standing.
           let w = subst (IsStanding b settings.size c.args.ticket.index most s) c.in-Runs-stage.is standing in

@@ -22,8 +22,8 @@ step-requires c =
 pub loop-turn-preserved : goal.loop-turn-preserved
 loop-turn-preserved c =
     let next = λ (settings : Settings) (begun : ℕ) (p : Place) (n : ℕ) (dynamic : settings.dynamic ≡ c.args.terms.dynamic)
-    (on : WentOn c.args.graph.now settings c.args.terms c.args.reserved.now begun p n c.loop-turn._turn c.args.self.now c.loop-turn.self).
-    goes_on c.args.graph.now settings c.args.terms c.args.reserved.now begun p on.left c.loop-turn._turn c.loop-turn.self c.step.new.self c.is_graph.ensures.graph dynamic on.stands on.running on.few c.step.ensures.new (sym c.step.ensures.on ∙ c.if-not-step.false) in
+    (on : WentOn c.args.graph.now.nodes settings c.args.terms c.args.reserved.now begun p n c.loop-turn._turn c.args.self.now c.loop-turn.self).
+    goes_on c.args.graph.now.nodes settings c.args.terms c.args.reserved.now begun p on.left c.loop-turn._turn c.loop-turn.self c.step.new.self c.is_graph.ensures.graph dynamic on.stands on.running on.few c.step.ensures.new (sym c.step.ensures.on ∙ c.if-not-step.false) in
     let w = c.requires.running in
     let settings : Settings = record { dynamic = c.args.terms.dynamic; size = w.0 } in
     record {
@@ -38,8 +38,8 @@ pub returns-then-not-step : goal.returns-then-not-step
 returns-then-not-step c = record {
   settled = λ settings begun p n dynamic w.
       let on = c.loop-turn.invariant.on settings begun p n dynamic w in
-      let end = stops c.args.graph.now settings c.args.terms c.args.reserved.now begun p on.left c.loop-turn.self c.step.new.self c.is_graph.ensures.graph dynamic on.stands on.running c.step.ensures.new (sym c.step.ensures.on ∙ c.if-not-step.true) in
-      record { stopped = stopped_up c.args.graph.now c.args.reserved.now settings.size c.args.terms.ticket.index on.left n c.step.new.self c.step.new.self.stage on.fewer end.stopped; rows = keeps_both c.args.terms.ticket.index _ _ _ on.rows end.rows; counts = end.counts ∙ on.counts; same = on.same ∙ end.same };
+      let end = stops c.args.graph.now.nodes settings c.args.terms c.args.reserved.now begun p on.left c.loop-turn.self c.step.new.self c.is_graph.ensures.graph dynamic on.stands on.running c.step.ensures.new (sym c.step.ensures.on ∙ c.if-not-step.true) in
+      record { stopped = stopped_up c.args.graph.now.nodes c.args.reserved.now settings.size c.args.terms.ticket.index on.left n c.step.new.self c.step.new.self.stage on.fewer end.stopped; rows = keeps_both c.args.terms.ticket.index _ _ _ on.rows end.rows; counts = end.counts ∙ on.counts; same = on.same ∙ end.same };
 }
 
 spent : (g : List places.Place) (n turn : ℕ) (s : Spot) → n + turn ≤ limit → 3000002 ≤ turn → Within g n s → ⊥
@@ -51,4 +51,4 @@ unreachable-requires c =
     let w = c.requires.running in
     let settings : Settings = record { dynamic = c.args.terms.dynamic; size = w.0 } in
     let on = c.loop-turn.invariant.on settings 0 (between []) w.1 refl w.2 in
-    spent c.args.graph.now on.left c.loop-turn._turn c.loop-turn.self.way on.few (omega (arith, c.loop-turn-test.false)) on.running.within
+    spent c.args.graph.now.nodes on.left c.loop-turn._turn c.loop-turn.self.way on.few (omega (arith, c.loop-turn-test.false)) on.running.within

@@ -19,7 +19,7 @@ node-requires-2 c =
     let k = c.args.ticket.index in
     let b : BlockCode = code_at c.args.code.now k in
     let w = c.requires.asked in
-    let graph : c.graph-graph.result.now ≡ b.graph = c.graph-graph.ensures.value ∙ ap (λ n. (code_at c.args.code.now n).graph) c.from.ensures in
+    let graph : c.graph-graph.result.now.nodes ≡ b.graph = c.graph-graph.ensures.value ∙ ap (λ n. (code_at c.args.code.now n).graph) c.from.ensures in
     let at = subst (IsStanding b w.0.size k w.3 s) (at_call b w.0 c.args.ticket w.1 w.2 w.3 s w.4 w.6).stands w.6.standing in
     record {
       in_range = omega (arith, node_inside b.graph at.0 s.way at.2.within, c.node.ensures.value, ap (λ (g : List places.Place). length g) graph);
@@ -30,7 +30,7 @@ unreachable-requires c =
     let s : Run = c.args.self.now in
     let b : BlockCode = code_at c.args.code.now c.args.ticket.index in
     let w = c.requires.asked in
-    let graph : c.graph-graph.result.now ≡ b.graph = c.graph-graph.ensures.value ∙ ap (λ n. (code_at c.args.code.now n).graph) c.from.ensures in
+    let graph : c.graph-graph.result.now.nodes ≡ b.graph = c.graph-graph.ensures.value ∙ ap (λ n. (code_at c.args.code.now n).graph) c.from.ensures in
     let node : c.node-2.result.now ≡ (places.place_at b.graph s.way.node).node =
     c.node-2.ensures.value ∙ (λ i. (places.place_at (graph i) (c.node.ensures.value i)).node) in
     is_call b.graph s w.4 (at_call b w.0 c.args.ticket w.1 w.2 w.3 s w.4 w.6) (λ x e. c.in_default.not-Call x (node ∙ e))
@@ -42,7 +42,7 @@ resume-requires c =
     let b : BlockCode = code_at c.args.code.now k in
     let h = c.in-Call.call.object in
     let w = c.requires.asked in
-    let graph : c.graph-graph.result.now ≡ b.graph = c.graph-graph.ensures.value ∙ ap (λ n. (code_at c.args.code.now n).graph) c.from.ensures in
+    let graph : c.graph-graph.result.now.nodes ≡ b.graph = c.graph-graph.ensures.value ∙ ap (λ n. (code_at c.args.code.now n).graph) c.from.ensures in
     let node : c.node-2.result.now ≡ (places.place_at b.graph s.way.node).node =
     c.node-2.ensures.value ∙ (λ i. (places.place_at (graph i) (c.node.ensures.value i)).node) in
     let at = subst (IsStanding b w.0.size k w.3 s) (at_call b w.0 c.args.ticket w.1 w.2 w.3 s w.4 w.6).stands w.6.standing in
@@ -66,7 +66,7 @@ returns c =
     let u = c.args.ticket in
     let b : BlockCode = code_at c.args.code.now u.index in
     let h = c.in-Call.call.object in
-    let graph : c.graph-graph.result.now ≡ b.graph = c.graph-graph.ensures.value ∙ ap (λ n. (code_at c.args.code.now n).graph) c.from.ensures in
+    let graph : c.graph-graph.result.now.nodes ≡ b.graph = c.graph-graph.ensures.value ∙ ap (λ n. (code_at c.args.code.now n).graph) c.from.ensures in
     let node : c.node-2.result.now ≡ (places.place_at b.graph s.way.node).node =
     c.node-2.ensures.value ∙ (λ i. (places.place_at (graph i) (c.node.ensures.value i)).node) in
     record {

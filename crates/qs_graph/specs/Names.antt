@@ -1,0 +1,11 @@
+-- The names of a block's list. A client's own block names an object by the object's number.
+use Rattle.std.specs.Prelude.{ℕ, List, map}
+use Rattle.qs_check.specs.Program.{BlockShape, ProgramShape, object_at}
+use Rattle.qs_graph.specs.declared.node.Named.{Named}
+
+abbrev pub named : ProgramShape → ℕ → Named
+named p h = record { name = h; kind = (object_at p h).kind }
+
+-- in the order of the list
+abbrev pub names_of : ProgramShape → BlockShape → List Named
+names_of p b = map (named p) b.reserved

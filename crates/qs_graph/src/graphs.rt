@@ -1,0 +1,169 @@
+//! Graphs as they are kept.
+
+ghost use Rattle.std.specs.Prelude.{◌≡◌, ◌<◌, length, slice_set};
+ghost use Rattle.qs_graph.specs.Nodes.{to, to_either, exit, place_at, first_target, second_target, made_local, IsSync};
+ghost use Rattle.qs_graph.specs.WellFormed.{IsGraph};
+
+use crate::node::{Action, Named, Node};
+use std::marker::Model;
+use std::mem;
+
+/// The numbers of the nodes that a node leads to.
+#[derive(Clone, Copy)]
+pub(crate) enum Targets {
+    None,
+    One([usize; 1]),
+    Two([usize; 2]),
+}
+
+/// A node and where it leads.
+#[derive(Drop)]
+pub(crate) struct Place {
+    node: Node,
+    targets: Targets,
+}
+
+impl Model for Place {
+    ghost use Rattle.qs_graph.specs.Nodes as nodes;
+    ghost use Rattle.qs_graph.specs.Shapes.{place_code, edges_of};
+
+    ghost Value = { nodes.Place };
+
+    ghost coded = { place_code };
+
+    ghost view = { λ p. record { node = p.node; edges = edges_of p.targets } };
+}
+
+impl Place {
+    /// A node with one edge.
+    pub(crate) fn to(node: Node, next: usize) -> Place
+        ensures value { result ≡ to node next }
+    {
+        Place {
+            node,
+            targets: Targets::One([next]),
+        }
+    }
+
+    /// A node with two edges, in this order.
+    pub(crate) fn to_either(node: Node, first: usize, second: usize) -> Place
+        ensures value { result ≡ to_either node first second }
+    {
+        Place {
+            node,
+            targets: Targets::Two([first, second]),
+        }
+    }
+
+    /// The last node.
+    pub(crate) fn exit() -> Place
+        ensures value { result ≡ exit }
+    {
+        Place {
+            node: Node::Exit,
+            targets: Targets::None,
+        }
+    }
+
+    fn edges(&self) -> &[usize]
+        ensures value { result.now ≡ self.now.edges }
+    {
+        match &self.targets {
+            Targets::None => &[],
+            Targets::One(targets) => targets,
+            Targets::Two(targets) => targets,
+        }
+    }
+}
+
+/// The control-flow graph of a block: nodes by number, each with its edges in order, and the names of the block's list.
+#[derive(Drop)]
+pub struct Graph {
+    places: Vec<Place>,
+    names: Vec<Named>,
+}
+
+impl Model for Graph {
+    ghost use Rattle.qs_graph.specs.Nodes.{ControlGraph};
+    ghost use Rattle.qs_graph.specs.WellFormed.{IsGraph};
+
+    ghost Value = { ControlGraph };
+
+    ghost view = { λ g. record { nodes = g.places.items; names = g.names.items } };
+
+    ghost invariant = { λ g. IsGraph g.places.items };
+}
+
+impl Graph {
+    /// A graph of places that are known to be one.
+    pub(crate) fn of(places: Vec<Place>, names: Vec<Named>) -> Graph
+        requires graph { IsGraph places.items }
+        ensures value { result.nodes ≡ places.items }
+        ensures names { result.names ≡ names.items }
+    {
+        Graph { places, names }
+    }
+
+    /// What holds of every graph: node 0 is Entry, edges lead to nodes, and numbers are in range. It does nothing.
+    pub fn is_graph(&self)
+        ensures graph { IsGraph self.now.nodes }
+    {
+        let _ = &self.places;
+    }
+
+    /// How many nodes there are; takes no memory, as no call of a graph does.
+    pub fn len(&self) -> usize
+        ensures value { result ≡ length self.now.nodes }
+    {
+        self.places.len()
+    }
+
+    /// The names of the block's list, in its order.
+    pub fn names(&self) -> &[Named]
+        ensures value { result.now ≡ self.now.names }
+    {
+        self.names.as_slice()
+    }
+
+    /// A node by its number.
+    pub fn node(&self, n: usize) -> &Node
+        requires in_range { n < length self.now.nodes }
+        ensures value { result.now ≡ (place_at self.now.nodes n).node }
+    {
+        &self.places[n].node
+    }
+
+    /// The numbers of the nodes that a node leads to, in order.
+    pub fn edges(&self, n: usize) -> &[usize]
+        requires in_range { n < length self.now.nodes }
+        ensures value { result.now ≡ (place_at self.now.nodes n).edges }
+    {
+        self.places[n].edges()
+    }
+
+    /// The first node that a node leads to, or 0 where it leads to none.
+    pub fn first_target(&self, n: usize) -> usize
+        requires in_range { n < length self.now.nodes }
+        ensures value { result ≡ first_target (place_at self.now.nodes n) }
+    {
+        self.edges(n).first().copied().unwrap_or(0)
+    }
+
+    /// The second node that a branch leads to, or 0 where a node leads to fewer than two.
+    pub fn second_target(&self, n: usize) -> usize
+        requires in_range { n < length self.now.nodes }
+        ensures value { result ≡ second_target (place_at self.now.nodes n) }
+    {
+        self.edges(n).get(1).copied().unwrap_or(0)
+    }
+
+    /// Removes a synchronisation: the node does nothing from now on, and leads where it led.
+    pub fn make_local(&mut self, n: usize)
+        requires in_range { n < length self.old.nodes }
+        requires sync { IsSync (place_at self.old.nodes n).node }
+        ensures change { self.new.nodes ≡ slice_set self.old.nodes n (made_local (place_at self.old.nodes n)) }
+        ensures same_names { self.new.names ≡ self.old.names }
+    {
+        drop(mem::replace(&mut self.places[n].node, Node::Local(Action::Nothing)));
+    }
+}

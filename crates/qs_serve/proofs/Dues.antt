@@ -1,0 +1,62 @@
+-- What is due where memory runs out, and where the status is that of a failed read.
+use Rattle.std.proofs.Common.{◌≡◌, ◌⊎◌, ℕ, Bool, List, Option, Ok, true, false, refl, sym, subst, inl, inr}
+use Rattle.qs_check.specs.Program.{ProgramShape}
+use Rattle.qs_core_laws.specs.CoreSchedule.{IsPlayedIn}
+use Rattle.qs_plain_laws.specs.PlainSchedule.{IsPlayed}
+use Rattle.qs_played.specs.declared.actor.Actor.{Actor}
+use Rattle.qs_played.specs.declared.played.Played.{Played}
+use Rattle.qs_syncset.specs.declared.mode.Mode.{Mode}
+use Rattle.qs_report.specs.declared.faults.Fault.{Fault}
+use Rattle.qs_report.specs.declared.faults.Fault.TheVariants as fault
+use Rattle.qs_report.specs.Faults.{fault_status}
+use Rattle.qs_script.specs.declared.fault.ReadFault.TheVariants as read
+use Rattle.qs_check.specs.declared.fault.CheckFault.TheVariants as check_fault
+use Rattle.qs_played.specs.declared.fault.PlayFault.TheVariants as play_fault
+use Rattle.qs_line.specs.Line.{Line, asks, help, play, refused, rules}
+use Rattle.qs_serve.specs.Due.{IsDue, IsDueOfProgram, IsOutOfMemory, IsRefusedBy, IsReportOf, due_status}
+use Rattle.qs_serve.specs.declared.due.Due.{Due}
+use Rattle.qs_serve.specs.declared.due.Due.TheVariants.{Text, Refused}
+
+-- out of memory, whatever the line is, where no read has failed
+pub memory_is_due : (line : Line) (known : Option (List ℕ)) (failed : Bool) → failed ≡ false → IsDue line known failed (Refused fault.Memory)
+memory_is_due refused known failed fine = inl refl
+memory_is_due help known failed fine = inl refl
+memory_is_due (asks request) known true fine = absurd (cc fine)
+memory_is_due (asks request) known false fine = (λ clash. absurd (cc clash), inl tt)
+
+-- of the faults only the input's has the status 4
+status_of_input : (f : Fault) → fault_status f ≡ 4 → f ≡ fault.Input
+status_of_input fault.Input e = refl
+status_of_input fault.CommandLine e = absurd (cc e)
+status_of_input fault.Memory e = absurd (cc e)
+status_of_input (fault.Read read.Memory) e = absurd (cc e)
+status_of_input (fault.Read _) e = absurd (cc e)
+status_of_input (fault.Check check_fault.Memory) e = absurd (cc e)
+status_of_input (fault.Check _) e = absurd (cc e)
+status_of_input (fault.Play play_fault.Memory) e = absurd (cc e)
+status_of_input (fault.Play _) e = absurd (cc e)
+
+-- a status of 4 that is due says that a read has failed
+pub four_is_due : (line : Line) (known : Option (List ℕ)) (failed : Bool) (due : Due) → IsDue line known failed due → due_status due ≡ 4 → failed ≡ true
+four_is_due line known failed (Text bytes) is e = absurd (cc e)
+four_is_due refused known failed (Refused f) (inl memory) e = absurd (cc (memory, e))
+four_is_due refused known failed (Refused f) (inr line) e = absurd (cc (line, e))
+four_is_due help known failed (Refused f) (inl memory) e = absurd (cc (memory, e))
+four_is_due help known failed (Refused f) (inr none) e = absurd none
+four_is_due (asks request) known true (Refused f) is e = refl
+four_is_due (asks request) known false (Refused f) is e = absurd (is.0 (status_of_input f e))
+
+-- a report that is due by what was asked for, in the two ways of playing
+pub due_by_rules : (p : ProgramShape) (picks : List Actor) (rounds : ℕ) (played : Played) (due : Due) → IsPlayed p picks rounds (Ok played)
+    → IsReportOf p played due → IsOutOfMemory due ⊎ IsDueOfProgram (rules rounds picks) p due
+due_by_rules p picks rounds played (Text bytes) shows is = inr (played, shows, is)
+due_by_rules p picks rounds played (Refused f) shows is = inl (subst (λ g. IsOutOfMemory (Refused g)) (sym is) tt)
+
+pub due_by_play : (p : ProgramShape) (mode : Mode) (size : ℕ) (picks : List Actor) (rounds : ℕ) (played : Played) (due : Due)
+    → IsPlayedIn p mode size picks rounds (Ok played) → IsReportOf p played due → IsOutOfMemory due ⊎ IsDueOfProgram (play mode size rounds picks) p due
+due_by_play p mode size picks rounds played (Text bytes) shows is = inr (played, shows, is)
+due_by_play p mode size picks rounds played (Refused f) shows is = inl (subst (λ g. IsOutOfMemory (Refused g)) (sym is) tt)
+
+pub report_is_no_input : (p : ProgramShape) (played : Played) (due : Due) → IsReportOf p played due → ¬ IsRefusedBy fault.Input due
+report_is_no_input p played (Text bytes) is = λ none. none
+report_is_no_input p played (Refused f) is = λ e. absurd (cc (is, e))

@@ -1,0 +1,114 @@
+-- What a run has to write, and its status.
+use Rattle.std.specs.Prelude.{◌≡◌, ℕ, ◌⊎◌, List, take, Bool, true, false, Option, Some, None, Ok, Err, Result, Vec, ⊤, IfSome, MatchBool}
+use Rattle.std.specs.Global.{Global}
+use Rattle.std.specs.Io.KnownBytes.{Appends}
+use Rattle.qs_script.specs.declared.fault.ReadFault.TheVariants as read
+use Rattle.qs_check.specs.declared.fault.CheckFault.TheVariants as check_fault
+use Rattle.qs_played.specs.declared.fault.PlayFault.TheVariants as play_fault
+use Rattle.qs_report.specs.declared.faults.Fault.{Fault}
+use Rattle.qs_report.specs.declared.faults.Fault.TheVariants as fault
+use Rattle.qs_report.specs.Faults.{fault_text, fault_status}
+use Rattle.qs_report.specs.Report.{report_text, counts_text}
+use Rattle.qs_report.specs.GraphText.{IsGraphText}
+use Rattle.qs_report.specs.Texts.{AppendsFront}
+use Rattle.qs_script.specs.Reads.{IsRefused, IsScriptText}
+use Rattle.qs_script.specs.declared.tree.Item.{Item}
+use Rattle.qs_check.specs.Checked.{fault_of}
+use Rattle.qs_check.specs.Resolve.{resolved}
+use Rattle.qs_check.specs.Program.{ProgramShape}
+use Rattle.qs_core_laws.specs.CoreSchedule.{IsPlayedIn}
+use Rattle.qs_plain_laws.specs.PlainSchedule.{IsPlayed}
+use Rattle.qs_played.specs.declared.fault.PlayFault.{PlayFault}
+use Rattle.qs_played.specs.Played.{Played}
+use Rattle.qs_line.specs.Line.{Line, Request, asks, check, graph, help, line_in, play, refused, rules}
+use Rattle.qs_serve.specs.declared.due.Due.{Due}
+use Rattle.qs_serve.specs.declared.due.Due.TheVariants.{Text, Refused}
+
+abbrev pub due_text : Due → List ℕ
+due_text (Text bytes) = bytes.items
+due_text (Refused f) = fault_text f
+
+abbrev pub due_status : Due → ℕ
+due_status (Text bytes) = 0
+due_status (Refused f) = fault_status f
+
+-- the line of this fault is due
+abbrev pub IsRefusedBy : Fault → Due → Type 0
+IsRefusedBy f (Text bytes) = ⊥
+IsRefusedBy f (Refused g) = g ≡ f
+
+-- an allocation failed: in reading, in checking, in playing, or elsewhere
+abbrev pub IsOutOfMemory : Due → Type 0
+IsOutOfMemory (Refused fault.Memory) = Unit {0}
+IsOutOfMemory (Refused (fault.Read read.Memory)) = Unit {0}
+IsOutOfMemory (Refused (fault.Check check_fault.Memory)) = Unit {0}
+IsOutOfMemory (Refused (fault.Play play_fault.Memory)) = Unit {0}
+IsOutOfMemory _ = ⊥
+
+-- a text that was made, or that an allocation failed
+abbrev pub IsTextOf : {E : Type 0} → Result (Vec ℕ Global) E → Due → Type 0
+IsTextOf (Ok bytes) due = due ≡ Text bytes
+IsTextOf (Err e) due = due ≡ Refused fault.Memory
+
+-- the report of what was played, or that an allocation failed
+abbrev pub IsReportOf : ProgramShape → Played → Due → Type 0
+IsReportOf p played (Text bytes) = bytes.items ≡ report_text p played
+IsReportOf p played (Refused f) = f ≡ fault.Memory
+
+-- what a request makes of a program: its counts; its graphs; or the report of its run by the plain rules or in the optimised machine,
+-- with so many rounds after its picks
+abbrev pub IsTextBy : Request → ProgramShape → List ℕ → Type 0
+IsTextBy check p text = text ≡ counts_text p
+IsTextBy graph p text = IsGraphText p text
+IsTextBy (rules rounds picks) p text = (played : Played) × IsPlayed p picks rounds (Ok played) × (text ≡ report_text p played)
+IsTextBy (play mode size rounds picks) p text =
+    (played : Played) × IsPlayedIn p mode size picks rounds (Ok played) × (text ≡ report_text p played)
+
+-- why what a request asks for is not played
+abbrev pub IsUnplayedBy : Request → ProgramShape → PlayFault → Type 0
+IsUnplayedBy (rules rounds picks) p f = IsPlayed p picks rounds (Err f)
+IsUnplayedBy (play mode size rounds picks) p f = IsPlayedIn p mode size picks rounds (Err f)
+IsUnplayedBy _ p f = ⊥
+
+abbrev pub IsDueOfProgram : Request → ProgramShape → Due → Type 0
+IsDueOfProgram request p (Text bytes) = IsTextBy request p bytes.items
+IsDueOfProgram request p (Refused (fault.Play f)) = IsUnplayedBy request p f
+IsDueOfProgram request p (Refused _) = ⊥
+
+-- what a request makes of a text: the result of its program, or the fault of the text, of its script or of its schedule
+abbrev pub IsDueOfText : Request → List ℕ → Due → Type 0
+IsDueOfText request text (Text bytes) =
+    (s : List Item) × IsScriptText text s × (fault_of s ≡ None) × IsTextBy request (resolved s) bytes.items
+IsDueOfText request text (Refused (fault.Read f)) = IsRefused f text
+IsDueOfText request text (Refused (fault.Check f)) = (s : List Item) × IsScriptText text s × (fault_of s ≡ Some f)
+IsDueOfText request text (Refused (fault.Play f)) =
+    (s : List Item) × IsScriptText text s × (fault_of s ≡ None) × IsUnplayedBy request (resolved s) f
+IsDueOfText request text (Refused _) = ⊥
+
+-- no more of the input than this is read
+abbrev pub longest : ℕ
+longest = 65537
+
+-- a text is due, such as that of help
+abbrev pub IsSomeText : Due → Type 0
+IsSomeText (Text bytes) = ⊤
+IsSomeText (Refused f) = ⊥
+
+-- what is due, by the line, the input's bytes where they are known, and whether a read has failed; the text of help is clap's
+abbrev pub IsDue : Line → Option (List ℕ) → Bool → Due → Type 0
+IsDue refused known failed due = IsRefusedBy fault.Memory due ⊎ IsRefusedBy fault.CommandLine due
+IsDue help known failed due = IsRefusedBy fault.Memory due ⊎ IsSomeText due
+IsDue (asks request) known true due = IsRefusedBy fault.Input due
+IsDue (asks request) known false due =
+    (¬ IsRefusedBy fault.Input due)
+    × (IsOutOfMemory due ⊎ IfSome known (λ bytes. IsDueOfText request (take longest bytes) due))
+
+-- all of the due text was written, with its status
+abbrev pub IsDone : Option (List ℕ) → Option (List ℕ) → Due → ℕ → Type 0
+IsDone old new due status = Appends old new (due_text due) × (status ≡ due_status due)
+
+-- a front of the due text was written; all of it, with its status, exactly where no write and no flush has failed
+abbrev pub Serves : List (List ℕ) → Option (List ℕ) → Bool → Option (List ℕ) → Option (List ℕ) → Bool → ℕ → Type 0
+Serves words known read_failed old new write_failed status =
+    (due : Due) × IsDue (line_in words) known read_failed due
+    × AppendsFront old new (due_text due) × MatchBool write_failed (status ≡ 4) (IsDone old new due status)

@@ -1,0 +1,162 @@
+// What a run has to write.
+
+ghost use Rattle.std.specs.Prelude.{◌≡◌, ◌+◌, ◌≤◌, ◌⊎◌, false, None, Some, map, IfOk, IfSome};
+ghost use Rattle.qs_report.specs.declared.faults.Fault.TheVariants as fault;
+ghost use Rattle.qs_line.specs.Line.{asks, line_in, play, request_by, request_of, rules};
+ghost use Rattle.qs_serve.specs.Due.{IsDue, IsDueOfProgram, IsDueOfText, IsRefusedBy, IsReportOf, IsTextOf, IsOutOfMemory, due_status, longest};
+
+use crate::input::{Counted, InputFault, gather};
+use qs_check::{Program, check};
+use qs_chunk::ChunkSize;
+use qs_core::play_plain;
+use qs_line::{Actor, LineFault, Settings, read_line};
+use qs_played::Played;
+use qs_report::{Fault, check_text, graph_text, report, status};
+use qs_script::read;
+use qs_syncset::Mode;
+use std::alloc::{AllocError, Global};
+use std::io::Read;
+
+/// What a run has to write: the text of its result, or the line of its fault.
+#[derive(Drop)]
+pub enum Due {
+    /// The text of a result.
+    Text(Vec<u8>),
+    /// The line of a fault, and nothing else.
+    Refused(Fault),
+}
+
+impl Due {
+    ghost use Rattle.qs_serve.specs.Due.{due_status};
+
+    /// The status that the run ends with, where all of it is written.
+    pub fn status(&self) -> u8
+        ensures status { result ≡ due_status self.now }
+    {
+        match self {
+            Due::Text(_) => 0,
+            Due::Refused(fault) => status(fault),
+        }
+    }
+}
+
+// A text that was made, or that an allocation failed.
+fn due_of_bytes(text: Result<Vec<u8>, AllocError>) -> Due
+    ensures text { IsTextOf text result }
+{
+    match text {
+        Ok(bytes) => Due::Text(bytes),
+        Err(_) => Due::Refused(Fault::Memory),
+    }
+}
+
+// The report of what was played.
+fn due_of_played(alloc: Global, program: &Program, played: Played) -> Due
+    ensures due { IsReportOf program.now played result }
+{
+    let text = report(alloc, program, &played);
+    drop(played);
+    due_of_bytes(text)
+}
+
+// A run by the plain rules.
+fn due_of_rules(alloc: Global, program: &Program, picks: &[Actor], rounds: u32) -> Due
+    ensures not_input { ¬ IsRefusedBy fault.Input result }
+    ensures due { IsOutOfMemory result ⊎ IsDueOfProgram (rules rounds picks.now) program.now result }
+{
+    match play_plain(alloc, program, picks, rounds) {
+        Ok(played) => due_of_played(alloc, program, played),
+        Err(fault) => Due::Refused(Fault::Play(fault)),
+    }
+}
+
+// A run in the optimised machine.
+fn due_of_play(
+    alloc: Global,
+    program: &Program,
+    mode: Mode,
+    chunk: ChunkSize,
+    picks: &[Actor],
+    rounds: u32,
+) -> Due
+    ensures not_input { ¬ IsRefusedBy fault.Input result }
+    ensures due { IsOutOfMemory result ⊎ IsDueOfProgram (play mode chunk rounds picks.now) program.now result }
+{
+    match qs_core::play(alloc, program, mode, chunk, picks, rounds) {
+        Ok(played) => due_of_played(alloc, program, played),
+        Err(fault) => Due::Refused(Fault::Play(fault)),
+    }
+}
+
+// What settings make of a program: a run by the plain rules or in the optimised machine, the counts, or the graphs.
+fn due_of_program(alloc: Global, settings: &Settings, program: &Program) -> Due
+    ensures not_input { ¬ IsRefusedBy fault.Input result }
+    ensures due { IsOutOfMemory result ⊎ IsDueOfProgram (request_of settings.now) program.now result }
+{
+    match settings {
+        Settings::Rules { rounds, picks } => {
+            due_of_rules(alloc, program, picks.as_slice(), *rounds)
+        }
+        Settings::Play {
+            mode,
+            chunk,
+            rounds,
+            picks,
+        } => due_of_play(alloc, program, *mode, *chunk, picks.as_slice(), *rounds),
+        Settings::Check => due_of_bytes(check_text(alloc, program)),
+        Settings::Graph => due_of_bytes(graph_text(alloc, program)),
+    }
+}
+
+// What settings make of a text.
+fn due_of_script(alloc: Global, settings: &Settings, text: &[u8]) -> Due
+    ensures not_input { ¬ IsRefusedBy fault.Input result }
+    ensures due { IsOutOfMemory result ⊎ IsDueOfText (request_of settings.now) text.now result }
+{
+    let script = match read(alloc, text) {
+        Ok(script) => script,
+        Err(fault) => return Due::Refused(Fault::Read(fault)),
+    };
+    let program = match check(alloc, script) {
+        Ok(program) => program,
+        Err(fault) => return Due::Refused(Fault::Check(fault)),
+    };
+    let due = due_of_program(alloc, settings, &program);
+    drop(program);
+    due
+}
+
+const LONGEST: usize = 65_537;
+
+// What the input's text gives by settings.
+fn due_of_input<R: Read>(alloc: Global, settings: &Settings, input: &mut Counted<R>) -> Due
+    requires fine { input.old.has_failed ≡ false }
+    ensures due { IsDue (asks (request_of settings.now)) input.old.remaining input.new.has_failed result }
+    ensures reads { input.new.reads ≤ input.old.reads + longest }
+{
+    match gather(alloc, input, LONGEST) {
+        Ok(text) => due_of_script(alloc, settings, text.as_slice()),
+        Err(InputFault::Read) => Due::Refused(Fault::Input),
+        Err(InputFault::Memory) => Due::Refused(Fault::Memory),
+    }
+}
+
+/// What is due by a command line and an input. The line comes first: where it is refused nothing is read. Else the input is read up to
+/// its end or 65,537 bytes, by at most 65,537 reads, and a read that fails is the input's fault.
+pub fn due_of<'a, R: Read>(alloc: Global, words: &'a [&'a str], input: &mut Counted<R>) -> Due
+    requires fine { input.old.has_failed ≡ false }
+    ensures due { IsDue (line_in (map (λ word. word.now) words.entry.now)) input.old.remaining input.new.has_failed result }
+    ensures unread { request_by (line_in (map (λ word. word.now) words.entry.now)) ≡ None → input.new ≡ input.old }
+    ensures reads { input.new.reads ≤ input.old.reads + longest }
+{
+    match read_line(alloc, words) {
+        Ok(settings) => {
+            let due = due_of_input(alloc, &settings, input);
+            drop(settings);
+            due
+        }
+        Err(LineFault::Refused) => Due::Refused(Fault::CommandLine),
+        Err(LineFault::Help(text)) => Due::Text(text.into_bytes()),
+        Err(LineFault::Memory) => Due::Refused(Fault::Memory),
+    }
+}

@@ -1,0 +1,11 @@
+//! The program over a reader and a writer: words and bytes in, bytes and a status out.
+#![tactic(auto)]
+
+mod due;
+mod input;
+mod output;
+mod serving;
+
+pub use input::Counted;
+pub use qs_report::{Fault, Watch};
+pub use serving::{refuse, serve};

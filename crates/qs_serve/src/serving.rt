@@ -1,0 +1,47 @@
+// The program over a reader and a writer.
+
+ghost use Rattle.std.specs.Prelude.{◌≡◌, ◌+◌, ◌≤◌, ◌⊎◌, false, None, map, IsTrue, MatchBool};
+ghost use Rattle.qs_line.specs.Line.{line_in, request_by};
+ghost use Rattle.qs_report.specs.Faults.{fault_text};
+ghost use Rattle.qs_report.specs.Texts.{AppendsFront};
+ghost use Rattle.qs_serve.specs.Due.{IsDone, Serves, longest};
+
+use crate::due::{Due, due_of};
+use crate::input::Counted;
+use crate::output::finish;
+use qs_report::{Fault, Watch};
+use std::alloc::Global;
+use std::io::{Read, Write};
+
+/// The whole program, over a reader whose reads are counted and a writer whose failures are watched; its status is the answer. The words
+/// are all the process's arguments, the program's name first. The status is 4 exactly where a read, a write or the flush fails.
+pub fn serve<'a, R: Read, W: Write>(
+    alloc: Global,
+    words: &'a [&'a str],
+    input: &mut Counted<R>,
+    out: &mut W,
+    watch: &mut Watch<W>,
+) -> u8
+    requires readable { input.old.has_failed ≡ false }
+    requires writable { watch.old.has_failed ≡ false }
+    ensures serves { Serves (map (λ word. word.now) words.entry.now)
+        input.old.remaining input.new.has_failed
+        (W.contents out.old) (W.contents out.new) watch.new.has_failed result }
+    ensures gives_up { result ≡ 4 → IsTrue input.new.has_failed ⊎ IsTrue watch.new.has_failed }
+    ensures unread { request_by (line_in (map (λ word. word.now) words.entry.now)) ≡ None → input.new ≡ input.old }
+    ensures reads { input.new.reads ≤ input.old.reads + longest }
+    ensures flushed { watch.new.has_failed ≡ false → IsTrue watch.new.is_flushed }
+{
+    let due = due_of(alloc, words, input);
+    finish(out, watch, &due)
+}
+
+/// Where the words themselves are not there: the line of that fault, and its status, or 4 where a write or the flush fails.
+pub fn refuse<W: Write>(fault: Fault, out: &mut W, watch: &mut Watch<W>) -> u8
+    requires fine { watch.old.has_failed ≡ false }
+    ensures front { AppendsFront (W.contents out.old) (W.contents out.new) (fault_text fault) }
+    ensures status { MatchBool watch.new.has_failed (result ≡ 4) (IsDone (W.contents out.old) (W.contents out.new) (Due.Refused fault) result) }
+{
+    let due = Due::Refused(fault);
+    finish(out, watch, &due)
+}
