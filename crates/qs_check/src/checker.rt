@@ -42,20 +42,27 @@ fn resolve(alloc: Global, items: &[Item]) -> Result<Resolved, CheckFault>
         (λ fault. fault ≢ CheckFault.Memory → text_fault items.now ≡ Some fault) }
 {
     let mut scope = Scope::new(alloc);
-    let resolved = resolve_from(alloc, &mut scope, items);
+    let mut variables = VecDeque::new(alloc);
+    let resolved = resolve_from(alloc, &mut scope, &mut variables, items);
+    drop(variables);
     drop(scope);
     resolved
 }
 
-// The same, from a scope in which nothing is known. The caller keeps the scope: its drop at each `?` would be long to prove.
-fn resolve_from(alloc: Global, scope: &mut Scope, items: &[Item]) -> Result<Resolved, CheckFault>
+// The same, from a scope in which nothing is known. The caller keeps what is large: its drop at each `?` would be long to prove.
+fn resolve_from(
+    alloc: Global,
+    scope: &mut Scope,
+    variables: &mut VecDeque<Names>,
+    items: &[Item],
+) -> Result<Resolved, CheckFault>
     requires start { scope.old ≡ start }
+    requires none { variables.old.items ≡ [] }
     ensures text { MatchResult result
         (λ r. (text_fault items.now ≡ None) × (shape_of r ≡ resolved_of items.now))
         (λ fault. fault ≢ CheckFault.Memory → text_fault items.now ≡ Some fault) }
 {
-    let mut variables = VecDeque::new(alloc);
-    check_items(alloc, scope, &mut variables, items)?;
+    check_items(alloc, scope, variables, items)?;
     Ok(numbered(alloc, scope, variables, items)?)
 }
 
@@ -63,18 +70,23 @@ fn resolve_from(alloc: Global, scope: &mut Scope, items: &[Item]) -> Result<Reso
 fn numbered(
     alloc: Global,
     scope: &Scope,
-    variables: VecDeque<Names>,
+    variables: &mut VecDeque<Names>,
     items: &[Item],
 ) -> Result<Resolved, AllocError>
     requires objects { length scope.now.objects ≤ 8 }
-    requires variables { variables.items ≡ lists_of items.now }
-    requires limit { AllByRecursion (λ v. length v ≤ 16) variables.items }
+    requires variables { variables.old.items ≡ lists_of items.now }
+    requires limit { AllByRecursion (λ v. length v ≤ 16) variables.old.items }
     ensures objects { IfOk result (λ r. r.objects.items ≡ objects_of items.now) }
     ensures clients { IfOk result (λ r. r.clients.items ≡ clients_of scope.now.objects scope.now.kinds items.now) }
 {
     let objects = resolve_objects(alloc, items)?;
-    let clients = resolve_clients(alloc, scope.objects(), scope.kinds(), variables, items)?;
-    Ok(Resolved { objects, clients })
+    match resolve_clients(alloc, scope.objects(), scope.kinds(), variables, items) {
+        Ok(clients) => Ok(Resolved { objects, clients }),
+        Err(fault) => {
+            drop(objects);
+            Err(fault)
+        }
+    }
 }
 
 // Tests the load, then the weight.

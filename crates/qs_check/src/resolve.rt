@@ -39,12 +39,12 @@ pub(crate) fn resolve_clients(
     alloc: Global,
     objects: &Names,
     kinds: &[Kind],
-    mut variables: VecDeque<Names>,
+    variables: &mut VecDeque<Names>,
     items: &[Item],
 ) -> Result<Vec<Client>, AllocError>
     requires objects { length objects.now ≤ 8 }
-    requires variables { variables.items ≡ lists_of items.now }
-    requires limit { AllByRecursion (λ v. length v ≤ 16) variables.items }
+    requires variables { variables.old.items ≡ lists_of items.now }
+    requires limit { AllByRecursion (λ v. length v ≤ 16) variables.old.items }
     ensures clients { IfOk result (λ v. v.items ≡ clients_of objects.now kinds.now items.now) }
 {
     let mut clients = Vec::new(alloc);
@@ -72,12 +72,17 @@ fn resolve_client(
     ensures variables { IfOk result (λ c. c.variables ≡ variables) }
     ensures blocks { IfOk result (λ c. c.blocks ≡ map (block_of objects.now kinds.now variables) item.now.blocks) }
 {
-    let blocks = resolve_blocks(alloc, objects, kinds, &variables, item.blocks.as_slice())?;
-    Ok(Client {
-        name: item.name.copied(),
-        variables,
-        blocks,
-    })
+    match resolve_blocks(alloc, objects, kinds, &variables, item.blocks.as_slice()) {
+        Ok(blocks) => Ok(Client {
+            name: item.name.copied(),
+            variables,
+            blocks,
+        }),
+        Err(fault) => {
+            drop(variables);
+            Err(fault)
+        }
+    }
 }
 
 fn resolve_blocks(

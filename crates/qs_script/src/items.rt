@@ -5,6 +5,7 @@ ghost use Rattle.qs_script.specs.Reading.{Gives, Finds, after, run, names_loop, 
 
 use crate::expect::{name, number, open_brace, past_close_brace, past_open_brace};
 use crate::fault::Fault;
+use crate::lists::add;
 use crate::name::Name;
 use crate::number::Number;
 use crate::statements::body;
@@ -17,15 +18,15 @@ fn names(alloc: Global, first: Name, tokens: &[Token]) -> Result<(NameList, &[To
     ensures exact { Gives (λ x. (x.0, x.1.now)) result (after names_loop (first ∷ []) (run names_loop tokens.now)) }
     ensures shorter { IfOk result (λ x. length x.1.now < length tokens.now) }
 {
-    let mut names = NameList::new(alloc);
-    names.push(first)?;
+    let mut names = Vec::new(alloc);
+    add(&mut names, first)?;
     let mut rest = tokens;
     'each: loop {
         if let Some(after) = past_open_brace(rest) {
-            return Ok((names, after));
+            return Ok((NameList { names }, after));
         }
         let (name, after) = name(rest)?;
-        names.push(name)?;
+        add(&mut names, name)?;
         rest = after;
     }
 }
@@ -57,14 +58,14 @@ fn blocks(alloc: Global, tokens: &[Token]) -> Result<(Blocks, &[Token]), Fault>
     ensures exact { Gives (λ x. (x.0, x.1.now)) result (run blocks_loop tokens.now) }
     ensures shorter { IfOk result (λ x. length x.1.now < length tokens.now) }
 {
-    let mut all = Blocks::new(alloc);
+    let mut blocks = Vec::new(alloc);
     let mut rest = tokens;
     'each: loop {
         if let Some(after) = past_close_brace(rest) {
-            return Ok((all, after));
+            return Ok((Blocks { blocks }, after));
         }
         let (block, after) = separate(alloc, rest)?;
-        all.push(block)?;
+        add(&mut blocks, block)?;
         rest = after;
     }
 }
@@ -130,12 +131,12 @@ fn item(alloc: Global, tokens: &[Token]) -> Result<(Item, &[Token]), Fault>
 pub(crate) fn script(alloc: Global, tokens: &[Token]) -> Result<Script, Fault>
     ensures exact { Gives (λ x. (x, [])) result (run items_loop tokens.now) }
 {
-    let mut script = Script::new(alloc);
+    let mut items = Vec::new(alloc);
     let mut rest = tokens;
     'each: while !rest.is_empty() {
         let (item, after) = item(alloc, rest)?;
-        script.push(item)?;
+        add(&mut items, item)?;
         rest = after;
     }
-    Ok(script)
+    Ok(Script { items })
 }

@@ -2,7 +2,7 @@
 
 ghost use Rattle.std.specs.Prelude.{◌≡◌, ◌<◌, ◌≤◌, length, IfOk};
 ghost use Rattle.qs_script.specs.Views.{single};
-ghost use Rattle.qs_script.specs.Reading.{Gives, run, body_loop, stmt_in, stmt_at, choice_at, other_at, repeat_at, braced_at, named_at, assigned_at};
+ghost use Rattle.qs_script.specs.Reading.{Gives, run, body_loop, stmt_in, stmt_at, choice_at, other_at, repeat_at, braced_at, named_at, command_at, assigned_at, ended_at};
 
 use crate::expect::{number, open_brace, past_close_brace, semicolon};
 use crate::fault::Fault;
@@ -50,7 +50,7 @@ fn statement_over(alloc: Global, levels: u8, tokens: &[Token]) -> Result<(Stmt, 
     ensures shorter { IfOk result (λ x. length x.1.now < length tokens.now) }
 {
     match tokens {
-        [Token::Leave, rest @ ..] => Ok((Stmt::Leave, semicolon(rest)?)),
+        [Token::Leave, rest @ ..] => ended(Stmt::Leave, rest),
         [Token::If, rest @ ..] => choice(alloc, levels, rest),
         [Token::Repeat, rest @ ..] => repeat(alloc, levels, rest),
         [Token::Name(name), rest @ ..] => named(alloc, name.copied(), rest),
@@ -114,13 +114,19 @@ fn named(alloc: Global, name: Name, tokens: &[Token]) -> Result<(Stmt, &[Token])
     ensures shorter { IfOk result (λ x. length x.1.now < length tokens.now) }
 {
     match tokens {
-        [Token::Dot, rest @ ..] => {
-            let (call, rest) = call(alloc, name, rest)?;
-            Ok((Stmt::Command(call), semicolon(rest)?))
-        }
+        [Token::Dot, rest @ ..] => command(alloc, name, rest),
         [Token::Assign, rest @ ..] => assigned(alloc, name, rest),
         _ => Err(Fault::Form(tokens.len())),
     }
+}
+
+// A command on an object, after its dot.
+fn command(alloc: Global, object: Name, tokens: &[Token]) -> Result<(Stmt, &[Token]), Fault>
+    ensures exact { Gives (λ x. (single x.0, x.1.now)) result (command_at object tokens.now) }
+    ensures shorter { IfOk result (λ x. length x.1.now < length tokens.now) }
+{
+    let (call, rest) = call(alloc, object, tokens)?;
+    ended(Stmt::Command(call), rest)
 }
 
 // What a variable gets: a request's reply, or an expression's value.
@@ -131,11 +137,25 @@ fn assigned(alloc: Global, variable: Name, tokens: &[Token]) -> Result<(Stmt, &[
     match tokens {
         [Token::Name(object), Token::Dot, rest @ ..] => {
             let (call, rest) = call(alloc, object.copied(), rest)?;
-            Ok((Stmt::Query(variable, call), semicolon(rest)?))
+            ended(Stmt::Query(variable, call), rest)
         }
         _ => {
             let (expr, rest) = expr(tokens)?;
-            Ok((Stmt::Assign(variable, expr), semicolon(rest)?))
+            ended(Stmt::Assign(variable, expr), rest)
+        }
+    }
+}
+
+// The statement, where a semicolon ends it.
+fn ended(stmt: Stmt, tokens: &[Token]) -> Result<(Stmt, &[Token]), Fault>
+    ensures exact { Gives (λ x. (single x.0, x.1.now)) result (ended_at (single stmt) tokens.now) }
+    ensures shorter { IfOk result (λ x. length x.1.now < length tokens.now) }
+{
+    match semicolon(tokens) {
+        Ok(rest) => Ok((stmt, rest)),
+        Err(fault) => {
+            drop(stmt);
+            Err(fault)
         }
     }
 }

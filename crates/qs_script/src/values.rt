@@ -5,6 +5,7 @@ ghost use Rattle.qs_script.specs.Reading.{Gives, Finds, after, run, atom_at, fur
 
 use crate::expect::{comma, name, number, open_paren, past_close_paren};
 use crate::fault::Fault;
+use crate::lists::add;
 use crate::name::Name;
 use crate::token::Token;
 use crate::tree::{Args, Atom, Call, Expr, Operator, Relation, Test};
@@ -38,15 +39,15 @@ fn more(alloc: Global, first: Atom, tokens: &[Token]) -> Result<(Args, &[Token])
     ensures exact { Gives (λ x. (x.0, x.1.now)) result (after more_loop (first ∷ []) (run more_loop tokens.now)) }
     ensures shorter { IfOk result (λ x. length x.1.now < length tokens.now) }
 {
-    let mut args = Args::new(alloc);
-    args.push(first)?;
+    let mut atoms = Vec::new(alloc);
+    add(&mut atoms, first)?;
     let mut rest = tokens;
     'each: loop {
         if let Some(after) = past_close_paren(rest) {
-            return Ok((args, after));
+            return Ok((Args { atoms }, after));
         }
         let (atom, after) = further(rest)?;
-        args.push(atom)?;
+        add(&mut atoms, atom)?;
         rest = after;
     }
 }
@@ -57,7 +58,8 @@ fn args(alloc: Global, tokens: &[Token]) -> Result<(Args, &[Token]), Fault>
     ensures shorter { IfOk result (λ x. length x.1.now < length tokens.now) }
 {
     if let Some(rest) = past_close_paren(tokens) {
-        return Ok((Args::new(alloc), rest));
+        let atoms = Vec::new(alloc);
+        return Ok((Args { atoms }, rest));
     }
     let (first, rest) = atom(tokens)?;
     more(alloc, first, rest)
