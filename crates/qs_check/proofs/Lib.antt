@@ -11,3 +11,9 @@ pub mod Sounds
 pub mod Scripts
 pub mod Soundness
 pub mod Bounds
+pub mod FinePlaces
+pub mod TextNames
+pub mod TextRequests
+pub mod TextBlocks
+pub mod TextLoads
+pub mod WellFormed

@@ -24,16 +24,16 @@ use Rattle.qs_check.proofs.Scripts.{object_stays, client_stays, few_variables, s
 use Rattle.qs_check.proofs.Sounds.{names, kinds, Known, Here, sound_body}
 use Rattle.qs_check.proofs.Steps.{split, ok_same}
 
-abbrev with_list : Scope → List Name → Scope
+abbrev pub with_list : Scope → List Name → Scope
 with_list s r = record s { reserved = r }
 
 -- the first name of a list, and the others
-listed_first : (s t : Scope) (n : Name) (ns : List Name) → met s (listed_places (n ∷ ns)) ≡ Ok t → (is_among s.objects n ≡ true) × (is_among s.reserved n ≡ false) × (met (with_listed s n) (listed_places ns) ≡ Ok t)
+pub listed_first : (s t : Scope) (n : Name) (ns : List Name) → met s (listed_places (n ∷ ns)) ≡ Ok t → (is_among s.objects n ≡ true) × (is_among s.reserved n ≡ false) × (met (with_listed s n) (listed_places ns) ≡ Ok t)
 listed_first s t n ns h =
     let w = split s t (listed n) (listed_places ns) h in
     (w.1.0, w.1.1, ap (λ u. met u (listed_places ns)) (sym w.1.2) ∙ w.2)
 
-list_kept : (ns : List Name) (s t : Scope) → met s (listed_places ns) ≡ Ok t → t ≡ with_list s (s.reserved ++ ns)
+pub list_kept : (ns : List Name) (s t : Scope) → met s (listed_places ns) ≡ Ok t → t ≡ with_list s (s.reserved ++ ns)
 list_kept [] s t h = ok_same s t h ∙ ap (with_list s) (sym (append-nil s.reserved))
 list_kept (n ∷ ns) s t h =
     let w = listed_first s t n ns h in list_kept ns (with_listed s n) t w.2 ∙ ap (with_list s) (append_assoc s.reserved (n ∷ []) ns)

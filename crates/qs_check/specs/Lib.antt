@@ -12,4 +12,6 @@ pub mod Operators
 pub mod Places
 pub mod Resolve
 pub mod Checked
+pub mod TextLoads
+pub mod WellFormed
 pub mod CheckExamples

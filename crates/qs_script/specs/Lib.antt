@@ -2,7 +2,7 @@ pub mod Padding
 pub mod Tree
 pub mod TreeCode
 pub mod Views
-pub mod Levels
+pub mod Form
 pub mod Falls
 pub mod BlockCode
 pub mod ScriptCode

@@ -3,7 +3,7 @@
 ghost use Rattle.std.specs.Prelude.{◌≡◌, OnOk, OnErr};
 ghost use Rattle.qs_script.specs.Tree.{end, joined};
 ghost use Rattle.qs_script.specs.Views.{single, stmts_of};
-ghost use Rattle.qs_script.specs.Levels.{AreShallow};
+ghost use Rattle.qs_script.specs.Form.{HasForm};
 
 use crate::name::Name;
 use crate::number::Number;
@@ -236,8 +236,8 @@ pub enum Item {
     Client(ClientItem),
 }
 
-/// A script, which `read` alone makes. Contracts see it as the list of its items. Its type keeps that a statement stands inside at
-/// most eight others, so that no call on it goes deep.
+/// A script, which `read` alone makes. Contracts see it as the list of its items. Its type keeps that each block names an object and
+/// that a statement stands inside at most eight others, so that no call on it goes deep.
 #[derive(Drop)]
 pub struct Script {
     pub(crate) items: Vec<Item>,
@@ -255,15 +255,15 @@ impl Model for Script {
 
     ghost view = { λ s. s.items.items };
 
-    ghost use Rattle.qs_script.specs.Levels.{AreShallow};
+    ghost use Rattle.qs_script.specs.Form.{HasForm};
 
-    ghost invariant = { λ s. AreShallow s.items.items };
+    ghost invariant = { λ s. HasForm s.items.items };
 }
 
 impl Script {
     /// What holds of every script; it does nothing.
-    pub fn is_shallow(&self)
-        ensures shallow { AreShallow self.now }
+    pub fn is_formed(&self)
+        ensures form { HasForm self.now }
     {
         let _ = &self.items;
     }

@@ -1,7 +1,7 @@
 use Rattle.std.proofs.Common.{◌≡◌, ◌<◌, length, arith, [], Some}
 use Rattle.std.proofs.lemmas.Result.{err_from_is_err_and}
 use Rattle.qs_script.specs.Reading.{run, end_at, item_at, items_loop}
-use Rattle.qs_script.proofs.Levels.{shallow}
+use Rattle.qs_script.proofs.Form.{formed}
 use Rattle.qs_script.proofs.ReadTexts.{is_script}
 use Rattle.qs_script.proofs.Loops.{list_begins, list_goes_on, whole_list_closes, whole_list_fails, at_end, before_end}
 use Rattle.qs_script.proofs.items.script.Goals as goal
@@ -30,14 +30,14 @@ each-preserved c =
       shorter = omega (arith, c.in_ok-item.ensures.shorter, c.each.invariant.shorter);
     }
 
--- what was read is in the grammar, which has shallow scripts alone
+-- what was read is in the grammar, which has scripts of this form alone
 pub invariant_of-result : goal.invariant_of-result
 invariant_of-result c =
     let none : length c.each.rest.now ≡ 0 = grind arith in
     let ts = c.args.tokens.now in
     let all : run items_loop ts ≡ Some (c.each.items.items, []) =
     whole_list_closes end_at item_at ts c.each.rest.now [] c.each.items.items c.each.invariant.whole (at_end c.each.rest.now none) in
-    shallow c.each.items.items ts [] (is_script ts c.each.items.items all)
+    formed c.each.items.items ts [] (is_script ts c.each.items.items all)
 
 pub returns : goal.returns
 returns c =

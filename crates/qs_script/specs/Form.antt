@@ -1,5 +1,5 @@
--- How deep statements stand one inside another.
-use Rattle.std.specs.Prelude.{ℕ, ◌+◌, ◌≤◌, max, List}
+-- The form of a script: how deep statements stand one inside another, and that each block names an object.
+use Rattle.std.specs.Prelude.{ℕ, ◌+◌, ◌<◌, ◌≤◌, max, List, length}
 use Rattle.std.specs.List.{AllByRecursion}
 use Rattle.qs_script.specs.declared.tree.Block.{Block}
 use Rattle.qs_script.specs.declared.tree.Item.{Item}
@@ -17,14 +17,15 @@ levels_of (choose_else t first other rest) = max (1 + max (levels_of first) (lev
 levels_of (again n body rest) = max (1 + levels_of body) (levels_of rest)
 levels_of (leave rest) = max 1 (levels_of rest)
 
--- a statement stands inside at most eight others, so nine stand one inside another
-abbrev pub IsShallow : Block → Type 0
-IsShallow b = levels_of b.body ≤ 9
+-- a block names an object, and a statement stands inside at most eight others, so nine stand one inside another
+pub record IsFormed (b : Block) : Type 0 where
+  pub some : 0 < length b.reserved
+  pub shallow : levels_of b.body ≤ 9
 
-abbrev pub IsShallowItem : Item → Type 0
-IsShallowItem (Object o) = Unit {0}
-IsShallowItem (Client c) = AllByRecursion IsShallow c.blocks
+abbrev pub IsFormedItem : Item → Type 0
+IsFormedItem (Object o) = Unit {0}
+IsFormedItem (Client c) = AllByRecursion IsFormed c.blocks
 
--- so in each block of a script
-abbrev pub AreShallow : List Item → Type 0
-AreShallow items = AllByRecursion IsShallowItem items
+-- the form of every script
+abbrev pub HasForm : List Item → Type 0
+HasForm items = AllByRecursion IsFormedItem items
