@@ -17,3 +17,4 @@ pub mod TextRequests
 pub mod TextBlocks
 pub mod TextLoads
 pub mod WellFormed
+pub mod SoundTexts

@@ -1,5 +1,5 @@
 -- Blocks are walked without a fault exactly where they are right: their lists, their statements, their number and their variables.
-use Rattle.std.proofs.Common.{◌≡◌, ℕ, suc, ◌+◌, ◌<◌, ◌≤◌, Bool, true, false, ◌||◌, nat_lt, List, [], ◌∷◌, ◌++◌, length, refl, ap, sym, ◌∙◌, subst, arith, append_assoc, append-nil, Ok, Err, if◌then◌else◌}
+use Rattle.std.proofs.Common.{◌≡◌, ℕ, ◌+◌, ◌<◌, ◌≤◌, Bool, true, false, ◌||◌, nat_lt, List, [], ◌∷◌, ◌++◌, length, refl, ap, sym, ◌∙◌, arith, append_assoc, append-nil, Ok, Err, if◌then◌else◌}
 use Rattle.std.proofs.lemmas.Cmp.{nat_list_eq_equiv}
 use Rattle.std.proofs.lemmas.List.Folds.{list_any-append}
 use Rattle.std.specs.List.{AllByRecursion, IsDistinct}
@@ -7,12 +7,11 @@ use Rattle.qs_script.specs.declared.tree.Block.{Block}
 use Rattle.qs_check.specs.declared.fault.CheckFault.TheVariants as f
 use Rattle.qs_check.specs.declared.program.Declared.{Declared}
 use Rattle.qs_check.specs.Numbering.{Name, same_name, is_among, named}
-use Rattle.qs_check.specs.Places.{Scope, listed, separate, met, places, listed_places, block_places, blocks_places, with_block, with_listed}
+use Rattle.qs_check.specs.Places.{Scope, listed, separate, met, places, listed_places, block_places, blocks_places, with_listed}
 use Rattle.qs_check.specs.Resolve.{variables_at}
-use Rattle.qs_check.specs.WellFormed.{AreStatements, variables_in, variables_in_all}
+use Rattle.qs_check.specs.WellFormed.{AreStatements, variables_in_all}
 use Rattle.qs_check.proofs.FinePlaces.{then_step, else_step, below, again, leads, named_more, are_fine, fine_met}
 use Rattle.qs_check.proofs.Inner.{parted, inner_body, kept}
-use Rattle.qs_check.proofs.Kept.{block_stays}
 use Rattle.qs_check.proofs.Sounds.{names, kinds}
 use Rattle.qs_check.proofs.Soundness.{with_list, listed_first, list_kept}
 use Rattle.qs_check.proofs.Steps.{with_names, split, variables_met}

@@ -1,14 +1,13 @@
 -- The places of a block's statements are fine exactly where its requests, numbers and leaves are right.
-use Rattle.std.proofs.Common.{◌≡◌, ℕ, zero, suc, ◌+◌, ◌<◌, Bool, true, false, not, ◌||◌, cond, List, [], ◌∷◌, ◌++◌, length, map, get_or, slice_index_or, Option, Some, None, refl, ap, sym, ◌∙◌, arith, pos}
+use Rattle.std.proofs.Common.{◌≡◌, ℕ, zero, suc, ◌+◌, ◌<◌, Bool, true, false, not, ◌||◌, cond, List, [], ◌∷◌, ◌++◌, length, get_or, slice_index_or, Option, Some, None, refl, ap, sym, ◌∙◌, arith, pos}
 use Rattle.std.proofs.lemmas.Bool.Decides.{nat_tests}
 use Rattle.std.proofs.lemmas.Cmp.{nat_list_eq_equiv}
 use Rattle.std.proofs.lemmas.List.{length-map}
 use Rattle.std.proofs.lemmas.Map.Made.{is_member-Decides}
 use Rattle.std.specs.Bool.{Decides}
 use Rattle.std.specs.Cmp.Lexicographic.{same_text}
-use Rattle.std.specs.List.{AllByRecursion, Contains, IsDistinct, position_or_len}
+use Rattle.std.specs.List.{AllByRecursion, IsDistinct, position_or_len}
 use Rattle.qs_objects.specs.declared.Op.{Op}
-use Rattle.qs_objects.specs.declared.object.Kind.{Kind}
 use Rattle.qs_objects.specs.declared.object.Kind.TheVariants.{Account}
 use Rattle.qs_objects.specs.Operations.{arity}
 use Rattle.qs_script.specs.declared.tree.Atom.{Atom}
@@ -21,12 +20,12 @@ use Rattle.qs_script.specs.Tree as tree
 use Rattle.qs_check.specs.declared.program.Declared.{Declared}
 use Rattle.qs_check.specs.Numbering.{Name, same_name, is_among, found_at}
 use Rattle.qs_check.specs.Operators.{op_of}
-use Rattle.qs_check.specs.Places.{Place, number, variable, places, atom_places, atoms_places, expr_places, test_places, request_places, call_places, op_at, is_known, takes}
+use Rattle.qs_check.specs.Places.{Place, places, atom_places, atoms_places, expr_places, test_places, request_places, call_places, op_at, is_known, takes}
 use Rattle.qs_check.specs.WellFormed.{IsRequest, AreStatements}
 use Rattle.qs_check.proofs.Bounds.{AllByRecursion-get_or}
 use Rattle.qs_check.proofs.Found.{name_at, found_is, found_within, or_true, same_name-refl}
 use Rattle.qs_check.proofs.FinePlaces.{IsFine}
-use Rattle.qs_check.proofs.Sounds.{names, kinds, no_kind}
+use Rattle.qs_check.proofs.Sounds.{names, kinds}
 
 pub same_decides : (a b : Name) → Decides (same_name a b) (a ≡ b)
 same_decides a b = (λ e. same_text a b (sym e), λ e. ap (same_name a) (sym e) ∙ same_name-refl a)

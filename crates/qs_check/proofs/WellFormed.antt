@@ -1,11 +1,10 @@
 -- A script has no fault exactly where it is well formed: item by item, and then its load and its weight.
-use Rattle.std.proofs.Common.{◌≡◌, ℕ, suc, ◌+◌, ◌<◌, ◌≤◌, Bool, true, false, nat_lt, List, [], ◌∷◌, ◌++◌, length, map, Option, Some, None, refl, ap, sym, ◌∙◌, subst, arith, append_assoc, Ok, Err, if◌then◌else◌, sum_by}
+use Rattle.std.proofs.Common.{◌≡◌, ℕ, suc, ◌+◌, ◌<◌, ◌≤◌, Bool, true, false, nat_lt, List, [], ◌∷◌, ◌++◌, length, map, Option, Some, None, refl, ap, sym, ◌∙◌, subst, arith, append_assoc, Result, Ok, Err, if◌then◌else◌, sum_by}
 use Rattle.std.proofs.lemmas.Bool.Decides.{nat_tests}
 use Rattle.std.proofs.lemmas.List.{length-map}
 use Rattle.std.proofs.lemmas.List.Sums.{sum_by-cons}
 use Rattle.std.proofs.lemmas.Map.Made.{is_member-Decides}
 use Rattle.std.specs.List.{AllByRecursion, IsDistinct}
-use Rattle.std.specs.Set.{distinct_count}
 use Rattle.qs_objects.specs.declared.object.Kind.{Kind}
 use Rattle.qs_script.specs.Form.{IsFormed, HasForm}
 use Rattle.qs_script.specs.declared.tree.Block.{Block}
@@ -18,14 +17,14 @@ use Rattle.qs_script.specs.declared.tree.ObjectItem.{ObjectItem}
 use Rattle.qs_check.specs.declared.fault.CheckFault.{CheckFault}
 use Rattle.qs_check.specs.declared.fault.CheckFault.TheVariants as f
 use Rattle.qs_check.specs.declared.program.Declared.{Declared}
-use Rattle.qs_check.specs.Checked.{excess_of, first_fault, fault_of}
+use Rattle.qs_check.specs.Checked.{excess_of, first_fault, fault_of, IsCheckOf}
 use Rattle.qs_check.specs.Loads.{weight_of}
 use Rattle.qs_check.specs.Numbering.{Name, same_name, is_among}
-use Rattle.qs_check.specs.Places.{Scope, Met, number, object, client, met, start, kind_of, kind_places, item_places, blocks_places, script_places, with_object, with_client}
+use Rattle.qs_check.specs.Places.{Scope, Met, number, object, client, met, start, kind_of, kind_places, item_places, blocks_places, script_places, with_object}
 use Rattle.qs_check.specs.Program.{BlockShape, ClientShape, ProgramShape, block_load, whole_load, whole_weight}
-use Rattle.qs_check.specs.Resolve.{objects_of, names_of, kinds_of, clients_of, client_of, lists_of, variables_of, block_of, resolved}
+use Rattle.qs_check.specs.Resolve.{objects_of, names_of, kinds_of, clients_of, client_of, lists_of, variables_of, resolved}
 use Rattle.qs_check.specs.TextLoads.{steps_in, text_block_load, text_load, text_weight}
-use Rattle.qs_check.specs.WellFormed.{IsKindInRange, IsDeclared, IsWellFormedBlock, IsWellFormedClient, AreItems, clients_in, variables_in_all, IsWellFormed, FaultlessAreWellFormed}
+use Rattle.qs_check.specs.WellFormed.{IsKindInRange, IsDeclared, IsWellFormedBlock, IsWellFormedClient, AreItems, clients_in, IsWellFormed, FaultlessAreWellFormed, AcceptsWellFormed}
 use Rattle.qs_check.proofs.FinePlaces.{then_step, else_step, between, below, again, leads}
 use Rattle.qs_check.proofs.Inner.{parted}
 use Rattle.qs_check.proofs.Kept.{blocks_stay}
@@ -201,7 +200,7 @@ within_limits p h =
     let w = no_excess (nat_lt 100000 (whole_load p)) (nat_lt 1000000 (whole_weight p)) h in
     (at_most 100000 (whole_load p) w.0, at_most 1000000 (whole_weight p) w.1)
 
-no_fault_left : (p : ProgramShape) → whole_load p ≤ 100000 → whole_weight p ≤ 1000000 → excess_of p ≡ None
+pub no_fault_left : (p : ProgramShape) → whole_load p ≤ 100000 → whole_weight p ≤ 1000000 → excess_of p ≡ None
 no_fault_left p h k = rw (not_above 100000 (whole_load p) h, not_above 1000000 (whole_weight p) k) refl
 
 ends_well : (m : Met) (after : Option CheckFault) → first_fault m after ≡ None → (t : Scope) × (m ≡ Ok t) × (after ≡ None)
@@ -213,7 +212,7 @@ count_clients [] = refl
 count_clients (Object o ∷ rest) = count_clients rest
 count_clients (Client c ∷ rest) = ap suc (count_clients rest)
 
-well_formed_from : (items : List Item) → HasForm items → fault_of items ≡ None → IsWellFormed items
+pub well_formed_from : (items : List Item) → HasForm items → fault_of items ≡ None → IsWellFormed items
 well_formed_from items form h =
     let w = ends_well (met start (script_places items)) (excess_of (resolved items)) h in
     let all = scripted items start w.0 w.1 in
@@ -243,3 +242,11 @@ well_formed_to items well =
 
 pub faultless_are_well_formed : FaultlessAreWellFormed
 faultless_are_well_formed items form = (well_formed_from items form, well_formed_to items)
+
+-- the same, of what a check answers
+pub accepts_well_formed : (items : List Item) (r : Result ProgramShape CheckFault) → HasForm items → IsCheckOf items r → AcceptsWellFormed items r
+accepts_well_formed items (Ok p) form h = well_formed_from items form h.0
+accepts_well_formed items (Err fault) form h = λ other well. some_none (sym (h other) ∙ well_formed_to items well)
+  where
+    some_none : {P : Type 0} → Some fault ≡ None → P
+    some_none e = cc

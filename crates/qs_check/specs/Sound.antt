@@ -1,5 +1,5 @@
 -- What holds of every checked program: numbers in range, requests on reserved objects that have the operation, limits.
-use Rattle.std.specs.Prelude.{◌≡◌, ◌≤◌, ◌<◌, ℕ, Bool, true, false, ◌==◌, List, length, IsSome, slice_index_or}
+use Rattle.std.specs.Prelude.{◌≡◌, ◌≤◌, ◌<◌, ℕ, ◌+◌, max, Bool, true, false, ◌==◌, List, length, map, IsSome, slice_index_or}
 use Rattle.std.specs.List.{AllByRecursion, IsDistinct, list_any}
 use Rattle.qs_objects.specs.Objects.{starts}
 use Rattle.qs_objects.specs.Operations.{is_query, arity, fits}
@@ -10,6 +10,7 @@ use Rattle.qs_check.specs.declared.code.Expr.TheVariants.{Plain, Binary}
 use Rattle.qs_check.specs.declared.code.Test.{Test}
 use Rattle.qs_check.specs.declared.code.Call.{Call}
 use Rattle.qs_check.specs.declared.program.Declared.{Declared}
+use Rattle.qs_check.specs.Numbering.{same_name}
 use Rattle.qs_check.specs.Statements.{Statements, end, command, query, assign, choose, again, leave}
 use Rattle.qs_check.specs.Program.{BlockShape, ClientShape, ProgramShape, no_object, whole_load, whole_weight}
 
@@ -56,6 +57,64 @@ pub record IsSoundClient (objects : List Declared) (c : ClientShape) : Type 0 wh
   pub blocks : length c.blocks ≤ 64
   pub each : AllByRecursion (IsSoundBlock objects) c.blocks
 
+-- each variable has a number below a count
+module _ (count : ℕ) where
+  abbrev pub IsAtomBelow : Atom → Type 0
+  IsAtomBelow (Variable x) = x < count
+  IsAtomBelow (Number n) = Unit {0}
+
+  abbrev pub IsExprBelow : Expr → Type 0
+  IsExprBelow (Plain a) = IsAtomBelow a
+  IsExprBelow (Binary a op b) = IsAtomBelow a × IsAtomBelow b
+
+  abbrev pub AreVariablesBelow : Statements → Type 0
+  AreVariablesBelow end = Unit {0}
+  AreVariablesBelow (command c rest) = AllByRecursion IsAtomBelow c.args × AreVariablesBelow rest
+  AreVariablesBelow (query x c rest) = (x < count) × AllByRecursion IsAtomBelow c.args × AreVariablesBelow rest
+  AreVariablesBelow (assign x e rest) = (x < count) × IsExprBelow e × AreVariablesBelow rest
+  AreVariablesBelow (choose t has_else first other rest) =
+      IsAtomBelow t.left × IsAtomBelow t.right × AreVariablesBelow first × AreVariablesBelow other × AreVariablesBelow rest
+  AreVariablesBelow (again n body rest) = AreVariablesBelow body × AreVariablesBelow rest
+  AreVariablesBelow (leave rest) = AreVariablesBelow rest
+
+-- each `leave` stands inside a repeat: of this list, or around it
+abbrev pub AreLeavesInside : (inside : Bool) → Statements → Type 0
+AreLeavesInside inside end = Unit {0}
+AreLeavesInside inside (command c rest) = AreLeavesInside inside rest
+AreLeavesInside inside (query x c rest) = AreLeavesInside inside rest
+AreLeavesInside inside (assign x e rest) = AreLeavesInside inside rest
+AreLeavesInside inside (choose t has_else first other rest) = AreLeavesInside inside first × AreLeavesInside inside other × AreLeavesInside inside rest
+AreLeavesInside inside (again n body rest) = AreLeavesInside true body × AreLeavesInside inside rest
+AreLeavesInside inside (leave rest) = (inside ≡ true) × AreLeavesInside inside rest
+
+-- how many statements stand one inside another at most
+abbrev pub levels_of : Statements → ℕ
+levels_of end = 0
+levels_of (command c rest) = max 1 (levels_of rest)
+levels_of (query x c rest) = max 1 (levels_of rest)
+levels_of (assign x e rest) = max 1 (levels_of rest)
+levels_of (choose t has_else first other rest) = max (1 + max (levels_of first) (levels_of other)) (levels_of rest)
+levels_of (again n body rest) = max (1 + levels_of body) (levels_of rest)
+levels_of (leave rest) = max 1 (levels_of rest)
+
+-- a block of a client with so many variables: its list is not empty, its variables are the client's, a `leave` stands inside a
+-- repeat alone, and a statement inside at most eight others
+pub record IsFormedBlock (variables : ℕ) (b : BlockShape) : Type 0 where
+  pub some : 0 < length b.reserved
+  pub below : AreVariablesBelow variables b.body
+  pub leaves : AreLeavesInside false b.body
+  pub levels : levels_of b.body ≤ 9
+
+-- a client's blocks are formed, and no two of its variables have one name
+pub record IsFormedClient (c : ClientShape) : Type 0 where
+  pub variables : IsDistinct same_name c.variables
+  pub each : AllByRecursion (IsFormedBlock (length c.variables)) c.blocks
+
+-- no two objects have one name, and no two clients
+pub record AreNamesApart (p : ProgramShape) : Type 0 where
+  pub objects : IsDistinct same_name (map (λ o. o.name) p.objects)
+  pub clients : IsDistinct same_name (map (λ c. c.name) p.clients)
+
 pub record IsSound (p : ProgramShape) : Type 0 where
   pub objects : length p.objects ≤ 8
   pub clients : length p.clients ≤ 8
@@ -63,3 +122,5 @@ pub record IsSound (p : ProgramShape) : Type 0 where
   pub each : AllByRecursion (IsSoundClient p.objects) p.clients
   pub load : whole_load p ≤ 100000
   pub weight : whole_weight p ≤ 1000000
+  pub apart : AreNamesApart p
+  pub formed : AllByRecursion IsFormedClient p.clients

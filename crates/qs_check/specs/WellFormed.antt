@@ -1,5 +1,5 @@
 -- Which scripts are well formed: conditions on the tree, in whichever order they are tested.
-use Rattle.std.specs.Prelude.{◌≡◌, ◌≤◌, ◌<◌, ◌↔◌, ℕ, Bool, true, false, List, [], ◌∷◌, ◌++◌, length, map, Some, None}
+use Rattle.std.specs.Prelude.{◌≡◌, ◌≢◌, ◌≤◌, ◌<◌, ◌↔◌, ℕ, Bool, true, false, List, [], ◌∷◌, ◌++◌, length, map, Some, None, Result, Ok, Err}
 use Rattle.std.specs.List.{AllByRecursion, Contains, IsDistinct}
 use Rattle.std.specs.Set.{distinct_count}
 use Rattle.qs_objects.specs.declared.Op.{Op}
@@ -19,10 +19,13 @@ use Rattle.qs_script.specs.declared.tree.Item.{Item}
 use Rattle.qs_script.specs.declared.tree.Item.TheVariants.{Object, Client}
 use Rattle.qs_script.specs.Tree.{Stmts, end, command, query, assign, choose, choose_else, again, leave}
 use Rattle.qs_script.specs.Form.{levels_of, HasForm}
+use Rattle.qs_check.specs.declared.fault.CheckFault.{CheckFault}
+use Rattle.qs_check.specs.declared.fault.CheckFault.TheVariants as f
 use Rattle.qs_check.specs.declared.program.Declared.{Declared}
 use Rattle.qs_check.specs.Numbering.{Name, same_name}
 use Rattle.qs_check.specs.Operators.{op_of}
 use Rattle.qs_check.specs.Places.{kind_of}
+use Rattle.qs_check.specs.Program.{ProgramShape}
 use Rattle.qs_check.specs.Resolve.{objects_of, names_of}
 use Rattle.qs_check.specs.TextLoads.{text_load, text_weight}
 use Rattle.qs_check.specs.Checked.{fault_of}
@@ -127,3 +130,8 @@ pub record IsWellFormed (items : List Item) : Type 0 where
 -- of the scripts that have the grammar's form those are well formed that have no fault
 abbrev pub FaultlessAreWellFormed : Type 0
 FaultlessAreWellFormed = (items : List Item) → HasForm items → (fault_of items ≡ None) ↔ IsWellFormed items
+
+-- a script is accepted where it is well formed, and there alone, unless memory runs out
+abbrev pub AcceptsWellFormed : List Item → Result ProgramShape CheckFault → Type 0
+AcceptsWellFormed items (Ok p) = IsWellFormed items
+AcceptsWellFormed items (Err fault) = fault ≢ f.Memory → IsWellFormed items → ⊥

@@ -2,11 +2,13 @@
 
 ghost use Rattle.std.specs.List.{AllByRecursion};
 ghost use Rattle.std.specs.Prelude.{◌≡◌, ◌≢◌, ◌≤◌, [], ◌∷◌, ◌++◌, length, IfOk, OnOk, MatchResult};
+ghost use Rattle.qs_script.specs.Form.{HasForm};
 ghost use Rattle.qs_check.specs.Checked.{IsCheckOf, text_fault, excess_of, shape_of};
 ghost use Rattle.qs_check.specs.Places.{Meets, met, over, start, without_variables, script_places};
 ghost use Rattle.qs_check.specs.Resolve.{resolved as resolved_of, clients_of, lists_of, objects_of};
 ghost use Rattle.qs_check.specs.Program.{whole_load, whole_weight};
 ghost use Rattle.qs_check.specs.Sound.{IsSound};
+ghost use Rattle.qs_check.specs.WellFormed.{AcceptsWellFormed};
 
 use crate::fault::CheckFault;
 use crate::names::Names;
@@ -27,11 +29,22 @@ struct Resolved {
 }
 
 /// Checks a script and replaces each name by its number. `Ok` exactly where the script has no fault; else the first fault
-/// in text order, then `Load`, then `Weight`. `Memory` where an allocation failed, at any place. An error leaves nothing.
+/// in text order, then `Load`, then `Weight`. `Memory` where an allocation failed, at any place. An error leaves nothing. So a
+/// script is accepted exactly where it is well formed.
 pub fn check(alloc: Global, script: Script) -> Result<Program, CheckFault>
     ensures check { IsCheckOf script result }
+    ensures well_formed { AcceptsWellFormed script result }
 {
-    let resolved = resolve(alloc, script.as_slice())?;
+    script.is_formed();
+    check_formed(alloc, script.as_slice())
+}
+
+// The same, of items in the form of a script.
+fn check_formed(alloc: Global, items: &[Item]) -> Result<Program, CheckFault>
+    requires form { HasForm items.now }
+    ensures check { IsCheckOf items.now result }
+{
+    let resolved = resolve(alloc, items)?;
     sized(resolved)
 }
 
