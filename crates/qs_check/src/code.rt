@@ -1,6 +1,6 @@
 //! Statements with each name replaced by its number.
 
-ghost use Rattle.std.specs.Prelude.{◌≡◌, [], ◌∷◌, ◌++◌, OnOk, min};
+ghost use Rattle.std.specs.Prelude.{◌≡◌, [], ◌∷◌, ◌++◌, OnOk, OnErr, min};
 ghost use Rattle.qs_check.specs.Loads.{load_of, weight_of};
 ghost use Rattle.qs_check.specs.Statements.{end, joined};
 ghost use Rattle.qs_check.specs.Views.{single, statements_of};
@@ -57,9 +57,10 @@ impl Atoms {
         }
     }
 
-    /// Adds an argument at the end.
+    /// Adds an argument at the end. An error means out of memory, and leaves the arguments as they were.
     pub fn push(&mut self, atom: Atom) -> Result<(), AllocError>
         ensures ok { OnOk result (self.new ≡ self.old ++ atom ∷ []) }
+        ensures kept { OnErr result (self.new ≡ self.old) }
     {
         self.atoms.push(atom)?;
         Ok(())
@@ -141,9 +142,10 @@ impl Body {
         self.stmts.as_slice()
     }
 
-    /// Adds a statement at the end.
+    /// Adds a statement at the end. An error means out of memory, and leaves the list as it was.
     pub fn push(&mut self, stmt: Stmt) -> Result<(), AllocError>
         ensures ok { OnOk result (self.new ≡ joined self.old (single stmt)) }
+        ensures kept { OnErr result (self.new ≡ self.old) }
     {
         self.stmts.push(stmt)?;
         Ok(())
