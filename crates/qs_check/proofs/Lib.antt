@@ -7,7 +7,7 @@ pub mod Items
 pub mod Found
 pub mod Inner
 pub mod Kept
-pub mod Sounds
+pub mod SoundStatements
 pub mod Scripts
 pub mod Soundness
 pub mod Bounds

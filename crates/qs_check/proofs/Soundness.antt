@@ -20,7 +20,7 @@ use Rattle.qs_check.proofs.Found.{apart, same, false_not_true, or_true, is_among
 use Rattle.qs_check.proofs.Inner.{parted}
 use Rattle.qs_check.proofs.Kept.{block_stays, blocks_stay}
 use Rattle.qs_check.proofs.Scripts.{object_stays, client_stays, few_variables, scripted}
-use Rattle.qs_check.proofs.Sounds.{names, kinds, Known, Here, sound_body}
+use Rattle.qs_check.proofs.SoundStatements.{names, kinds, Known, Here, sound_body}
 use Rattle.qs_check.proofs.Steps.{split, ok_same}
 
 abbrev pub with_list : Scope → List Name → Scope

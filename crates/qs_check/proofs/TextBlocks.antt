@@ -12,7 +12,7 @@ use Rattle.qs_check.specs.Resolve.{variables_at}
 use Rattle.qs_check.specs.WellFormed.{AreStatements, variables_in_all}
 use Rattle.qs_check.proofs.FinePlaces.{then_step, else_step, below, again, leads, named_more, are_fine, fine_met}
 use Rattle.qs_check.proofs.Inner.{parted, inner_body, kept}
-use Rattle.qs_check.proofs.Sounds.{names, kinds}
+use Rattle.qs_check.proofs.SoundStatements.{names, kinds}
 use Rattle.qs_check.proofs.Soundness.{with_list, listed_first, list_kept}
 use Rattle.qs_check.proofs.Steps.{with_names, split, variables_met}
 use Rattle.qs_check.proofs.TextNames.{all_named, or_false, or_false_first, or_false_later, variables_at-append, tell_list, tell_blocks}

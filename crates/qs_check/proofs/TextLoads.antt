@@ -15,7 +15,7 @@ use Rattle.qs_check.specs.Resolve.{body_of, block_of}
 use Rattle.qs_check.specs.TextLoads.{requests_on, steps_in, text_block_load}
 use Rattle.qs_check.specs.WellFormed.{AreStatements}
 use Rattle.qs_check.proofs.Found.{apart, same, found_apart, is_among-append, false_not_true, same_name-refl}
-use Rattle.qs_check.proofs.Sounds.{names}
+use Rattle.qs_check.proofs.SoundStatements.{names}
 use Rattle.qs_check.proofs.TextBlocks.{IsRight}
 use Rattle.qs_check.proofs.TextRequests.{among_at, at_number}
 

@@ -25,7 +25,7 @@ use Rattle.qs_check.specs.WellFormed.{IsRequest, AreStatements}
 use Rattle.qs_check.proofs.Bounds.{AllByRecursion-get_or}
 use Rattle.qs_check.proofs.Found.{name_at, found_is, found_within, or_true, same_name-refl}
 use Rattle.qs_check.proofs.FinePlaces.{IsFine}
-use Rattle.qs_check.proofs.Sounds.{names, kinds}
+use Rattle.qs_check.proofs.SoundStatements.{names, kinds}
 
 pub same_decides : (a b : Name) → Decides (same_name a b) (a ≡ b)
 same_decides a b = (λ e. same_text a b (sym e), λ e. ap (same_name a) (sym e) ∙ same_name-refl a)
@@ -116,8 +116,7 @@ module _ (D : List Declared) (R : List Name) where
       let number_is : found_at (names D) c.object ≡ k = ap (found_at (names D)) (sym name_is) ∙ found_only (names D) k distinct within in
       let op_is : op_at (names D) (kinds D) asks c.object c.op ≡ Some h.op =
       ap (λ i. op_of asks (slice_index_or (kinds D) i (Account (pos 0))) c.op) number_is ∙ ap (λ kind. op_of asks kind c.op) kind_is ∙ h.has in
-      let known : is_among (names D) c.object ≡ true = ap (is_among (names D)) (sym name_is) ∙ among_at (names D) k within in
-      (
+      let known : is_among (names D) c.object ≡ true = ap (is_among (names D)) (sym name_is) ∙ among_at (names D) k within in (
         (known, (is_member-Decides same_decides R c.object).1 h.reserves),
         (ap is_known op_is, (ap (λ found. takes found (length c.args)) op_is ∙ some_takes h.op (length c.args) h.arity, tt)),
       )

@@ -29,7 +29,7 @@ use Rattle.qs_check.proofs.FinePlaces.{then_step, else_step, between, below, aga
 use Rattle.qs_check.proofs.Inner.{parted}
 use Rattle.qs_check.proofs.Kept.{blocks_stay}
 use Rattle.qs_check.proofs.Scripts.{few_variables, scripted}
-use Rattle.qs_check.proofs.Sounds.{names, kinds}
+use Rattle.qs_check.proofs.SoundStatements.{names, kinds}
 use Rattle.qs_check.proofs.Steps.{split, ok_same}
 use Rattle.qs_check.proofs.TextBlocks.{scope, Fresh, fresh_more, fresh_rest, no_fresh, IsRight, blocks_from, blocks_to}
 use Rattle.qs_check.proofs.TextLoads.{blocks_loads, blocks_weights}

@@ -3,6 +3,7 @@ use Rattle.std.specs.Prelude.{◌≡◌, ◌≤◌, ◌<◌, ℕ, ◌+◌, max, 
 use Rattle.std.specs.List.{AllByRecursion, IsDistinct, list_any}
 use Rattle.qs_objects.specs.Objects.{starts}
 use Rattle.qs_objects.specs.Operations.{is_query, arity, fits}
+use Rattle.qs_check.specs.Limits.{most_blocks, most_clients, most_levels, most_objects, most_requests, most_steps, most_turns, most_variables}
 use Rattle.qs_check.specs.declared.code.Atom.{Atom}
 use Rattle.qs_check.specs.declared.code.Atom.TheVariants.{Variable, Number}
 use Rattle.qs_check.specs.declared.code.Expr.{Expr}
@@ -16,7 +17,7 @@ use Rattle.qs_check.specs.Program.{BlockShape, ClientShape, ProgramShape, no_obj
 
 -- a variable of the client
 abbrev pub IsSoundAtom : Atom → Type 0
-IsSoundAtom (Variable x) = x < 16
+IsSoundAtom (Variable x) = x < most_variables
 IsSoundAtom (Number n) = Unit {0}
 
 abbrev pub IsSoundExpr : Expr → Type 0
@@ -41,10 +42,10 @@ module _ (objects : List Declared) (reserved : List ℕ) where
   abbrev pub IsSoundBody : Statements → Type 0
   IsSoundBody end = Unit {0}
   IsSoundBody (command c rest) = IsSoundCall objects reserved false c × IsSoundBody rest
-  IsSoundBody (query x c rest) = (x < 16) × IsSoundCall objects reserved true c × IsSoundBody rest
-  IsSoundBody (assign x e rest) = (x < 16) × IsSoundExpr e × IsSoundBody rest
+  IsSoundBody (query x c rest) = (x < most_variables) × IsSoundCall objects reserved true c × IsSoundBody rest
+  IsSoundBody (assign x e rest) = (x < most_variables) × IsSoundExpr e × IsSoundBody rest
   IsSoundBody (choose t has_else first other rest) = IsSoundTest t × IsSoundBody first × IsSoundBody other × IsSoundBody rest
-  IsSoundBody (again n body rest) = (n ≤ 1000) × IsSoundBody body × IsSoundBody rest
+  IsSoundBody (again n body rest) = (n ≤ most_turns) × IsSoundBody body × IsSoundBody rest
   IsSoundBody (leave rest) = IsSoundBody rest
 
 pub record IsSoundBlock (objects : List Declared) (b : BlockShape) : Type 0 where
@@ -53,8 +54,8 @@ pub record IsSoundBlock (objects : List Declared) (b : BlockShape) : Type 0 wher
   pub body : IsSoundBody objects b.reserved b.body
 
 pub record IsSoundClient (objects : List Declared) (c : ClientShape) : Type 0 where
-  pub variables : length c.variables ≤ 16
-  pub blocks : length c.blocks ≤ 64
+  pub variables : length c.variables ≤ most_variables
+  pub blocks : length c.blocks ≤ most_blocks
   pub each : AllByRecursion (IsSoundBlock objects) c.blocks
 
 -- each variable has a number below a count
@@ -103,7 +104,7 @@ pub record IsFormedBlock (variables : ℕ) (b : BlockShape) : Type 0 where
   pub some : 0 < length b.reserved
   pub below : AreVariablesBelow variables b.body
   pub leaves : AreLeavesInside false b.body
-  pub levels : levels_of b.body ≤ 9
+  pub levels : levels_of b.body ≤ most_levels
 
 -- a client's blocks are formed, and no two of its variables have one name
 pub record IsFormedClient (c : ClientShape) : Type 0 where
@@ -116,11 +117,11 @@ pub record AreNamesApart (p : ProgramShape) : Type 0 where
   pub clients : IsDistinct same_name (map (λ c. c.name) p.clients)
 
 pub record IsSound (p : ProgramShape) : Type 0 where
-  pub objects : length p.objects ≤ 8
-  pub clients : length p.clients ≤ 8
+  pub objects : length p.objects ≤ most_objects
+  pub clients : length p.clients ≤ most_clients
   pub kinds : AllByRecursion (λ (o : Declared). IsSome (starts o.kind)) p.objects
   pub each : AllByRecursion (IsSoundClient p.objects) p.clients
-  pub load : whole_load p ≤ 100000
-  pub weight : whole_weight p ≤ 1000000
+  pub load : whole_load p ≤ most_requests
+  pub weight : whole_weight p ≤ most_steps
   pub apart : AreNamesApart p
   pub formed : AllByRecursion IsFormedClient p.clients

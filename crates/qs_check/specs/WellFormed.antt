@@ -19,6 +19,7 @@ use Rattle.qs_script.specs.declared.tree.Item.{Item}
 use Rattle.qs_script.specs.declared.tree.Item.TheVariants.{Object, Client}
 use Rattle.qs_script.specs.Tree.{Stmts, end, command, query, assign, choose, choose_else, again, leave}
 use Rattle.qs_script.specs.Form.{levels_of, HasForm}
+use Rattle.qs_check.specs.Limits.{greatest_balance, most_blocks, most_clients, most_levels, most_lines, most_objects, most_requests, most_steps, most_turns, most_values, most_variables}
 use Rattle.qs_check.specs.declared.fault.CheckFault.{CheckFault}
 use Rattle.qs_check.specs.declared.fault.CheckFault.TheVariants as f
 use Rattle.qs_check.specs.declared.program.Declared.{Declared}
@@ -34,9 +35,9 @@ abbrev pub IsBetween : (low high : ℕ) → ℕ → Type 0
 IsBetween low high n = (low ≤ n) × (n ≤ high)
 
 abbrev pub IsKindInRange : KindText → Type 0
-IsKindInRange (Account n) = IsBetween 0 1000000000000000 n
-IsKindInRange (Buffer n) = IsBetween 1 1024 n
-IsKindInRange (Grid r c) = IsBetween 1 16 r × IsBetween 1 16 c
+IsKindInRange (Account n) = IsBetween 0 greatest_balance n
+IsKindInRange (Buffer n) = IsBetween 1 most_values n
+IsKindInRange (Grid r c) = IsBetween 1 most_lines r × IsBetween 1 most_lines c
 
 -- a request on an object of the block's list, which is declared with a kind that has the operation, with its number of arguments
 pub record IsRequest (declared : List Declared) (reserved : List Name) (asks : Bool) (c : Call) : Type 0 where
@@ -56,7 +57,7 @@ module _ (declared : List Declared) (reserved : List Name) where
   AreStatements inside (assign x e rest) = AreStatements inside rest
   AreStatements inside (choose t first rest) = AreStatements inside first × AreStatements inside rest
   AreStatements inside (choose_else t first other rest) = AreStatements inside first × AreStatements inside other × AreStatements inside rest
-  AreStatements inside (again n body rest) = (n ≤ 1000) × AreStatements true body × AreStatements inside rest
+  AreStatements inside (again n body rest) = (n ≤ most_turns) × AreStatements true body × AreStatements inside rest
   AreStatements inside (leave rest) = (inside ≡ true) × AreStatements inside rest
 
 -- the names of variables, assigned or read
@@ -98,12 +99,12 @@ pub record IsWellFormedBlock (declared : List Declared) (b : Block) : Type 0 whe
   pub declares : AllByRecursion (IsDeclared declared) b.reserved
   pub distinct : IsDistinct same_name b.reserved
   pub statements : AreStatements declared b.reserved false b.body
-  pub levels : levels_of b.body ≤ 9
+  pub levels : levels_of b.body ≤ most_levels
 
 -- at most 64 blocks and 16 variables
 pub record IsWellFormedClient (declared : List Declared) (c : ClientItem) : Type 0 where
-  pub blocks : length c.blocks ≤ 64
-  pub variables : distinct_count same_name (variables_in_all c.blocks) ≤ 16
+  pub blocks : length c.blocks ≤ most_blocks
+  pub variables : distinct_count same_name (variables_in_all c.blocks) ≤ most_variables
   pub each : AllByRecursion (IsWellFormedBlock declared) c.blocks
 
 -- items after the objects that are declared
@@ -119,13 +120,13 @@ clients_in (Client c ∷ rest) = c ∷ clients_in rest
 
 -- at most 8 objects and 8 clients, each by a name of its own; load and weight have their limits
 pub record IsWellFormed (items : List Item) : Type 0 where
-  pub objects : length (objects_of items) ≤ 8
+  pub objects : length (objects_of items) ≤ most_objects
   pub objects_apart : IsDistinct same_name (names_of items)
-  pub clients : length (clients_in items) ≤ 8
+  pub clients : length (clients_in items) ≤ most_clients
   pub clients_apart : IsDistinct same_name (map (λ c. c.name) (clients_in items))
   pub each : AreItems [] items
-  pub load : text_load (clients_in items) ≤ 100000
-  pub weight : text_weight (clients_in items) ≤ 1000000
+  pub load : text_load (clients_in items) ≤ most_requests
+  pub weight : text_weight (clients_in items) ≤ most_steps
 
 -- of the scripts that have the grammar's form those are well formed that have no fault
 abbrev pub FaultlessAreWellFormed : Type 0

@@ -3,7 +3,7 @@ pub mod Tree
 pub mod TreeCode
 pub mod Views
 pub mod Form
-pub mod Falls
+pub mod SizeDecreases
 pub mod BlockCode
 pub mod ScriptCode
 pub mod Tokens

@@ -117,9 +117,9 @@ impl Model for Body {
 
     ghost size = { size_of };
 
-    ghost use Rattle.qs_script.specs.Falls.{falls};
+    ghost use Rattle.qs_script.specs.SizeDecreases.{inner_smaller};
 
-    ghost size_decreases = { λ b h. falls b.stmts.items };
+    ghost size_decreases = { λ b h. inner_smaller b.stmts.items };
 }
 
 impl Body {
