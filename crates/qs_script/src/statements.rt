@@ -4,10 +4,9 @@ ghost use Rattle.std.specs.Prelude.{◌≡◌, ◌<◌, ◌≤◌, length, IfOk}
 ghost use Rattle.qs_script.specs.Views.{single};
 ghost use Rattle.qs_script.specs.Reading.{Gives, run, body_loop, stmt_in, stmt_at, choice_at, other_at, repeat_at, braced_at, named_at, command_at, assigned_at, ended_at};
 
-use crate::expect::{number, open_brace, past_close_brace, semicolon};
+use crate::expect::past_close_brace;
 use crate::fault::Fault;
 use crate::name::Name;
-use crate::number::Number;
 use crate::token::Token;
 use crate::tree::{Body, Stmt};
 use crate::values::{call, expr, test};
@@ -94,9 +93,13 @@ fn repeat(alloc: Global, levels: u8, tokens: &[Token]) -> Result<(Stmt, &[Token]
     ensures exact { Gives (λ x. (single x.0, x.1.now)) result (repeat_at (run (body_loop levels)) tokens.now) }
     ensures shorter { IfOk result (λ x. length x.1.now < length tokens.now) }
 {
-    let (count, rest) = number(tokens)?;
-    let (body, rest) = braced(alloc, levels, rest)?;
-    Ok((Stmt::Repeat(Number::new(count), body), rest))
+    match tokens {
+        [Token::Number(count), rest @ ..] => {
+            let (body, rest) = braced(alloc, levels, rest)?;
+            Ok((Stmt::Repeat(*count, body), rest))
+        }
+        _ => Err(Fault::Form(tokens.len())),
+    }
 }
 
 // A body in braces.
@@ -105,7 +108,10 @@ fn braced(alloc: Global, levels: u8, tokens: &[Token]) -> Result<(Body, &[Token]
     ensures exact { Gives (λ x. (x.0, x.1.now)) result (braced_at (run (body_loop levels)) tokens.now) }
     ensures shorter { IfOk result (λ x. length x.1.now < length tokens.now) }
 {
-    body(alloc, levels, open_brace(tokens)?)
+    match tokens {
+        [Token::OpenBrace, rest @ ..] => body(alloc, levels, rest),
+        _ => Err(Fault::Form(tokens.len())),
+    }
 }
 
 // A statement that begins with a name, after that name.
@@ -151,11 +157,11 @@ fn ended(stmt: Stmt, tokens: &[Token]) -> Result<(Stmt, &[Token]), Fault>
     ensures exact { Gives (λ x. (single x.0, x.1.now)) result (ended_at (single stmt) tokens.now) }
     ensures shorter { IfOk result (λ x. length x.1.now < length tokens.now) }
 {
-    match semicolon(tokens) {
-        Ok(rest) => Ok((stmt, rest)),
-        Err(fault) => {
+    match tokens {
+        [Token::Semicolon, rest @ ..] => Ok((stmt, rest)),
+        _ => {
             drop(stmt);
-            Err(fault)
+            Err(Fault::Form(tokens.len()))
         }
     }
 }
