@@ -3,6 +3,7 @@
 ghost use Rattle.std.specs.List.{AllByRecursion};
 ghost use Rattle.std.specs.Prelude.{◌≡◌, ◌≢◌, ◌≤◌, [], ◌∷◌, ◌++◌, length, IfOk, OnOk, MatchResult};
 ghost use Rattle.qs_script.specs.Form.{HasForm};
+ghost use Rattle.qs_check.specs.Limits.{most_objects, most_requests, most_steps, most_variables};
 ghost use Rattle.qs_check.specs.Checked.{IsCheckOf, text_fault, excess_of, shape_of};
 ghost use Rattle.qs_check.specs.Places.{Meets, met, over, start, without_variables, script_places};
 ghost use Rattle.qs_check.specs.Resolve.{resolved as resolved_of, clients_of, lists_of, objects_of};
@@ -86,9 +87,9 @@ fn numbered(
     variables: &mut VecDeque<Names>,
     items: &[Item],
 ) -> Result<Resolved, AllocError>
-    requires objects { length scope.now.objects ≤ 8 }
+    requires objects { length scope.now.objects ≤ most_objects }
     requires variables { variables.old.items ≡ lists_of items.now }
-    requires limit { AllByRecursion (λ v. length v ≤ 16) variables.old.items }
+    requires limit { AllByRecursion (λ v. length v ≤ most_variables) variables.old.items }
     ensures objects { IfOk result (λ r. r.objects.items ≡ objects_of items.now) }
     ensures clients { IfOk result (λ r. r.clients.items ≡ clients_of scope.now.objects scope.now.kinds items.now) }
 {
@@ -104,7 +105,7 @@ fn numbered(
 
 // Tests the load, then the weight.
 fn sized(resolved: Resolved) -> Result<Program, CheckFault>
-    requires sound { whole_load (shape_of resolved) ≤ 100000 → whole_weight (shape_of resolved) ≤ 1000000 → IsSound (shape_of resolved) }
+    requires sound { whole_load (shape_of resolved) ≤ most_requests → whole_weight (shape_of resolved) ≤ most_steps → IsSound (shape_of resolved) }
     ensures size { MatchResult result
         (λ p. (excess_of (shape_of resolved) ≡ None) × (p ≡ shape_of resolved))
         (λ fault. excess_of (shape_of resolved) ≡ Some fault) }
