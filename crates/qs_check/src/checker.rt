@@ -37,7 +37,9 @@ pub fn check(alloc: Global, script: Script) -> Result<Program, CheckFault>
     ensures well_formed { AcceptsWellFormed script result }
 {
     script.is_formed();
-    check_formed(alloc, script.as_slice())
+    let checked = check_formed(alloc, script.as_slice());
+    script.discard();
+    checked
 }
 
 // The same, of items in the form of a script.

@@ -261,6 +261,9 @@ impl Model for Script {
 }
 
 impl Script {
+    /// Lets the script go. A crate that calls this has no proof of its own of how each part of a script is dropped.
+    pub fn discard(self) {}
+
     /// What holds of every script; it does nothing.
     pub fn is_formed(&self)
         ensures form { HasForm self.now }
