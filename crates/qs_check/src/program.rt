@@ -118,6 +118,9 @@ impl Model for Program {
 }
 
 impl Program {
+    /// Lets the program go. A crate that calls this has no proof of its own of how each part of a program is dropped.
+    pub fn discard(self) {}
+
     /// What holds of every checked program; it does nothing.
     pub fn is_sound(&self)
         ensures sound { IsSound self.now }
