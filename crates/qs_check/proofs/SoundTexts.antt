@@ -20,8 +20,8 @@ use Rattle.qs_check.specs.Numbering.{Name, same_name, is_among, found_at}
 use Rattle.qs_check.specs.Places.{Scope, Met, met, start, script_places}
 use Rattle.qs_check.specs.Program.{ClientShape, ProgramShape, whole_load, whole_weight}
 use Rattle.qs_check.specs.Resolve.{atom_of, expr_of, body_of, block_of, clients_of, names_of, kinds_of, variables_of, resolved}
-use Rattle.qs_check.specs.Sound.{IsAtomBelow, IsExprBelow, AreVariablesBelow, AreLeavesInside, levels_of, IsFormedBlock, IsFormedClient, AreNamesApart, IsSound}
-use Rattle.qs_check.specs.WellFormed.{atom_names, atoms_names, expr_names, test_names, variables_in, variables_in_all, AreStatements, AreItems, IsWellFormedBlock, clients_in}
+use Rattle.qs_check.specs.Sound.{IsAtomBelow, IsExprBelow, AreVariablesBelow, AreLeavesInside, levels_of, IsFormedBlock, IsFormedClient, AreNamesApart, IsFormedProgram, IsSound}
+use Rattle.qs_check.specs.WellFormed.{atom_names, atoms_names, expr_names, test_names, variables_in, variables_in_all, AreStatements, AreItems, IsWellFormedBlock, clients_in, IsWellFormed}
 use Rattle.qs_check.proofs.Found.{found_within, or_true, same_name-refl}
 use Rattle.qs_check.proofs.Soundness.{sound}
 use Rattle.qs_check.proofs.TextNames.{distinct_variables, among_variables}
@@ -149,15 +149,19 @@ walk_ends : (m : Met) → first_fault m None ≡ None → (t : Scope) × (m ≡ 
 walk_ends (Ok t) h = (t, refl)
 walk_ends (Err e) h = cc
 
+resolved_form : (items : List Item) → IsWellFormed items → IsFormedProgram (resolved items)
+unfolding IsFormedProgram
+resolved_form items well =
+    let P : List Name → Type 0 = λ ns. IsDistinct same_name ns in
+    let apart : AreNamesApart (resolved items) =
+    record { objects = well.objects_apart; clients = subst P (sym (names_same items (names_of items) (kinds_of items))) well.clients_apart } in
+    (apart, clients_formed items [] (names_of items) (kinds_of items) well.each)
+
 sound_resolved : (items : List Item) → HasForm items → text_fault items ≡ None → whole_load (resolved items) ≤ 100000 → whole_weight (resolved items) ≤ 1000000 → IsSound (resolved items)
 sound_resolved items form h load weight =
     let w = walk_ends (met start (script_places items)) h in
     let faultless : fault_of items ≡ None = ap (λ m. first_fault m (excess_of (resolved items))) w.1 ∙ no_fault_left (resolved items) load weight in
-    let well = well_formed_from items form faultless in
-    let P : List Name → Type 0 = λ ns. IsDistinct same_name ns in
-    let apart : AreNamesApart (resolved items) =
-    record { objects = well.objects_apart; clients = subst P (sym (names_same items (names_of items) (kinds_of items))) well.clients_apart } in
-    sound items w.0 w.1 load weight apart (clients_formed items [] (names_of items) (kinds_of items) well.each)
+    sound items w.0 w.1 load weight (resolved_form items (well_formed_from items form faultless))
 
 pub sound_text : (items : List Item) (p : ProgramShape) → HasForm items → text_fault items ≡ None → p ≡ resolved items → whole_load p ≤ 100000 → whole_weight p ≤ 1000000 → IsSound p
 sound_text items p form h e load weight =

@@ -15,7 +15,7 @@ use Rattle.qs_check.specs.Numbering.{Name, same_name, is_among, found_at}
 use Rattle.qs_check.specs.Places.{Scope, Met, separate, listed, met, places, listed_places, block_places, blocks_places, item_places, script_places, start, with_block, with_listed, with_client, kind_of, over, without_variables}
 use Rattle.qs_check.specs.Program.{whole_load, whole_weight}
 use Rattle.qs_check.specs.Resolve.{block_of, client_of, clients_of, objects_of, names_of, kinds_of, lists_of, variables_of, resolved}
-use Rattle.qs_check.specs.Sound.{IsSoundBlock, IsSoundClient, IsFormedClient, AreNamesApart, IsSound, is_in}
+use Rattle.qs_check.specs.Sound.{IsSoundBlock, IsSoundClient, IsFormedProgram, IsSound, is_in}
 use Rattle.qs_check.proofs.Found.{apart, same, false_not_true, or_true, is_among-append, is_among-last, found_within, found_append, found_apart}
 use Rattle.qs_check.proofs.Inner.{parted}
 use Rattle.qs_check.proofs.Kept.{block_stays, blocks_stay}
@@ -180,8 +180,8 @@ walked items s h =
     }
 
 -- a script with no fault in its text, whose load and weight are in their limits
-pub sound : (items : List Item) (t : Scope) → met start (script_places items) ≡ Ok t → whole_load (resolved items) ≤ 100000 → whole_weight (resolved items) ≤ 1000000 → AreNamesApart (resolved items) → AllByRecursion IsFormedClient (resolved items).clients → IsSound (resolved items)
-sound items t h load weight apart formed =
+pub sound : (items : List Item) (t : Scope) → met start (script_places items) ≡ Ok t → whole_load (resolved items) ≤ 100000 → whole_weight (resolved items) ≤ 1000000 → IsFormedProgram (resolved items) → IsSound (resolved items)
+sound items t h load weight form =
     let known = scripted items start t h in
     let count : length t.objects ≤ 8 = known.few_objects (omega arith) in
     record {
@@ -191,6 +191,5 @@ sound items t h load weight apart formed =
       each = sound_items (objects_of items) items start t refl refl refl h;
       load = load;
       weight = weight;
-      apart = apart;
-      formed = formed;
+      form = form;
     }

@@ -116,6 +116,11 @@ pub record AreNamesApart (p : ProgramShape) : Type 0 where
   pub objects : IsDistinct same_name (map (λ o. o.name) p.objects)
   pub clients : IsDistinct same_name (map (λ c. c.name) p.clients)
 
+-- names apart, and clients formed. It does not unfold by itself, so that a search for a proof that has a sound program in sight
+-- does not go through all of it
+unfoldable pub IsFormedProgram : ProgramShape → Type 0
+IsFormedProgram p = AreNamesApart p × AllByRecursion IsFormedClient p.clients
+
 pub record IsSound (p : ProgramShape) : Type 0 where
   pub objects : length p.objects ≤ most_objects
   pub clients : length p.clients ≤ most_clients
@@ -123,5 +128,4 @@ pub record IsSound (p : ProgramShape) : Type 0 where
   pub each : AllByRecursion (IsSoundClient p.objects) p.clients
   pub load : whole_load p ≤ most_requests
   pub weight : whole_weight p ≤ most_steps
-  pub apart : AreNamesApart p
-  pub formed : AllByRecursion IsFormedClient p.clients
+  pub form : IsFormedProgram p
