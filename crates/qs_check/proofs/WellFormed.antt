@@ -240,8 +240,18 @@ well_formed_to items well =
     let weight : whole_weight (resolved items) ≤ 1000000 = omega (arith, well.weight, items_weights items (names_of items) (kinds_of items)) in
     ap (λ m. first_fault m (excess_of (resolved items))) w.1 ∙ no_fault_left (resolved items) load weight
 
+formed_blocks : (D : List Declared) (bs : List Block) → AllByRecursion (IsWellFormedBlock D) bs → AllByRecursion IsFormed bs
+formed_blocks D [] h = tt
+formed_blocks D (b ∷ bs) h = (record { some = h.0.some; shallow = h.0.levels }, formed_blocks D bs h.1)
+
+formed_items : (items : List Item) (D : List Declared) → AreItems D items → HasForm items
+formed_items [] D h = tt
+formed_items (Object o ∷ rest) D (kind, h) = (tt, formed_items rest (with_one D o) h)
+formed_items (Client c ∷ rest) D (one, h) = (formed_blocks D c.blocks one.each, formed_items rest D h)
+
 pub faultless_are_well_formed : FaultlessAreWellFormed
-faultless_are_well_formed items form = (well_formed_from items form, well_formed_to items)
+faultless_are_well_formed items =
+    (λ h. well_formed_from items h.0 h.1, λ (well : IsWellFormed items). (formed_items items [] well.each, well_formed_to items well))
 
 -- the same, of what a check answers
 pub accepts_well_formed : (items : List Item) (r : Result ProgramShape CheckFault) → HasForm items → IsCheckOf items r → AcceptsWellFormed items r

@@ -128,9 +128,9 @@ pub record IsWellFormed (items : List Item) : Type 0 where
   pub load : text_load (clients_in items) ≤ most_requests
   pub weight : text_weight (clients_in items) ≤ most_steps
 
--- of the scripts that have the grammar's form those are well formed that have no fault
+-- well formed are the scripts that have the grammar's form and no fault
 abbrev pub FaultlessAreWellFormed : Type 0
-FaultlessAreWellFormed = (items : List Item) → HasForm items → (fault_of items ≡ None) ↔ IsWellFormed items
+FaultlessAreWellFormed = (items : List Item) → (HasForm items × (fault_of items ≡ None)) ↔ IsWellFormed items
 
 -- a script is accepted where it is well formed, and there alone, unless memory runs out
 abbrev pub AcceptsWellFormed : List Item → Result ProgramShape CheckFault → Type 0
