@@ -44,7 +44,7 @@ module _ (p : Name → Bool) where
   place_append [] ys h = cc
   place_append (x ∷ xs) ys h = append_cons (p x) (position_or_len p (xs ++ ys)) (position_or_len p xs) (list_any p xs) (place_append xs ys) h
 
-  found_is : (xs : List Name) → list_any p xs ≡ true → unwrap_or (position p xs) 0 ≡ position_or_len p xs
+  pub found_is : (xs : List Name) → list_any p xs ≡ true → unwrap_or (position p xs) 0 ≡ position_or_len p xs
   found_is xs h = picked (nat_lt (position_or_len p xs) (length xs)) (position_or_len p xs) (less (position_or_len p xs) (length xs) (place_within xs h))
 
   any_front : (xs ys : List Name) → list_any p xs ≡ true → list_any p (xs ++ ys) ≡ true
@@ -75,7 +75,7 @@ not_false true h = refl
 not_false false h = cc
 
 -- a name is what stands at its number
-name_at : (xs : List Name) (o : Name) → is_among xs o ≡ true → o ≡ get_or xs (found_at xs o) []
+pub name_at : (xs : List Name) (o : Name) → is_among xs o ≡ true → o ≡ get_or xs (found_at xs o) []
 name_at xs o h =
     let p = same_name o in
     let here : p (get_or xs (position_or_len p xs) []) ≡ true = not_false (p (get_or xs (position_or_len p xs) [])) (prefix_len_stops (λ x. not (p x)) xs [] (place_within p xs h)) in

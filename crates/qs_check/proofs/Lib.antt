@@ -7,7 +7,14 @@ pub mod Items
 pub mod Found
 pub mod Inner
 pub mod Kept
-pub mod Sounds
+pub mod SoundStatements
 pub mod Scripts
 pub mod Soundness
 pub mod Bounds
+pub mod FinePlaces
+pub mod TextNames
+pub mod TextRequests
+pub mod TextBlocks
+pub mod TextLoads
+pub mod WellFormed
+pub mod SoundTexts

@@ -32,7 +32,7 @@ object_stays s t o h =
 pub client_stays : (s t : Scope) (c : ClientItem) → met s (item_places (Client c)) ≡ Ok t → (length s.clients < 8) × (met (with_client s c.name) (blocks_places c.blocks) ≡ Ok t)
 client_stays s t c h =
     let w = split s t (client c.name) (blocks_places c.blocks) h in
-    (w.1.0, ap (λ u. met u (blocks_places c.blocks)) (sym w.1.1) ∙ w.2)
+    (w.1.1, ap (λ u. met u (blocks_places c.blocks)) (sym w.1.2) ∙ w.2)
 
 pub few_variables : (s t : Scope) (c : ClientItem) → met s (item_places (Client c)) ≡ Ok t → length (variables_of c) ≤ 16
 few_variables s t c h =

@@ -1,5 +1,5 @@
 -- Why a script with no fault makes a sound program: blocks, clients and the whole.
-use Rattle.std.proofs.Common.{◌≡◌, ℕ, suc, ◌+◌, ◌<◌, ◌≤◌, Bool, true, false, ◌||◌, ◌==◌, List, [], ◌∷◌, ◌++◌, length, map, slice_index_or, refl, ap, sym, ◌∙◌, subst, arith, append_assoc, append-nil, length-append, Ok, Err, None, pos}
+use Rattle.std.proofs.Common.{◌≡◌, ℕ, suc, ◌+◌, ◌<◌, ◌≤◌, Bool, true, false, ◌||◌, ◌==◌, List, [], ◌∷◌, ◌++◌, length, map, slice_index_or, refl, ap, sym, ◌∙◌, subst, arith, append_assoc, append-nil, length-append, Ok, Err, pos}
 use Rattle.std.proofs.Math.ListN.{get_or-append}
 use Rattle.std.proofs.lemmas.List.{length-map}
 use Rattle.std.specs.Cmp.Lexicographic.{same_text}
@@ -13,27 +13,26 @@ use Rattle.qs_script.specs.declared.tree.Item.TheVariants.{Object, Client}
 use Rattle.qs_check.specs.declared.program.Declared.{Declared}
 use Rattle.qs_check.specs.Numbering.{Name, same_name, is_among, found_at}
 use Rattle.qs_check.specs.Places.{Scope, Met, separate, listed, met, places, listed_places, block_places, blocks_places, item_places, script_places, start, with_block, with_listed, with_client, kind_of, over, without_variables}
-use Rattle.qs_check.specs.Checked.{first_fault, text_fault}
-use Rattle.qs_check.specs.Program.{ProgramShape, whole_load, whole_weight}
+use Rattle.qs_check.specs.Program.{whole_load, whole_weight}
 use Rattle.qs_check.specs.Resolve.{block_of, client_of, clients_of, objects_of, names_of, kinds_of, lists_of, variables_of, resolved}
-use Rattle.qs_check.specs.Sound.{IsSoundBlock, IsSoundClient, IsSound, is_in}
+use Rattle.qs_check.specs.Sound.{IsSoundBlock, IsSoundClient, IsFormedProgram, IsSound, is_in}
 use Rattle.qs_check.proofs.Found.{apart, same, false_not_true, or_true, is_among-append, is_among-last, found_within, found_append, found_apart}
 use Rattle.qs_check.proofs.Inner.{parted}
 use Rattle.qs_check.proofs.Kept.{block_stays, blocks_stay}
 use Rattle.qs_check.proofs.Scripts.{object_stays, client_stays, few_variables, scripted}
-use Rattle.qs_check.proofs.Sounds.{names, kinds, Known, Here, sound_body}
+use Rattle.qs_check.proofs.SoundStatements.{names, kinds, Known, Here, sound_body}
 use Rattle.qs_check.proofs.Steps.{split, ok_same}
 
-abbrev with_list : Scope → List Name → Scope
+abbrev pub with_list : Scope → List Name → Scope
 with_list s r = record s { reserved = r }
 
 -- the first name of a list, and the others
-listed_first : (s t : Scope) (n : Name) (ns : List Name) → met s (listed_places (n ∷ ns)) ≡ Ok t → (is_among s.objects n ≡ true) × (is_among s.reserved n ≡ false) × (met (with_listed s n) (listed_places ns) ≡ Ok t)
+pub listed_first : (s t : Scope) (n : Name) (ns : List Name) → met s (listed_places (n ∷ ns)) ≡ Ok t → (is_among s.objects n ≡ true) × (is_among s.reserved n ≡ false) × (met (with_listed s n) (listed_places ns) ≡ Ok t)
 listed_first s t n ns h =
     let w = split s t (listed n) (listed_places ns) h in
     (w.1.0, w.1.1, ap (λ u. met u (listed_places ns)) (sym w.1.2) ∙ w.2)
 
-list_kept : (ns : List Name) (s t : Scope) → met s (listed_places ns) ≡ Ok t → t ≡ with_list s (s.reserved ++ ns)
+pub list_kept : (ns : List Name) (s t : Scope) → met s (listed_places ns) ≡ Ok t → t ≡ with_list s (s.reserved ++ ns)
 list_kept [] s t h = ok_same s t h ∙ ap (with_list s) (sym (append-nil s.reserved))
 list_kept (n ∷ ns) s t h =
     let w = listed_first s t n ns h in list_kept ns (with_listed s n) t w.2 ∙ ap (with_list s) (append_assoc s.reserved (n ∷ []) ns)
@@ -181,8 +180,8 @@ walked items s h =
     }
 
 -- a script with no fault in its text, whose load and weight are in their limits
-pub sound : (items : List Item) (t : Scope) → met start (script_places items) ≡ Ok t → whole_load (resolved items) ≤ 100000 → whole_weight (resolved items) ≤ 1000000 → IsSound (resolved items)
-sound items t h load weight =
+pub sound : (items : List Item) (t : Scope) → met start (script_places items) ≡ Ok t → whole_load (resolved items) ≤ 100000 → whole_weight (resolved items) ≤ 1000000 → IsFormedProgram (resolved items) → IsSound (resolved items)
+sound items t h load weight form =
     let known = scripted items start t h in
     let count : length t.objects ≤ 8 = known.few_objects (omega arith) in
     record {
@@ -192,17 +191,5 @@ sound items t h load weight =
       each = sound_items (objects_of items) items start t refl refl refl h;
       load = load;
       weight = weight;
+      form = form;
     }
-
--- no fault in the text, so the walk ends
-walk_ends : (m : Met) → first_fault m None ≡ None → (t : Scope) × (m ≡ Ok t)
-walk_ends (Ok t) h = (t, refl)
-walk_ends (Err e) h = cc
-
-pub sound_text : (items : List Item) (p : ProgramShape) → text_fault items ≡ None → p ≡ resolved items → whole_load p ≤ 100000 → whole_weight p ≤ 1000000 → IsSound p
-sound_text items p h e load weight =
-    let w = walk_ends (met start (script_places items)) h in
-    let P : ProgramShape → Type 0 = λ q. IsSound q in
-    let lighter : whole_load (resolved items) ≤ 100000 = omega (arith, load, ap whole_load e) in
-    let shorter : whole_weight (resolved items) ≤ 1000000 = omega (arith, weight, ap whole_weight e) in
-    subst P (sym e) (sound items w.0 w.1 lighter shorter)

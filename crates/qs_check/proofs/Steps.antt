@@ -15,7 +15,7 @@ with_names s names = record s { variables = names }
 abbrev pub Stepped : Scope → Place → Scope → Type 0
 Stepped s (object n k) t = (is_among s.objects n ≡ false) × (length s.objects < 8) × (t ≡ with_object s n k)
 Stepped s (number low high n) t = (low ≤ n) × (n ≤ high) × (t ≡ s)
-Stepped s (client n) t = (length s.clients < 8) × (t ≡ with_client s n)
+Stepped s (client n) t = (is_among s.clients n ≡ false) × (length s.clients < 8) × (t ≡ with_client s n)
 Stepped s separate t = (s.blocks < 64) × (t ≡ with_block s)
 Stepped s (listed o) t = (is_among s.objects o ≡ true) × (is_among s.reserved o ≡ false) × (t ≡ with_listed s o)
 Stepped s (target o) t = (is_among s.objects o ≡ true) × (is_among s.reserved o ≡ true) × (t ≡ s)
@@ -63,7 +63,7 @@ stepped s t (number low high n) h =
 stepped s t (client n) h =
     let p = else_ok (is_among s.clients n) (if nat_lt (length s.clients) 8 then Ok (with_client s n) else Err f.Limit) f.Twice t h in
     let q = then_ok (nat_lt (length s.clients) 8) (Ok (with_client s n)) f.Limit t p.1 in
-    (below _ _ q.0, ok_same _ t q.1)
+    (p.0, below _ _ q.0, ok_same _ t q.1)
 stepped s t separate h =
     let q = then_ok (nat_lt s.blocks 64) (Ok (with_block s)) f.Limit t h in (below _ _ q.0, ok_same _ t q.1)
 stepped s t (listed o) h =
@@ -95,7 +95,7 @@ pub variables_met : (s t : Scope) (ps : List Place) → met s ps ≡ Ok t → t.
 variables_met s t [] h = ap (λ u. u.variables) (ok_same s t h)
 variables_met s t (object n k ∷ ps) h = let w = split s t (object n k) ps h in variables_met w.0 t ps w.2 ∙ ap (λ u. variables_at u.variables ps) w.1.2
 variables_met s t (number low high n ∷ ps) h = let w = split s t (number low high n) ps h in variables_met w.0 t ps w.2 ∙ ap (λ u. variables_at u.variables ps) w.1.2
-variables_met s t (client n ∷ ps) h = let w = split s t (client n) ps h in variables_met w.0 t ps w.2 ∙ ap (λ u. variables_at u.variables ps) w.1.1
+variables_met s t (client n ∷ ps) h = let w = split s t (client n) ps h in variables_met w.0 t ps w.2 ∙ ap (λ u. variables_at u.variables ps) w.1.2
 variables_met s t (separate ∷ ps) h = let w = split s t separate ps h in variables_met w.0 t ps w.2 ∙ ap (λ u. variables_at u.variables ps) w.1.1
 variables_met s t (listed o ∷ ps) h = let w = split s t (listed o) ps h in variables_met w.0 t ps w.2 ∙ ap (λ u. variables_at u.variables ps) w.1.2
 variables_met s t (target o ∷ ps) h = let w = split s t (target o) ps h in variables_met w.0 t ps w.2 ∙ ap (λ u. variables_at u.variables ps) w.1.2

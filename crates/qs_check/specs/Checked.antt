@@ -1,6 +1,7 @@
 -- Which scripts are accepted, and why the others are not.
 use Rattle.std.specs.Prelude.{◌≡◌, ◌≢◌, nat_lt, if◌then◌else◌, List, Option, Some, None, Result, Ok, Err}
 use Rattle.qs_script.specs.declared.tree.Item.{Item}
+use Rattle.qs_check.specs.Limits.{most_requests, most_steps}
 use Rattle.qs_check.specs.declared.fault.CheckFault.{CheckFault}
 use Rattle.qs_check.specs.declared.fault.CheckFault.TheVariants as f
 use Rattle.qs_check.specs.declared.checker.Resolved.{Resolved}
@@ -11,7 +12,7 @@ use Rattle.qs_check.specs.Resolve.{resolved}
 -- what is wrong with a program whose text is right
 abbrev pub excess_of : ProgramShape → Option CheckFault
 excess_of p =
-    if nat_lt 100000 (whole_load p) then Some f.Load else (if nat_lt 1000000 (whole_weight p) then Some f.Weight else None)
+    if nat_lt most_requests (whole_load p) then Some f.Load else (if nat_lt most_steps (whole_weight p) then Some f.Weight else None)
 
 abbrev pub first_fault : Met → Option CheckFault → Option CheckFault
 first_fault (Ok s) after = after

@@ -1,9 +1,10 @@
 pub mod Statements
 pub mod StatementsCode
 pub mod Views
-pub mod Falls
+pub mod SizeDecreases
 pub mod Values
 pub mod Loads
+pub mod Limits
 pub mod Numbering
 pub mod Program
 pub mod Shapes
@@ -12,4 +13,6 @@ pub mod Operators
 pub mod Places
 pub mod Resolve
 pub mod Checked
+pub mod TextLoads
+pub mod WellFormed
 pub mod CheckExamples

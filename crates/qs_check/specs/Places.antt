@@ -16,6 +16,7 @@ use Rattle.qs_script.specs.declared.tree.KindText.TheVariants.{Account, Buffer, 
 use Rattle.qs_script.specs.declared.tree.Item.{Item}
 use Rattle.qs_script.specs.declared.tree.Item.TheVariants.{Object, Client}
 use Rattle.qs_script.specs.Tree.{Stmts, end, command, query, assign, choose, choose_else, again, leave}
+use Rattle.qs_check.specs.Limits.{greatest_balance, most_blocks, most_clients, most_lines, most_objects, most_turns, most_values, most_variables}
 use Rattle.qs_check.specs.declared.fault.CheckFault.{CheckFault}
 use Rattle.qs_check.specs.declared.fault.CheckFault.TheVariants as f
 use Rattle.qs_check.specs.Numbering.{Name, is_among, found_at}
@@ -91,12 +92,12 @@ without_variables s = record s { variables = [] }
 abbrev pub step : Scope → Place → Met
 step s (object n kind) =
     if is_among s.objects n then Err f.Twice
-    else (if nat_lt (length s.objects) 8 then Ok (with_object s n kind) else Err f.Limit)
+    else (if nat_lt (length s.objects) most_objects then Ok (with_object s n kind) else Err f.Limit)
 step s (number low high n) = if nat_lt n low || nat_lt high n then Err f.Range else Ok s
 step s (client n) =
     if is_among s.clients n then Err f.Twice
-    else (if nat_lt (length s.clients) 8 then Ok (with_client s n) else Err f.Limit)
-step s separate = if nat_lt s.blocks 64 then Ok (with_block s) else Err f.Limit
+    else (if nat_lt (length s.clients) most_clients then Ok (with_client s n) else Err f.Limit)
+step s separate = if nat_lt s.blocks most_blocks then Ok (with_block s) else Err f.Limit
 step s (listed o) =
     if is_among s.objects o then (if is_among s.reserved o then Err f.ReservedTwice else Ok (with_listed s o))
     else Err f.UnknownObject
@@ -107,7 +108,7 @@ step s (operation asks o op) = if is_known (op_at s.objects s.kinds asks o op) t
 step s (arguments asks o op n) = if takes (op_at s.objects s.kinds asks o op) n then Ok s else Err f.Arity
 step s (variable x) =
     if is_among s.variables x then Ok s
-    else (if nat_lt (length s.variables) 16 then Ok (with_variable s x) else Err f.Limit)
+    else (if nat_lt (length s.variables) most_variables then Ok (with_variable s x) else Err f.Limit)
 step s (leaves inside) = if inside then Ok s else Err f.LeaveOutside
 
 abbrev pub then_at : Met → (Scope → Met) → Met
@@ -154,7 +155,7 @@ places inside (assign x e rest) = variable x ∷ (expr_places e ++ places inside
 places inside (choose t first rest) = test_places t ++ (places inside first ++ places inside rest)
 places inside (choose_else t first other rest) =
     test_places t ++ (places inside first ++ (places inside other ++ places inside rest))
-places inside (again n body rest) = number 0 1000 n ∷ (places true body ++ places inside rest)
+places inside (again n body rest) = number 0 most_turns n ∷ (places true body ++ places inside rest)
 places inside (leave rest) = leaves inside ∷ places inside rest
 
 abbrev pub listed_places : List Name → List Place
@@ -173,9 +174,9 @@ kind_of (Buffer n) = k.Buffer (pos n)
 kind_of (Grid r c) = k.Grid (pos r) (pos c)
 
 abbrev pub kind_places : KindText → List Place
-kind_places (Account n) = number 0 1000000000000000 n ∷ []
-kind_places (Buffer n) = number 1 1024 n ∷ []
-kind_places (Grid r c) = number 1 16 r ∷ number 1 16 c ∷ []
+kind_places (Account n) = number 0 greatest_balance n ∷ []
+kind_places (Buffer n) = number 1 most_values n ∷ []
+kind_places (Grid r c) = number 1 most_lines r ∷ number 1 most_lines c ∷ []
 
 abbrev pub item_places : Item → List Place
 item_places (Object o) = object o.name (kind_of o.kind) ∷ kind_places o.kind

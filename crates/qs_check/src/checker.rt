@@ -2,11 +2,14 @@
 
 ghost use Rattle.std.specs.List.{AllByRecursion};
 ghost use Rattle.std.specs.Prelude.{◌≡◌, ◌≢◌, ◌≤◌, [], ◌∷◌, ◌++◌, length, IfOk, OnOk, MatchResult};
+ghost use Rattle.qs_script.specs.Form.{HasForm};
+ghost use Rattle.qs_check.specs.Limits.{most_objects, most_requests, most_steps, most_variables};
 ghost use Rattle.qs_check.specs.Checked.{IsCheckOf, text_fault, excess_of, shape_of};
 ghost use Rattle.qs_check.specs.Places.{Meets, met, over, start, without_variables, script_places};
 ghost use Rattle.qs_check.specs.Resolve.{resolved as resolved_of, clients_of, lists_of, objects_of};
 ghost use Rattle.qs_check.specs.Program.{whole_load, whole_weight};
 ghost use Rattle.qs_check.specs.Sound.{IsSound};
+ghost use Rattle.qs_check.specs.WellFormed.{AcceptsWellFormed};
 
 use crate::fault::CheckFault;
 use crate::names::Names;
@@ -27,11 +30,24 @@ struct Resolved {
 }
 
 /// Checks a script and replaces each name by its number. `Ok` exactly where the script has no fault; else the first fault
-/// in text order, then `Load`, then `Weight`. `Memory` where an allocation failed, at any place. An error leaves nothing.
+/// in text order, then `Load`, then `Weight`. `Memory` where an allocation failed, at any place. An error leaves nothing. So a
+/// script is accepted exactly where it is well formed.
 pub fn check(alloc: Global, script: Script) -> Result<Program, CheckFault>
     ensures check { IsCheckOf script result }
+    ensures well_formed { AcceptsWellFormed script result }
 {
-    let resolved = resolve(alloc, script.as_slice())?;
+    script.is_formed();
+    let checked = check_formed(alloc, script.as_slice());
+    script.discard();
+    checked
+}
+
+// The same, of items in the form of a script.
+fn check_formed(alloc: Global, items: &[Item]) -> Result<Program, CheckFault>
+    requires form { HasForm items.now }
+    ensures check { IsCheckOf items.now result }
+{
+    let resolved = resolve(alloc, items)?;
     sized(resolved)
 }
 
@@ -42,20 +58,27 @@ fn resolve(alloc: Global, items: &[Item]) -> Result<Resolved, CheckFault>
         (λ fault. fault ≢ CheckFault.Memory → text_fault items.now ≡ Some fault) }
 {
     let mut scope = Scope::new(alloc);
-    let resolved = resolve_from(alloc, &mut scope, items);
+    let mut variables = VecDeque::new(alloc);
+    let resolved = resolve_from(alloc, &mut scope, &mut variables, items);
+    drop(variables);
     drop(scope);
     resolved
 }
 
-// The same, from a scope in which nothing is known. The caller keeps the scope: its drop at each `?` would be long to prove.
-fn resolve_from(alloc: Global, scope: &mut Scope, items: &[Item]) -> Result<Resolved, CheckFault>
+// The same, from a scope in which nothing is known. The caller keeps what is large: its drop at each `?` would be long to prove.
+fn resolve_from(
+    alloc: Global,
+    scope: &mut Scope,
+    variables: &mut VecDeque<Names>,
+    items: &[Item],
+) -> Result<Resolved, CheckFault>
     requires start { scope.old ≡ start }
+    requires none { variables.old.items ≡ [] }
     ensures text { MatchResult result
         (λ r. (text_fault items.now ≡ None) × (shape_of r ≡ resolved_of items.now))
         (λ fault. fault ≢ CheckFault.Memory → text_fault items.now ≡ Some fault) }
 {
-    let mut variables = VecDeque::new(alloc);
-    check_items(alloc, scope, &mut variables, items)?;
+    check_items(alloc, scope, variables, items)?;
     Ok(numbered(alloc, scope, variables, items)?)
 }
 
@@ -63,23 +86,28 @@ fn resolve_from(alloc: Global, scope: &mut Scope, items: &[Item]) -> Result<Reso
 fn numbered(
     alloc: Global,
     scope: &Scope,
-    variables: VecDeque<Names>,
+    variables: &mut VecDeque<Names>,
     items: &[Item],
 ) -> Result<Resolved, AllocError>
-    requires objects { length scope.now.objects ≤ 8 }
-    requires variables { variables.items ≡ lists_of items.now }
-    requires limit { AllByRecursion (λ v. length v ≤ 16) variables.items }
+    requires objects { length scope.now.objects ≤ most_objects }
+    requires variables { variables.old.items ≡ lists_of items.now }
+    requires limit { AllByRecursion (λ v. length v ≤ most_variables) variables.old.items }
     ensures objects { IfOk result (λ r. r.objects.items ≡ objects_of items.now) }
     ensures clients { IfOk result (λ r. r.clients.items ≡ clients_of scope.now.objects scope.now.kinds items.now) }
 {
     let objects = resolve_objects(alloc, items)?;
-    let clients = resolve_clients(alloc, scope.objects(), scope.kinds(), variables, items)?;
-    Ok(Resolved { objects, clients })
+    match resolve_clients(alloc, scope.objects(), scope.kinds(), variables, items) {
+        Ok(clients) => Ok(Resolved { objects, clients }),
+        Err(fault) => {
+            drop(objects);
+            Err(fault)
+        }
+    }
 }
 
 // Tests the load, then the weight.
 fn sized(resolved: Resolved) -> Result<Program, CheckFault>
-    requires sound { whole_load (shape_of resolved) ≤ 100000 → whole_weight (shape_of resolved) ≤ 1000000 → IsSound (shape_of resolved) }
+    requires sound { whole_load (shape_of resolved) ≤ most_requests → whole_weight (shape_of resolved) ≤ most_steps → IsSound (shape_of resolved) }
     ensures size { MatchResult result
         (λ p. (excess_of (shape_of resolved) ≡ None) × (p ≡ shape_of resolved))
         (λ fault. excess_of (shape_of resolved) ≡ Some fault) }

@@ -1,6 +1,6 @@
 //! Statements with each name replaced by its number.
 
-ghost use Rattle.std.specs.Prelude.{◌≡◌, [], ◌∷◌, ◌++◌, OnOk, min};
+ghost use Rattle.std.specs.Prelude.{◌≡◌, [], ◌∷◌, ◌++◌, OnOk, OnErr, min};
 ghost use Rattle.qs_check.specs.Loads.{load_of, weight_of};
 ghost use Rattle.qs_check.specs.Statements.{end, joined};
 ghost use Rattle.qs_check.specs.Views.{single, statements_of};
@@ -57,9 +57,10 @@ impl Atoms {
         }
     }
 
-    /// Adds an argument at the end.
+    /// Adds an argument at the end. An error means out of memory, and leaves the arguments as they were.
     pub fn push(&mut self, atom: Atom) -> Result<(), AllocError>
         ensures ok { OnOk result (self.new ≡ self.old ++ atom ∷ []) }
+        ensures kept { OnErr result (self.new ≡ self.old) }
     {
         self.atoms.push(atom)?;
         Ok(())
@@ -98,7 +99,7 @@ pub enum Stmt {
     Leave,
 }
 
-/// A list of statements.
+/// A list of statements, which `check` alone makes, so that none is nested deep.
 #[cycle(code)]
 #[derive(Drop)]
 pub struct Body {
@@ -119,14 +120,14 @@ impl Model for Body {
 
     ghost size = { size_of };
 
-    ghost use Rattle.qs_check.specs.Falls.{falls};
+    ghost use Rattle.qs_check.specs.SizeDecreases.{inner_smaller};
 
-    ghost size_decreases = { λ b h. falls b.stmts.items };
+    ghost size_decreases = { λ b h. inner_smaller b.stmts.items };
 }
 
 impl Body {
-    /// No statements; takes no memory.
-    pub fn new(alloc: Global) -> Body
+    // No statements; takes no memory.
+    pub(crate) fn new(alloc: Global) -> Body
         ensures empty { result ≡ end }
     {
         Body {
@@ -141,9 +142,10 @@ impl Body {
         self.stmts.as_slice()
     }
 
-    /// Adds a statement at the end.
-    pub fn push(&mut self, stmt: Stmt) -> Result<(), AllocError>
+    // Adds a statement at the end. An error means out of memory, and leaves the list as it was.
+    pub(crate) fn push(&mut self, stmt: Stmt) -> Result<(), AllocError>
         ensures ok { OnOk result (self.new ≡ joined self.old (single stmt)) }
+        ensures kept { OnErr result (self.new ≡ self.old) }
     {
         self.stmts.push(stmt)?;
         Ok(())

@@ -1,6 +1,7 @@
 //! Checked programs.
 
 ghost use Rattle.std.specs.Prelude.{◌≡◌, ◌<◌, ◌≤◌, length, slice_index_or, sum_by};
+ghost use Rattle.qs_check.specs.Limits.{most_requests, most_steps};
 ghost use Rattle.qs_check.specs.Loads.{load_of};
 ghost use Rattle.qs_check.specs.Program.{client_at, block_at, object_at, no_block, blocks_of, whole_load, whole_weight};
 ghost use Rattle.qs_check.specs.Sound.{IsSound};
@@ -117,6 +118,9 @@ impl Model for Program {
 }
 
 impl Program {
+    /// Lets the program go. A crate that calls this has no proof of its own of how each part of a program is dropped.
+    pub fn discard(self) {}
+
     /// What holds of every checked program; it does nothing.
     pub fn is_sound(&self)
         ensures sound { IsSound self.now }
@@ -160,7 +164,7 @@ impl Program {
     /// The load: how many requests there can be at most, over all blocks and the objects that they reserve; at most 100,000.
     pub fn load(&self) -> u64
         ensures value { result ≡ whole_load self.now }
-        ensures limit { result ≤ 100000 }
+        ensures limit { result ≤ most_requests }
     {
         self.load
     }
@@ -170,7 +174,7 @@ impl Program {
         requires client { client < length self.now.clients }
         requires block { block < blocks_of self.now client }
         ensures value { result ≡ load_of (block_at self.now client block).body object }
-        ensures limit { result ≤ 100000 }
+        ensures limit { result ≤ most_requests }
     {
         let _ = &self.load;
         self.block(client, block).body.load(object)
@@ -179,7 +183,7 @@ impl Program {
     /// The weight: how many steps there can be at most, over all blocks; at most 1,000,000.
     pub fn weight(&self) -> u64
         ensures value { result ≡ whole_weight self.now }
-        ensures limit { result ≤ 1000000 }
+        ensures limit { result ≤ most_steps }
     {
         self.weight
     }

@@ -3,6 +3,7 @@
 ghost use Rattle.std.specs.Prelude.{◌≡◌, ◌≤◌, ◌<◌, IfOk, length, map};
 ghost use Rattle.std.specs.List.{AllByRecursion};
 ghost use Rattle.qs_script.specs.Views.{single as single_text};
+ghost use Rattle.qs_check.specs.Limits.{most_objects, most_variables};
 ghost use Rattle.qs_check.specs.Numbering.{found_at};
 ghost use Rattle.qs_check.specs.Resolve.{atom_of, expr_of, test_of, call_of, body_of, block_of, client_of, clients_of, objects_of, lists_of};
 ghost use Rattle.qs_check.specs.Views.{single};
@@ -39,12 +40,12 @@ pub(crate) fn resolve_clients(
     alloc: Global,
     objects: &Names,
     kinds: &[Kind],
-    mut variables: VecDeque<Names>,
+    variables: &mut VecDeque<Names>,
     items: &[Item],
 ) -> Result<Vec<Client>, AllocError>
-    requires objects { length objects.now ≤ 8 }
-    requires variables { variables.items ≡ lists_of items.now }
-    requires limit { AllByRecursion (λ v. length v ≤ 16) variables.items }
+    requires objects { length objects.now ≤ most_objects }
+    requires variables { variables.old.items ≡ lists_of items.now }
+    requires limit { AllByRecursion (λ v. length v ≤ most_variables) variables.old.items }
     ensures clients { IfOk result (λ v. v.items ≡ clients_of objects.now kinds.now items.now) }
 {
     let mut clients = Vec::new(alloc);
@@ -66,18 +67,23 @@ fn resolve_client(
     variables: Names,
     item: &ClientItem,
 ) -> Result<Client, AllocError>
-    requires objects { length objects.now ≤ 8 }
-    requires variables { length variables ≤ 16 }
+    requires objects { length objects.now ≤ most_objects }
+    requires variables { length variables ≤ most_variables }
     ensures name { IfOk result (λ c. c.name ≡ item.now.name) }
     ensures variables { IfOk result (λ c. c.variables ≡ variables) }
     ensures blocks { IfOk result (λ c. c.blocks ≡ map (block_of objects.now kinds.now variables) item.now.blocks) }
 {
-    let blocks = resolve_blocks(alloc, objects, kinds, &variables, item.blocks.as_slice())?;
-    Ok(Client {
-        name: item.name.copied(),
-        variables,
-        blocks,
-    })
+    match resolve_blocks(alloc, objects, kinds, &variables, item.blocks.as_slice()) {
+        Ok(blocks) => Ok(Client {
+            name: item.name.copied(),
+            variables,
+            blocks,
+        }),
+        Err(fault) => {
+            drop(variables);
+            Err(fault)
+        }
+    }
 }
 
 fn resolve_blocks(
@@ -87,8 +93,8 @@ fn resolve_blocks(
     variables: &Names,
     blocks: &[qs_script::Block],
 ) -> Result<Vec<Block>, AllocError>
-    requires objects { length objects.now ≤ 8 }
-    requires variables { length variables.now ≤ 16 }
+    requires objects { length objects.now ≤ most_objects }
+    requires variables { length variables.now ≤ most_variables }
     ensures blocks { IfOk result (λ v. v.items ≡ map (block_of objects.now kinds.now variables.now) blocks.now) }
 {
     let mut all = Vec::new(alloc);
@@ -105,8 +111,8 @@ fn resolve_block(
     variables: &Names,
     block: &qs_script::Block,
 ) -> Result<Block, AllocError>
-    requires objects { length objects.now ≤ 8 }
-    requires variables { length variables.now ≤ 16 }
+    requires objects { length objects.now ≤ most_objects }
+    requires variables { length variables.now ≤ most_variables }
     ensures block { IfOk result (λ b. b ≡ block_of objects.now kinds.now variables.now block.now) }
 {
     let reserved = resolve_list(alloc, objects, block.reserved.as_slice())?;
@@ -115,7 +121,7 @@ fn resolve_block(
 }
 
 fn resolve_list(alloc: Global, objects: &Names, names: &[Name]) -> Result<Vec<u8>, AllocError>
-    requires objects { length objects.now ≤ 8 }
+    requires objects { length objects.now ≤ most_objects }
     ensures list { IfOk result (λ v. v.items ≡ map (found_at objects.now) names.now) }
 {
     let mut reserved = Vec::new(alloc);
@@ -134,8 +140,8 @@ fn resolve_body(
     variables: &Names,
     body: &qs_script::Body,
 ) -> Result<Body, AllocError>
-    requires objects { length objects.now ≤ 8 }
-    requires variables { length variables.now ≤ 16 }
+    requires objects { length objects.now ≤ most_objects }
+    requires variables { length variables.now ≤ most_variables }
     ensures body { IfOk result (λ code. code ≡ body_of objects.now kinds.now variables.now body.now) }
 {
     let mut code = Body::new(alloc);
@@ -153,8 +159,8 @@ fn resolve_stmt(
     variables: &Names,
     stmt: &qs_script::Stmt,
 ) -> Result<Stmt, AllocError>
-    requires objects { length objects.now ≤ 8 }
-    requires variables { length variables.now ≤ 16 }
+    requires objects { length objects.now ≤ most_objects }
+    requires variables { length variables.now ≤ most_variables }
     ensures stmt { IfOk result (λ code. single code ≡ body_of objects.now kinds.now variables.now (single_text stmt.now)) }
 {
     match stmt {
@@ -197,8 +203,8 @@ fn resolve_call(
     asks: bool,
     call: &qs_script::Call,
 ) -> Result<Call, AllocError>
-    requires objects { length objects.now ≤ 8 }
-    requires variables { length variables.now ≤ 16 }
+    requires objects { length objects.now ≤ most_objects }
+    requires variables { length variables.now ≤ most_variables }
     ensures call { IfOk result (λ c. c ≡ call_of objects.now kinds.now variables.now asks call.now) }
 {
     let number = objects.number_of(&call.object);
@@ -216,7 +222,7 @@ fn resolve_atoms(
     variables: &Names,
     atoms: &[qs_script::Atom],
 ) -> Result<Atoms, AllocError>
-    requires variables { length variables.now ≤ 16 }
+    requires variables { length variables.now ≤ most_variables }
     ensures atoms { IfOk result (λ v. v ≡ map (atom_of variables.now) atoms.now) }
 {
     let mut args = Atoms::new(alloc);
@@ -227,7 +233,7 @@ fn resolve_atoms(
 }
 
 fn resolve_atom(variables: &Names, atom: &qs_script::Atom) -> Atom
-    requires variables { length variables.now ≤ 16 }
+    requires variables { length variables.now ≤ most_variables }
     ensures atom { result ≡ atom_of variables.now atom.now }
 {
     match atom {
@@ -237,7 +243,7 @@ fn resolve_atom(variables: &Names, atom: &qs_script::Atom) -> Atom
 }
 
 fn resolve_expr(variables: &Names, expr: &qs_script::Expr) -> Expr
-    requires variables { length variables.now ≤ 16 }
+    requires variables { length variables.now ≤ most_variables }
     ensures expr { result ≡ expr_of variables.now expr.now }
 {
     match expr {
@@ -251,7 +257,7 @@ fn resolve_expr(variables: &Names, expr: &qs_script::Expr) -> Expr
 }
 
 fn resolve_test(variables: &Names, test: &qs_script::Test) -> Test
-    requires variables { length variables.now ≤ 16 }
+    requires variables { length variables.now ≤ most_variables }
     ensures test { result ≡ test_of variables.now test.now }
 {
     Test {

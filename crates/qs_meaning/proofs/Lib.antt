@@ -5,3 +5,4 @@ pub mod SoundTrees
 pub mod Each
 pub mod Histories
 pub mod SerialRuns
+pub mod TraceLoads

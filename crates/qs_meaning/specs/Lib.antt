@@ -3,4 +3,5 @@ pub mod Interaction
 pub mod Following
 pub mod Serial
 pub mod Paths
+pub mod TraceLoads
 pub mod MeaningExamples

@@ -4,6 +4,7 @@ ghost use Rattle.qs_meaning.specs.Following.{BlocksAskOnly, HonestTracesRun};
 ghost use Rattle.qs_meaning.specs.Interaction.{TreesAgree};
 ghost use Rattle.qs_meaning.specs.MeaningExamples.{MeaningExamples};
 ghost use Rattle.qs_meaning.specs.Paths.{RequestsWithinLoad};
+ghost use Rattle.qs_meaning.specs.TraceLoads.{SerialWithinLoad, TracesWithinLoad};
 
 /// A block alone, its statements run one after another, does what its interaction tree does: the same requests with the same
 /// replies, the same variables and the same states at the end. It does nothing.
@@ -15,6 +16,13 @@ pub fn blocks_alone_follow_their_trees()
 /// for it; it does nothing.
 pub fn requests_within_load()
     ensures within { RequestsWithinLoad }
+{}
+
+/// The trace of a block alone has at most as many requests on an object as its load says, whatever the variables and the states; so
+/// has the trace of each block of a serial run. A checked program answers these loads by client, block and object. It does nothing.
+pub fn traces_within_load()
+    ensures alone { TracesWithinLoad }
+    ensures serial { SerialWithinLoad }
 {}
 
 /// Programs with the replies and the states of their serial runs, computed by the definitions; it does nothing.

@@ -8,3 +8,4 @@ pub mod Complete
 pub mod Sound
 pub mod ReadTexts
 pub mod Bytes
+pub mod Form

@@ -2,7 +2,8 @@ pub mod Padding
 pub mod Tree
 pub mod TreeCode
 pub mod Views
-pub mod Falls
+pub mod Form
+pub mod SizeDecreases
 pub mod BlockCode
 pub mod ScriptCode
 pub mod Tokens

@@ -176,19 +176,23 @@ test_of left relation right = record { left = left; relation = relation; right =
 abbrev pub test_at : List Token → Read Test
 test_at ts = atom_at ts >>= λ a. relation_at a.1 >>= λ r. atom_at r.1 >>= λ b. Some (test_of a.0 r.0 b.0, b.1)
 
+-- a statement, where a semicolon ends it
+abbrev pub ended_at : Stmts → List Token → Read Stmts
+ended_at s ts = semicolon_at ts >>= λ x. Some (s, x)
+
 -- what a variable gets, after the =: a query where a name and a dot stand, else an expression
 abbrev pub query_at : List ℕ → List ℕ → List Token → Read Stmts
-query_at v object ts = call_at object ts >>= λ c. semicolon_at c.1 >>= λ x. Some (query v c.0 end, x)
+query_at v object ts = call_at object ts >>= λ c. ended_at (query v c.0 end) c.1
 
 abbrev pub assign_at : List ℕ → List Token → Read Stmts
-assign_at v ts = expr_at ts >>= λ e. semicolon_at e.1 >>= λ x. Some (assign v e.0 end, x)
+assign_at v ts = expr_at ts >>= λ e. ended_at (assign v e.0 end) e.1
 
 abbrev pub assigned_at : List ℕ → List Token → Read Stmts
 assigned_at v (t.Name object ∷ t.Dot ∷ ts) = query_at v object ts
 assigned_at v ts = assign_at v ts
 
 abbrev pub command_at : List ℕ → List Token → Read Stmts
-command_at object ts = call_at object ts >>= λ c. semicolon_at c.1 >>= λ x. Some (command c.0 end, x)
+command_at object ts = call_at object ts >>= λ c. ended_at (command c.0 end) c.1
 
 -- a statement that begins with a name
 abbrev pub named_at : List ℕ → List Token → Read Stmts
@@ -220,7 +224,7 @@ repeat_at inner ts = number_at ts >>= λ n. braced_at inner n.1 >>= λ b. Some (
 
 -- a statement, as a list of one; its bodies are read by inner
 abbrev pub stmt_at : (List Token → Read Stmts) → List Token → Read Stmts
-stmt_at inner (t.Leave ∷ ts) = semicolon_at ts >>= λ x. Some (leave end, x)
+stmt_at inner (t.Leave ∷ ts) = ended_at (leave end) ts
 stmt_at inner (t.If ∷ ts) = choice_at inner ts
 stmt_at inner (t.Repeat ∷ ts) = repeat_at inner ts
 stmt_at inner (t.Name n ∷ ts) = named_at n ts

@@ -2,11 +2,11 @@
 
 use std::alloc::AllocError;
 use std::fmt;
-use std::fmt::{Display, Formatter, Write};
+use std::fmt::{Debug, Display, Formatter, Write};
 use thiserror::Error;
 
 /// Why a text is no script. A line is one more than the number of LF before the fault's place. A reading that fails leaves nothing.
-#[derive(Clone, Copy, Debug, PartialEq, Eq, Error)]
+#[derive(Clone, Copy, PartialEq, Eq, Error)]
 pub enum ReadFault {
     /// The text has more than 65,536 bytes. This is found before anything else.
     Size,
@@ -57,6 +57,13 @@ impl Display for ReadFault {
     }
 }
 
+/// A fault's debug text is its text.
+impl Debug for ReadFault {
+    fn fmt<W: Write>(&self, f: &mut Formatter<W>) -> fmt::Result {
+        Display::fmt(self, f)
+    }
+}
+
 impl From<AllocError> for ReadFault {
     ghost use Rattle.std.specs.Prelude.{◌≡◌};
     ghost use Rattle.qs_script.specs.declared.fault.ReadFault.TheVariants.{Memory};
@@ -69,7 +76,7 @@ impl From<AllocError> for ReadFault {
 }
 
 // Why the parser made no tree: no script goes on at a token, and so many tokens were left there; or memory ran out.
-#[derive(Debug, Drop)]
+#[derive(Drop)]
 pub(crate) enum Fault {
     Form(usize),
     Memory,

@@ -3,10 +3,10 @@
 ghost use Rattle.std.specs.Prelude.{◌≡◌, ◌<◌, ◌≤◌, [], ◌∷◌, length, IfOk, IfSome};
 ghost use Rattle.qs_script.specs.Reading.{Gives, Finds, after, run, names_loop, block_at, separate_at, blocks_loop, object_at, object_called_at, client_at, item_at, items_loop};
 
-use crate::expect::{name, number, open_brace, past_close_brace, past_open_brace};
+use crate::expect::{name, past_close_brace, past_open_brace};
 use crate::fault::Fault;
+use crate::lists::add;
 use crate::name::Name;
-use crate::number::Number;
 use crate::statements::body;
 use crate::token::Token;
 use crate::tree::{Block, Blocks, ClientItem, Item, KindText, NameList, ObjectItem, Script};
@@ -17,15 +17,15 @@ fn names(alloc: Global, first: Name, tokens: &[Token]) -> Result<(NameList, &[To
     ensures exact { Gives (λ x. (x.0, x.1.now)) result (after names_loop (first ∷ []) (run names_loop tokens.now)) }
     ensures shorter { IfOk result (λ x. length x.1.now < length tokens.now) }
 {
-    let mut names = NameList::new(alloc);
-    names.push(first)?;
+    let mut names = Vec::new(alloc);
+    add(&mut names, first)?;
     let mut rest = tokens;
     'each: loop {
         if let Some(after) = past_open_brace(rest) {
-            return Ok((names, after));
+            return Ok((NameList { names }, after));
         }
         let (name, after) = name(rest)?;
-        names.push(name)?;
+        add(&mut names, name)?;
         rest = after;
     }
 }
@@ -57,14 +57,14 @@ fn blocks(alloc: Global, tokens: &[Token]) -> Result<(Blocks, &[Token]), Fault>
     ensures exact { Gives (λ x. (x.0, x.1.now)) result (run blocks_loop tokens.now) }
     ensures shorter { IfOk result (λ x. length x.1.now < length tokens.now) }
 {
-    let mut all = Blocks::new(alloc);
+    let mut blocks = Vec::new(alloc);
     let mut rest = tokens;
     'each: loop {
         if let Some(after) = past_close_brace(rest) {
-            return Ok((all, after));
+            return Ok((Blocks { blocks }, after));
         }
         let (block, after) = separate(alloc, rest)?;
-        all.push(block)?;
+        add(&mut blocks, block)?;
         rest = after;
     }
 }
@@ -74,8 +74,10 @@ fn object(tokens: &[Token]) -> Result<(Item, &[Token]), Fault>
     ensures exact { Gives (λ x. (x.0, x.1.now)) result (object_at tokens.now) }
     ensures shorter { IfOk result (λ x. length x.1.now < length tokens.now) }
 {
-    let (name, rest) = name(tokens)?;
-    object_called(name, rest)
+    match tokens {
+        [Token::Name(name), rest @ ..] => object_called(name.copied(), rest),
+        _ => Err(Fault::Form(tokens.len())),
+    }
 }
 
 // The object of that name, from its kind on.
@@ -83,26 +85,28 @@ fn object_called(name: Name, tokens: &[Token]) -> Result<(Item, &[Token]), Fault
     ensures exact { Gives (λ x. (x.0, x.1.now)) result (object_called_at name tokens.now) }
     ensures shorter { IfOk result (λ x. length x.1.now < length tokens.now) }
 {
-    let (kind, rest) = match tokens {
-        [Token::Account, rest @ ..] => {
-            let (balance, rest) = number(rest)?;
-            (KindText::Account(Number::new(balance)), rest)
+    match tokens {
+        [Token::Account, Token::Number(balance), rest @ ..] => {
+            let kind = KindText::Account(*balance);
+            Ok((Item::Object(ObjectItem { name, kind }), rest))
         }
-        [Token::Buffer, rest @ ..] => {
-            let (capacity, rest) = number(rest)?;
-            (KindText::Buffer(Number::new(capacity)), rest)
+        [Token::Buffer, Token::Number(capacity), rest @ ..] => {
+            let kind = KindText::Buffer(*capacity);
+            Ok((Item::Object(ObjectItem { name, kind }), rest))
         }
-        [Token::Grid, rest @ ..] => {
-            let (rows, rest) = number(rest)?;
-            let (columns, rest) = number(rest)?;
-            (
-                KindText::Grid(Number::new(rows), Number::new(columns)),
-                rest,
-            )
+        [
+            Token::Grid,
+            Token::Number(rows),
+            Token::Number(columns),
+            rest @ ..,
+        ] => {
+            let kind = KindText::Grid(*rows, *columns);
+            Ok((Item::Object(ObjectItem { name, kind }), rest))
         }
-        _ => return Err(Fault::Form(tokens.len())),
-    };
-    Ok((Item::Object(ObjectItem { name, kind }), rest))
+        [Token::Grid, Token::Number(_), rest @ ..] => Err(Fault::Form(rest.len())),
+        [Token::Account | Token::Buffer | Token::Grid, rest @ ..] => Err(Fault::Form(rest.len())),
+        _ => Err(Fault::Form(tokens.len())),
+    }
 }
 
 // A client, after that word.
@@ -110,9 +114,15 @@ fn client(alloc: Global, tokens: &[Token]) -> Result<(Item, &[Token]), Fault>
     ensures exact { Gives (λ x. (x.0, x.1.now)) result (client_at tokens.now) }
     ensures shorter { IfOk result (λ x. length x.1.now < length tokens.now) }
 {
-    let (name, rest) = name(tokens)?;
-    let (blocks, rest) = blocks(alloc, open_brace(rest)?)?;
-    Ok((Item::Client(ClientItem { name, blocks }), rest))
+    match tokens {
+        [Token::Name(name), Token::OpenBrace, rest @ ..] => {
+            let (blocks, rest) = blocks(alloc, rest)?;
+            let name = name.copied();
+            Ok((Item::Client(ClientItem { name, blocks }), rest))
+        }
+        [Token::Name(_), rest @ ..] => Err(Fault::Form(rest.len())),
+        _ => Err(Fault::Form(tokens.len())),
+    }
 }
 
 fn item(alloc: Global, tokens: &[Token]) -> Result<(Item, &[Token]), Fault>
@@ -130,12 +140,12 @@ fn item(alloc: Global, tokens: &[Token]) -> Result<(Item, &[Token]), Fault>
 pub(crate) fn script(alloc: Global, tokens: &[Token]) -> Result<Script, Fault>
     ensures exact { Gives (λ x. (x, [])) result (run items_loop tokens.now) }
 {
-    let mut script = Script::new(alloc);
+    let mut items = Vec::new(alloc);
     let mut rest = tokens;
     'each: while !rest.is_empty() {
         let (item, after) = item(alloc, rest)?;
-        script.push(item)?;
+        add(&mut items, item)?;
         rest = after;
     }
-    Ok(script)
+    Ok(Script { items })
 }

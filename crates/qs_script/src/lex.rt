@@ -9,7 +9,7 @@ use crate::number::Number;
 use crate::token::Token;
 
 /// Why a text has no tokens.
-#[derive(Clone, Copy, Debug)]
+#[derive(Clone, Copy)]
 pub enum TokenFault {
     Byte,
     Number,

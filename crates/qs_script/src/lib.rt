@@ -6,6 +6,7 @@ mod fault;
 mod items;
 pub mod laws;
 mod lex;
+mod lists;
 mod name;
 mod number;
 mod reader;

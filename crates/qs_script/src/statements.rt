@@ -2,12 +2,11 @@
 
 ghost use Rattle.std.specs.Prelude.{◌≡◌, ◌<◌, ◌≤◌, length, IfOk};
 ghost use Rattle.qs_script.specs.Views.{single};
-ghost use Rattle.qs_script.specs.Reading.{Gives, run, body_loop, stmt_in, stmt_at, choice_at, other_at, repeat_at, braced_at, named_at, assigned_at};
+ghost use Rattle.qs_script.specs.Reading.{Gives, run, body_loop, stmt_in, stmt_at, choice_at, other_at, repeat_at, braced_at, named_at, command_at, assigned_at, ended_at};
 
-use crate::expect::{number, open_brace, past_close_brace, semicolon};
+use crate::expect::past_close_brace;
 use crate::fault::Fault;
 use crate::name::Name;
-use crate::number::Number;
 use crate::token::Token;
 use crate::tree::{Body, Stmt};
 use crate::values::{call, expr, test};
@@ -50,7 +49,7 @@ fn statement_over(alloc: Global, levels: u8, tokens: &[Token]) -> Result<(Stmt, 
     ensures shorter { IfOk result (λ x. length x.1.now < length tokens.now) }
 {
     match tokens {
-        [Token::Leave, rest @ ..] => Ok((Stmt::Leave, semicolon(rest)?)),
+        [Token::Leave, rest @ ..] => ended(Stmt::Leave, rest),
         [Token::If, rest @ ..] => choice(alloc, levels, rest),
         [Token::Repeat, rest @ ..] => repeat(alloc, levels, rest),
         [Token::Name(name), rest @ ..] => named(alloc, name.copied(), rest),
@@ -94,9 +93,13 @@ fn repeat(alloc: Global, levels: u8, tokens: &[Token]) -> Result<(Stmt, &[Token]
     ensures exact { Gives (λ x. (single x.0, x.1.now)) result (repeat_at (run (body_loop levels)) tokens.now) }
     ensures shorter { IfOk result (λ x. length x.1.now < length tokens.now) }
 {
-    let (count, rest) = number(tokens)?;
-    let (body, rest) = braced(alloc, levels, rest)?;
-    Ok((Stmt::Repeat(Number::new(count), body), rest))
+    match tokens {
+        [Token::Number(count), rest @ ..] => {
+            let (body, rest) = braced(alloc, levels, rest)?;
+            Ok((Stmt::Repeat(*count, body), rest))
+        }
+        _ => Err(Fault::Form(tokens.len())),
+    }
 }
 
 // A body in braces.
@@ -105,7 +108,10 @@ fn braced(alloc: Global, levels: u8, tokens: &[Token]) -> Result<(Body, &[Token]
     ensures exact { Gives (λ x. (x.0, x.1.now)) result (braced_at (run (body_loop levels)) tokens.now) }
     ensures shorter { IfOk result (λ x. length x.1.now < length tokens.now) }
 {
-    body(alloc, levels, open_brace(tokens)?)
+    match tokens {
+        [Token::OpenBrace, rest @ ..] => body(alloc, levels, rest),
+        _ => Err(Fault::Form(tokens.len())),
+    }
 }
 
 // A statement that begins with a name, after that name.
@@ -114,13 +120,19 @@ fn named(alloc: Global, name: Name, tokens: &[Token]) -> Result<(Stmt, &[Token])
     ensures shorter { IfOk result (λ x. length x.1.now < length tokens.now) }
 {
     match tokens {
-        [Token::Dot, rest @ ..] => {
-            let (call, rest) = call(alloc, name, rest)?;
-            Ok((Stmt::Command(call), semicolon(rest)?))
-        }
+        [Token::Dot, rest @ ..] => command(alloc, name, rest),
         [Token::Assign, rest @ ..] => assigned(alloc, name, rest),
         _ => Err(Fault::Form(tokens.len())),
     }
+}
+
+// A command on an object, after its dot.
+fn command(alloc: Global, object: Name, tokens: &[Token]) -> Result<(Stmt, &[Token]), Fault>
+    ensures exact { Gives (λ x. (single x.0, x.1.now)) result (command_at object tokens.now) }
+    ensures shorter { IfOk result (λ x. length x.1.now < length tokens.now) }
+{
+    let (call, rest) = call(alloc, object, tokens)?;
+    ended(Stmt::Command(call), rest)
 }
 
 // What a variable gets: a request's reply, or an expression's value.
@@ -131,11 +143,25 @@ fn assigned(alloc: Global, variable: Name, tokens: &[Token]) -> Result<(Stmt, &[
     match tokens {
         [Token::Name(object), Token::Dot, rest @ ..] => {
             let (call, rest) = call(alloc, object.copied(), rest)?;
-            Ok((Stmt::Query(variable, call), semicolon(rest)?))
+            ended(Stmt::Query(variable, call), rest)
         }
         _ => {
             let (expr, rest) = expr(tokens)?;
-            Ok((Stmt::Assign(variable, expr), semicolon(rest)?))
+            ended(Stmt::Assign(variable, expr), rest)
+        }
+    }
+}
+
+// The statement, where a semicolon ends it.
+fn ended(stmt: Stmt, tokens: &[Token]) -> Result<(Stmt, &[Token]), Fault>
+    ensures exact { Gives (λ x. (single x.0, x.1.now)) result (ended_at (single stmt) tokens.now) }
+    ensures shorter { IfOk result (λ x. length x.1.now < length tokens.now) }
+{
+    match tokens {
+        [Token::Semicolon, rest @ ..] => Ok((stmt, rest)),
+        _ => {
+            drop(stmt);
+            Err(Fault::Form(tokens.len()))
         }
     }
 }

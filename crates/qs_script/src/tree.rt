@@ -1,8 +1,9 @@
 // Syntax trees.
 
-ghost use Rattle.std.specs.Prelude.{◌≡◌, [], ◌∷◌, ◌++◌, OnOk, OnErr};
+ghost use Rattle.std.specs.Prelude.{◌≡◌, OnOk, OnErr};
 ghost use Rattle.qs_script.specs.Tree.{end, joined};
 ghost use Rattle.qs_script.specs.Views.{single, stmts_of};
+ghost use Rattle.qs_script.specs.Form.{HasForm};
 
 use crate::name::Name;
 use crate::number::Number;
@@ -53,7 +54,7 @@ pub struct Test {
 /// The arguments of a request, as they are written. Contracts see them as a list.
 #[derive(Drop)]
 pub struct Args {
-    atoms: Vec<Atom>,
+    pub(crate) atoms: Vec<Atom>,
 }
 
 impl Model for Args {
@@ -66,24 +67,6 @@ impl Model for Args {
 }
 
 impl Args {
-    /// No arguments. It takes no memory yet.
-    pub fn new(alloc: Global) -> Args
-        ensures empty { result ≡ [] }
-    {
-        Args {
-            atoms: Vec::new(alloc),
-        }
-    }
-
-    /// Adds an argument at the end. An error means out of memory, and leaves the arguments as they were.
-    pub fn push(&mut self, atom: Atom) -> Result<(), AllocError>
-        ensures added { OnOk result (self.new ≡ self.old ++ atom ∷ []) }
-        ensures kept { OnErr result (self.new ≡ self.old) }
-    {
-        self.atoms.push(atom)?;
-        Ok(())
-    }
-
     /// The arguments in order.
     pub fn as_slice(&self) -> &[Atom]
         ensures same { result.now ≡ self.now }
@@ -134,14 +117,14 @@ impl Model for Body {
 
     ghost size = { size_of };
 
-    ghost use Rattle.qs_script.specs.Falls.{falls};
+    ghost use Rattle.qs_script.specs.SizeDecreases.{inner_smaller};
 
-    ghost size_decreases = { λ b h. falls b.stmts.items };
+    ghost size_decreases = { λ b h. inner_smaller b.stmts.items };
 }
 
 impl Body {
-    /// No statements. It takes no memory yet.
-    pub fn new(alloc: Global) -> Body
+    // No statements. It takes no memory yet.
+    pub(crate) fn new(alloc: Global) -> Body
         ensures empty { result ≡ end }
     {
         Body {
@@ -149,8 +132,8 @@ impl Body {
         }
     }
 
-    /// Adds a statement at the end. An error means out of memory, and leaves the list as it was.
-    pub fn push(&mut self, stmt: Stmt) -> Result<(), AllocError>
+    // Adds a statement at the end. An error means out of memory, and leaves the list as it was.
+    pub(crate) fn push(&mut self, stmt: Stmt) -> Result<(), AllocError>
         ensures added { OnOk result (self.new ≡ joined self.old (single stmt)) }
         ensures kept { OnErr result (self.new ≡ self.old) }
     {
@@ -169,7 +152,7 @@ impl Body {
 /// Names in the order in which they are written.
 #[derive(Drop)]
 pub struct NameList {
-    names: Vec<Name>,
+    pub(crate) names: Vec<Name>,
 }
 
 impl Model for NameList {
@@ -181,24 +164,6 @@ impl Model for NameList {
 }
 
 impl NameList {
-    /// No names. It takes no memory yet.
-    pub fn new(alloc: Global) -> NameList
-        ensures empty { result ≡ [] }
-    {
-        NameList {
-            names: Vec::new(alloc),
-        }
-    }
-
-    /// Adds a name at the end. An error means out of memory, and leaves the list as it was.
-    pub fn push(&mut self, name: Name) -> Result<(), AllocError>
-        ensures added { OnOk result (self.new ≡ self.old ++ name ∷ []) }
-        ensures kept { OnErr result (self.new ≡ self.old) }
-    {
-        self.names.push(name)?;
-        Ok(())
-    }
-
     /// The names in order.
     pub fn as_slice(&self) -> &[Name]
         ensures same { result.now ≡ self.now }
@@ -217,7 +182,7 @@ pub struct Block {
 /// A client's blocks in the order in which they are written.
 #[derive(Drop)]
 pub struct Blocks {
-    blocks: Vec<Block>,
+    pub(crate) blocks: Vec<Block>,
 }
 
 impl Model for Blocks {
@@ -234,24 +199,6 @@ impl Model for Blocks {
 }
 
 impl Blocks {
-    /// No blocks. It takes no memory yet.
-    pub fn new(alloc: Global) -> Blocks
-        ensures empty { result ≡ [] }
-    {
-        Blocks {
-            blocks: Vec::new(alloc),
-        }
-    }
-
-    /// Adds a block at the end. An error means out of memory, and leaves the list as it was.
-    pub fn push(&mut self, block: Block) -> Result<(), AllocError>
-        ensures added { OnOk result (self.new ≡ self.old ++ block ∷ []) }
-        ensures kept { OnErr result (self.new ≡ self.old) }
-    {
-        self.blocks.push(block)?;
-        Ok(())
-    }
-
     /// The blocks in order.
     pub fn as_slice(&self) -> &[Block]
         ensures same { result.now ≡ self.now }
@@ -289,10 +236,11 @@ pub enum Item {
     Client(ClientItem),
 }
 
-/// A script. Contracts see it as the list of its items.
+/// A script, which `read` alone makes. Contracts see it as the list of its items. Its type keeps that each block names an object and
+/// that a statement stands inside at most eight others, so that no call on it goes deep.
 #[derive(Drop)]
 pub struct Script {
-    items: Vec<Item>,
+    pub(crate) items: Vec<Item>,
 }
 
 impl Model for Script {
@@ -306,25 +254,21 @@ impl Model for Script {
     ghost coded = { script_code };
 
     ghost view = { λ s. s.items.items };
+
+    ghost use Rattle.qs_script.specs.Form.{HasForm};
+
+    ghost invariant = { λ s. HasForm s.items.items };
 }
 
 impl Script {
-    /// No items. It takes no memory yet.
-    pub fn new(alloc: Global) -> Script
-        ensures empty { result ≡ [] }
-    {
-        Script {
-            items: Vec::new(alloc),
-        }
-    }
+    /// Lets the script go. A crate that calls this has no proof of its own of how each part of a script is dropped.
+    pub fn discard(self) {}
 
-    /// Adds an item at the end. An error means out of memory, and leaves the list as it was.
-    pub fn push(&mut self, item: Item) -> Result<(), AllocError>
-        ensures added { OnOk result (self.new ≡ self.old ++ item ∷ []) }
-        ensures kept { OnErr result (self.new ≡ self.old) }
+    /// What holds of every script; it does nothing.
+    pub fn is_formed(&self)
+        ensures form { HasForm self.now }
     {
-        self.items.push(item)?;
-        Ok(())
+        let _ = &self.items;
     }
 
     /// The items in order.

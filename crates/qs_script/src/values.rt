@@ -3,8 +3,9 @@
 ghost use Rattle.std.specs.Prelude.{◌≡◌, ◌<◌, ◌≤◌, [], ◌∷◌, length, IfOk, IfSome};
 ghost use Rattle.qs_script.specs.Reading.{Gives, Finds, after, run, atom_at, further_at, more_loop, args_at, call_at, call_of, operator_at, relation_at, expr_at, test_at};
 
-use crate::expect::{comma, name, number, open_paren, past_close_paren};
+use crate::expect::past_close_paren;
 use crate::fault::Fault;
+use crate::lists::add;
 use crate::name::Name;
 use crate::token::Token;
 use crate::tree::{Args, Atom, Call, Expr, Operator, Relation, Test};
@@ -17,10 +18,10 @@ fn atom(tokens: &[Token]) -> Result<(Atom, &[Token]), Fault>
     match tokens {
         [Token::Name(name), rest @ ..] => Ok((Atom::Variable(name.copied()), rest)),
         [Token::Number(number), rest @ ..] => Ok((Atom::Number(number.value()), rest)),
-        [Token::Minus, rest @ ..] => {
-            let (number, rest) = number(rest)?;
-            Ok((Atom::Number(-(number as i64)), rest))
+        [Token::Minus, Token::Number(number), rest @ ..] => {
+            Ok((Atom::Number(-number.value()), rest))
         }
+        [Token::Minus, rest @ ..] => Err(Fault::Form(rest.len())),
         _ => Err(Fault::Form(tokens.len())),
     }
 }
@@ -30,7 +31,10 @@ fn further(tokens: &[Token]) -> Result<(Atom, &[Token]), Fault>
     ensures exact { Gives (λ x. (x.0, x.1.now)) result (further_at tokens.now) }
     ensures shorter { IfOk result (λ x. length x.1.now < length tokens.now) }
 {
-    atom(comma(tokens)?)
+    match tokens {
+        [Token::Comma, rest @ ..] => atom(rest),
+        _ => Err(Fault::Form(tokens.len())),
+    }
 }
 
 // The arguments after the first, and the bracket that closes them.
@@ -38,15 +42,15 @@ fn more(alloc: Global, first: Atom, tokens: &[Token]) -> Result<(Args, &[Token])
     ensures exact { Gives (λ x. (x.0, x.1.now)) result (after more_loop (first ∷ []) (run more_loop tokens.now)) }
     ensures shorter { IfOk result (λ x. length x.1.now < length tokens.now) }
 {
-    let mut args = Args::new(alloc);
-    args.push(first)?;
+    let mut atoms = Vec::new(alloc);
+    add(&mut atoms, first)?;
     let mut rest = tokens;
     'each: loop {
         if let Some(after) = past_close_paren(rest) {
-            return Ok((args, after));
+            return Ok((Args { atoms }, after));
         }
         let (atom, after) = further(rest)?;
-        args.push(atom)?;
+        add(&mut atoms, atom)?;
         rest = after;
     }
 }
@@ -57,7 +61,8 @@ fn args(alloc: Global, tokens: &[Token]) -> Result<(Args, &[Token]), Fault>
     ensures shorter { IfOk result (λ x. length x.1.now < length tokens.now) }
 {
     if let Some(rest) = past_close_paren(tokens) {
-        return Ok((Args::new(alloc), rest));
+        let atoms = Vec::new(alloc);
+        return Ok((Args { atoms }, rest));
     }
     let (first, rest) = atom(tokens)?;
     more(alloc, first, rest)
@@ -68,9 +73,15 @@ pub(crate) fn call(alloc: Global, object: Name, tokens: &[Token]) -> Result<(Cal
     ensures exact { Gives (λ x. (x.0, x.1.now)) result (call_at object tokens.now) }
     ensures shorter { IfOk result (λ x. length x.1.now < length tokens.now) }
 {
-    let (op, rest) = name(tokens)?;
-    let (args, rest) = args(alloc, open_paren(rest)?)?;
-    Ok((Call { object, op, args }, rest))
+    match tokens {
+        [Token::Name(op), Token::OpenParen, rest @ ..] => {
+            let (args, rest) = args(alloc, rest)?;
+            let op = op.copied();
+            Ok((Call { object, op, args }, rest))
+        }
+        [Token::Name(_), rest @ ..] => Err(Fault::Form(rest.len())),
+        _ => Err(Fault::Form(tokens.len())),
+    }
 }
 
 fn operator(tokens: &[Token]) -> Option<(Operator, &[Token])>

@@ -1,8 +1,8 @@
-use Rattle.qs_check.specs.Checked.{shape_of}
-use Rattle.qs_check.proofs.Soundness.{sound_text}
+use Rattle.qs_check.specs.Checked.{IsCheckOf}
+use Rattle.qs_check.proofs.WellFormed.{accepts_well_formed}
 use Rattle.qs_check.proofs.checker.check.Goals as goal
 
-pub sized-requires : goal.sized-requires
-sized-requires c =
-    let text = c.in_ok-resolved.ensures.text in
-    record { sound = sound_text c.as_slice.result.now (shape_of c.in_ok-resolved.resolved) text.0 text.1 }
+pub returns : goal.returns
+returns c =
+    let checked : IsCheckOf c.args.script c.check_formed-checked.result = rw (← c.as_slice.ensures.same) c.check_formed-checked.ensures.check in
+    record { check = checked; well_formed = accepts_well_formed c.args.script c.check_formed-checked.result c.is_formed.ensures.form checked }

@@ -15,13 +15,13 @@ numbered-requires-clause-objects c =
 
 pub numbered-requires-clause-variables : goal.numbered-requires-clause-variables
 numbered-requires-clause-variables c =
-    c.in_ok-check_items.ensures.variables ∙ ap (λ (ls : List (List Name)). ls ++ lists_of c.args.items.now) c.new-variables.ensures.items
+    c.in_ok-check_items.ensures.variables ∙ ap (λ (ls : List (List Name)). ls ++ lists_of c.args.items.now) c.requires.none
 
 pub numbered-requires-clause-limit : goal.numbered-requires-clause-limit
 numbered-requires-clause-limit c =
     let w = walked c.args.items.now c.check_items.new.scope (rw c.requires.start at c.in_ok-check_items.ensures.meets) in
     let lists : c.check_items.new.variables.items ≡ lists_of c.args.items.now =
-    c.in_ok-check_items.ensures.variables ∙ ap (λ (ls : List (List Name)). ls ++ lists_of c.args.items.now) c.new-variables.ensures.items in
+    c.in_ok-check_items.ensures.variables ∙ ap (λ (ls : List (List Name)). ls ++ lists_of c.args.items.now) c.requires.none in
     let P : List (List Name) → Type 0 = λ ls. AllByRecursion (λ v. length v ≤ 16) ls in
     subst P (sym lists) w.few_variables
 

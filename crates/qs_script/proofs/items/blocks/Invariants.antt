@@ -5,7 +5,7 @@ use Rattle.qs_script.proofs.items.blocks.Given as goal
 
 abbrev pub invariant-each : goal.invariant-each
 invariant-each l = record {
-  whole : Continues blocks_loop [] l.tokens l.rest l.all;
+  whole : Continues blocks_loop [] l.tokens l.rest l.blocks.items;
   shorter : length l.rest ≤ length l.tokens;
 }
 

@@ -5,7 +5,7 @@ use Rattle.qs_script.proofs.items.names.Given as goal
 
 abbrev pub invariant-each : goal.invariant-each
 invariant-each l = record {
-  whole : Continues names_loop (l.fn.first ∷ []) l.tokens l.rest l.names;
+  whole : Continues names_loop (l.fn.first ∷ []) l.tokens l.rest l.names.items;
   shorter : length l.rest ≤ length l.tokens;
 }
 

@@ -1,12 +1,14 @@
-use Rattle.std.proofs.Common.{◌≡◌, ◌<◌, length, arith, []}
+use Rattle.std.proofs.Common.{◌≡◌, ◌<◌, length, arith, [], Some}
 use Rattle.std.proofs.lemmas.Result.{err_from_is_err_and}
-use Rattle.qs_script.specs.Reading.{end_at, item_at}
+use Rattle.qs_script.specs.Reading.{run, end_at, item_at, items_loop}
+use Rattle.qs_script.proofs.Form.{formed}
+use Rattle.qs_script.proofs.ReadTexts.{is_script}
 use Rattle.qs_script.proofs.Loops.{list_begins, list_goes_on, whole_list_closes, whole_list_fails, at_end, before_end}
 use Rattle.qs_script.proofs.items.script.Goals as goal
 
 pub each-init : goal.each-init
 each-init c = record {
-  whole = rw c.new-script.ensures.empty (list_begins end_at item_at [] c.args.tokens.now);
+  whole = rw c.new-items.ensures.items (list_begins end_at item_at [] c.args.tokens.now);
   shorter = omega arith;
 }
 
@@ -16,21 +18,30 @@ returns-in_err-item c =
     let some : 0 < length c.each.rest.now = grind arith in
     record {
       exact = rw (p.1, p.2)
-          (whole_list_fails end_at item_at c.in_err-item.field-0.0 c.args.tokens.now c.each.rest.now c.each.script c.each.invariant.whole (before_end c.each.rest.now some) c.in_err-item.ensures.exact);
+          (whole_list_fails end_at item_at c.in_err-item.field-0.0 c.args.tokens.now c.each.rest.now c.each.items.items c.each.invariant.whole (before_end c.each.rest.now some) c.in_err-item.ensures.exact);
     }
 
 pub each-preserved : goal.each-preserved
 each-preserved c =
     let some : 0 < length c.each.rest.now = grind arith in
     record {
-      whole = rw c.in_ok-push.ensures.added
-          (list_goes_on end_at item_at [] c.args.tokens.now c.each.rest.now c.each.script (_, c.in_ok-item.after.now) c.each.invariant.whole (before_end c.each.rest.now some) c.in_ok-item.ensures.exact c.in_ok-item.ensures.shorter);
+      whole = rw c.in_ok-add.ensures.added
+          (list_goes_on end_at item_at [] c.args.tokens.now c.each.rest.now c.each.items.items (_, c.in_ok-item.after.now) c.each.invariant.whole (before_end c.each.rest.now some) c.in_ok-item.ensures.exact c.in_ok-item.ensures.shorter);
       shorter = omega (arith, c.in_ok-item.ensures.shorter, c.each.invariant.shorter);
     }
+
+-- what was read is in the grammar, which has scripts of this form alone
+pub invariant_of-result : goal.invariant_of-result
+invariant_of-result c =
+    let none : length c.each.rest.now ≡ 0 = grind arith in
+    let ts = c.args.tokens.now in
+    let all : run items_loop ts ≡ Some (c.each.items.items, []) =
+    whole_list_closes end_at item_at ts c.each.rest.now [] c.each.items.items c.each.invariant.whole (at_end c.each.rest.now none) in
+    formed c.each.items.items ts [] (is_script ts c.each.items.items all)
 
 pub returns : goal.returns
 returns c =
     let none : length c.each.rest.now ≡ 0 = grind arith in
     record {
-      exact = whole_list_closes end_at item_at c.args.tokens.now c.each.rest.now [] c.each.script c.each.invariant.whole (at_end c.each.rest.now none);
+      exact = whole_list_closes end_at item_at c.args.tokens.now c.each.rest.now [] c.each.items.items c.each.invariant.whole (at_end c.each.rest.now none);
     }

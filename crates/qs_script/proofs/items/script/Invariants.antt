@@ -5,7 +5,7 @@ use Rattle.qs_script.proofs.items.script.Given as goal
 
 abbrev pub invariant-each : goal.invariant-each
 invariant-each l = record {
-  whole : Continues items_loop [] l.tokens l.rest l.script;
+  whole : Continues items_loop [] l.tokens l.rest l.items.items;
   shorter : length l.rest ≤ length l.tokens;
 }
 

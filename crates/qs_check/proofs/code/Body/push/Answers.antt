@@ -1,5 +1,5 @@
 use Rattle.qs_check.proofs.StatementLists.{statements_of-append}
 use Rattle.qs_check.proofs.code.Body.push.Goals as goal
 
-pub returns : goal.returns
-returns c = record { ok = rw (c.in_ok-push.ensures.items, ← c.self.view_is) (statements_of-append c.self.inside.stmts.items c.args.stmt) }
+pub returns-clause-ok : goal.returns-clause-ok
+returns-clause-ok c = rw (c.in_ok-push.ensures.items, ← c.self.view_is) (statements_of-append c.self.inside.stmts.items c.args.stmt)

@@ -1,0 +1,170 @@
+-- Why the program of a script with no fault is sound: names apart, variables of the client, leaves inside repeats, few levels.
+use Rattle.std.proofs.Common.{◌≡◌, ◌≤◌, max, Bool, true, false, ◌||◌, List, [], ◌∷◌, ◌++◌, length, map, None, refl, ap, sym, ◌∙◌, subst, arith, Ok, Err}
+use Rattle.std.proofs.lemmas.List.{length-map}
+use Rattle.std.specs.List.{AllByRecursion, IsDistinct}
+use Rattle.qs_objects.specs.declared.object.Kind.{Kind}
+use Rattle.qs_script.specs.Form as text_form
+use Rattle.qs_script.specs.Form.{HasForm}
+use Rattle.qs_script.specs.declared.tree.Atom as text
+use Rattle.qs_script.specs.declared.tree.Atom.TheVariants.{Variable, Number}
+use Rattle.qs_script.specs.declared.tree.Block as text_block
+use Rattle.qs_script.specs.declared.tree.ClientItem.{ClientItem}
+use Rattle.qs_script.specs.declared.tree.Expr as text_expr
+use Rattle.qs_script.specs.declared.tree.Expr.TheVariants.{Plain, Binary}
+use Rattle.qs_script.specs.declared.tree.Item.{Item}
+use Rattle.qs_script.specs.declared.tree.Item.TheVariants.{Object, Client}
+use Rattle.qs_script.specs.Tree as tree
+use Rattle.qs_check.specs.declared.program.Declared.{Declared}
+use Rattle.qs_check.specs.Checked.{first_fault, text_fault, fault_of, excess_of}
+use Rattle.qs_check.specs.Numbering.{Name, same_name, is_among, found_at}
+use Rattle.qs_check.specs.Places.{Scope, Met, met, start, script_places}
+use Rattle.qs_check.specs.Program.{ClientShape, ProgramShape, whole_load, whole_weight}
+use Rattle.qs_check.specs.Resolve.{atom_of, expr_of, body_of, block_of, clients_of, names_of, kinds_of, variables_of, resolved}
+use Rattle.qs_check.specs.Sound.{IsAtomBelow, IsExprBelow, AreVariablesBelow, AreLeavesInside, levels_of, IsFormedBlock, IsFormedClient, AreNamesApart, IsFormedProgram, IsSound}
+use Rattle.qs_check.specs.WellFormed.{atom_names, atoms_names, expr_names, test_names, variables_in, variables_in_all, AreStatements, AreItems, IsWellFormedBlock, clients_in, IsWellFormed}
+use Rattle.qs_check.proofs.Found.{found_within, or_true, same_name-refl}
+use Rattle.qs_check.proofs.Soundness.{sound}
+use Rattle.qs_check.proofs.TextNames.{distinct_variables, among_variables}
+use Rattle.qs_check.proofs.TextRequests.{all_first, all_later}
+use Rattle.qs_check.proofs.WellFormed.{well_formed_from, no_fault_left}
+
+module _ (N : List Name) (K : List Kind) (V : List Name) where
+  abbrev Among : List Name → Type 0
+  Among xs = AllByRecursion (λ x. is_among V x ≡ true) xs
+
+  first : (xs ys : List Name) → Among (xs ++ ys) → Among xs
+  first xs ys h = all_first (λ x. is_among V x ≡ true) xs ys h
+
+  later : (xs ys : List Name) → Among (xs ++ ys) → Among ys
+  later xs ys h = all_later (λ x. is_among V x ≡ true) xs ys h
+
+  atom_below : (a : text.Atom) → Among (atom_names a) → IsAtomBelow (length V) (atom_of V a)
+  atom_below (Variable x) h = found_within V x h.0
+  atom_below (Number n) h = tt
+
+  atoms_below : (xs : List text.Atom) → Among (atoms_names xs) → AllByRecursion (IsAtomBelow (length V)) (map (atom_of V) xs)
+  atoms_below [] h = tt
+  atoms_below (a ∷ xs) h = (atom_below a (first (atom_names a) (atoms_names xs) h), atoms_below xs (later (atom_names a) (atoms_names xs) h))
+
+  expr_below : (e : text_expr.Expr) → Among (expr_names e) → IsExprBelow (length V) (expr_of V e)
+  expr_below (Plain a) h = atom_below a h
+  expr_below (Binary a op b) h = (atom_below a (first (atom_names a) (atom_names b) h), atom_below b (later (atom_names a) (atom_names b) h))
+
+  body_below : (body : tree.Stmts) → Among (variables_in body) → AreVariablesBelow (length V) (body_of N K V body)
+  body_below tree.end h = tt
+  body_below (tree.command c rest) h =
+      (atoms_below c.args (first (atoms_names c.args) (variables_in rest) h), body_below rest (later (atoms_names c.args) (variables_in rest) h))
+  body_below (tree.query x c rest) h =
+      (found_within V x h.0, atoms_below c.args (first (atoms_names c.args) (variables_in rest) h.1), body_below rest (later (atoms_names c.args) (variables_in rest) h.1))
+  body_below (tree.assign x e rest) h =
+      (found_within V x h.0, expr_below e (first (expr_names e) (variables_in rest) h.1), body_below rest (later (expr_names e) (variables_in rest) h.1))
+  body_below (tree.choose t one rest) h =
+      let q = first (test_names t) (variables_in one ++ variables_in rest) h in
+      let k = later (test_names t) (variables_in one ++ variables_in rest) h in (
+        atom_below t.left (first (atom_names t.left) (atom_names t.right) q),
+        atom_below t.right (later (atom_names t.left) (atom_names t.right) q),
+        body_below one (first (variables_in one) (variables_in rest) k),
+        tt,
+        body_below rest (later (variables_in one) (variables_in rest) k),
+      )
+  body_below (tree.choose_else t one other rest) h =
+      let q = first (test_names t) (variables_in one ++ (variables_in other ++ variables_in rest)) h in
+      let k = later (test_names t) (variables_in one ++ (variables_in other ++ variables_in rest)) h in
+      let m = later (variables_in one) (variables_in other ++ variables_in rest) k in (
+        atom_below t.left (first (atom_names t.left) (atom_names t.right) q),
+        atom_below t.right (later (atom_names t.left) (atom_names t.right) q),
+        body_below one (first (variables_in one) (variables_in other ++ variables_in rest) k),
+        body_below other (first (variables_in other) (variables_in rest) m),
+        body_below rest (later (variables_in other) (variables_in rest) m),
+      )
+  body_below (tree.again n body rest) h =
+      (body_below body (first (variables_in body) (variables_in rest) h), body_below rest (later (variables_in body) (variables_in rest) h))
+  body_below (tree.leave rest) h = body_below rest h
+
+  leaves_inside : (D : List Declared) (R : List Name) (inside : Bool) (body : tree.Stmts) → AreStatements D R inside body → AreLeavesInside inside (body_of N K V body)
+  leaves_inside D R inside tree.end h = tt
+  leaves_inside D R inside (tree.command c rest) (r, h) = leaves_inside D R inside rest h
+  leaves_inside D R inside (tree.query x c rest) (r, h) = leaves_inside D R inside rest h
+  leaves_inside D R inside (tree.assign x e rest) h = leaves_inside D R inside rest h
+  leaves_inside D R inside (tree.choose t one rest) (k, h) = (leaves_inside D R inside one k, tt, leaves_inside D R inside rest h)
+  leaves_inside D R inside (tree.choose_else t one other rest) (k, m, h) =
+      (leaves_inside D R inside one k, leaves_inside D R inside other m, leaves_inside D R inside rest h)
+  leaves_inside D R inside (tree.again n body rest) (r, k, h) = (leaves_inside D R true body k, leaves_inside D R inside rest h)
+  leaves_inside D R inside (tree.leave rest) (i, h) = (i, leaves_inside D R inside rest h)
+
+  levels_same : (body : tree.Stmts) → levels_of (body_of N K V body) ≡ text_form.levels_of body
+  levels_same tree.end = refl
+  levels_same (tree.command c rest) = ap (max 1) (levels_same rest)
+  levels_same (tree.query x c rest) = ap (max 1) (levels_same rest)
+  levels_same (tree.assign x e rest) = ap (max 1) (levels_same rest)
+  levels_same (tree.choose t one rest) = omega (arith, levels_same one, levels_same rest)
+  levels_same (tree.choose_else t one other rest) = omega (arith, levels_same one, levels_same other, levels_same rest)
+  levels_same (tree.again n body rest) = omega (arith, levels_same body, levels_same rest)
+  levels_same (tree.leave rest) = ap (max 1) (levels_same rest)
+
+  blocks_formed : (D : List Declared) (bs : List text_block.Block) → AllByRecursion (IsWellFormedBlock D) bs → Among (variables_in_all bs) → AllByRecursion (IsFormedBlock (length V)) (map (block_of N K V) bs)
+  blocks_formed D [] h k = tt
+  blocks_formed D (b ∷ bs) h k = (
+    record {
+      some = omega (arith, h.0.some, length-map b.reserved (found_at N));
+      below = body_below b.body (first (variables_in b.body) (variables_in_all bs) k);
+      leaves = leaves_inside D b.reserved false b.body h.0.statements;
+      levels = omega (arith, h.0.levels, levels_same b.body);
+    },
+    blocks_formed D bs h.1 (later (variables_in b.body) (variables_in_all bs) k),
+  )
+
+-- names are among themselves
+among_more : (y : Name) (ys xs : List Name) → AllByRecursion (λ x. is_among ys x ≡ true) xs → AllByRecursion (λ x. is_among (y ∷ ys) x ≡ true) xs
+among_more y ys [] h = tt
+among_more y ys (x ∷ xs) h = (or_true (same_name x y) (is_among ys x) h.0, among_more y ys xs h.1)
+
+among_themselves : (xs : List Name) → AllByRecursion (λ x. is_among xs x ≡ true) xs
+among_themselves [] = tt
+among_themselves (x ∷ xs) = (ap (λ b. b || is_among xs x) (same_name-refl x), among_more x xs xs (among_themselves xs))
+
+among_same : (vs ys xs : List Name) → ((x : Name) → is_among vs x ≡ is_among ys x) → AllByRecursion (λ x. is_among ys x ≡ true) xs → AllByRecursion (λ x. is_among vs x ≡ true) xs
+among_same vs ys [] e h = tt
+among_same vs ys (x ∷ xs) e h = (e x ∙ h.0, among_same vs ys xs e h.1)
+
+clients_formed : (items : List Item) (D : List Declared) (N : List Name) (K : List Kind) → AreItems D items → AllByRecursion IsFormedClient (clients_of N K items)
+clients_formed [] D N K h = tt
+clients_formed (Object o ∷ rest) D N K (k, h) = clients_formed rest _ N K h
+clients_formed (Client c ∷ rest) D N K (one, h) =
+    let all = variables_in_all c.blocks in (
+      record {
+        variables = distinct_variables c;
+        each = blocks_formed N K (variables_of c) D c.blocks one.each (among_same (variables_of c) all all (among_variables c) (among_themselves all));
+      },
+      clients_formed rest D N K h,
+    )
+
+names_same : (items : List Item) (N : List Name) (K : List Kind) → map (λ (c : ClientShape). c.name) (clients_of N K items) ≡ map (λ (c : ClientItem). c.name) (clients_in items)
+names_same [] N K = refl
+names_same (Object o ∷ rest) N K = names_same rest N K
+names_same (Client c ∷ rest) N K = ap (λ ns. c.name ∷ ns) (names_same rest N K)
+
+-- no fault in the text, so the walk ends
+walk_ends : (m : Met) → first_fault m None ≡ None → (t : Scope) × (m ≡ Ok t)
+walk_ends (Ok t) h = (t, refl)
+walk_ends (Err e) h = cc
+
+resolved_form : (items : List Item) → IsWellFormed items → IsFormedProgram (resolved items)
+unfolding IsFormedProgram
+resolved_form items well =
+    let P : List Name → Type 0 = λ ns. IsDistinct same_name ns in
+    let apart : AreNamesApart (resolved items) =
+    record { objects = well.objects_apart; clients = subst P (sym (names_same items (names_of items) (kinds_of items))) well.clients_apart } in
+    (apart, clients_formed items [] (names_of items) (kinds_of items) well.each)
+
+sound_resolved : (items : List Item) → HasForm items → text_fault items ≡ None → whole_load (resolved items) ≤ 100000 → whole_weight (resolved items) ≤ 1000000 → IsSound (resolved items)
+sound_resolved items form h load weight =
+    let w = walk_ends (met start (script_places items)) h in
+    let faultless : fault_of items ≡ None = ap (λ m. first_fault m (excess_of (resolved items))) w.1 ∙ no_fault_left (resolved items) load weight in
+    sound items w.0 w.1 load weight (resolved_form items (well_formed_from items form faultless))
+
+pub sound_text : (items : List Item) (p : ProgramShape) → HasForm items → text_fault items ≡ None → p ≡ resolved items → whole_load p ≤ 100000 → whole_weight p ≤ 1000000 → IsSound p
+sound_text items p form h e load weight =
+    let lighter : whole_load (resolved items) ≤ 100000 = omega (arith, load, ap whole_load e) in
+    let shorter : whole_weight (resolved items) ≤ 1000000 = omega (arith, weight, ap whole_weight e) in
+    subst IsSound (sym e) (sound_resolved items form h lighter shorter)

@@ -1,0 +1,159 @@
+-- Blocks are walked without a fault exactly where they are right: their lists, their statements, their number and their variables.
+use Rattle.std.proofs.Common.{◌≡◌, ℕ, ◌+◌, ◌<◌, ◌≤◌, Bool, true, false, ◌||◌, nat_lt, List, [], ◌∷◌, ◌++◌, length, refl, ap, sym, ◌∙◌, arith, append_assoc, append-nil, Ok, Err, if◌then◌else◌}
+use Rattle.std.proofs.lemmas.Cmp.{nat_list_eq_equiv}
+use Rattle.std.proofs.lemmas.List.Folds.{list_any-append}
+use Rattle.std.specs.List.{AllByRecursion, IsDistinct}
+use Rattle.qs_script.specs.declared.tree.Block.{Block}
+use Rattle.qs_check.specs.declared.fault.CheckFault.TheVariants as f
+use Rattle.qs_check.specs.declared.program.Declared.{Declared}
+use Rattle.qs_check.specs.Numbering.{Name, same_name, is_among, named}
+use Rattle.qs_check.specs.Places.{Scope, listed, separate, met, places, listed_places, block_places, blocks_places, with_listed}
+use Rattle.qs_check.specs.Resolve.{variables_at}
+use Rattle.qs_check.specs.WellFormed.{AreStatements, variables_in_all}
+use Rattle.qs_check.proofs.FinePlaces.{then_step, else_step, below, again, leads, named_more, are_fine, fine_met}
+use Rattle.qs_check.proofs.Inner.{parted, inner_body, kept}
+use Rattle.qs_check.proofs.SoundStatements.{names, kinds}
+use Rattle.qs_check.proofs.Soundness.{with_list, listed_first, list_kept}
+use Rattle.qs_check.proofs.Steps.{with_names, split, variables_met}
+use Rattle.qs_check.proofs.TextNames.{all_named, or_false, or_false_first, or_false_later, variables_at-append, tell_list, tell_blocks}
+use Rattle.qs_check.proofs.TextRequests.{statements_from, statements_to}
+use Rattle.qs_check.proofs.Walks.{met-then}
+
+-- what is known with these objects declared
+abbrev pub scope : List Declared → List Name → ℕ → List Name → List Name → Scope
+scope D clients blocks variables reserved = record { objects = names D; kinds = kinds D; clients = clients; blocks = blocks; variables = variables; reserved = reserved }
+
+-- names that are none of those seen, and none the same as another
+abbrev pub Fresh : List Name → List Name → Type 0
+Fresh seen ns = AllByRecursion (λ n. is_among seen n ≡ false) ns × IsDistinct same_name ns
+
+among_last : (seen : List Name) (n m : Name) → is_among (seen ++ n ∷ []) m ≡ (is_among seen m || same_name m n)
+among_last seen n m = list_any-append (same_name m) seen (n ∷ []) ∙ ap (λ b. is_among seen m || b) (or_false (same_name m n))
+
+none_of_both : (a b : Bool) → a ≡ false → b ≡ false → (a || b) ≡ false
+none_of_both a b h k = ap (λ x. x || b) h ∙ k
+
+unseen_first : (seen : List Name) (n : Name) (ns : List Name) → AllByRecursion (λ m. is_among (seen ++ n ∷ []) m ≡ false) ns → AllByRecursion (λ m. is_among seen m ≡ false) ns
+unseen_first seen n [] h = tt
+unseen_first seen n (m ∷ ns) h = (or_false_first (is_among seen m) (same_name m n) (sym (among_last seen n m) ∙ h.0), unseen_first seen n ns h.1)
+
+unseen_last : (seen : List Name) (n : Name) (ns : List Name) → AllByRecursion (λ m. is_among (seen ++ n ∷ []) m ≡ false) ns → AllByRecursion (λ m. same_name n m ≡ false) ns
+unseen_last seen n [] h = tt
+unseen_last seen n (m ∷ ns) h =
+    (nat_list_eq_equiv.symm n m ∙ or_false_later (is_among seen m) (same_name m n) (sym (among_last seen n m) ∙ h.0), unseen_last seen n ns h.1)
+
+unseen_both : (seen : List Name) (n : Name) (ns : List Name) → AllByRecursion (λ m. is_among seen m ≡ false) ns → AllByRecursion (λ m. same_name n m ≡ false) ns → AllByRecursion (λ m. is_among (seen ++ n ∷ []) m ≡ false) ns
+unseen_both seen n [] h k = tt
+unseen_both seen n (m ∷ ns) h k =
+    (among_last seen n m ∙ none_of_both (is_among seen m) (same_name m n) h.0 (nat_list_eq_equiv.symm m n ∙ k.0), unseen_both seen n ns h.1 k.1)
+
+pub fresh_more : (seen : List Name) (n : Name) (ns : List Name) → is_among seen n ≡ false → Fresh (seen ++ n ∷ []) ns → Fresh seen (n ∷ ns)
+unfolding IsDistinct
+fresh_more seen n ns h k = ((h, unseen_first seen n ns k.0), (unseen_last seen n ns k.0, k.1))
+
+pub fresh_rest : (seen : List Name) (n : Name) (ns : List Name) → Fresh seen (n ∷ ns) → (is_among seen n ≡ false) × Fresh (seen ++ n ∷ []) ns
+unfolding IsDistinct
+fresh_rest seen n ns h = (h.0.0, (unseen_both seen n ns h.0.1 h.1.0, h.1.1))
+
+pub no_fresh : (seen : List Name) → Fresh seen []
+unfolding IsDistinct
+no_fresh seen = (tt, tt)
+
+-- a block's list
+list_from : (ns : List Name) (s t : Scope) → met s (listed_places ns) ≡ Ok t → AllByRecursion (λ o. is_among s.objects o ≡ true) ns
+list_from [] s t h = tt
+list_from (n ∷ ns) s t h = let w = listed_first s t n ns h in (w.0, list_from ns (with_listed s n) t w.2)
+
+list_fresh : (ns : List Name) (s t : Scope) → met s (listed_places ns) ≡ Ok t → Fresh s.reserved ns
+list_fresh [] s t h = no_fresh s.reserved
+list_fresh (n ∷ ns) s t h = let w = listed_first s t n ns h in fresh_more s.reserved n ns w.1 (list_fresh ns (with_listed s n) t w.2)
+
+list_to : (ns : List Name) (s : Scope) → AllByRecursion (λ o. is_among s.objects o ≡ true) ns → Fresh s.reserved ns → met s (listed_places ns) ≡ Ok (with_list s (s.reserved ++ ns))
+list_to [] s h k = ap (λ r. Ok (with_list s r)) (sym (append-nil s.reserved))
+list_to (n ∷ ns) s h k =
+    let w = fresh_rest s.reserved n ns k in
+    leads s (with_listed s n) (listed n) (listed_places ns) _
+    (then_step (is_among s.objects n) s (if is_among s.reserved n then Err f.ReservedTwice else Ok (with_listed s n)) f.UnknownObject h.0
+    ∙ else_step (is_among s.reserved n) (Ok (with_listed s n)) f.ReservedTwice w.0)
+    (list_to ns (with_listed s n) h.1 w.1 ∙ ap (λ r. Ok (with_list s r)) (append_assoc s.reserved (n ∷ []) ns))
+
+-- a block that is right: its list has declared objects and none twice, and its statements are right
+pub record IsRight (D : List Declared) (b : Block) : Type 0 where
+  pub declares : AllByRecursion (λ o. is_among (names D) o ≡ true) b.reserved
+  pub distinct : IsDistinct same_name b.reserved
+  pub statements : AreStatements D b.reserved false b.body
+
+-- the list of a block names no variables
+block_variables : (V : List Name) (b : Block) → variables_at V (block_places b) ≡ variables_at V (places false b.body)
+block_variables V b = variables_at-append V (listed_places b.reserved) (places false b.body) ∙ ap (λ ns. variables_at ns (places false b.body)) (tell_list b.reserved V)
+
+module _ (D : List Declared) (C : List Name) where
+  module _ (n : ℕ) (V R : List Name) (b : Block) where
+    -- after the beginning of the block, and after its list
+    abbrev begun : Scope
+    begun = scope D C (n + 1) V []
+
+    abbrev listing : Scope
+    listing = scope D C (n + 1) V b.reserved
+
+    module _ (t : Scope) (h : met (scope D C n V R) (block_places b) ≡ Ok t) where
+      body_met : (met begun (listed_places b.reserved) ≡ Ok listing) × (met listing (places false b.body) ≡ Ok t)
+      body_met =
+          let w = split (scope D C n V R) t separate (listed_places b.reserved ++ places false b.body) h in
+          let v = parted begun t (listed_places b.reserved) (places false b.body) (again begun t w.0 (listed_places b.reserved ++ places false b.body) w.1.1 w.2) in
+          let e : v.0 ≡ listing = list_kept b.reserved begun v.0 v.1 in
+          (v.1 ∙ ap (λ u. Ok u) e, again listing t v.0 (places false b.body) e v.2)
+
+      pub right_from : IsRight D b
+      right_from =
+          let w = body_met in record {
+            declares = list_from b.reserved begun listing w.0;
+            distinct = (list_fresh b.reserved begun listing w.0).1;
+            statements = statements_from D b.reserved false b.body (are_fine listing t (places false b.body) (inner_body false b.body) w.1);
+          }
+
+      pub scope_after : t ≡ scope D C (n + 1) (variables_at V (block_places b)) b.reserved
+      scope_after =
+          let w = body_met in
+          kept listing t (places false b.body) (inner_body false b.body) w.1
+          ∙ ap (with_names listing) (variables_met (scope D C n V R) t (block_places b) h)
+
+    module _ (distinct : IsDistinct same_name (names D)) (right : IsRight D b) (room : n < 64) (few : length (variables_at V (block_places b)) ≤ 16) where
+      list_met : met begun (listed_places b.reserved) ≡ Ok listing
+      list_met = list_to b.reserved begun right.declares (unseen b.reserved, right.distinct)
+        where
+          unseen : (ns : List Name) → AllByRecursion (λ m. is_among [] m ≡ false) ns
+          unseen [] = tt
+          unseen (m ∷ ns) = (refl, unseen ns)
+
+      pub right_to : met (scope D C n V R) (block_places b) ≡ Ok (scope D C (n + 1) (variables_at V (block_places b)) b.reserved)
+      right_to =
+          let names_are = block_variables V b in
+          let small : length (variables_at V (places false b.body)) ≤ 16 = omega (arith, few, ap length names_are) in
+          let body = fine_met listing (places false b.body) (inner_body false b.body) (statements_to D b.reserved distinct false b.body right.statements) small in
+          leads (scope D C n V R) begun separate (listed_places b.reserved ++ places false b.body) _
+          (then_step (nat_lt n 64) begun (Ok begun) f.Limit (below n 64 room))
+          (met-then begun listing (listed_places b.reserved) (places false b.body) list_met ∙ body ∙ ap (λ v. Ok (with_names listing v)) (sym names_are))
+
+  pub blocks_from : (bs : List Block) (n : ℕ) (V R : List Name) (t : Scope) → met (scope D C n V R) (blocks_places bs) ≡ Ok t → AllByRecursion (IsRight D) bs
+  blocks_from [] n V R t h = tt
+  blocks_from (b ∷ bs) n V R t h =
+      let w = parted (scope D C n V R) t (block_places b) (blocks_places bs) h in
+      let V1 = variables_at V (block_places b) in
+      (right_from n V R b w.0 w.1, blocks_from bs (n + 1) V1 b.reserved t (again (scope D C (n + 1) V1 b.reserved) t w.0 (blocks_places bs) (scope_after n V R b w.0 w.1) w.2))
+
+  all_more : (old xs : List Name) → length old ≤ length (all_named old xs)
+  all_more old [] = omega arith
+  all_more old (x ∷ xs) = omega (arith, named_more old x, all_more (named old x) xs)
+
+  pub blocks_to : IsDistinct same_name (names D) → (bs : List Block) (n : ℕ) (V R : List Name) → n + length bs ≤ 64 → length (variables_at V (blocks_places bs)) ≤ 16 → AllByRecursion (IsRight D) bs → (t : Scope) × (met (scope D C n V R) (blocks_places bs) ≡ Ok t) × (m : ℕ) × (Q : List Name) × (t ≡ scope D C m (variables_at V (blocks_places bs)) Q)
+  blocks_to distinct [] n V R room few right = (scope D C n V R, refl, n, R, refl)
+  blocks_to distinct (b ∷ bs) n V R room few right =
+      let V1 = variables_at V (block_places b) in
+      let parts : variables_at V (blocks_places (b ∷ bs)) ≡ variables_at V1 (blocks_places bs) = variables_at-append V (block_places b) (blocks_places bs) in
+      let more = all_more V1 (variables_in_all bs) in
+      let few_now : length V1 ≤ 16 = omega (arith, few, ap length parts, ap length (tell_blocks bs V1), more) in
+      let few_later : length (variables_at V1 (blocks_places bs)) ≤ 16 = omega (arith, few, ap length parts) in
+      let one = right_to n V R b distinct right.0 (omega arith) few_now in
+      let w = blocks_to distinct bs (n + 1) V1 b.reserved (omega arith) few_later right.1 in
+      (w.0, met-then (scope D C n V R) (scope D C (n + 1) V1 b.reserved) (block_places b) (blocks_places bs) one ∙ w.1, w.2, w.3, w.4 ∙ ap (λ vs. scope D C w.2 vs w.3) (sym parts))

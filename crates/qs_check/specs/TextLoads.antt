@@ -1,0 +1,39 @@
+-- The loads and weights of a script's text, by the names that are written there.
+use Rattle.std.specs.Prelude.{ℕ, ◌+◌, ◌*◌, max, if◌then◌else◌, List, sum_by}
+use Rattle.qs_script.specs.declared.tree.Block.{Block}
+use Rattle.qs_script.specs.declared.tree.ClientItem.{ClientItem}
+use Rattle.qs_script.specs.Tree.{Stmts, end, command, query, assign, choose, choose_else, again, leave}
+use Rattle.qs_check.specs.Numbering.{Name, same_name}
+
+-- the most requests on an object
+abbrev pub requests_on : Name → Stmts → ℕ
+requests_on o end = 0
+requests_on o (command c rest) = (if same_name c.object o then 1 else 0) + requests_on o rest
+requests_on o (query x c rest) = (if same_name c.object o then 1 else 0) + requests_on o rest
+requests_on o (assign x e rest) = requests_on o rest
+requests_on o (choose t first rest) = requests_on o first + requests_on o rest
+requests_on o (choose_else t first other rest) = max (requests_on o first) (requests_on o other) + requests_on o rest
+requests_on o (again n body rest) = n * requests_on o body + requests_on o rest
+requests_on o (leave rest) = requests_on o rest
+
+-- the most steps; a repeat's empty body counts 1
+abbrev pub steps_in : Stmts → ℕ
+steps_in end = 0
+steps_in (command c rest) = 1 + steps_in rest
+steps_in (query x c rest) = 1 + steps_in rest
+steps_in (assign x e rest) = 1 + steps_in rest
+steps_in (choose t first rest) = 1 + steps_in first + steps_in rest
+steps_in (choose_else t first other rest) = 1 + max (steps_in first) (steps_in other) + steps_in rest
+steps_in (again n body rest) = 1 + n * max 1 (steps_in body) + steps_in rest
+steps_in (leave rest) = 1 + steps_in rest
+
+-- a block's load is counted for the objects of its list
+abbrev pub text_block_load : Block → ℕ
+text_block_load b = sum_by (λ o. requests_on o b.body) b.reserved
+
+-- over all blocks of all clients
+abbrev pub text_load : List ClientItem → ℕ
+text_load clients = sum_by (λ c. sum_by text_block_load c.blocks) clients
+
+abbrev pub text_weight : List ClientItem → ℕ
+text_weight clients = sum_by (λ c. sum_by (λ b. steps_in b.body) c.blocks) clients

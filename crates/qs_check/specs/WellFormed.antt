@@ -1,0 +1,138 @@
+-- Which scripts are well formed: conditions on the tree, in whichever order they are tested.
+use Rattle.std.specs.Prelude.{◌≡◌, ◌≢◌, ◌≤◌, ◌<◌, ◌↔◌, ℕ, Bool, true, false, List, [], ◌∷◌, ◌++◌, length, map, Some, None, Result, Ok, Err}
+use Rattle.std.specs.List.{AllByRecursion, Contains, IsDistinct}
+use Rattle.std.specs.Set.{distinct_count}
+use Rattle.qs_objects.specs.declared.Op.{Op}
+use Rattle.qs_objects.specs.declared.object.Kind.{Kind}
+use Rattle.qs_objects.specs.Operations.{arity}
+use Rattle.qs_script.specs.declared.tree.Atom.{Atom}
+use Rattle.qs_script.specs.declared.tree.Atom.TheVariants.{Variable, Number}
+use Rattle.qs_script.specs.declared.tree.Expr.{Expr}
+use Rattle.qs_script.specs.declared.tree.Expr.TheVariants.{Plain, Binary}
+use Rattle.qs_script.specs.declared.tree.Test.{Test}
+use Rattle.qs_script.specs.declared.tree.Call.{Call}
+use Rattle.qs_script.specs.declared.tree.Block.{Block}
+use Rattle.qs_script.specs.declared.tree.KindText.{KindText}
+use Rattle.qs_script.specs.declared.tree.KindText.TheVariants.{Account, Buffer, Grid}
+use Rattle.qs_script.specs.declared.tree.ClientItem.{ClientItem}
+use Rattle.qs_script.specs.declared.tree.Item.{Item}
+use Rattle.qs_script.specs.declared.tree.Item.TheVariants.{Object, Client}
+use Rattle.qs_script.specs.Tree.{Stmts, end, command, query, assign, choose, choose_else, again, leave}
+use Rattle.qs_script.specs.Form.{levels_of, HasForm}
+use Rattle.qs_check.specs.Limits.{greatest_balance, most_blocks, most_clients, most_levels, most_lines, most_objects, most_requests, most_steps, most_turns, most_values, most_variables}
+use Rattle.qs_check.specs.declared.fault.CheckFault.{CheckFault}
+use Rattle.qs_check.specs.declared.fault.CheckFault.TheVariants as f
+use Rattle.qs_check.specs.declared.program.Declared.{Declared}
+use Rattle.qs_check.specs.Numbering.{Name, same_name}
+use Rattle.qs_check.specs.Operators.{op_of}
+use Rattle.qs_check.specs.Places.{kind_of}
+use Rattle.qs_check.specs.Program.{ProgramShape}
+use Rattle.qs_check.specs.Resolve.{objects_of, names_of}
+use Rattle.qs_check.specs.TextLoads.{text_load, text_weight}
+use Rattle.qs_check.specs.Checked.{fault_of}
+
+abbrev pub IsBetween : (low high : ℕ) → ℕ → Type 0
+IsBetween low high n = (low ≤ n) × (n ≤ high)
+
+abbrev pub IsKindInRange : KindText → Type 0
+IsKindInRange (Account n) = IsBetween 0 greatest_balance n
+IsKindInRange (Buffer n) = IsBetween 1 most_values n
+IsKindInRange (Grid r c) = IsBetween 1 most_lines r × IsBetween 1 most_lines c
+
+-- a request on an object of the block's list, which is declared with a kind that has the operation, with its number of arguments
+pub record IsRequest (declared : List Declared) (reserved : List Name) (asks : Bool) (c : Call) : Type 0 where
+  pub reserves : Contains reserved c.object
+  pub kind : Kind
+  pub declares : Contains declared (record { name = c.object; kind = kind })
+  pub op : Op
+  pub has : op_of asks kind c.op ≡ Some op
+  pub arity : length c.args ≡ arity op
+
+-- statements of a block with this list, inside a repeat or not
+module _ (declared : List Declared) (reserved : List Name) where
+  abbrev pub AreStatements : (inside : Bool) → Stmts → Type 0
+  AreStatements inside end = Unit {0}
+  AreStatements inside (command c rest) = IsRequest declared reserved false c × AreStatements inside rest
+  AreStatements inside (query x c rest) = IsRequest declared reserved true c × AreStatements inside rest
+  AreStatements inside (assign x e rest) = AreStatements inside rest
+  AreStatements inside (choose t first rest) = AreStatements inside first × AreStatements inside rest
+  AreStatements inside (choose_else t first other rest) = AreStatements inside first × AreStatements inside other × AreStatements inside rest
+  AreStatements inside (again n body rest) = (n ≤ most_turns) × AreStatements true body × AreStatements inside rest
+  AreStatements inside (leave rest) = (inside ≡ true) × AreStatements inside rest
+
+-- the names of variables, assigned or read
+abbrev pub atom_names : Atom → List Name
+atom_names (Variable x) = x ∷ []
+atom_names (Number n) = []
+
+abbrev pub atoms_names : List Atom → List Name
+atoms_names [] = []
+atoms_names (a ∷ as') = atom_names a ++ atoms_names as'
+
+abbrev pub expr_names : Expr → List Name
+expr_names (Plain a) = atom_names a
+expr_names (Binary a op b) = atom_names a ++ atom_names b
+
+abbrev pub test_names : Test → List Name
+test_names t = atom_names t.left ++ atom_names t.right
+
+abbrev pub variables_in : Stmts → List Name
+variables_in end = []
+variables_in (command c rest) = atoms_names c.args ++ variables_in rest
+variables_in (query x c rest) = x ∷ (atoms_names c.args ++ variables_in rest)
+variables_in (assign x e rest) = x ∷ (expr_names e ++ variables_in rest)
+variables_in (choose t first rest) = test_names t ++ (variables_in first ++ variables_in rest)
+variables_in (choose_else t first other rest) = test_names t ++ (variables_in first ++ (variables_in other ++ variables_in rest))
+variables_in (again n body rest) = variables_in body ++ variables_in rest
+variables_in (leave rest) = variables_in rest
+
+abbrev pub variables_in_all : List Block → List Name
+variables_in_all [] = []
+variables_in_all (b ∷ bs) = variables_in b.body ++ variables_in_all bs
+
+abbrev pub IsDeclared : List Declared → Name → Type 0
+IsDeclared declared o = Contains (map (λ d. d.name) declared) o
+
+-- its list has declared objects, at least one and none twice; a statement stands inside at most eight others
+pub record IsWellFormedBlock (declared : List Declared) (b : Block) : Type 0 where
+  pub some : 0 < length b.reserved
+  pub declares : AllByRecursion (IsDeclared declared) b.reserved
+  pub distinct : IsDistinct same_name b.reserved
+  pub statements : AreStatements declared b.reserved false b.body
+  pub levels : levels_of b.body ≤ most_levels
+
+-- at most 64 blocks and 16 variables
+pub record IsWellFormedClient (declared : List Declared) (c : ClientItem) : Type 0 where
+  pub blocks : length c.blocks ≤ most_blocks
+  pub variables : distinct_count same_name (variables_in_all c.blocks) ≤ most_variables
+  pub each : AllByRecursion (IsWellFormedBlock declared) c.blocks
+
+-- items after the objects that are declared
+abbrev pub AreItems : (declared : List Declared) → List Item → Type 0
+AreItems declared [] = Unit {0}
+AreItems declared (Object o ∷ rest) = IsKindInRange o.kind × AreItems (declared ++ record { name = o.name; kind = kind_of o.kind } ∷ []) rest
+AreItems declared (Client c ∷ rest) = IsWellFormedClient declared c × AreItems declared rest
+
+abbrev pub clients_in : List Item → List ClientItem
+clients_in [] = []
+clients_in (Object o ∷ rest) = clients_in rest
+clients_in (Client c ∷ rest) = c ∷ clients_in rest
+
+-- at most 8 objects and 8 clients, each by a name of its own; load and weight have their limits
+pub record IsWellFormed (items : List Item) : Type 0 where
+  pub objects : length (objects_of items) ≤ most_objects
+  pub objects_apart : IsDistinct same_name (names_of items)
+  pub clients : length (clients_in items) ≤ most_clients
+  pub clients_apart : IsDistinct same_name (map (λ c. c.name) (clients_in items))
+  pub each : AreItems [] items
+  pub load : text_load (clients_in items) ≤ most_requests
+  pub weight : text_weight (clients_in items) ≤ most_steps
+
+-- well formed are the scripts that have the grammar's form and no fault
+abbrev pub FaultlessAreWellFormed : Type 0
+FaultlessAreWellFormed = (items : List Item) → (HasForm items × (fault_of items ≡ None)) ↔ IsWellFormed items
+
+-- a script is accepted where it is well formed, and there alone, unless memory runs out
+abbrev pub AcceptsWellFormed : List Item → Result ProgramShape CheckFault → Type 0
+AcceptsWellFormed items (Ok p) = IsWellFormed items
+AcceptsWellFormed items (Err fault) = fault ≢ f.Memory → IsWellFormed items → ⊥
