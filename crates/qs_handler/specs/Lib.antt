@@ -2,3 +2,4 @@ pub mod Handler
 pub mod Stages
 pub mod HandlerLaws
 pub mod HandlerExamples
+pub mod HandlerLanes

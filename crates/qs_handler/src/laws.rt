@@ -1,12 +1,20 @@
 //! What holds of every handler; and worked examples.
 
 ghost use Rattle.qs_handler.specs.HandlerExamples.{HandlerExamples};
+ghost use Rattle.qs_handler.specs.HandlerLanes.{HandlerLaneLaws};
 ghost use Rattle.qs_handler.specs.HandlerLaws.{HandlerLaws};
 
 /// An act and what stays behind are the handler that it was; a handler takes what it asks for, exactly where a lane may carry it;
 /// and it is without its object after a Sync alone. It does nothing.
 pub fn handlers_follow_their_lanes()
     ensures laws { HandlerLaws }
+{}
+
+/// Whatever acts a handler is told to do, one after another: it gives its object to a client only right after a Sync of that client which
+/// is not served yet, the chunks that it gives back are empty and of the lane's size, and what may follow in a lane may stand at the
+/// handler. It does nothing.
+pub fn handlers_keep_to_lanes()
+    ensures lanes { HandlerLaneLaws }
 {}
 
 /// A handler's turns, computed by the definitions; it does nothing.
