@@ -27,6 +27,11 @@ pub MayFollow-last : (size : ℕ) (asked : Bool) (ps : List Parcel) (p : Parcel)
 MayFollow-last size asked [] p all = all.0
 MayFollow-last size asked (q ∷ ps) p all = MayFollow-last size (is_sync q) ps p all.1
 
+-- whether the last parcel is a Sync, where it stands last
+pub asked_last : (asked : Bool) (ps : List Parcel) (p : Parcel) → is_asked asked (ps ++ p ∷ []) ≡ is_sync p
+asked_last asked [] p = refl
+asked_last asked (q ∷ ps) p = asked_last (is_sync q) ps p
+
 -- an object that a client may still owe
 some_object : HeldState
 some_object = record { object = fresh (account (pos 0)); journal = []; room = 0 }

@@ -1,28 +1,24 @@
 -- A handler at its lanes, step by step: by cases on its state.
-use Rattle.std.proofs.Common.{◌≡◌, ◌+◌, Bool, if◌then◌else◌, false, List, [], ◌∷◌, ◌++◌, length, Some, refl, sym, ap, ◌∙◌, subst, arith, length-append}
+use Rattle.std.proofs.Common.{◌≡◌, ◌+◌, if◌then◌else◌, false, List, [], ◌∷◌, ◌++◌, length, Some, refl, sym, ap, ◌∙◌, subst, arith, length-append}
 use Rattle.std.proofs.lemmas.List.Sums.{sum_by-append}
 use Rattle.qs_objects.specs.Journals.{HeldState}
 use Rattle.qs_objects.specs.declared.held.Next.TheVariants as nexts
 use Rattle.qs_chunk.specs.Batch.{batch}
-use Rattle.qs_chunk.specs.Lanes.{is_asked, is_sync}
+use Rattle.qs_chunk.specs.Lanes.{is_sync}
 use Rattle.qs_chunk.specs.LaneRun.{syncs}
 use Rattle.qs_chunk.specs.Runs.{ran_all}
+use Rattle.qs_chunk.proofs.LaneFronts.{asked_last}
 use Rattle.qs_chunk.specs.declared.parcel.Parcel.{Parcel}
 use Rattle.qs_chunk.specs.declared.parcel.Parcel.TheVariants.{Work, Sync, Home, End}
 use Rattle.qs_handler.specs.Handler.{Handler, free, serves, spares, gives, away, closed}
 use Rattle.qs_handler.specs.HandlerLanes.{IsQuiet, StandsAt, BeginsAtLanes, TicketsKeepLanes, AsksForWhatFollows, ParcelsKeepLanes, ParcelsKeepOtherLanes, GivesAreAskedFor, GivesKeepOtherLanes, SparesAreEmpty, SparesKeepLanes, EndsAtLanes, HandlerLaneLaws}
-
--- one more parcel
-last_of : (asked : Bool) (ps : List Parcel) (p : Parcel) → is_asked asked (ps ++ p ∷ []) ≡ is_sync p
-last_of asked [] p = refl
-last_of asked (q ∷ ps) p = last_of (is_sync q) ps p
 
 syncs_with : (ps : List Parcel) (p : Parcel) → syncs (ps ++ p ∷ []) ≡ syncs ps + (if is_sync p then 1 else 0)
 syncs_with ps p = let parted = sum_by-append (λ q. if is_sync q then 1 else 0) ps (p ∷ []) in omega arith
 
 quiet_on : (ps : List Parcel) (p : Parcel) (given : List HeldState) → is_sync p ≡ false → length given ≡ syncs ps → IsQuiet (ps ++ p ∷ []) given
 quiet_on ps p given none served = record {
-  last = last_of false ps p ∙ none;
+  last = asked_last false ps p ∙ none;
   served = served ∙ sym (syncs_with ps p ∙ ap (λ b. syncs ps + (if b then 1 else 0)) none ∙ omega arith);
 }
 
@@ -55,7 +51,7 @@ parcels_keep_lanes size client (serves t x) new (Work chunk) ps given asked is s
     goes_on (λ h. StandsAt size client h (ps ++ Work chunk ∷ []) given) (spares t (ran_all x t chunk.items) chunk.capacity) new is (quiet_on ps (Work chunk) given refl quiet.served, λ _. sized)
 parcels_keep_lanes size client (serves t x) new Sync ps given asked is sized quiet =
     goes_on (λ h. StandsAt size client h (ps ++ Sync ∷ []) given) (gives t x) new is (
-      (λ _. record { last = last_of false ps Sync; unserved = let n = syncs_with ps Sync in let all = quiet.served in omega arith }),
+      (λ _. record { last = asked_last false ps Sync; unserved = let n = syncs_with ps Sync in let all = quiet.served in omega arith }),
       λ apart. absurd (apart (cc asked)),
     )
 parcels_keep_lanes size client (serves t x) new End ps given asked is sized quiet =

@@ -17,7 +17,7 @@ fn account(alloc: Global) -> Option<Held> {
 }
 
 // Whether the first parcel is a Sync.
-#[tactic(auto, using(crate::proofs::Ended::asked_last))]
+#[tactic(auto, using(qs_chunk::proofs::LaneFronts::asked_last))]
 fn take_sync<R: Wait>(rt: &R, inside: &mut LaneIn) -> bool
     requires { (inside.old.received ≡ []) × (inside.old.given ≡ []) }
     ensures lane { (inside.new.name ≡ inside.old.name) × (inside.new.size ≡ inside.old.size) }
@@ -31,7 +31,7 @@ fn take_sync<R: Wait>(rt: &R, inside: &mut LaneIn) -> bool
 }
 
 // The client asks for the object, and the handler gives it.
-#[tactic(auto, using(crate::proofs::Ended::asked_last))]
+#[tactic(auto, using(qs_chunk::proofs::LaneFronts::asked_last))]
 fn lend<R: Wait>(rt: &R, out: &mut LaneOut, inside: &mut LaneIn, held: Held) -> Option<Held>
     requires { (out.old.sent ≡ []) × (inside.old.received ≡ []) × (inside.old.given ≡ []) }
     ensures out_lane { (out.new.name ≡ out.old.name) × (out.new.size ≡ out.old.size) }
@@ -60,7 +60,7 @@ fn take_home<R: Wait>(rt: &R, inside: &mut LaneIn) -> Option<i64>
 }
 
 // The object goes to the client and home; its value there.
-#[tactic(auto, using(crate::proofs::Ended::asked_last))]
+#[tactic(auto, using(qs_chunk::proofs::LaneFronts::asked_last))]
 fn lend_once<R: Wait>(rt: &R, out: &mut LaneOut, inside: &mut LaneIn, held: Held) -> Option<i64>
     requires { (out.old.sent ≡ []) × (inside.old.received ≡ []) × (inside.old.given ≡ []) }
     ensures out_lane { (out.new.name ≡ out.old.name) × (out.new.size ≡ out.old.size) }
