@@ -7,7 +7,7 @@ ghost use Rattle.qs_chunk.specs.LaneRun.{IsLaneRun, syncs};
 ghost use Rattle.qs_chunk.specs.Lanes.{IsLane, MayFollow, is_asked};
 ghost use Rattle.qs_chunk.specs.declared.parcel.Parcel.{Parcel};
 
-use crate::forms::{AnyObjects, EmptyChunks, InLane, Keyless, KnownSize, SizeKey};
+use crate::protocols::{AnyObjects, EmptyChunks, InLane, Keyless, KnownSize, SizeKey};
 use qs_chunk::{Chunk, ChunkSize, Parcel};
 use qs_objects::{Held, Request};
 use qs_queue::{Sender, Taker, make_ends};

@@ -2,7 +2,7 @@
 #![tactic(auto)]
 
 mod ends;
-mod forms;
+mod protocols;
 #[cfg(test)]
 mod tests;
 
