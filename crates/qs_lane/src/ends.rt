@@ -218,7 +218,7 @@ impl LaneIn {
         self.up.send(rt, held);
     }
 
-    /// Gives an empty chunk of the lane's size back. It is dropped, and nothing changes, only where four lay in the lane.
+    /// Gives an empty chunk of the lane's size back: it is put into the lane, or dropped, where four lie there, and nothing changes.
     pub fn spare<R: Wait>(&mut self, rt: &R, chunk: Chunk<Request>)
         requires empty { chunk ≡ batch [] self.old.size }
         ensures spared { (self.new ≡ record self.old { spared = self.old.spared + 1 }) ⊎ (self.new ≡ self.old) }
