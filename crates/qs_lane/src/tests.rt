@@ -4,7 +4,8 @@ ghost use Rattle.std.specs.Prelude.{◌≡◌, ◌+◌, IsTrue, IfSome, true, fa
 ghost use Rattle.qs_chunk.specs.LaneRun.{syncs};
 ghost use Rattle.qs_chunk.specs.Lanes.{is_asked};
 
-use crate::{LaneIn, LaneOut, agree, lane};
+use crate::laws::agree;
+use crate::{LaneIn, LaneOut, lane};
 use qs_chunk::{ChunkSize, Parcel};
 use qs_objects::{Args, Held, Kind, Object, Op, Request};
 use std::alloc::Global;
