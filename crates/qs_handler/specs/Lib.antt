@@ -3,3 +3,4 @@ pub mod Stages
 pub mod HandlerLaws
 pub mod HandlerExamples
 pub mod HandlerLanes
+pub mod HandlerLaneExamples

@@ -1,6 +1,7 @@
 //! What holds of every handler; and worked examples.
 
 ghost use Rattle.qs_handler.specs.HandlerExamples.{HandlerExamples};
+ghost use Rattle.qs_handler.specs.HandlerLaneExamples.{HandlerLaneExamples};
 ghost use Rattle.qs_handler.specs.HandlerLanes.{HandlerLaneLaws};
 ghost use Rattle.qs_handler.specs.HandlerLaws.{HandlerLaws};
 
@@ -20,4 +21,9 @@ pub fn handlers_keep_to_lanes()
 /// A handler's turns, computed by the definitions; it does nothing.
 pub fn handler_examples()
     ensures examples { HandlerExamples }
+{}
+
+/// A handler at its clients' lanes, by the definitions; it does nothing.
+pub fn handler_lane_examples()
+    ensures examples { HandlerLaneExamples }
 {}
