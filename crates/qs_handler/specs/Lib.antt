@@ -4,3 +4,4 @@ pub mod HandlerLaws
 pub mod HandlerExamples
 pub mod HandlerLanes
 pub mod HandlerLaneExamples
+pub mod HandlerRuns

@@ -4,6 +4,7 @@ ghost use Rattle.qs_handler.specs.HandlerExamples.{HandlerExamples};
 ghost use Rattle.qs_handler.specs.HandlerLaneExamples.{HandlerLaneExamples};
 ghost use Rattle.qs_handler.specs.HandlerLanes.{HandlerLaneLaws};
 ghost use Rattle.qs_handler.specs.HandlerLaws.{HandlerLaws};
+ghost use Rattle.qs_handler.specs.HandlerRuns.{HandlerRunLaws};
 
 /// An act and what stays behind are the handler that it was; a handler takes what it asks for, exactly where a lane may carry it;
 /// and it is without its object after a Sync alone. It does nothing.
@@ -16,6 +17,12 @@ pub fn handlers_follow_their_lanes()
 /// handler. It does nothing.
 pub fn handlers_keep_to_lanes()
     ensures lanes { HandlerLaneLaws }
+{}
+
+/// Of all that a handler does from its first ticket on: it gives a client its object only where the last parcel that it received from the
+/// client is a Sync, which alone is not served yet, and it gives back empty chunks of the lane's size. It does nothing.
+pub fn handler_runs_keep_to_lanes()
+    ensures runs { HandlerRunLaws }
 {}
 
 /// A handler's turns, computed by the definitions; it does nothing.
