@@ -27,6 +27,11 @@ pub MayFollow-last : (size : ℕ) (asked : Bool) (ps : List Parcel) (p : Parcel)
 MayFollow-last size asked [] p all = all.0
 MayFollow-last size asked (q ∷ ps) p all = MayFollow-last size (is_sync q) ps p all.1
 
+-- whether the last parcel is a Sync, where it stands last
+pub asked_last : (asked : Bool) (ps : List Parcel) (p : Parcel) → is_asked asked (ps ++ p ∷ []) ≡ is_sync p
+asked_last asked [] p = refl
+asked_last asked (q ∷ ps) p = asked_last (is_sync q) ps p
+
 -- an object that a client may still owe
 some_object : HeldState
 some_object = record { object = fresh (account (pos 0)); journal = []; room = 0 }
@@ -98,11 +103,11 @@ blocks_go size (s ∷ ss) =
     subst (Goes size) parted
     (chunks_go size s.chunks (rounds ++ End ∷ others) (rounds_go size s.rounds (End ∷ others) (λ sizes. ((refl, tt), blocks_go size ss sizes.1))))
 
-front_of_lane : (size : ℕ) (ps : List Parcel) → IsLane size ps → IsFront size ps
+pub front_of_lane : (size : ℕ) (ps : List Parcel) → IsLane size ps → IsFront size ps
 front_of_lane size ps stands =
     let r = completed size false ps stands in (r.0, (r.1.0 ∷ r.1.1, r.1.2, r.2))
 
-lane_of_front : (size : ℕ) (ps : List Parcel) → IsFront size ps → IsLane size ps
+pub lane_of_front : (size : ℕ) (ps : List Parcel) → IsFront size ps → IsLane size ps
 lane_of_front size ps (rest, (blocks, is, sizes)) =
     let go = blocks_go size blocks in
     StandsFrom-front size false ps rest (subst (Goes size) (sym is) go sizes)

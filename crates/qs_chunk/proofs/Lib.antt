@@ -1,2 +1,3 @@
 pub mod LaneFronts
 pub mod LaneMatch
+pub mod LaneRuns

@@ -6,3 +6,6 @@ pub mod LaneExamples
 pub mod LaneViews
 pub mod LaneViewExamples
 pub mod LaneParts
+pub mod LaneRun
+pub mod LaneRunLaws
+pub mod LaneRunExamples

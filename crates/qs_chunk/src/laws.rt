@@ -2,6 +2,8 @@
 
 ghost use Rattle.qs_chunk.specs.LaneExamples.{LaneExamples};
 ghost use Rattle.qs_chunk.specs.LaneLaws.{LaneLaws};
+ghost use Rattle.qs_chunk.specs.LaneRunExamples.{LaneRunExamples};
+ghost use Rattle.qs_chunk.specs.LaneRunLaws.{LaneRunLaws};
 ghost use Rattle.qs_chunk.specs.LaneViewExamples.{LaneViewExamples};
 ghost use Rattle.qs_chunk.specs.LaneViews.{LanesMatch};
 
@@ -11,9 +13,21 @@ pub fn lanes_keep_their_form()
     ensures form { LaneLaws }
 {}
 
+/// What one lane's two ends say together: what lies first in a lane may follow what was received; chunks have the lane's size; and where
+/// a client sends home only what it got, each Sync that was received is served, but that the last parcel may still wait. It does
+/// nothing.
+pub fn lane_runs_go_on()
+    ensures runs { LaneRunLaws }
+{}
+
 /// Lanes, and what may stand in them, computed by the definitions; it does nothing.
 pub fn lane_examples()
     ensures examples { LaneExamples }
+{}
+
+/// Runs of a lane, and what is none, computed by the definitions; it does nothing.
+pub fn lane_run_examples()
+    ensures examples { LaneRunExamples }
 {}
 
 /// What a client believes to have run on an object in one block is what ran there, wherever the object is, and then the commands

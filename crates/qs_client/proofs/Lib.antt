@@ -1,3 +1,4 @@
 pub mod Booking
 pub mod Fresh
 pub mod Keeping
+pub mod LaneSends

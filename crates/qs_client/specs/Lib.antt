@@ -1,3 +1,4 @@
 pub mod Kept
 pub mod Mind
 pub mod MindState
+pub mod ClientLanes

@@ -7,7 +7,7 @@ ghost use Rattle.qs_desk.specs.Lines.{whose, new_line, new_end, IsEndOf};
 use crate::name::DeskName;
 use qs_check::Program;
 use qs_objects::Next;
-use qs_queue::{Form, Key, Sender, Taker, make_ends};
+use qs_queue::{Key, Protocol, Sender, Taker, make_ends};
 use std::alloc::{AllocError, Global};
 use std::marker::{Brand, Model, PhantomData};
 use std::sync::Wait;
@@ -21,7 +21,7 @@ pub struct Whose {
 /// Tickets whose blocks reserve the handler, and at last the closing mark.
 pub struct Reserving;
 
-impl Form<Next, Whose> for Reserving {
+impl Protocol<Next, Whose> for Reserving {
     ghost use Rattle.qs_desk.specs.Tickets.{AreFor, for_front};
     ghost use Rattle.qs_desk.specs.Lines.{nobody};
 

@@ -6,7 +6,7 @@ use crate::laws::{booked, follows};
 use crate::{Desk, DeskName, DeskParts, Front, RawDesk, Share, Tickets};
 use qs_check::Program;
 use qs_objects::{Next, Ticket};
-use std::alloc::Global;
+use std::alloc::{AllocError, Global};
 use std::marker::Brand;
 use std::sync::Wait;
 use std::test::Fail;
@@ -17,16 +17,13 @@ const TRANSFER: &str = "object a account 100 object b account 100
     client ann { separate a b { a.withdraw(30); b.deposit(30); x = a.balance(); y = b.balance(); } }
     client bob { separate a { a.deposit(1); } separate b { b.deposit(1); y = b.balance(); } }";
 
-fn program(alloc: Global, text: &str) -> Result<Program, Fail> {
-    let script = qs_script::read(alloc, text.as_bytes())
-        .ok()
-        .ok_or("no script")?;
-    Ok(qs_check::check(alloc, script)?)
+fn program(alloc: Global, text: &str) -> Option<Program> {
+    let script = qs_script::read(alloc, text.as_bytes()).ok()?;
+    qs_check::check(alloc, script).ok()
 }
 
 // Two clients with 64 blocks each, all on the same two objects.
-fn crowd(alloc: Global) -> Result<Program, Fail> {
-    let mut text = String::new(alloc);
+fn write_crowd(text: &mut String) -> Result<(), AllocError> {
     text.push_str("object a account 0 object b account 0")?;
     for name in [" client ann {", " client bob {"] {
         text.push_str(name)?;
@@ -35,7 +32,15 @@ fn crowd(alloc: Global) -> Result<Program, Fail> {
         }
         text.push_str(" }")?;
     }
-    program(alloc, &text)
+    Ok(())
+}
+
+fn crowd(alloc: Global) -> Option<Program> {
+    let mut text = String::new(alloc);
+    let written = write_crowd(&mut text);
+    let program = program(alloc, &text);
+    drop(text);
+    program.filter(|_| written.is_ok())
 }
 
 // A desk with the shares of two clients and the tickets of two handlers.
@@ -47,20 +52,52 @@ struct Opened<D: DeskName> {
     b: Tickets<D>,
 }
 
+fn first_two<T: Drop>(items: [Option<T>; 8]) -> Option<(T, T)> {
+    let mut items = items;
+    let first = items[0].take();
+    let second = items[1].take();
+    drop(items);
+    match first {
+        Some(first) => match second {
+            Some(second) => Some((first, second)),
+            None => {
+                drop(first);
+                None
+            }
+        },
+        None => {
+            drop(second);
+            None
+        }
+    }
+}
+
 fn open_two<D: DeskName>(raw: RawDesk) -> Option<Opened<D>>
     requires { (D.program ≡ raw.program) × (D.queues ≡ raw.queues) × (D.ledgers ≡ raw.ledgers) }
 {
     let DeskParts {
         desk,
-        mut shares,
-        mut tickets,
+        shares,
+        tickets,
     } = raw.open::<D>();
+    let front = Front::new(desk);
+    let Some((ann, bob)) = first_two(shares) else {
+        drop(front);
+        drop(tickets);
+        return None;
+    };
+    let Some((a, b)) = first_two(tickets) else {
+        drop(front);
+        drop(ann);
+        drop(bob);
+        return None;
+    };
     Some(Opened {
-        front: Front::new(desk),
-        ann: shares[0].take()?,
-        bob: shares[1].take()?,
-        a: tickets[0].take()?,
-        b: tickets[1].take()?,
+        front,
+        ann,
+        bob,
+        a,
+        b,
     })
 }
 
@@ -97,22 +134,37 @@ fn reserve_both<D: DeskName + Send + Sync, R: Threads + Wait + Sync>(
 fn count_of<D: DeskName>(desk: &mut Desk<D>, share: Share<D>) -> Option<u8> {
     let mut share = share;
     booked(desk, &mut share);
-    (!share.left()).then_some(share.count())
+    let count = share.count();
+    let left = share.left();
+    drop(share);
+    (!left).then_some(count)
 }
 
-// All that a handler finds, up to the closing mark, where that comes and memory is left.
+// All that a handler finds; whether the closing mark comes, and memory is left.
+fn gather<D: DeskName, R: Wait>(rt: &R, tickets: &mut Tickets<D>, found: &mut Vec<Ticket>) -> bool {
+    for _ in 0..513u16 {
+        match tickets.take(rt) {
+            Next::Ticket(ticket) => {
+                if found.push(ticket).is_err() {
+                    return false;
+                }
+            }
+            Next::Closed => return true,
+        }
+    }
+    false
+}
+
 fn found<D: DeskName, R: Wait>(
     rt: &R,
     alloc: Global,
     tickets: &mut Tickets<D>,
 ) -> Option<Vec<Ticket>> {
     let mut found = Vec::new(alloc);
-    for _ in 0..513u16 {
-        match tickets.take(rt) {
-            Next::Ticket(ticket) => found.push(ticket).ok()?,
-            Next::Closed => return Some(found),
-        }
+    if gather(rt, tickets, &mut found) {
+        return Some(found);
     }
+    drop(found);
     None
 }
 
@@ -186,16 +238,32 @@ const fn ticket(client: u8, index: u8) -> Ticket {
     Ticket { client, index }
 }
 
+fn day_at<R: Threads + Wait + Sync>(
+    rt: &R,
+    alloc: Global,
+    program: &Program,
+    at_once: bool,
+) -> Option<Day> {
+    let raw = RawDesk::new(alloc, program).ok()?;
+    spend::<Brand, R>(rt, alloc, raw, at_once)
+}
+
+fn is_transfer(day: &Day) -> bool {
+    let [ann, bob, late] = [ticket(0, 0), ticket(1, 0), ticket(1, 1)];
+    day.counts == [Some(1), Some(2)]
+        && day.order.as_slice() == [ann, bob, late].as_slice()
+        && is_found(&day.at_a, &[ann, bob])
+        && is_found(&day.at_b, &[ann, late])
+}
+
 #[test]
 fn bookings_come_in_their_order(rt: HostRuntime) -> Result<(), Fail> {
-    let program = program(rt.alloc(), TRANSFER)?;
-    let raw = RawDesk::new(rt.alloc(), &program)?;
-    let day = spend::<Brand, HostRuntime>(&rt, rt.alloc(), raw, false).ok_or("no day")?;
-    let [ann, bob, late] = [ticket(0, 0), ticket(1, 0), ticket(1, 1)];
-    assert_eq!(rt; day.counts, [Some(1), Some(2)]);
-    assert_eq!(rt; day.order.as_slice(), [ann, bob, late].as_slice());
-    assert!(rt; is_found(&day.at_a, &[ann, bob]));
-    assert!(rt; is_found(&day.at_b, &[ann, late]));
+    let program = program(rt.alloc(), TRANSFER).ok_or("no program")?;
+    let day = day_at(&rt, rt.alloc(), &program, false);
+    drop(program);
+    let is_due = day.as_ref().is_some_and(is_transfer);
+    drop(day);
+    assert!(rt; is_due);
     Ok(())
 }
 
@@ -213,14 +281,22 @@ fn all_in_order(order: &[Ticket], client: u8) -> bool {
     next == 64
 }
 
+fn is_crowded(day: &Day) -> bool {
+    day.counts == [Some(64), Some(64)]
+        && day.order.len() == 128
+        && all_in_order(&day.order, 0)
+        && all_in_order(&day.order, 1)
+        && is_found(&day.at_a, &day.order)
+        && is_found(&day.at_b, &day.order)
+}
+
 #[test]
 fn two_threads_reserve_in_one_order(rt: HostRuntime) -> Result<(), Fail> {
-    let program = crowd(rt.alloc())?;
-    let raw = RawDesk::new(rt.alloc(), &program)?;
-    let day = spend::<Brand, HostRuntime>(&rt, rt.alloc(), raw, true).ok_or("no day")?;
-    assert_eq!(rt; day.counts, [Some(64), Some(64)]);
-    assert_eq!(rt; day.order.len(), 128);
-    assert!(rt; all_in_order(&day.order, 0) && all_in_order(&day.order, 1));
-    assert!(rt; is_found(&day.at_a, &day.order) && is_found(&day.at_b, &day.order));
+    let program = crowd(rt.alloc()).ok_or("no program")?;
+    let day = day_at(&rt, rt.alloc(), &program, true);
+    drop(program);
+    let is_due = day.as_ref().is_some_and(is_crowded);
+    drop(day);
+    assert!(rt; is_due);
     Ok(())
 }

@@ -1,7 +1,10 @@
 //! What holds of every handler; and worked examples.
 
 ghost use Rattle.qs_handler.specs.HandlerExamples.{HandlerExamples};
+ghost use Rattle.qs_handler.specs.HandlerLaneExamples.{HandlerLaneExamples};
+ghost use Rattle.qs_handler.specs.HandlerLanes.{HandlerLaneLaws};
 ghost use Rattle.qs_handler.specs.HandlerLaws.{HandlerLaws};
+ghost use Rattle.qs_handler.specs.HandlerRuns.{HandlerRunLaws};
 
 /// An act and what stays behind are the handler that it was; a handler takes what it asks for, exactly where a lane may carry it;
 /// and it is without its object after a Sync alone. It does nothing.
@@ -9,7 +12,25 @@ pub fn handlers_follow_their_lanes()
     ensures laws { HandlerLaws }
 {}
 
+/// Whatever acts a handler is told to do, one after another: it gives its object to a client only right after a Sync of that client which
+/// is not served yet, the chunks that it gives back are empty and of the lane's size, and what may follow in a lane may stand at the
+/// handler. It does nothing.
+pub fn handlers_keep_to_lanes()
+    ensures lanes { HandlerLaneLaws }
+{}
+
+/// Of all that a handler does from its first ticket on: it gives a client its object only where the last parcel that it received from the
+/// client is a Sync, which alone is not served yet, and it gives back empty chunks of the lane's size. It does nothing.
+pub fn handler_runs_keep_to_lanes()
+    ensures runs { HandlerRunLaws }
+{}
+
 /// A handler's turns, computed by the definitions; it does nothing.
 pub fn handler_examples()
     ensures examples { HandlerExamples }
+{}
+
+/// A handler at its clients' lanes, by the definitions; it does nothing.
+pub fn handler_lane_examples()
+    ensures examples { HandlerLaneExamples }
 {}

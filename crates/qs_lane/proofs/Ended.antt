@@ -1,13 +1,10 @@
 -- A lane after one parcel more.
-use Rattle.std.proofs.Common.{◌≡◌, Bool, false, List, [], ◌∷◌, ◌++◌, Ok, Err, refl, ap, ◌∙◌}
+use Rattle.std.proofs.Common.{◌≡◌, false, [], ◌∷◌, ◌++◌, Ok, Err, ap, ◌∙◌}
 use Rattle.std.specs.Prelude.{Result, IfOk, IfErr}
 use Rattle.qs_chunk.specs.Lanes.{is_asked, is_sync}
+use Rattle.qs_chunk.proofs.LaneFronts.{asked_last}
 use Rattle.qs_chunk.specs.declared.parcel.Parcel.{Parcel}
 use Rattle.qs_lane.specs.Views.{OutView}
-
-pub asked_last : (asked : Bool) (ps : List Parcel) (p : Parcel) → is_asked asked (ps ++ p ∷ []) ≡ is_sync p
-asked_last asked [] p = refl
-asked_last asked (q ∷ ps) p = asked_last (is_sync q) ps p
 
 -- no Sync was sent last, whether this parcel went or came back
 pub still_quiet : (r : Result (Unit {0}) Parcel) (p : Parcel) (old new : OutView) → is_sync p ≡ false → is_asked false old.sent ≡ false

@@ -1,13 +1,13 @@
 //! The two ends of a lane.
 
-ghost use Rattle.std.specs.Prelude.{◌≡◌, ◌+◌, ◌≤◌, List, [], ◌∷◌, ◌++◌, length, true, false, IfOk, IfErr, IfSome, IfNone};
+ghost use Rattle.std.specs.Prelude.{◌≡◌, ◌+◌, ◌≤◌, ◌⊎◌, List, [], ◌∷◌, ◌++◌, length, replicate, true, false, IfOk, IfErr, IfSome, IfNone};
 ghost use Rattle.qs_objects.specs.Journals.{HeldState};
 ghost use Rattle.qs_chunk.specs.Batch.{batch};
+ghost use Rattle.qs_chunk.specs.LaneRun.{IsLaneRun, syncs};
 ghost use Rattle.qs_chunk.specs.Lanes.{IsLane, MayFollow, is_asked};
 ghost use Rattle.qs_chunk.specs.declared.parcel.Parcel.{Parcel};
-ghost use Rattle.qs_lane.specs.Views.{syncs};
 
-use crate::forms::{AnyObjects, EmptyChunks, InLane, Keyless, KnownSize, SizeKey};
+use crate::protocols::{AnyObjects, EmptyChunks, InLane, Keyless, KnownSize, SizeKey};
 use qs_chunk::{Chunk, ChunkSize, Parcel};
 use qs_objects::{Held, Request};
 use qs_queue::{Sender, Taker, make_ends};
@@ -15,26 +15,32 @@ use std::alloc::{AllocError, Global};
 use std::marker::{Brand, Model};
 use std::sync::Wait;
 
+// The queue of empty chunks.
+type SpareSender = Sender<Chunk<Request>, ChunkSize, EmptyChunks>;
+
+type SpareTaker = Taker<Chunk<Request>, ChunkSize, EmptyChunks>;
+
 /// The client's end of a lane.
 #[derive(Drop)]
 pub struct LaneOut {
     down: Sender<Parcel, ChunkSize, InLane>,
     up: Taker<Held, (), AnyObjects>,
-    spare: Taker<Chunk<Request>, ChunkSize, EmptyChunks>,
+    spare: SpareTaker,
 }
 
 impl Model for LaneOut {
-    ghost use Rattle.std.specs.Prelude.{◌≡◌};
+    ghost use Rattle.std.specs.Prelude.{◌≡◌, length};
     ghost use Rattle.qs_chunk.specs.Lanes.{IsLane};
     ghost use Rattle.qs_lane.specs.Views.{OutView};
 
     ghost Value = { OutView };
 
     ghost view = { λ s. record {
-      name = record { down = s.down.name; up = s.up.name };
+      name = record { down = s.down.name; up = s.up.name; spare = s.spare.name };
       size = s.down.key;
       sent = s.down.sent;
       got = s.up.received;
+      taken = length s.spare.received;
     } };
 
     ghost invariant = { λ s. (s.down.room ≡ 16) × (s.spare.key ≡ s.down.key) × IsLane s.down.key s.down.sent };
@@ -45,25 +51,65 @@ impl Model for LaneOut {
 pub struct LaneIn {
     down: Taker<Parcel, ChunkSize, InLane>,
     up: Sender<Held, (), AnyObjects>,
-    spare: Sender<Chunk<Request>, ChunkSize, EmptyChunks>,
+    spare: SpareSender,
 }
 
 impl Model for LaneIn {
     ghost use Rattle.std.specs.Prelude.{◌≡◌, ◌≤◌, length};
     ghost use Rattle.qs_lane.specs.Spares.{AllEmpty};
-    ghost use Rattle.qs_lane.specs.Views.{InView, syncs};
+    ghost use Rattle.qs_chunk.specs.LaneRun.{syncs};
+    ghost use Rattle.qs_lane.specs.Views.{InView};
 
     ghost Value = { InView };
 
     ghost view = { λ s. record {
-      name = record { down = s.down.name; up = s.up.name };
+      name = record { down = s.down.name; up = s.up.name; spare = s.spare.name };
       size = s.down.key;
       received = s.down.received;
       given = s.up.sent;
+      spared = length s.spare.sent;
     } };
 
     ghost invariant = { λ s.
-        (s.spare.key ≡ s.down.key) × AllEmpty s.spare.key s.spare.sent × (length s.up.sent ≤ syncs s.down.received) };
+        (s.spare.key ≡ s.down.key) × AllEmpty s.spare.key s.spare.sent × (length s.up.sent ≤ syncs s.down.received)
+        × (s.up.room ≡ 1) × (s.spare.room ≡ 4) };
+}
+
+// Puts four empty chunks into their queue.
+fn fill<R: Wait>(
+    rt: &R,
+    alloc: Global,
+    size: ChunkSize,
+    spare: &mut SpareSender,
+) -> Result<(), AllocError>
+    requires fresh { (spare.old.room ≡ 4) × (spare.old.key ≡ size) × (spare.old.sent ≡ []) }
+    ensures filled { IfOk result (λ _. spare.new ≡ record spare.old { sent = replicate 4 (batch [] size) }) }
+{
+    for _chunk in 0..4u8 {
+        spare.push(rt, Chunk::with_capacity(alloc, size)?);
+    }
+    Ok(())
+}
+
+// The queue of empty chunks, which is full.
+fn make_spares<N: KnownSize, R: Wait>(
+    rt: &R,
+    alloc: Global,
+    size: ChunkSize,
+) -> Result<(SpareSender, SpareTaker), AllocError>
+    requires { N.size ≡ size }
+    ensures sender { IfOk result (λ ends. ends.0 ≡ record { name = ends.1.name; room = 4; key = size; sent = replicate 4 (batch [] size) }) }
+    ensures taker { IfOk result (λ ends. ends.1 ≡ record { name = ends.1.name; key = size; received = [] }) }
+{
+    let (mut sender, taker) = make_ends::<Chunk<Request>, ChunkSize, EmptyChunks, SizeKey<N>>(
+        alloc, 4,
+    )?;
+    if fill(rt, alloc, size, &mut sender).is_err() {
+        drop(sender);
+        drop(taker);
+        return Err(AllocError);
+    }
+    Ok((sender, taker))
 }
 
 fn lane_of<N: KnownSize, R: Wait>(
@@ -72,24 +118,28 @@ fn lane_of<N: KnownSize, R: Wait>(
     size: ChunkSize,
 ) -> Result<(LaneOut, LaneIn), AllocError>
     requires { N.size ≡ size }
-    ensures out { IfOk result (λ ends. ends.0 ≡ record { name = ends.1.name; size = size; sent = []; got = [] }) }
-    ensures inside { IfOk result (λ ends. ends.1 ≡ record { name = ends.1.name; size = size; received = []; given = [] }) }
+    ensures out { IfOk result (λ ends. ends.0 ≡ record { name = ends.1.name; size = size; sent = []; got = []; taken = 0 }) }
+    ensures inside { IfOk result (λ ends. ends.1 ≡ record { name = ends.1.name; size = size; received = []; given = []; spared = 4 }) }
 {
-    let (down, down_end) = make_ends::<Parcel, ChunkSize, InLane, SizeKey<N>>(alloc, 16)?;
-    let (up_end, up) = make_ends::<Held, (), AnyObjects, Keyless>(alloc, 1)?;
-    let (spare_end, spare) = make_ends::<Chunk<Request>, ChunkSize, EmptyChunks, SizeKey<N>>(
-        alloc, 4,
-    )?;
-    let out = LaneOut { down, up, spare };
-    let mut inside = LaneIn {
+    let (spare_end, spare) = make_spares::<N, R>(rt, alloc, size)?;
+    let Ok((up_end, up)) = make_ends::<Held, (), AnyObjects, Keyless>(alloc, 1) else {
+        drop(spare_end);
+        drop(spare);
+        return Err(AllocError);
+    };
+    let Ok((down, down_end)) = make_ends::<Parcel, ChunkSize, InLane, SizeKey<N>>(alloc, 16) else {
+        drop(spare_end);
+        drop(spare);
+        drop(up_end);
+        drop(up);
+        return Err(AllocError);
+    };
+    let inside = LaneIn {
         down: down_end,
         up: up_end,
         spare: spare_end,
     };
-    for _ in 0..4u8 {
-        inside.spare(rt, Chunk::with_capacity(alloc, size)?);
-    }
-    Ok((out, inside))
+    Ok((LaneOut { down, up, spare }, inside))
 }
 
 /// The two ends of a lane whose chunks have this size: room for sixteen parcels down and one object up, and four empty chunks. All its
@@ -99,8 +149,8 @@ pub fn lane<R: Wait>(
     alloc: Global,
     size: ChunkSize,
 ) -> Result<(LaneOut, LaneIn), AllocError>
-    ensures out { IfOk result (λ ends. ends.0 ≡ record { name = ends.1.name; size = size; sent = []; got = [] }) }
-    ensures inside { IfOk result (λ ends. ends.1 ≡ record { name = ends.1.name; size = size; received = []; given = [] }) }
+    ensures out { IfOk result (λ ends. ends.0 ≡ record { name = ends.1.name; size = size; sent = []; got = []; taken = 0 }) }
+    ensures inside { IfOk result (λ ends. ends.1 ≡ record { name = ends.1.name; size = size; received = []; given = []; spared = 4 }) }
 {
     lane_of::<Brand, R>(rt, alloc, size)
 }
@@ -134,7 +184,7 @@ impl LaneOut {
 
     /// Takes an empty chunk of the lane's size. Waits until there is one.
     pub fn empty<R: Wait>(&mut self, rt: &R) -> Chunk<Request>
-        ensures same { self.new ≡ self.old }
+        ensures taken { self.new ≡ record self.old { taken = self.old.taken + 1 } }
         ensures empty { result ≡ batch [] self.old.size }
     {
         self.spare.take(rt)
@@ -168,30 +218,38 @@ impl LaneIn {
         self.up.send(rt, held);
     }
 
-    /// Gives an empty chunk of the lane's size back; it is dropped where four lie in the lane.
+    /// Gives an empty chunk of the lane's size back: it is put into the lane, or dropped, where four lie there, and nothing changes.
     pub fn spare<R: Wait>(&mut self, rt: &R, chunk: Chunk<Request>)
         requires empty { chunk ≡ batch [] self.old.size }
-        ensures same { self.new ≡ self.old }
+        ensures spared { (self.new ≡ record self.old { spared = self.old.spared + 1 }) ⊎ (self.new ≡ self.old) }
     {
         let _ = self.spare.try_send(rt, chunk);
     }
 }
 
 /// What the two ends of one lane know together: what was received is a front of what was sent, each parcel of which may follow those
-/// before it; what was got is a front of what was given, no more than the client asked for.
+/// before it; what was got is a front of what was given, one for each Sync that was served; and the client took no more empty chunks
+/// than were put there.
 pub fn agree(out: LaneOut, inside: LaneIn)
     requires lane { out.name ≡ inside.name }
+    ensures run { IsLaneRun out.size out.sent inside.received inside.given out.got }
+    ensures stock { out.taken ≤ inside.spared }
     ensures down { (rest : List Parcel) × (out.sent ≡ inside.received ++ rest) }
     ensures form { IsLane out.size out.sent }
     ensures up { (rest : List HeldState) × (inside.given ≡ out.got ++ rest) }
     ensures served { length inside.given ≤ syncs inside.received }
 {
-    let LaneOut { mut down, up, .. } = out;
+    let LaneOut {
+        mut down,
+        up,
+        spare,
+    } = out;
     let LaneIn {
         down: down_end,
         up: mut up_end,
-        ..
+        spare: mut spare_end,
     } = inside;
     down.agree(down_end);
     up_end.agree(up);
+    spare_end.agree(spare);
 }

@@ -2,8 +2,9 @@
 #![tactic(auto)]
 
 mod ends;
-mod forms;
+pub mod laws;
+mod protocols;
 #[cfg(test)]
 mod tests;
 
-pub use ends::{LaneIn, LaneOut, agree, lane};
+pub use ends::{LaneIn, LaneOut, lane};

@@ -1,106 +1,240 @@
-//! A lane that is full and empty, and one block's parcels through a lane.
+//! One lane from end to end: an object, parcels until the lane is full, and chunks.
 
-ghost use Rattle.std.specs.Prelude.{◌≡◌, true, false, []};
+ghost use Rattle.std.specs.Prelude.{◌≡◌, ◌+◌, IsTrue, IfSome, true, false, [], length};
+ghost use Rattle.qs_chunk.specs.LaneRun.{syncs};
 ghost use Rattle.qs_chunk.specs.Lanes.{is_asked};
 
-use crate::{LaneIn, LaneOut, agree, lane};
+use crate::laws::agree;
+use crate::{LaneIn, LaneOut, lane};
 use qs_chunk::{ChunkSize, Parcel};
 use qs_objects::{Args, Held, Kind, Object, Op, Request};
+use std::alloc::Global;
 use std::sync::Wait;
 use std::test::Fail;
 
-fn send_end<R: Wait>(rt: &R, out: &mut LaneOut) -> Result<(), Parcel>
-    requires { is_asked false out.old.sent ≡ false }
-    ensures { is_asked false out.new.sent ≡ false }
-{
-    out.try_send(rt, Parcel::End)
+fn account(alloc: Global) -> Option<Held> {
+    let object = Object::new(alloc, Kind::Account { balance: 7 }).ok()?;
+    Held::new(alloc, object, 1).ok()
 }
 
-#[test]
-fn sixteen_parcels_fill_a_lane(rt: HostRuntime) -> Result<(), Fail> {
-    let size = ChunkSize::new(8).ok_or("no size")?;
-    let (mut out, mut inside) = lane(&rt, rt.alloc(), size)?;
-    for _ in 0..16u8 {
-        assert!(rt; send_end(&rt, &mut out).is_ok());
-    }
-    assert!(rt; matches!(send_end(&rt, &mut out), Err(Parcel::End)));
-    for _ in 0..16u8 {
-        assert!(rt; matches!(inside.try_take(&rt), Some(Parcel::End)));
-    }
-    assert!(rt; inside.try_take(&rt).is_none());
-    Ok(())
+// Whether the first parcel is a Sync.
+#[tactic(auto, using(qs_chunk::proofs::LaneFronts::asked_last))]
+fn take_sync<R: Wait>(rt: &R, inside: &mut LaneIn) -> bool
+    requires { (inside.old.received ≡ []) × (inside.old.given ≡ []) }
+    ensures lane { (inside.new.name ≡ inside.old.name) × (inside.new.size ≡ inside.old.size) }
+    ensures asked { IsTrue result → is_asked false inside.new.received ≡ true }
+    ensures unserved { IsTrue result → length inside.new.given + 1 ≡ syncs inside.new.received }
+{
+    let parcel = inside.take(rt);
+    let is_sync = matches!(&parcel, Parcel::Sync);
+    drop(parcel);
+    is_sync
 }
 
 // The client asks for the object, and the handler gives it.
+#[tactic(auto, using(qs_chunk::proofs::LaneFronts::asked_last))]
 fn lend<R: Wait>(rt: &R, out: &mut LaneOut, inside: &mut LaneIn, held: Held) -> Option<Held>
     requires { (out.old.sent ≡ []) × (inside.old.received ≡ []) × (inside.old.given ≡ []) }
-    ensures names { (out.new.name ≡ out.old.name) × (inside.new.name ≡ inside.old.name) }
-    ensures sent { is_asked false out.new.sent ≡ true }
+    ensures out_lane { (out.new.name ≡ out.old.name) × (out.new.size ≡ out.old.size) }
+    ensures in_lane { (inside.new.name ≡ inside.old.name) × (inside.new.size ≡ inside.old.size) }
+    ensures asked { is_asked false out.new.sent ≡ true }
 {
     out.send(rt, Parcel::Sync);
-    let Parcel::Sync = inside.take(rt) else {
+    if !take_sync(rt, inside) {
+        drop(held);
         return None;
-    };
+    }
     inside.give(rt, held);
     Some(out.get(rt))
 }
 
-// The object goes home.
-fn send_home<R: Wait>(rt: &R, out: &mut LaneOut, inside: &mut LaneIn, held: Held) -> Parcel
-    requires { is_asked false out.old.sent ≡ true }
-    ensures { (out.new.name ≡ out.old.name) × (inside.new.name ≡ inside.old.name) }
+// The object's value, as it comes home.
+fn take_home<R: Wait>(rt: &R, inside: &mut LaneIn) -> Option<i64>
+    ensures lane { (inside.new.name ≡ inside.old.name) × (inside.new.size ≡ inside.old.size) }
 {
-    out.send(rt, Parcel::Home(held));
-    inside.take(rt)
-}
-
-#[test]
-fn the_object_goes_up_and_home(rt: HostRuntime) -> Result<(), Fail> {
-    let size = ChunkSize::new(1).ok_or("no size")?;
-    let object = Object::new(rt.alloc(), Kind::Account { balance: 7 })?;
-    let held = Held::new(rt.alloc(), object, 1)?;
-    let (mut out, mut inside) = lane(&rt, rt.alloc(), size)?;
-    let Some(held) = lend(&rt, &mut out, &mut inside, held) else {
-        return Err(Fail::from("no sync"));
+    let Parcel::Home(held) = inside.take(rt) else {
+        return None;
     };
-    assert_eq!(rt; held.object().value(0), Some(7));
-    let home = send_home(&rt, &mut out, &mut inside, held);
-    assert!(rt; matches!(home, Parcel::Home(_)));
-    agree(out, inside);
-    Ok(())
+    let value = held.object().value(0);
+    drop(held);
+    value
 }
 
+// The object goes to the client and home; its value there.
+#[tactic(auto, using(qs_chunk::proofs::LaneFronts::asked_last))]
+fn lend_once<R: Wait>(rt: &R, out: &mut LaneOut, inside: &mut LaneIn, held: Held) -> Option<i64>
+    requires { (out.old.sent ≡ []) × (inside.old.received ≡ []) × (inside.old.given ≡ []) }
+    ensures out_lane { (out.new.name ≡ out.old.name) × (out.new.size ≡ out.old.size) }
+    ensures in_lane { (inside.new.name ≡ inside.old.name) × (inside.new.size ≡ inside.old.size) }
+    ensures home { IfSome result (λ value. is_asked false out.new.sent ≡ false) }
+{
+    let held = lend(rt, out, inside, held)?;
+    out.send(rt, Parcel::Home(held));
+    take_home(rt, inside)
+}
+
+fn send_end<R: Wait>(rt: &R, out: &mut LaneOut) -> bool
+    requires { is_asked false out.old.sent ≡ false }
+    ensures lane { (out.new.name ≡ out.old.name) × (out.new.size ≡ out.old.size) }
+    ensures quiet { is_asked false out.new.sent ≡ false }
+{
+    let sent = out.try_send(rt, Parcel::End);
+    let went = sent.is_ok();
+    drop(sent);
+    went
+}
+
+fn take_end<R: Wait>(rt: &R, inside: &mut LaneIn) -> bool
+    ensures lane { (inside.new.name ≡ inside.old.name) × (inside.new.size ≡ inside.old.size) }
+{
+    let parcel = inside.try_take(rt);
+    let is_end = matches!(&parcel, Some(Parcel::End));
+    drop(parcel);
+    is_end
+}
+
+fn send_ends<R: Wait>(rt: &R, out: &mut LaneOut, tries: u8) -> u8
+    requires { is_asked false out.old.sent ≡ false }
+    ensures lane { (out.new.name ≡ out.old.name) × (out.new.size ≡ out.old.size) }
+    ensures quiet { is_asked false out.new.sent ≡ false }
+{
+    let mut sent = 0;
+    for _ in 0..tries {
+        if send_end(rt, out) {
+            sent += 1;
+        }
+    }
+    sent
+}
+
+fn take_ends<R: Wait>(rt: &R, inside: &mut LaneIn, tries: u8) -> u8
+    ensures lane { (inside.new.name ≡ inside.old.name) × (inside.new.size ≡ inside.old.size) }
+{
+    let mut taken = 0;
+    for _ in 0..tries {
+        if take_end(rt, inside) {
+            taken += 1;
+        }
+    }
+    taken
+}
+
+// Sends an empty chunk of the lane with one request; whether there was room for it.
 fn send_chunk<R: Wait>(rt: &R, out: &mut LaneOut, request: Request) -> bool
-    requires { out.old.sent ≡ [] }
+    requires { is_asked false out.old.sent ≡ false }
+    ensures lane { (out.new.name ≡ out.old.name) × (out.new.size ≡ out.old.size) }
 {
     let mut chunk = out.empty(rt);
-    let fits = chunk.push(request).is_ok();
+    let pushed = chunk.push(request);
     out.send(rt, Parcel::Work(chunk));
+    let fits = pushed.is_ok();
+    drop(pushed);
     fits
 }
 
-// Four empty chunks lie in a lane, and what is given back is taken again; one of them goes down with a request.
-#[test]
-fn chunks_go_down_and_come_back(rt: HostRuntime) -> Result<(), Fail> {
-    let size = ChunkSize::new(3).ok_or("no size")?;
-    let (mut out, mut inside) = lane(&rt, rt.alloc(), size)?;
+// The object of the one request in the chunk that comes.
+fn take_chunk<R: Wait>(rt: &R, inside: &mut LaneIn) -> Option<u8>
+    ensures lane { inside.new.name ≡ inside.old.name }
+{
+    let Parcel::Work(chunk) = inside.take(rt) else {
+        return None;
+    };
+    let mut chunk = chunk;
+    let request = chunk.take_front();
+    let object = request.as_ref().map(|request| request.object);
+    drop(request);
+    drop(chunk);
+    object
+}
+
+// Takes three empty chunks, gives one of them back, and takes that; their room in all.
+fn take_and_spare<R: Wait>(rt: &R, out: &mut LaneOut, inside: &mut LaneIn) -> usize
+    requires { out.old.size ≡ inside.old.size }
+    ensures names { (out.new.name ≡ out.old.name) × (inside.new.name ≡ inside.old.name) }
+{
+    let first = out.empty(rt);
+    let second = out.empty(rt);
+    let third = out.empty(rt);
+    inside.spare(rt, first);
+    let again = out.empty(rt);
+    let room = second.capacity() + third.capacity() + again.capacity();
+    drop(second);
+    drop(third);
+    drop(again);
+    room
+}
+
+// What a lane carried: the object's value as it came home; how many Ends of seventeen it had room for, whether one more went once one was
+// taken, and how many were taken then; the object of a request, and the room of three chunks.
+#[derive(Clone, Copy)]
+struct Carried {
+    value: i64,
+    ends: u8,
+    more: u8,
+    taken: u8,
+    object: Option<u8>,
+    room: usize,
+}
+
+fn carry<R: Wait>(
+    rt: &R,
+    alloc: Global,
+    out: &mut LaneOut,
+    inside: &mut LaneIn,
+    held: Held,
+) -> Option<Carried>
+    requires fresh { (out.old.sent ≡ []) × (inside.old.received ≡ []) × (inside.old.given ≡ []) }
+    requires size { out.old.size ≡ inside.old.size }
+    ensures names { (out.new.name ≡ out.old.name) × (inside.new.name ≡ inside.old.name) }
+{
+    let value = lend_once(rt, out, inside, held)?;
+    let ends = send_ends(rt, out, 17);
+    let first = take_ends(rt, inside, 1);
+    let more = send_ends(rt, out, first);
+    let taken = take_ends(rt, inside, 17);
     let request = Request {
         object: 5,
         op: Op::Refused,
-        args: Args::new(rt.alloc()),
+        args: Args::new(alloc),
     };
-    let first = out.empty(&rt);
-    assert!(rt; send_chunk(&rt, &mut out, request));
-    for _ in 0..2u8 {
-        assert_eq!(rt; out.empty(&rt).capacity(), 3);
-    }
-    inside.spare(&rt, first);
-    assert_eq!(rt; out.empty(&rt).len(), 0);
-    if let Parcel::Work(mut chunk) = inside.take(&rt) {
-        assert_eq!(rt; chunk.take_front().map(|request| request.object), Some(5));
-        assert_eq!(rt; chunk.len(), 0);
-        Ok(())
-    } else {
-        Err(Fail::from("no chunk"))
-    }
+    let fits = send_chunk(rt, out, request);
+    let room = take_and_spare(rt, out, inside);
+    let object = take_chunk(rt, inside);
+    Some(Carried {
+        value,
+        ends,
+        more,
+        taken,
+        object: object.filter(|_| fits),
+        room,
+    })
+}
+
+// What a new lane carries; none where memory is refused, or where another parcel comes than was sent.
+fn carry_through<R: Wait>(rt: &R, alloc: Global, size: ChunkSize) -> Option<Carried> {
+    let held = account(alloc)?;
+    let Ok((mut out, mut inside)) = lane(rt, alloc, size) else {
+        drop(held);
+        return None;
+    };
+    let carried = carry(rt, alloc, &mut out, &mut inside, held);
+    agree(out, inside);
+    carried
+}
+
+fn is_all(carried: Carried) -> bool {
+    carried.value == 7
+        && carried.ends == 16
+        && carried.more == 1
+        && carried.taken == 16
+        && carried.object == Some(5)
+        && carried.room == 9
+}
+
+#[test]
+fn a_lane_carries_what_is_sent(rt: HostRuntime) -> Result<(), Fail> {
+    let size = ChunkSize::new(3).ok_or("no size")?;
+    let carried = carry_through(&rt, rt.alloc(), size).ok_or("nothing was carried")?;
+    assert!(rt; is_all(carried));
+    Ok(())
 }

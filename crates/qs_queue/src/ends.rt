@@ -3,7 +3,7 @@
 ghost use Rattle.std.specs.Prelude.{◌≡◌, ◌<◌, List, [], ◌∷◌, ◌++◌, length, IfOk, IfSome, IfNone, IfErr};
 ghost use Rattle.crossbeam_queue.specs.Passes.{view, IsPassOf, ruled_capacity};
 
-use crate::form::{Form, Key};
+use crate::protocol::{Key, Protocol};
 use crate::rule::{Agrees, Known, Meets, Opens, Queue, Sends, Takes};
 use crossbeam_queue::Pass;
 use crossbeam_utils::Backoff;
@@ -13,12 +13,12 @@ use std::sync::{Arc, Wait};
 
 /// The sending end of a queue.
 #[derive(Drop)]
-pub struct Sender<T, K, F: Form<T, K>> {
-    queue: Arc<Queue<T, K, F>, Global>,
+pub struct Sender<T, K, P: Protocol<T, K>> {
+    queue: Arc<Queue<T, K, P>, Global>,
     pass: Pass<T, Known<T, K>>,
 }
 
-impl<T, K, F: Form<T, K>> Model for Sender<T, K, F> {
+impl<T, K, P: Protocol<T, K>> Model for Sender<T, K, P> {
     ghost use Rattle.std.specs.Prelude.{◌≡◌};
     ghost use Rattle.crossbeam_queue.specs.Passes.{view as known, IsPassOf, ruled_capacity};
     ghost use Rattle.qs_queue.specs.Rule.{sending};
@@ -38,12 +38,12 @@ impl<T, K, F: Form<T, K>> Model for Sender<T, K, F> {
 
 /// The taking end of a queue.
 #[derive(Drop)]
-pub struct Taker<T, K, F: Form<T, K>> {
-    queue: Arc<Queue<T, K, F>, Global>,
+pub struct Taker<T, K, P: Protocol<T, K>> {
+    queue: Arc<Queue<T, K, P>, Global>,
     pass: Pass<T, Known<T, K>>,
 }
 
-impl<T, K, F: Form<T, K>> Model for Taker<T, K, F> {
+impl<T, K, P: Protocol<T, K>> Model for Taker<T, K, P> {
     ghost use Rattle.std.specs.Prelude.{◌≡◌};
     ghost use Rattle.crossbeam_queue.specs.Passes.{view as known, IsPassOf};
     ghost use Rattle.qs_queue.specs.Rule.{taking};
@@ -58,15 +58,15 @@ impl<T, K, F: Form<T, K>> Model for Taker<T, K, F> {
 
 /// The two ends of an empty queue, which has room for so many values, and this key. All its memory is taken here; an error says that it
 /// was refused.
-pub fn make_ends<T: Drop, K, F: Form<T, K>, N: Key<K>>(
+pub fn make_ends<T: Drop, K, P: Protocol<T, K>, N: Key<K>>(
     alloc: Global,
     room: usize,
-) -> Result<(Sender<T, K, F>, Taker<T, K, F>), AllocError>
+) -> Result<(Sender<T, K, P>, Taker<T, K, P>), AllocError>
     requires { 0 < room }
     ensures sender { IfOk result (λ ends. ends.0 ≡ record { name = ends.1.name; room = room; key = N.key; sent = [] }) }
     ensures taker { IfOk result (λ ends. ends.1 ≡ record { name = ends.1.name; key = N.key; received = [] }) }
 {
-    let (queue, mut pass) = Queue::<T, K, F>::ruled(alloc, room)?;
+    let (queue, mut pass) = Queue::<T, K, P>::ruled(alloc, room)?;
     let theirs = queue.another::<Opens<N>>(&mut pass);
     let Ok(queue) = Arc::new(alloc, queue) else {
         return Err(AllocError);
@@ -79,10 +79,10 @@ pub fn make_ends<T: Drop, K, F: Form<T, K>, N: Key<K>>(
     Ok((Sender { queue, pass }, taker))
 }
 
-impl<T: Drop, K, F: Form<T, K>> Sender<T, K, F> {
+impl<T: Drop, K, P: Protocol<T, K>> Sender<T, K, P> {
     /// Sends a value, where what was sent stays good by it. The value comes back, and nothing changes, only where the queue was full.
     pub fn try_send<R: Wait>(&mut self, rt: &R, value: T) -> Result<(), T>
-        requires good { F.good self.old.key (self.old.sent ++ value ∷ []) }
+        requires good { P.good self.old.key (self.old.sent ++ value ∷ []) }
         ensures ok { IfOk result (λ _. self.new ≡ record self.old { sent = self.old.sent ++ value ∷ [] }) }
         ensures back { IfErr result (λ back. (back ≡ value) × (self.new ≡ self.old)) }
         ensures full { IfErr result (λ _. (received items : List T) × (length items ≡ self.old.room) × (self.old.sent ≡ received ++ items)) }
@@ -92,7 +92,7 @@ impl<T: Drop, K, F: Form<T, K>> Sender<T, K, F> {
 
     /// Sends a value, where what was sent stays good by it; waits until the queue has room.
     pub fn send<R: Wait>(&mut self, rt: &R, value: T)
-        requires good { F.good self.old.key (self.old.sent ++ value ∷ []) }
+        requires good { P.good self.old.key (self.old.sent ++ value ∷ []) }
         ensures sent { self.new ≡ record self.old { sent = self.old.sent ++ value ∷ [] } }
     {
         let backoff = Backoff::new();
@@ -109,7 +109,7 @@ impl<T: Drop, K, F: Form<T, K>> Sender<T, K, F> {
 
     /// Sends a value, where what was sent stays good by it, to a queue that has room for all that was sent and this value.
     pub fn push<R: Wait>(&mut self, rt: &R, value: T)
-        requires good { F.good self.old.key (self.old.sent ++ value ∷ []) }
+        requires good { P.good self.old.key (self.old.sent ++ value ∷ []) }
         requires room { length self.old.sent < self.old.room }
         ensures sent { self.new ≡ record self.old { sent = self.old.sent ++ value ∷ [] } }
     {
@@ -119,36 +119,36 @@ impl<T: Drop, K, F: Form<T, K>> Sender<T, K, F> {
     }
 
     /// What the two ends of one queue know together: what was received is a front of what was sent, and what was sent is good.
-    pub fn agree(&mut self, taker: Taker<T, K, F>)
+    pub fn agree(&mut self, taker: Taker<T, K, P>)
         requires { self.old.name ≡ taker.name }
         ensures same { self.new ≡ self.old }
         ensures front { (rest : List T) × (self.old.sent ≡ taker.received ++ rest) }
-        ensures good { F.good self.old.key self.old.sent }
+        ensures good { P.good self.old.key self.old.sent }
     {
         let Taker {
             queue: _queue,
             pass: theirs,
         } = taker;
-        self.queue.absorb::<Meets<F>>(&mut self.pass, theirs);
-        self.queue.learn_as::<Agrees<F>>(&mut self.pass);
-        let _taker = self.queue.another::<Meets<F>>(&mut self.pass);
+        self.queue.absorb::<Meets<P>>(&mut self.pass, theirs);
+        self.queue.learn_as::<Agrees<P>>(&mut self.pass);
+        let _taker = self.queue.another::<Meets<P>>(&mut self.pass);
     }
 }
 
-impl<T: Drop, K, F: Form<T, K>> Taker<T, K, F> {
+impl<T: Drop, K, P: Protocol<T, K>> Taker<T, K, P> {
     /// Takes the next value; what was received is good. There is none only where the queue was empty, and then nothing changes.
     pub fn try_take<R: Wait>(&mut self, rt: &R) -> Option<T>
         ensures none { IfNone result (self.new ≡ self.old) }
         ensures some { IfSome result (λ value. self.new ≡ record self.old { received = self.old.received ++ value ∷ [] }) }
-        ensures good { IfSome result (λ value. F.good self.old.key (self.old.received ++ value ∷ [])) }
+        ensures good { IfSome result (λ value. P.good self.old.key (self.old.received ++ value ∷ [])) }
     {
-        self.queue.pop_as::<Takes<F>, R>(rt, &mut self.pass)
+        self.queue.pop_as::<Takes<P>, R>(rt, &mut self.pass)
     }
 
     /// Takes the next value; what was received is good. Waits until there is one.
     pub fn take<R: Wait>(&mut self, rt: &R) -> T
         ensures taken { self.new ≡ record self.old { received = self.old.received ++ result ∷ [] } }
-        ensures good { F.good self.old.key (self.old.received ++ result ∷ []) }
+        ensures good { P.good self.old.key (self.old.received ++ result ∷ []) }
     {
         let backoff = Backoff::new();
         for _ in rt.forever() {

@@ -1,8 +1,8 @@
 //! The rule under which a queue's two ends share it.
 
-use crate::form::{Form, Key};
-use crossbeam_queue::RuledArrayQueue;
-use crossbeam_queue::protocol::{Join, Lesson, Outcome, Protocol, Split};
+use crate::protocol::{Key, Protocol};
+use crossbeam_queue::protocol::{Join, Lesson, Outcome, Split};
+use crossbeam_queue::{RuledArrayQueue, protocol as ruled};
 use std::collections::LinkedList;
 use std::marker::PhantomData;
 
@@ -17,20 +17,20 @@ pub struct Known<T, K> {
 }
 
 /// One pass sends and one takes; what was received and what the queue holds is what was sent, which is good.
-pub struct InForm<F> {
-    of: PhantomData<F>,
+pub struct TwoEnds<P> {
+    of: PhantomData<P>,
 }
 
-impl<T, K, F: Form<T, K>> Protocol<T, Known<T, K>> for InForm<F> {
+impl<T, K, P: Protocol<T, K>> ruled::Protocol<T, Known<T, K>> for TwoEnds<P> {
     ghost use Rattle.qs_queue.specs.Rule.{Keeps, opening};
 
-    ghost holds = { Keeps F.good };
+    ghost holds = { Keeps P.good };
 
-    ghost first = { opening F.unset };
+    ghost first = { opening P.unset };
 }
 
-/// A queue whose items keep a form.
-pub type Queue<T, K, F> = RuledArrayQueue<T, Known<T, K>, InForm<F>>;
+/// A queue whose items keep to a protocol.
+pub type Queue<T, K, P> = RuledArrayQueue<T, Known<T, K>, TwoEnds<P>>;
 
 /// The first pass becomes the two ends, with a key.
 pub struct Opens<N> {
@@ -47,11 +47,11 @@ impl<T, K, N: Key<K>> Split<Known<T, K>> for Opens<N> {
 }
 
 /// The two ends come together in one pass, and part again.
-pub struct Meets<F> {
-    of: PhantomData<F>,
+pub struct Meets<P> {
+    of: PhantomData<P>,
 }
 
-impl<T, K, F: Form<T, K>> Split<Known<T, K>> for Meets<F> {
+impl<T, K, P: Protocol<T, K>> Split<Known<T, K>> for Meets<P> {
     ghost use Rattle.qs_queue.specs.Rule.{sending, taking};
 
     ghost left = { λ v. sending v.key v.sent };
@@ -59,12 +59,12 @@ impl<T, K, F: Form<T, K>> Split<Known<T, K>> for Meets<F> {
     ghost right = { λ v. taking v.key v.received };
 }
 
-impl<T, K, F: Form<T, K>> Join<Known<T, K>> for Meets<F> {
+impl<T, K, P: Protocol<T, K>> Join<Known<T, K>> for Meets<P> {
     ghost use Rattle.qs_queue.specs.Rule.{whole, spent};
 
     ghost both = { λ v w. whole v.key v.sent w.received };
 
-    ghost spent = { spent F.unset };
+    ghost spent = { spent P.unset };
 }
 
 /// A value is sent; if the queue is full, what it holds is the end of what was sent.
@@ -84,30 +84,30 @@ impl<T, K> Lesson<T, Known<T, K>> for Sends {
 }
 
 /// A value is taken, and what was received is good.
-pub struct Takes<F> {
-    of: PhantomData<F>,
+pub struct Takes<P> {
+    of: PhantomData<P>,
 }
 
-impl<T, K, F: Form<T, K>> Outcome<T, Known<T, K>> for Takes<F> {
+impl<T, K, P: Protocol<T, K>> Outcome<T, Known<T, K>> for Takes<P> {
     ghost use Rattle.std.specs.Prelude.{◌≡◌, ◌++◌, ◌∷◌, []};
     ghost use Rattle.qs_queue.specs.Rule.{taking};
 
-    ghost then = { λ v x w. (w ≡ taking v.key (v.received ++ x ∷ [])) × F.good v.key (v.received ++ x ∷ []) };
+    ghost then = { λ v x w. (w ≡ taking v.key (v.received ++ x ∷ [])) × P.good v.key (v.received ++ x ∷ []) };
 }
 
-impl<T, K, F: Form<T, K>> Lesson<T, Known<T, K>> for Takes<F> {
+impl<T, K, P: Protocol<T, K>> Lesson<T, Known<T, K>> for Takes<P> {
     ghost use Rattle.std.specs.Prelude.{◌++◌};
 
-    ghost fact = { λ v items. F.good v.key (v.received ++ items) };
+    ghost fact = { λ v items. P.good v.key (v.received ++ items) };
 }
 
 /// What was received and what the queue holds is what was sent, which is good.
-pub struct Agrees<F> {
-    of: PhantomData<F>,
+pub struct Agrees<P> {
+    of: PhantomData<P>,
 }
 
-impl<T, K, F: Form<T, K>> Lesson<T, Known<T, K>> for Agrees<F> {
+impl<T, K, P: Protocol<T, K>> Lesson<T, Known<T, K>> for Agrees<P> {
     ghost use Rattle.std.specs.Prelude.{◌≡◌, ◌++◌};
 
-    ghost fact = { λ v items. (v.sent ≡ v.received ++ items) × F.good v.key v.sent };
+    ghost fact = { λ v items. (v.sent ≡ v.received ++ items) × P.good v.key v.sent };
 }

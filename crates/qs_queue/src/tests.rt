@@ -3,7 +3,7 @@
 ghost use Rattle.std.specs.Prelude.{◌≡◌, ◌<◌, IfOk, ⊤};
 ghost use Rattle.atomic_table.specs.Seated.{TableId};
 
-use crate::{Form, Key, Sender, Taker, make_ends};
+use crate::{Key, Protocol, Sender, Taker, make_ends};
 use std::alloc::{AllocError, Global};
 use std::sync::Wait;
 use std::test::*;
@@ -12,7 +12,7 @@ use std::thread;
 // Anything may be sent.
 struct Anything;
 
-impl Form<u8, ()> for Anything {
+impl Protocol<u8, ()> for Anything {
     ghost use Rattle.std.specs.Prelude.{⊤};
 
     ghost good = { λ key xs. ⊤ };

@@ -17,4 +17,4 @@ invariant_of-self g c =
     let e = c.try_send.ensures in
     let more = empty_more q.key q.sent c.args.chunk i.1 (c.requires.empty ∙ ap (batch []) (sym (ap (λ (v : InView). v.size) c.self.view_is) ∙ sym i.0)) in
     let s = sent_or_back AllEmpty c.try_send.result c.args.chunk q c.try_send.new.self i.1 more e.ok e.back in
-    (s.1 ∙ i.0, s.2, i.2)
+    (s.1 ∙ i.0, s.2, i.2, i.3, s.0 ∙ i.4)

@@ -7,17 +7,17 @@ pub absorb-requires-clause-rule : goal.absorb-requires-clause-rule
 absorb-requires-clause-rule g c =
     let i = c.self.invariant.1 in
     let j = c.taker.invariant.1 in
-    let f = g.F.Form in
+    let f = g.P.Protocol in
     merges f.good f.none f.front f.unset _ _ _ _ (ap (λ (v : Known g.row.T.Denot g.row.K.Denot). v.opens) i) (ap (λ (v : Known g.row.T.Denot g.row.K.Denot). v.sends) i) (ap (λ (v : Known g.row.T.Denot g.row.K.Denot). v.takes) j)
 
 pub learn_as-requires-clause-rule : goal.learn_as-requires-clause-rule
 learn_as-requires-clause-rule g c =
     let i = c.absorb.ensures.rule in
-    let f = g.F.Form in
+    let f = g.P.Protocol in
     agrees f.good f.none f.front _ _ (ap (λ (v : Known g.row.T.Denot g.row.K.Denot). v.opens) i) (ap (λ (v : Known g.row.T.Denot g.row.K.Denot). v.sends) i) (ap (λ (v : Known g.row.T.Denot g.row.K.Denot). v.takes) i)
 
 pub another-taker-requires-clause-rule : goal.another-taker-requires-clause-rule
 another-taker-requires-clause-rule g c =
     let i = c.learn_as.ensures.queue.1 ∙ c.absorb.ensures.rule in
-    let f = g.F.Form in
+    let f = g.P.Protocol in
     forks f.good f.none f.front _ _ (ap (λ (v : Known g.row.T.Denot g.row.K.Denot). v.opens) i) (ap (λ (v : Known g.row.T.Denot g.row.K.Denot). v.sends) i) (ap (λ (v : Known g.row.T.Denot g.row.K.Denot). v.takes) i)

@@ -7,7 +7,7 @@ use Rattle.qs_queue.proofs.ends.Sender.try_send.Goals as goal
 pub push_as-requires-clause-rule : goal.push_as-requires-clause-rule
 push_as-requires-clause-rule g c =
     let i = c.self.invariant.1 in
-    let f = g.F.Form in
+    let f = g.P.Protocol in
     let shut = ap (λ (v : Known g.row.T.Denot g.row.K.Denot). v.opens) i in
     let may = ap (λ (v : Known g.row.T.Denot g.row.K.Denot). v.sends) i in
     let good = subst (λ (o : SenderView g.row.T.Denot g.row.K.Denot). f.good o.key (o.sent ++ c.args.value ∷ [])) (sym c.self.view_is) c.requires.good in

@@ -4,13 +4,13 @@ ghost use Rattle.std.specs.Prelude.{◌≡◌};
 
 use qs_chunk::{Chunk, ChunkSize, Parcel};
 use qs_objects::{Held, Request};
-use qs_queue::{Form, Key};
+use qs_queue::{Key, Protocol};
 use std::marker::{Brand, PhantomData};
 
 /// Each parcel may follow those before it, and chunks have the lane's size.
 pub struct InLane;
 
-impl Form<Parcel, ChunkSize> for InLane {
+impl Protocol<Parcel, ChunkSize> for InLane {
     ghost use Rattle.qs_chunk.specs.Lanes.{IsLane};
     ghost use Rattle.qs_chunk.proofs.LaneFronts.{StandsFrom-front};
     ghost use Rattle.std.specs.Prelude.{false};
@@ -27,7 +27,7 @@ impl Form<Parcel, ChunkSize> for InLane {
 /// Any objects.
 pub struct AnyObjects;
 
-impl Form<Held, ()> for AnyObjects {
+impl Protocol<Held, ()> for AnyObjects {
     ghost good = { λ key xs. Unit {0} };
 
     ghost none = { λ key. tt };
@@ -47,7 +47,7 @@ impl Key<()> for Keyless {
 /// Empty chunks of the lane's size.
 pub struct EmptyChunks;
 
-impl Form<Chunk<Request>, ChunkSize> for EmptyChunks {
+impl Protocol<Chunk<Request>, ChunkSize> for EmptyChunks {
     ghost use Rattle.qs_lane.specs.Spares.{AllEmpty, empty_front};
 
     ghost good = { AllEmpty };

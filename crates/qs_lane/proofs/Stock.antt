@@ -1,0 +1,18 @@
+-- The stock of empty chunks that a lane begins with.
+use Rattle.std.proofs.Common.{◌≡◌, ℕ, zero, suc, List, [], ◌∷◌, ◌++◌, replicate, refl, sym, ap, ◌∙◌, subst}
+use Rattle.qs_objects.specs.declared.Request.{Request}
+use Rattle.qs_chunk.specs.Batch.{Batch, batch}
+use Rattle.qs_lane.specs.Spares.{AllEmpty}
+use Rattle.qs_lane.proofs.Spared.{empty_more}
+
+all_empty : (size n : ℕ) → AllEmpty size (replicate n (batch [] size))
+all_empty size zero = tt
+all_empty size (suc n) = (refl, all_empty size n)
+
+-- one more empty chunk after n of them
+pub one_more : (size n key : ℕ) (cs : List (Batch Request)) (c : Batch Request)
+    → key ≡ size → cs ≡ replicate n (batch [] size) → c ≡ batch [] size → AllEmpty key (cs ++ c ∷ [])
+one_more size n key cs c sized alike empty =
+    empty_more key cs c
+    (subst (λ (y : ℕ × List (Batch Request)). AllEmpty y.0 y.1) (λ i. (sym sized i, sym alike i)) (all_empty size n))
+    (empty ∙ ap (batch []) (sym sized))
