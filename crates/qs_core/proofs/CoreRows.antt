@@ -1,17 +1,15 @@
 -- The clients' rows, read off their minds.
-use Rattle.std.proofs.Common.{◌≡◌, ◌<◌, ◌≤◌, ℕ, zero, suc, List, [], ◌∷◌, length, get_or, map, refl, sym, ap, ◌∙◌, subst, arith}
+use Rattle.std.proofs.Common.{◌≡◌, ◌<◌, ℕ, zero, suc, List, [], ◌∷◌, length, get_or, map, refl, sym, ap, ◌∙◌, subst, arith}
 use Rattle.std.proofs.Math.Path.{fun_ext}
 use Rattle.std.proofs.lemmas.List.{length-map}
-use Rattle.std.specs.List.{AllByRecursion}
 use Rattle.qs_objects.specs.declared.held.Ticket.{Ticket}
-use Rattle.qs_client.specs.Mind.{Mind}
 use Rattle.qs_client.specs.MindState.{IsMind}
-use Rattle.qs_played.specs.Played.{ClientRows, HasRows, HaveRows, Played, counts_in, entry_in, rows_at, shown_with, trace_in}
+use Rattle.qs_played.specs.Played.{ClientRows, HasRows, HaveRows, rows_at, shown_with}
 use Rattle.qs_played.specs.declared.played.Endings.{Endings}
 use Rattle.qs_core_parts.specs.CoreClients.{CoreClientState, rows_of, whole_of}
 use Rattle.qs_core_parts.specs.CoreHandlers.{CoreHandlerState}
 use Rattle.qs_core.specs.CoreShown.{AreBegunBy, AreMinds, IsBegunBy, endings_by, rows_by, shown_by}
-use Rattle.qs_core.specs.CoreState.{Side, no_side, side_at}
+use Rattle.qs_core.specs.CoreState.{side_at}
 
 -- a client's rows are those of its mind
 pub rows_are : (cs : List CoreClientState) (c : ℕ) → rows_at (rows_by cs) c ≡ rows_of (side_at cs c).mind

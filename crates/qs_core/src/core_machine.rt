@@ -266,7 +266,7 @@ impl<'p> CoreMachine<'p> {
     /// What the run has shown.
     pub(crate) fn into_played(self, alloc: Global) -> Result<Played, AllocError>
         requires keeps { CoreKeeps self }
-        ensures shown { IfOk result (λ played. played ≡ core_played self.program (core_of self)) }
+        ensures shown { IfOk result (λ played. played ≡ core_played self.entry.program (core_of self.entry)) }
     {
         self.program.is_sound();
         core_showing::shown(alloc, self.order, self.clients, &self.handlers)

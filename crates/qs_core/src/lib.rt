@@ -9,7 +9,7 @@ mod optimised;
 
 pub use core_schedules::play;
 pub use optimised::Core;
+pub use qs_objects::Traces;
 pub use qs_plain::{Rules, play_plain};
 pub use qs_plain_laws::QueueItem;
-pub use qs_objects::Traces;
 pub use qs_played::{Actor, PlayFault, Played, Row};

@@ -100,9 +100,9 @@ impl<'p> Core<'p> {
 
     /// What the run has shown.
     pub(crate) fn into_played(self, alloc: Global) -> Result<Played, AllocError>
-        ensures shown { IfOk result (λ played. played ≡ core_played self.program (core_of self)) }
-        ensures isolated { CoreIsIsolated self }
-        ensures counted { CoreIsCounted self }
+        ensures shown { IfOk result (λ played. played ≡ core_played self.entry.program (core_of self.entry)) }
+        ensures isolated { CoreIsIsolated self.entry }
+        ensures counted { CoreIsCounted self.entry }
     {
         self.machine.program().is_sound();
         self.machine.is_machine();

@@ -1,4 +1,4 @@
-use Rattle.std.proofs.Common.{get_or, drop, ◌+◌, ap, sym, subst, ◌∙◌}
+use Rattle.std.proofs.Common.{drop, ◌+◌, ap, sym, subst, ◌∙◌}
 use Rattle.qs_played.proofs.Lists.{from_here}
 use Rattle.qs_core_parts.specs.CoreHandlers.{CanEnterAll, entered_all}
 use Rattle.qs_core.proofs.core_machine.enter_all.Goals as goal

@@ -1,8 +1,6 @@
-use Rattle.std.proofs.Common.{length, ◌+◌, get_or, subst, sym, ap, arith}
+use Rattle.std.proofs.Common.{get_or, subst, sym, arith}
 use Rattle.qs_played.proofs.Lists.{each_more}
-use Rattle.qs_core_parts.specs.CoreClients.{CoreClientState}
 use Rattle.qs_core.specs.CoreState.{IsFreshClient}
-use Rattle.qs_core.proofs.CoreFresh.{kept}
 use Rattle.qs_core.proofs.core_machine.fresh_clients.Goals as goal
 
 pub loop-number-preserved : goal.loop-number-preserved

@@ -1,4 +1,4 @@
-use Rattle.std.proofs.Common.{◌≡◌, ◌≤◌, length, sym, ◌∙◌, arith, false, nat_lt}
+use Rattle.std.proofs.Common.{◌≤◌, length, arith}
 use Rattle.qs_core.specs.CoreState.{CoreState}
 use Rattle.qs_core.proofs.CoreAbsent.{absent_client, absent_handler}
 use Rattle.qs_core.proofs.core_machine.CoreMachine.step.Goals as goal

@@ -1,4 +1,4 @@
-use Rattle.std.proofs.Common.{ap, subst, ◌∙◌}
+use Rattle.std.proofs.Common.{subst}
 use Rattle.qs_check.specs.Sound.{IsSound}
 use Rattle.qs_core.specs.CoreState.{CoreIsIsolated}
 use Rattle.qs_core.proofs.CoreReaching.{core_is_isolated}
