@@ -58,6 +58,7 @@ deposited = record {
   ended = true ∷ [];
   entries = [];
   traces = (command 0 Deposit (pos 5 ∷ []) ∷ query 0 Balance [] (pos 105) ∷ []) ∷ [];
+  sync_counts = [];
   journals = [];
   states = state (account (pos 105)) (pos 0) ∷ [];
   syncs = 1;
@@ -93,6 +94,7 @@ played = record {
       (command 1 SetCell (pos 2 ∷ pos 0 ∷ pos 9 ∷ []) ∷ query 1 GetCell (pos 5 ∷ negsuc 0 ∷ []) (pos 0) ∷ [])
       ∷ (command 0 Put (negsuc 6 ∷ []) ∷ command 0 DropFirst [] ∷ query 0 TakeFirst [] (negsuc 6) ∷ query 0 First [] (pos 0) ∷ [])
       ∷ [] ∷ [];
+  sync_counts = [];
   journals = [];
   states =
       state (buffer 1 []) (pos 2)

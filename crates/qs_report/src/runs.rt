@@ -28,7 +28,7 @@ pub fn report(alloc: Global, program: &Program, played: &Played) -> Result<Vec<u
     let mut out = Vec::new(alloc);
     put_order(&mut out, program, played)?;
     put_states(&mut out, program, played)?;
-    put_count(&mut out, b"syncs", played.syncs)?;
-    put(&mut out, finished_line(played.finished))?;
+    put_count(&mut out, b"syncs", played.syncs())?;
+    put(&mut out, finished_line(played.is_finished()))?;
     Ok(out)
 }

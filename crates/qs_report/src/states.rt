@@ -95,7 +95,7 @@ fn put_object(
     put_state(
         out,
         object_name(program, place),
-        &played.states.as_slice()[place],
+        &played.states()[place],
     )
 }
 
@@ -108,7 +108,7 @@ pub(crate) fn put_states(
     ensures ok { OnOk result (out.new.items ≡ out.old.items ++ states_text program.now played.now) }
 {
     put(out, b"states\n")?;
-    for place in 0..played.states.len() {
+    for place in 0..played.states().len() {
         put_object(out, program, played, place)?;
     }
     Ok(())

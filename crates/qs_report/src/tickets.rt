@@ -132,14 +132,10 @@ fn put_ticket(
     requires { place < length played.now.order }
     ensures ok { OnOk result (out.new.items ≡ out.old.items ++ ticket_text program.now played.now place) }
 {
-    let ticket = played.order.as_slice()[place];
-    let ended = played.ended.as_slice().get(place).copied().unwrap_or(false);
+    let ticket = played.order()[place];
+    let ended = played.ended().get(place).copied().unwrap_or(false);
     put_ticket_line(out, program, ticket, ended)?;
-    if place < played.traces.len() {
-        put_trace(out, program, played.traces.of(place))
-    } else {
-        Ok(())
-    }
+    put_trace(out, program, played.trace(place))
 }
 
 // The number of tickets, and each ticket with its trace.
@@ -150,7 +146,7 @@ pub(crate) fn put_order(
 ) -> Result<(), AllocError>
     ensures ok { OnOk result (out.new.items ≡ out.old.items ++ order_text program.now played.now) }
 {
-    let count = played.order.len();
+    let count = played.order().len();
     put_count(out, b"order", count as u64)?;
     for place in 0..count {
         put_ticket(out, program, played, place)?;

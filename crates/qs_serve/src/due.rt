@@ -122,7 +122,7 @@ fn due_of_script(alloc: Global, settings: &Settings, text: &[u8]) -> Due
         Err(fault) => return Due::Refused(Fault::Check(fault)),
     };
     let due = due_of_program(alloc, settings, &program);
-    drop(program);
+    program.discard();
     due
 }
 
