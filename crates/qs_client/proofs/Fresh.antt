@@ -17,7 +17,7 @@ use Rattle.qs_client_run.specs.Client.{between}
 use Rattle.qs_client_run.specs.BlockSizes.{empty_rows, room_for, longest}
 use Rattle.qs_client_run.specs.Minds.{items_of}
 use Rattle.qs_client_run.specs.Running.{IsOpen}
-use Rattle.qs_objects.specs.Traces.{TraceState, empty_trace, events_of, trace_state}
+use Rattle.qs_objects.specs.Traces.{empty_trace, events_of, trace_state}
 use Rattle.qs_client_run.specs.declared.run.Run.{Run}
 use Rattle.qs_client_run.specs.declared.stage.Handed.TheVariants as handeds
 use Rattle.qs_client.specs.Kept.{IsKept}

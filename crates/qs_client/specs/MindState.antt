@@ -1,6 +1,5 @@
 -- A client's mind as it is kept, and as the acts are defined on it; what holds of every mind.
-use Rattle.std.specs.Prelude.{◌≡◌, ◌<◌, ◌≤◌, ℕ, ◌+◌, ◌*◌, List, length, map, true}
-use Rattle.qs_objects.specs.declared.held.Event.{Event}
+use Rattle.std.specs.Prelude.{◌≡◌, ◌<◌, ◌≤◌, ℕ, ◌+◌, ◌*◌, List, length, true}
 use Rattle.qs_objects.specs.declared.held.Ticket.{Ticket}
 use Rattle.qs_check.specs.Values.{Locals}
 use Rattle.qs_graph.specs.Steps.{limit}
@@ -8,7 +7,7 @@ use Rattle.qs_syncset.specs.SyncRows.{CountsState}
 use Rattle.qs_syncset.specs.Codes.{BlockCode, ClientCode, IsCode, code_at}
 use Rattle.qs_client_run.specs.Client.{Client, Settings}
 use Rattle.qs_client_run.specs.Minds.{client_of}
-use Rattle.qs_objects.specs.Traces.{TraceState, events_of}
+use Rattle.qs_objects.specs.Traces.{events_of}
 use Rattle.qs_client_run.specs.declared.run.Run.{Run}
 use Rattle.qs_client_run.specs.declared.stage.Handed.{Handed}
 use Rattle.qs_client.specs.Mind.{Mind, is_between}

@@ -128,7 +128,11 @@ impl Mind {
             return;
         }
         self.syncs += self.handed.syncs();
-        tally(&mut self.counts, self.handed, usize::from(self.ticket.index));
+        tally(
+            &mut self.counts,
+            self.handed,
+            usize::from(self.ticket.index),
+        );
         self.run.sent(&self.code, self.ticket, self.handed);
         self.handed = Handed::Nothing;
     }

@@ -154,6 +154,14 @@ module _ (program : ProgramShape) (sound : IsSound program) (s : Core) (y : Lane
 
   run : IsRun program sound r y.page (on_way s) (λ h. (shown h).object) Busy (λ h. (shown h).journal)
   run = record {
+    fits = record {
+      ended = length-map s.order (λ (t : Ticket). has_ended (s.client t.client) t.index);
+      entries = length-map s.order s.entry;
+      traces = length-map s.order s.trace;
+      sync_counts = length-map s.order s.sync_counts;
+      journals = length-map (range_with_len 0 (length program.objects)) (λ h. (shown h).journal) ∙ length-range_with_len 0 (length program.objects);
+      states = length-map (range_with_len 0 (length program.objects)) (λ h. (shown h).object) ∙ length-range_with_len 0 (length program.objects);
+    };
     legal = k.legal;
     pages = each_map (λ t (ok : TicketOk program y t). ok.page.path) s.order k.told;
     begins = each_map (λ t (ok : TicketOk program y t). ok.begins) s.order k.told;

@@ -1,5 +1,5 @@
 -- A client whose mind handed out its next act: the mind and the kept act are together the client of the definition.
-use Rattle.std.proofs.Common.{◌≡◌, ℕ, ◌+◌, ◌<◌, ◌∷◌, ◌++◌, List, [], true, nat_lt, Some, None, length, get_or, refl, sym, ap, subst, ◌∙◌, add-zero, append-nil}
+use Rattle.std.proofs.Common.{◌≡◌, ℕ, ◌<◌, ◌∷◌, ◌++◌, List, [], true, nat_lt, Some, None, length, get_or, refl, sym, ap, subst, ◌∙◌, add-zero, append-nil}
 use Rattle.std.proofs.Math.ListN.{set}
 use Rattle.std.proofs.lemmas.List.{set-get_or}
 use Rattle.qs_objects.specs.Journals.{HeldState}

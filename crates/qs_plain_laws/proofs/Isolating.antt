@@ -1,7 +1,7 @@
 -- Runs by the plain rules are isolated: their state is an abstract run, whose journals flow as each handler's queue of queues was served.
 use Rattle.std.proofs.Common.{◌≡◌, ◌<◌, ℕ, zero, suc, ◌+◌, ◌&&◌, ◌||◌, Bool, true, false, true≢false, if◌then◌else◌, nat_lt, nat_eq, List, [], ◌∷◌, ◌++◌, map, flat_map, length, get_or, refl, ap, sym, subst, ◌∙◌, arith}
 use Rattle.std.proofs.Math.ListN.{get_or-map as get_or-map-any}
-use Rattle.std.proofs.lemmas.List.{get_or-map}
+use Rattle.std.proofs.lemmas.List.{get_or-map, length-map}
 use Rattle.std.specs.List.{AllByRecursion}
 use Rattle.qs_objects.specs.Parts.{logged, same}
 use Rattle.qs_objects.specs.declared.held.Ticket.{Ticket}
@@ -26,9 +26,9 @@ use Rattle.qs_played.proofs.JournalRooms.{no_block_beyond}
 use Rattle.qs_played.proofs.AbstractRun.{IsRun, run_isolated}
 use Rattle.qs_plain_laws.specs.PlainIsolation.{PlainRunsAreIsolated, commands_of, commands_in, queued}
 use Rattle.qs_plain_laws.specs.Plain.{Plain, Client, Handler, begun, client_at, handler_at, begin, no_client, no_handler}
-use Rattle.qs_plain_laws.specs.PlainSchedule.{all_done, all_idle, ended_at, entry_at, has_ended, is_done, is_finished, is_out, played_of, plays, trace_at}
+use Rattle.qs_plain_laws.specs.PlainSchedule.{all_done, all_idle, counts_of, ended_at, entry_at, has_ended, is_done, is_finished, is_out, played_of, plays, trace_at}
 use Rattle.qs_plain_laws.proofs.ServedRuns.{ServedRun, Front, IsServedRun}
-use Rattle.qs_plain_laws.proofs.PlainPreserved.{RunInvariant, run_kept, sight_of}
+use Rattle.qs_plain_laws.proofs.PlainPreserved.{RunInvariant, handlers_long, run_kept, sight_of}
 use Rattle.qs_plain_laws.proofs.ServiceFlows.{commands_private, flow, found, found_each, found_none}
 use Rattle.qs_plain_laws.proofs.RunViews.{RunView, Stance, Stands, Runs, Awaits, stage_of}
 use Rattle.qs_plain_laws.proofs.Simulation.{Simulates, StandsAt, private, queue_may}
@@ -179,6 +179,14 @@ module _ (p : ProgramShape) (sound : IsSound p) (s : Plain) (k : RunInvariant p 
 
   run : IsRun p sound r w.page waits (λ h. (w.service h).state) (λ h. (w.service h).queue ≡ [] → ⊥) (λ h. (w.service h).journal)
   run = record {
+    fits = record {
+      ended = length-map s.order (ended_at s);
+      entries = length-map s.order (entry_at s);
+      traces = length-map s.order (trace_at s);
+      sync_counts = length-map s.order (counts_of s);
+      journals = length-map s.handlers (λ (h : Handler). h.held.journal) ∙ handlers_long p sound s k;
+      states = length-map s.handlers (λ (h : Handler). h.held.object) ∙ handlers_long p sound s k;
+    };
     legal = legal;
     pages = subst (AllByRecursion (λ t. IsPage p t (w.page t))) sim.order good.pages;
     begins = subst (AllByRecursion (λ t. Begins w.page t.client t.index (w.page t).entry)) sim.order good.begins;

@@ -171,7 +171,7 @@ room_stays x t r = by_case (has_room x)
     by_case false = refl
 
 module _ (p : ProgramShape) (sound : IsSound p) (s : Plain) (k : RunInvariant p sound s) where
-  handlers_long : length s.handlers ≡ length p.objects
+  pub handlers_long : length s.handlers ≡ length p.objects
   handlers_long = sym (length-map s.handlers room_at) ∙ (ap length k.rooms ∙ (length-map (range_with_len 0 (length p.objects)) (room_of p) ∙ length-range_with_len 0 (length p.objects)))
 
   -- one client changed

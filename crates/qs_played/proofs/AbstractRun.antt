@@ -20,7 +20,7 @@ use Rattle.qs_check.proofs.Bounds.{AllByRecursion-get_or}
 use Rattle.qs_meaning.proofs.Each.{each_map, zip_at}
 use Rattle.qs_meaning.proofs.Histories.{Among, Begins, Flow, InTurn, IsDone, IsPage, Line, NoQuery, OnlyCommands, Page, PartIs, Through, Told, parts_of, told}
 use Rattle.qs_meaning.proofs.SerialRuns.{Agrees, legal_apart, line, runs_serially}
-use Rattle.qs_played.specs.Isolation.{IsIsolated, IsLine, IsPlace, IsWhole, ended_of, entry_of, journal_of, no_place, place_of, queries_of, state_of, ticket_at, trace_of}
+use Rattle.qs_played.specs.Isolation.{IsFitting, IsIsolated, IsLine, IsPlace, IsWhole, ended_of, entry_of, journal_of, no_place, place_of, queries_of, state_of, ticket_at, trace_of}
 use Rattle.qs_played.specs.Played.{ticket}
 use Rattle.qs_played.specs.Played.{Played}
 use Rattle.qs_played.proofs.Orders.{among_once}
@@ -43,6 +43,8 @@ commands_have_no_reply (r ∷ ws) n = rw n.0 (commands_have_no_reply ws n.1)
 
 -- The abstract run behind what is shown. An object is busy while a reservation on it is still being served.
 pub record IsRun (p : ProgramShape) (sound : IsSound p) (r : Played) (page : Ticket → Page) (waits : ℕ → Ticket → List Request) (state : ℕ → State) (busy : ℕ → Type 0) (journal : ℕ → List Entry) : Type 0 where
+  -- what is shown is as long as the order and the program
+  pub fits : IsFitting p r
   -- the order is legal, each page is one of its ticket's block, begins where the client's block before it has ended, and flows
   pub legal : IsLegal p r.order
   pub pages : AllByRecursion (λ t. IsPage p t (page t)) r.order
@@ -143,6 +145,7 @@ module _ (p : ProgramShape) (sound : IsSound p) (r : Played) (page : Ticket → 
   pub run_isolated : IsIsolated p r waits
   unfolding IsIsolated
   run_isolated = record {
+    fits = run.fits;
     legal = run.legal;
     places = is_place;
     objects = is_line;

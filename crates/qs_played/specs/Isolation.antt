@@ -73,7 +73,17 @@ pub record IsWhole (p : ProgramShape) (r : Played) : Type 0 where
   pub once : (t : Ticket) → t.index < blocks_of p t.client → length (filter (same t) r.order) ≡ 1
   pub states : (h : ℕ) → h < length p.objects → state_of r h ≡ (serial p r.order).states h
 
+-- What is shown fits the program: an end mark, variables, a trace and counts for each ticket, a journal and a state for each object.
+pub record IsFitting (p : ProgramShape) (r : Played) : Type 0 where
+  pub ended : length r.ended ≡ length r.order
+  pub entries : length r.entries ≡ length r.order
+  pub traces : length r.traces ≡ length r.order
+  pub sync_counts : length r.sync_counts ≡ length r.order
+  pub journals : length r.journals ≡ length p.objects
+  pub states : length r.states ≡ length p.objects
+
 pub record Isolation (p : ProgramShape) (r : Played) (waits : ℕ → Ticket → List Request) : Type 0 where
+  pub fits : IsFitting p r
   pub legal : IsLegal p r.order
   pub places : (i : ℕ) → i < length r.order → IsPlace p r i
   pub objects : (h : ℕ) → h < length p.objects → IsLine p r waits h

@@ -128,7 +128,10 @@ impl Played {
         ensures in_counts { result.1 < length result.0.now.counts }
     {
         let ticket = self.order.as_slice()[place];
-        (&self.clients[usize::from(ticket.client)], usize::from(ticket.index))
+        (
+            &self.clients[usize::from(ticket.client)],
+            usize::from(ticket.index),
+        )
     }
 
     /// The variables at entry of the client of a place of the order.

@@ -92,11 +92,7 @@ fn put_object(
     requires { place < length played.now.states }
     ensures ok { OnOk result (out.new.items ≡ out.old.items ++ object_text program.now played.now place) }
 {
-    put_state(
-        out,
-        object_name(program, place),
-        &played.states()[place],
-    )
+    put_state(out, object_name(program, place), &played.states()[place])
 }
 
 // The states of all objects.

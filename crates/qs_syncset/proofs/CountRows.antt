@@ -1,5 +1,5 @@
 -- Objects with their counts, row by row: what each row is, and what an object or a Sync more changes.
-use Rattle.std.proofs.Common.{◌≡◌, ◌<◌, ◌≤◌, ℕ, zero, suc, ◌+◌, ◌==◌, Bool, true, false, if◌then◌else◌, List, [], ◌∷◌, ◌++◌, length, get_or, set, map, take, drop, replicate, refl, sym, ap, ◌∙◌, subst, arith, append_assoc, drop-cons, get_or-set_same, set-set}
+use Rattle.std.proofs.Common.{◌≡◌, ◌<◌, ◌≤◌, ℕ, zero, suc, ◌+◌, ◌==◌, Bool, true, false, if◌then◌else◌, List, [], ◌∷◌, ◌++◌, length, get_or, set, map, take, drop, replicate, refl, sym, ap, ◌∙◌, arith, append_assoc, drop-cons, get_or-set_same, set-set}
 use Rattle.std.proofs.lemmas.List.{drop_all, take_more}
 use Rattle.qs_syncset.specs.declared.sync_counts.SyncCount.{SyncCount}
 use Rattle.qs_syncset.specs.SyncRows.{AreFew, HaveCounts, all_counts, begun_rows, count_of, fresh_rows, no_syncs, object_of, objects_in, paired, sync_count, with_counts, with_sync}

@@ -1,8 +1,8 @@
 -- A list of distinct numbers below m is not longer than m: so a block of a sound program reserves at most eight objects.
-use Rattle.std.proofs.Common.{◌≡◌, ◌<◌, ◌≤◌, ℕ, ◌==◌, ◌||◌, Bool, true, false, List, [], ◌∷◌, eqb, length, sym, ap, ◌∙◌, subst, arith, eqb→eq, refl}
+use Rattle.std.proofs.Common.{◌≡◌, ◌<◌, ◌≤◌, ℕ, ◌==◌, ◌||◌, Bool, true, false, List, [], ◌∷◌, eqb, length, sym, subst, arith, refl}
 use Rattle.std.proofs.lemmas.Map.Steps.{length-le_from_distinct_below}
 use Rattle.std.specs.List.{AllByRecursion, IsDistinct, list_any}
-use Rattle.qs_check.specs.Program.{ProgramShape, block_at, blocks_of, text_of}
+use Rattle.qs_check.specs.Program.{ProgramShape, block_at, blocks_of}
 use Rattle.qs_check.specs.Sound.{IsSound, IsSoundBlock}
 use Rattle.qs_check.proofs.Bounds.{sound_block}
 

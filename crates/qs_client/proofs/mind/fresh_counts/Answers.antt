@@ -1,7 +1,7 @@
-use Rattle.std.proofs.Common.{◌≡◌, ◌<◌, ◌≤◌, ℕ, suc, ◌+◌, ◌-◌, ◌*◌, List, [], ◌∷◌, ◌++◌, length, map, get_or, drop, set, replicate, refl, sym, ap, ◌∙◌, subst, arith}
+use Rattle.std.proofs.Common.{◌≡◌, ◌<◌, ℕ, suc, ◌+◌, List, [], ◌++◌, length, get_or, set, replicate, sym, ap, ◌∙◌, arith}
 use Rattle.std.proofs.lemmas.List.{get_or-map, length-map}
 use Rattle.qs_syncset.specs.Codes.{BlockCode, no_code}
-use Rattle.qs_syncset.specs.SyncRows.{CountsState, begun_rows, no_syncs, objects_in}
+use Rattle.qs_syncset.specs.SyncRows.{CountsState, begun_rows, no_syncs}
 use Rattle.qs_syncset.specs.declared.sync_counts.SyncCount.{SyncCount}
 use Rattle.qs_syncset.proofs.CountRows.{begun_all, begun_beyond, begun_next, begun_none, length_begun, objects_end, objects_next}
 use Rattle.qs_client_run.proofs.Codes.{few_blocks, few_objects}

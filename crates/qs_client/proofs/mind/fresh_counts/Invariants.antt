@@ -1,4 +1,4 @@
-use Rattle.std.proofs.Common.{◌≡◌, ◌≤◌, ◌+◌, ◌*◌, drop, take}
+use Rattle.std.proofs.Common.{◌≡◌, ◌≤◌, ◌+◌, ◌*◌, drop}
 use Rattle.qs_syncset.specs.SyncRows.{begun_rows, objects_in}
 use Rattle.qs_client.specs.Mind.{lists_of}
 use Rattle.qs_client.proofs.mind.fresh_counts.Given as goal

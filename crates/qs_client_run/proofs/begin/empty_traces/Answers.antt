@@ -1,4 +1,4 @@
-use Rattle.std.proofs.Common.{◌≡◌, ◌<◌, ◌≤◌, ◌*◌, ◌+◌, ℕ, List, [], ◌∷◌, ◌++◌, length, map, take, refl, sym, ap, ◌∙◌, arith}
+use Rattle.std.proofs.Common.{◌≡◌, ◌<◌, ◌+◌, ℕ, List, [], ◌∷◌, ◌++◌, length, map, take, sym, ap, ◌∙◌, arith}
 use Rattle.std.proofs.lemmas.List.{map-append, take_more}
 use Rattle.qs_objects.specs.Sums.{total}
 use Rattle.qs_syncset.specs.Codes.{BlockCode, no_code}

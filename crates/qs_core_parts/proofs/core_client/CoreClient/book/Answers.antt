@@ -1,4 +1,4 @@
-use Rattle.std.proofs.Common.{refl, sym, ap, ◌∙◌}
+use Rattle.std.proofs.Common.{ap, ◌∙◌}
 use Rattle.qs_client.specs.Mind.{booked_mind}
 use Rattle.qs_core_parts.specs.CoreClients.{CoreClientState, whole_of}
 use Rattle.qs_core_parts.proofs.ClientModels.{booked_seat}

@@ -1,4 +1,3 @@
-use Rattle.std.proofs.Common.{refl, sym, ap, ◌∙◌}
 use Rattle.qs_core_parts.specs.CoreClients.{CoreClientState}
 use Rattle.qs_core_parts.proofs.ClientModels.{fresh_seat}
 use Rattle.qs_core_parts.proofs.core_client.CoreClient.new.Goals as goal

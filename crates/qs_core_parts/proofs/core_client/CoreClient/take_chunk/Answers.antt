@@ -1,4 +1,4 @@
-use Rattle.std.proofs.Common.{refl, sym, subst, ap, ◌∙◌}
+use Rattle.std.proofs.Common.{refl}
 use Rattle.qs_core_parts.specs.CoreClients.{CoreClientState}
 use Rattle.qs_core_parts.proofs.ClientModels.{asked_chunk, code_chunk}
 use Rattle.qs_core_parts.proofs.core_client.CoreClient.take_chunk.Goals as goal

@@ -1,4 +1,4 @@
-use Rattle.std.proofs.Common.{◌≡◌, ◌<◌, ◌≤◌, ℕ, ◌+◌, ◌-◌, List, [], ◌∷◌, ◌++◌, append-nil, length, get_or, get_or-set_other, length-set, set, take, refl, sym, ap, ◌∙◌, subst, arith}
+use Rattle.std.proofs.Common.{◌≡◌, ◌-◌, List, [], ◌∷◌, ◌++◌, append-nil, length, get_or, get_or-set_other, length-set, set, take, sym, ap, ◌∙◌, arith}
 use Rattle.std.proofs.lemmas.List.{get_or_default, set-get_or, take_all}
 use Rattle.qs_syncset.specs.SyncRows.{CountsState, counts_state, no_syncs, sync_count}
 use Rattle.qs_syncset.specs.declared.sync_counts.SyncCount.{SyncCount}

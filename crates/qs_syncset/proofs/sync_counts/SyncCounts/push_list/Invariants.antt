@@ -1,4 +1,4 @@
-use Rattle.std.proofs.Common.{◌≡◌, ◌++◌, ◌+◌, [], get_or, length, set, take}
+use Rattle.std.proofs.Common.{◌≡◌, ◌++◌, ◌+◌, [], get_or, set, take}
 use Rattle.qs_syncset.specs.SyncRows.{no_syncs}
 use Rattle.qs_syncset.proofs.sync_counts.SyncCounts.push_list.Given as goal
 
