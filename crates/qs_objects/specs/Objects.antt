@@ -63,6 +63,11 @@ needs_memory (kinds.Account b) = false
 needs_memory (kinds.Buffer k) = true
 needs_memory (kinds.Grid n k) = true
 
+abbrev pub has_memory : Content → Bool
+has_memory (account b) = false
+has_memory (buffer k xs) = true
+has_memory (grid n k cells) = true
+
 -- an account's kind has its balance now
 abbrev pub kind_of : Content → Kind
 kind_of (account b) = kinds.Account b

@@ -1,6 +1,7 @@
 // Tickets, what is written down of requests, and an object with its journal.
 
-ghost use Rattle.std.specs.Prelude.{◌≡◌, [], length, IfOk};
+ghost use Rattle.std.specs.Prelude.{◌≡◌, ◌<◌, ◌+◌, ◌⊎◌, [], length, IfOk, IsErr, IsTrue};
+ghost use Rattle.qs_objects.specs.Objects.{has_memory};
 ghost use Rattle.qs_objects.specs.Journals.{ran, has_room as room_is_left};
 
 use crate::Request;
@@ -125,6 +126,7 @@ impl Held {
     pub fn new(alloc: Global, object: Object, room: usize) -> Result<Held, AllocError>
         ensures ok { IfOk result (λ held. held
             ≡ record { object = object; journal = []; room = room }) }
+        ensures memory { IsErr result → 0 < room }
     {
         let entries = Vec::with_capacity(alloc, room)?;
         Ok(Held {
@@ -137,6 +139,7 @@ impl Held {
     /// The same once more, with memory of its own. An error says that this memory was refused.
     pub fn copied(&self, alloc: Global) -> Result<Held, AllocError>
         ensures same { IfOk result (λ held. held ≡ self.now) }
+        ensures memory { IsErr result → IsTrue (has_memory self.now.object.content) ⊎ (0 < self.now.room + length self.now.journal) }
     {
         let object = self.object.copied(alloc)?;
         let mut entries = Vec::with_capacity(alloc, self.room)?;

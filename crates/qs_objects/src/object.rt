@@ -1,7 +1,7 @@
 // Objects: accounts, buffers and grids.
 
-ghost use Rattle.std.specs.Prelude.{◌≡◌, ◌↔◌, ◌≤◌, length, Some, None, IfOk, IsErrOf, IsSome, IsTrue, slice_get, pos, ◌+ℤ◌, ℤ, vec_capacity};
-ghost use Rattle.qs_objects.specs.Objects.{IsKept, starts, needs_memory, kind_of, state_of, values_of};
+ghost use Rattle.std.specs.Prelude.{◌≡◌, ◌↔◌, ◌≤◌, length, Some, None, IfOk, IsErr, IsErrOf, IsSome, IsTrue, slice_get, pos, ◌+ℤ◌, ℤ, vec_capacity};
+ghost use Rattle.qs_objects.specs.Objects.{IsKept, starts, has_memory, needs_memory, kind_of, state_of, values_of};
 ghost use Rattle.qs_objects.specs.Act.{act, clamped};
 
 use crate::{Request, account, buffer, grid};
@@ -60,6 +60,7 @@ impl Content {
         requires kept { IsKept self.now }
         ensures same { IfOk result (λ content. (refused : ℤ) → state_of content refused ≡ state_of self.now refused) }
         ensures kept { IfOk result IsKept }
+        ensures memory { IsErr result → (refused : ℤ) → IsTrue (has_memory (state_of self.now refused).content) }
     {
         match self {
             Content::Account { balance } => Ok(Content::Account { balance: *balance }),
@@ -149,9 +150,10 @@ impl Object {
         })
     }
 
-    /// The same object once more, with memory of its own. An error says that this memory was refused.
+    /// The same object once more, with memory of its own. An error says that this memory was refused, never at an account.
     pub fn copied(&self, alloc: Global) -> Result<Object, AllocError>
         ensures same { IfOk result (λ object. object ≡ self.now) }
+        ensures memory { IsErr result → IsTrue (has_memory self.now.content) }
     {
         Ok(Object {
             content: self.content.copied(alloc)?,
