@@ -13,7 +13,8 @@ use Rattle.qs_syncset.specs.Codes.{BlockCode, ClientCode, IsCodeOf, code_at, no_
 use Rattle.qs_syncset.specs.SyncRows.{fresh_rows, no_syncs}
 use Rattle.qs_handler.specs.Handler.{free}
 use Rattle.qs_client.specs.Mind.{Mind, fresh_mind, lists_of}
-use Rattle.qs_core_laws.specs.Core.{AreCodes, core_begin, fresh_held}
+use Rattle.qs_played.specs.JournalRooms.{fresh_held}
+use Rattle.qs_core_laws.specs.Core.{AreCodes, core_begin}
 use Rattle.qs_core_laws.proofs.CoreCodes.{reserved_is}
 use Rattle.qs_core_parts.specs.CoreClients.{AreStocked, CoreClientState, whole_of}
 use Rattle.qs_core_parts.specs.CoreHandlers.{CoreHandlerState, handler_of, no_seat}

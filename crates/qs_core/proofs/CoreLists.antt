@@ -8,7 +8,7 @@ use Rattle.qs_check.specs.Program.{ProgramShape}
 use Rattle.qs_meaning.specs.Solo.{put}
 use Rattle.qs_handler.specs.Handler.{Handler, free}
 use Rattle.qs_client_run.proofs.Hold.{put_same, put_set_at}
-use Rattle.qs_core_laws.specs.Core.{fresh_held}
+use Rattle.qs_played.specs.JournalRooms.{fresh_held}
 use Rattle.qs_core_parts.specs.CoreClients.{CoreClientState}
 use Rattle.qs_core_parts.specs.CoreHandlers.{CoreHandlerState, handler_of}
 use Rattle.qs_core.specs.CoreState.{handler_at, no_side, side_at, side_of, tickets_at}

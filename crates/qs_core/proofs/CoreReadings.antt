@@ -9,7 +9,7 @@ use Rattle.qs_handler.specs.Handler.{Handler, free, serves, spares, gives, away,
 use Rattle.qs_handler.specs.declared.mind.Act.{Act}
 use Rattle.qs_handler.specs.declared.mind.Act.TheVariants as acts
 use Rattle.qs_client.specs.Mind.{is_between}
-use Rattle.qs_core_laws.specs.Core.{fresh_held}
+use Rattle.qs_played.specs.JournalRooms.{fresh_held}
 use Rattle.qs_core_laws.specs.CoreReached.{IsBegun, ReachedCore}
 use Rattle.qs_core_laws.specs.CoreSchedule.{all_of, core_played, found_by, held_now, held_or_none, is_done, is_finished, is_idle}
 use Rattle.qs_core_parts.specs.CoreHandlers.{is_waiting, CoreHandlerState, handler_of, no_seat, seat_at, turns_to}

@@ -28,7 +28,8 @@ use Rattle.qs_protocol.proofs.ClientInvariants.{listed, Lined, Leaving, PlaceOk,
 use Rattle.qs_protocol.proofs.ClientLogs.{books_ok}
 use Rattle.qs_protocol.proofs.ObjectSteps.{enter_ok}
 use Rattle.qs_protocol.proofs.ActObjects.{settle_begun}
-use Rattle.qs_core_laws.specs.Core.{Core, fresh_held}
+use Rattle.qs_played.specs.JournalRooms.{fresh_held}
+use Rattle.qs_core_laws.specs.Core.{Core}
 use Rattle.qs_core_laws.proofs.CoreInvariant.{LaneHistory, post, deeds, TicketOk, CoreInvariant}
 use Rattle.qs_core_laws.proofs.HandlerSteps.{of_ahead}
 use Rattle.qs_core_laws.proofs.ClientSteps.{place_page, place_lane, place_gone}

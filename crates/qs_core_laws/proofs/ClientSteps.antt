@@ -21,7 +21,8 @@ use Rattle.qs_played.specs.Played.{ticket}
 use Rattle.qs_protocol.proofs.ObjectViews.{HandlerLog, IsObject}
 use Rattle.qs_protocol.proofs.ClientInvariants.{in_hand, IsOpenPage, PlaceOk, standing_at}
 use Rattle.qs_protocol.proofs.ActKinds.{in_hand_gone}
-use Rattle.qs_core_laws.specs.Core.{Core, fresh_held}
+use Rattle.qs_played.specs.JournalRooms.{fresh_held}
+use Rattle.qs_core_laws.specs.Core.{Core}
 use Rattle.qs_core_laws.proofs.CoreInvariant.{LaneHistory, post, deeds, TicketOk, CoreInvariant}
 use Rattle.qs_core_laws.proofs.LaneHistoryMoves.{begins_kept, none_after, told_here, told_there}
 

@@ -27,7 +27,8 @@ use Rattle.qs_protocol.proofs.ObjectViews.{stance, Rising, HandlerLog, ahead}
 use Rattle.qs_protocol.proofs.LaneParts.{IsEnded, AreCut, ended_back, gone_ended, lane_of_other, lane_of_own}
 use Rattle.qs_protocol.proofs.LaneWays.{gone_over}
 use Rattle.qs_protocol.proofs.LaneWholes.{IsCut, chunk_of, cut_back, sent_cut}
-use Rattle.qs_core_laws.specs.Core.{Core, fresh_held}
+use Rattle.qs_played.specs.JournalRooms.{fresh_held}
+use Rattle.qs_core_laws.specs.Core.{Core}
 use Rattle.qs_core_laws.specs.CoreSchedule.{in_chunk, on_way, or_none}
 use Rattle.qs_core_laws.proofs.CoreInvariant.{LaneHistory, post, TicketOk, CoreInvariant}
 use Rattle.qs_core_laws.proofs.HandlerSteps.{deeds_ok, may_ahead}

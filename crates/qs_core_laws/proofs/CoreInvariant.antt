@@ -15,7 +15,8 @@ use Rattle.qs_played.specs.Played.{ticket}
 use Rattle.qs_played.proofs.Orders.{counts_after}
 use Rattle.qs_protocol.proofs.ClientInvariants.{HasNone, IsOpenPage, PlaceOk, standing_at}
 use Rattle.qs_protocol.proofs.ObjectViews.{as_list, ObjectView, ClientLog, HandlerLog, IsObject}
-use Rattle.qs_core_laws.specs.Core.{Core, fresh_held}
+use Rattle.qs_played.specs.JournalRooms.{fresh_held}
+use Rattle.qs_core_laws.specs.Core.{Core}
 
 -- of each ticket its page, and for each object what its client sent and got, and how it stands
 pub record LaneHistory : Type 0 where

@@ -38,7 +38,8 @@ use Rattle.qs_played.proofs.JournalRooms.{no_block_beyond, sum_changed, sum_same
 use Rattle.qs_protocol.proofs.ActObjects.{await_at, need_at, not_await, not_need, not_send, send_at}
 use Rattle.qs_protocol.proofs.LaneWays.{MayCome}
 use Rattle.qs_protocol.proofs.ObjectViews.{HandlerLog, PastOf}
-use Rattle.qs_core_laws.specs.Core.{Core, AreCodes, blocks, client_step, core_begin, fresh_held, settings_of}
+use Rattle.qs_played.specs.JournalRooms.{fresh_held}
+use Rattle.qs_core_laws.specs.Core.{Core, AreCodes, blocks, client_step, core_begin, settings_of}
 use Rattle.qs_core_laws.specs.CoreSchedule.{before_it, core_plays, found_by}
 use Rattle.qs_core_laws.specs.CoreReached.{NextStands, IsBegun, HandlersServe, ClientsAsk, TicketsStand, OthersRest, CoreStands, ReachedCore}
 use Rattle.qs_core_laws.proofs.CoreBounds.{CoreBounded, run_both}

@@ -24,7 +24,8 @@ use Rattle.qs_played.specs.declared.actor.Actor.{Actor}
 use Rattle.qs_played.specs.declared.actor.Actor.TheVariants as actor
 use Rattle.qs_protocol.proofs.ObjectViews.{HandlerLog}
 use Rattle.qs_protocol.proofs.ActObjects.{not_send, not_await, not_need, reserve_at}
-use Rattle.qs_core_laws.specs.Core.{Core, AreCodes, blocks, client_step, core_begin, core_step, fresh_held, gets, gives_chunk, handled, handler_step, handles, lane_room, lies, put_lane, reserves_from, settings_of, settled, spare_room, synced, takes_chunk, takes_parcel, takes_ticket, tree_of, with_down, with_spare, with_tickets, with_up}
+use Rattle.qs_played.specs.JournalRooms.{fresh_held}
+use Rattle.qs_core_laws.specs.Core.{Core, AreCodes, blocks, client_step, core_begin, core_step, gets, gives_chunk, handled, handler_step, handles, lane_room, lies, put_lane, reserves_from, settings_of, settled, spare_room, synced, takes_chunk, takes_parcel, takes_ticket, tree_of, with_down, with_spare, with_tickets, with_up}
 use Rattle.qs_core_laws.specs.CoreSchedule.{core_or_stay, core_plays}
 use Rattle.qs_core_laws.proofs.CoreInvariant.{LaneHistory, CoreInvariant}
 use Rattle.qs_core_laws.proofs.CoreCodes.{lined, blocks_are, reserved_is, block_walk}

@@ -1,5 +1,5 @@
 -- The Syncs of the optimised machine, counted by the traces.
-use Rattle.std.proofs.Common.{◌≡◌, ◌<◌, ◌≤◌, ℕ, suc, ◌+◌, ◌==◌, ◌&&◌, nat_lt, nat_eq, Bool, true, false, if◌then◌else◌, List, [], ◌∷◌, length, map, refl, sym, ap, ◌∙◌, subst, inl, inr, arith}
+use Rattle.std.proofs.Common.{◌≡◌, ◌<◌, ◌≤◌, ℕ, suc, ◌+◌, ◌==◌, ◌&&◌, nat_lt, nat_eq, Bool, true, false, if◌then◌else◌, List, [], ◌∷◌, length, map, refl, sym, ap, ap₂, ◌∙◌, subst, inl, inr, arith}
 use Rattle.std.specs.Prelude.{sum_by}
 use Rattle.std.specs.List.{AllByRecursion}
 use Rattle.std.proofs.lemmas.List.{get_or-map}
@@ -35,14 +35,9 @@ use Rattle.qs_protocol.proofs.ObjectViews.{HandlerLog}
 use Rattle.qs_core_laws.specs.Core.{AreCodes, Core, core_begin, reserved_of, settings_of, tree_of}
 use Rattle.qs_core_laws.specs.CoreSchedule.{core_played, core_plays}
 use Rattle.qs_core_laws.specs.CoreSyncSums.{CoreSyncsAreCounted}
-use Rattle.qs_core_laws.proofs.CoreCodes.{longest_covers}
+use Rattle.qs_core_laws.proofs.CountedTraces.{sent_as, trace_counted, tree_count}
 use Rattle.qs_core_laws.proofs.CoreCounting.{AreTold, CountedBy, run_counted}
 use Rattle.qs_core_laws.proofs.CoreInvariant.{LaneHistory, CoreInvariant, TicketOk}
-
--- the same counts, said otherwise
-pub sent_as : (ended : Bool) (sent counts others : ℕ → ℕ) → ((h : ℕ) → counts h ≡ others h) → AreSent ended sent counts → AreSent ended sent others
-sent_as ended sent counts others same (inl exact) = inl (λ h. exact h ∙ same h)
-sent_as ended sent counts others same (inr one) = inr (one.0, one.1, λ h. one.2 h ∙ ap (λ k. (if one.1 == h then 1 else 0) + k) (same h))
 
 module _ (program : ProgramShape) (sound : IsSound program) (mode : Mode) (code : ℕ → ClientCode) (codes : AreCodes program mode code) (size : ℕ)
     (s : Core) (y : LaneHistory) (g : ℕ → HandlerLog) (kept : CoreInvariant program s y g) (n : Ticket → ℕ → ℕ)
@@ -103,28 +98,6 @@ module _ (program : ProgramShape) (sound : IsSound program) (mode : Mode) (code 
     own_block = AllByRecursion-get_or (λ (t : Ticket). t.index < blocks_of program t.client) s.order i (ticket 0 0)
         (legal_blocks program (λ _. 0) s.order kept.legal) inside
 
-    own_client : t.client < length program.clients
-    own_client = let own = own_block in no_block_beyond program t.client (omega (arith, own))
-
-    leads : Leads (block_tree program t (s.entry t)) (s.trace t) (y.page t).rest
-    leads = subst (λ l. Leads (block_tree program t l) (s.trace t) (y.page t).rest) (kept.entry t)
-        (subst (λ es. Leads (block_tree program t (y.page t).entry) es (y.page t).rest) (kept.trace t) ok.page.path)
-
-    by_mode : (h : ℕ) → IsSentBy mode (text_of program t).body (code_at (code t.client) t.index).graph (longest (code t.client).blocks) (s.entry t)
-        (s.trace t) h
-    by_mode h =
-        syncs_are_counted program mode t.client (code t.client) sound (codes.own t.client own_client) t.index (longest (code t.client).blocks) (s.entry t)
-        (s.trace t) (y.page t).rest h own_block
-        (longest_covers (code t.client).blocks t.index) leads
-
-    -- the tree's count, with the test as the mode says
-    tree_is : (h : ℕ) → by_tree t h ≡ syncs_along (is_dynamic mode) h false (tree_of code size t (s.entry t)) (s.trace t)
-    tree_is h = ap (λ d. syncs_along d h false (tree_of code size t (s.entry t)) (s.trace t)) (codes.own t.client own_client).dynamic
-
-    counts_as : (others : ℕ → ℕ) → ((h : ℕ) → syncs_along (is_dynamic mode) h false (tree_of code size t (s.entry t)) (s.trace t) ≡ others h)
-        → AreSent (has_ended (s.client t.client) t.index) (n t) others
-    counts_as others same = sent_as (has_ended (s.client t.client) t.index) (n t) (by_tree t) others (λ h. tree_is h ∙ same h) (ticket_sent t below)
-
     ended_is : ended_of r i ≡ has_ended (s.client t.client) t.index
     ended_is = get_or-map (λ (t : Ticket). has_ended (s.client t.client) t.index) s.order i (ticket 0 0) false inside
 
@@ -141,27 +114,21 @@ module _ (program : ProgramShape) (sound : IsSound program) (mode : Mode) (code 
     numbers : (h : ℕ) → syncs_at r i h ≡ n t h
     numbers h = ap (λ xs. syncs_for xs h) counts_are ∙ (told t).numbers h
 
+    leads : Leads (block_tree program t (entry_of r i)) (trace_of r i) (y.page t).rest
+    leads = subst (λ l. Leads (block_tree program t l) (trace_of r i) (y.page t).rest) (kept.entry t ∙ sym entry_is)
+        (subst (λ es. Leads (block_tree program t (y.page t).entry) es (y.page t).rest) (kept.trace t ∙ sym trace_is) ok.page.path)
+
+    tree_is : (h : ℕ) → by_tree t h ≡ tree_count program sound mode code codes size r i h
+    tree_is h = sym (ap₂ (λ l es. syncs_along (code t.client).dynamic h false (tree_of code size t l) es) entry_is trace_is)
+
+    counts_sent : AreSent (ended_of r i) (syncs_at r i) (tree_count program sound mode code codes size r i)
+    counts_sent = sent_of (ended_of r i) (n t) (syncs_at r i) (tree_count program sound mode code codes size r i) (λ h. sym (numbers h))
+        (sent_as (ended_of r i) (n t) (by_tree t) (tree_count program sound mode code codes size r i) tree_is
+        (subst (λ b. AreSent b (n t) (by_tree t)) (sym ended_is) (ticket_sent t below)))
+
     is_counted : IsCounted program mode r i
-    is_counted = record {
-      listed = ap (map object_of) counts_are ∙ (told t).objects;
-      plain = λ e. shown (λ es. λ h. queries h es) (counts_as (λ h. queries h (s.trace t)) (λ h. (by_mode h).plain e));
-      dynamic = λ e. shown (λ es. λ h. counts.runs h es) (counts_as (λ h. counts.runs h (s.trace t)) (λ h. (by_mode h).dynamic e));
-      static = λ e held decides.
-          subst (λ l. AreSent (ended_of r i) (syncs_at r i) (λ h. counts.kept (text_of program t).body held l h (trace_of r i))) (sym entry_is)
-          (shown (λ es. λ h. counts.kept (text_of program t).body held (s.entry t) h es)
-          (counts_as (λ h. counts.kept (text_of program t).body held (s.entry t) h (s.trace t)) (λ h. (by_mode h).static e held decides)));
-      tested = λ e. (by_mode 0).tested e;
-      ordered = λ held decides h.
-          subst (λ l. AreOrdered (text_of program t).body l (trace_of r i) h held) (sym entry_is)
-          (subst (λ es. AreOrdered (text_of program t).body (s.entry t) es h held) (sym trace_is) ((by_mode h).ordered held decides));
-      few = λ h. runs_within h (trace_of r i);
-    }
-      where
-        shown : (count : List Event → ℕ → ℕ) → AreSent (has_ended (s.client t.client) t.index) (n t) (count (s.trace t)) → AreSent (ended_of r i)
-            (syncs_at r i) (count (trace_of r i))
-        shown count sent = sent_of (ended_of r i) (n t) (syncs_at r i) (count (trace_of r i)) (λ h. sym (numbers h))
-            (subst (λ b. AreSent b (n t) (count (trace_of r i))) (sym ended_is)
-            (subst (λ es. AreSent (has_ended (s.client t.client) t.index) (n t) (count es)) (sym trace_is) sent))
+    is_counted =
+        trace_counted program sound mode code codes size r i own_block (y.page t).rest leads counts_sent (ap (map object_of) counts_are ∙ (told t).objects)
 
   -- all counts together
   all_syncs : (ts : List Ticket) → sum_by syncs_of (map s.sync_counts ts) ≡ total_of program n ts

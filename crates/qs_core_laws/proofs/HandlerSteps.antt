@@ -21,7 +21,8 @@ use Rattle.qs_protocol.proofs.ObjectViews.{stance, as_list, ObjectView, HandlerL
 use Rattle.qs_protocol.proofs.LaneMoves.{HandlerGoes, handler_work, handler_sync, handler_home}
 use Rattle.qs_protocol.proofs.LaneWays.{MayCome}
 use Rattle.qs_protocol.proofs.ObjectSteps.{take_ok, give_ok, spare_ok, way_head, may_come, parcel_on, parcel_end}
-use Rattle.qs_core_laws.specs.Core.{Core, fresh_held, put_lane}
+use Rattle.qs_played.specs.JournalRooms.{fresh_held}
+use Rattle.qs_core_laws.specs.Core.{Core, put_lane}
 use Rattle.qs_core_laws.proofs.CoreInvariant.{LaneHistory, post, deeds, TicketOk, CoreInvariant}
 
 pub put_lane_at : {A : Type 0} (f : ℕ → ℕ → A) (c h : ℕ) (a : A) (d : ℕ) → put_lane f c h a d h ≡ put (λ c. f c h) c a d

@@ -23,11 +23,11 @@ use Rattle.qs_meaning.proofs.RequestPaths.{requests_within}
 use Rattle.qs_chunk.specs.LaneViews.{AllCommands, Extends, gone, ClientLane, HandlerLane, object_of}
 use Rattle.qs_chunk.specs.LaneParts.{commands_in}
 use Rattle.qs_handler.specs.Handler.{Handler, free, serves, spares, gives, away, closed, serving}
-use Rattle.qs_played.specs.JournalRooms.{room_of}
+use Rattle.qs_played.specs.JournalRooms.{fresh_held, room_of}
 use Rattle.qs_played.proofs.JournalRooms.{all_left, cost, leads_within, order_fits, total, total_less}
 use Rattle.qs_protocol.proofs.LaneWholes.{chunk_of, match_over, match_whole, waits_are}
 use Rattle.qs_protocol.proofs.ObjectViews.{stance, as_list, HandlerLog, PastOf, ahead}
-use Rattle.qs_core_laws.specs.Core.{Core, fresh_held}
+use Rattle.qs_core_laws.specs.Core.{Core}
 use Rattle.qs_core_laws.specs.CoreSchedule.{on_way}
 use Rattle.qs_core_laws.proofs.CoreInvariant.{LaneHistory, post, TicketOk, CoreInvariant}
 use Rattle.qs_core_laws.proofs.CoreObjects.{object_now}
@@ -93,17 +93,17 @@ grown t x (e ∷ es) y k le = by_case (has_room x) refl (λ x k le. grown t x es
         }
 
 -- an honest journal after these events
-stamped_honest : (t : Ticket) (x z : HeldState) (es : List Event) (j : List Entry) → Grown t x es z → IsHonest z.object (unstamped j) → IsHonest x.object (unstamped (map (stamp t) es ++ j))
+pub stamped_honest : (t : Ticket) (x z : HeldState) (es : List Event) (j : List Entry) → Grown t x es z → IsHonest z.object (unstamped j) → IsHonest x.object (unstamped (map (stamp t) es ++ j))
 stamped_honest t x z es j e k =
     let is : unstamped (map (stamp t) es ++ j) ≡ es ++ unstamped j = map-append unstamp (map (stamp t) es) j ∙ ap (λ es. es ++ unstamped j) (unstamp_all t es) in
     subst (IsHonest x.object) (sym is) (IsHonest-append x.object es (unstamped j) e.honest (subst (λ s. IsHonest s (unstamped j)) e.state k))
 
-stamped_replay : (t : Ticket) (x z : HeldState) (es : List Event) (j : List Entry) → Grown t x es z → replay x.object (unstamped (map (stamp t) es ++ j)) ≡ replay z.object (unstamped j)
+pub stamped_replay : (t : Ticket) (x z : HeldState) (es : List Event) (j : List Entry) → Grown t x es z → replay x.object (unstamped (map (stamp t) es ++ j)) ≡ replay z.object (unstamped j)
 stamped_replay t x z es j e =
     let is : unstamped (map (stamp t) es ++ j) ≡ es ++ unstamped j = map-append unstamp (map (stamp t) es) j ∙ ap (λ es. es ++ unstamped j) (unstamp_all t es) in
     ap (replay x.object) is ∙ (replay-append x.object es (unstamped j) ∙ ap (λ s. replay s (unstamped j)) (sym e.state))
 
-grown_room : (t : Ticket) (x z : HeldState) (es : List Event) (n : ℕ) → Grown t x es z → length x.journal + (length es + n) ≤ x.room → length z.journal + n ≤ z.room
+pub grown_room : (t : Ticket) (x z : HeldState) (es : List Event) (n : ℕ) → Grown t x es z → length x.journal + (length es + n) ≤ x.room → length z.journal + n ≤ z.room
 grown_room t x z es n e le =
     let a : length z.journal ≡ length x.journal + length es = ap length e.journal ∙ (length-append x.journal (map (stamp t) es) ∙ ap (λ m. length x.journal + m) (length-map es (stamp t))) in
     let b = e.room in

@@ -12,6 +12,7 @@ pub mod CoreObjects
 pub mod CoreReached
 pub mod CoreSteps
 pub mod CoreSyncs
+pub mod CountedTraces
 pub mod CommandsInTransit
 pub mod HandlerSteps
 pub mod SendingPreserved

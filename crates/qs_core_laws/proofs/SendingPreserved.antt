@@ -30,7 +30,8 @@ use Rattle.qs_protocol.proofs.LaneWholes.{match_over}
 use Rattle.qs_protocol.proofs.ClientLogs.{sends_ok, gets_ok, chunks_ok}
 use Rattle.qs_protocol.proofs.ActObjects.{send_at, await_at, sent_begun, got_begun, chunk_begun}
 use Rattle.qs_protocol.proofs.ObjectSteps.{send_ok, got_ok, last_of, up_serving}
-use Rattle.qs_core_laws.specs.Core.{Core, fresh_held, put_lane}
+use Rattle.qs_played.specs.JournalRooms.{fresh_held}
+use Rattle.qs_core_laws.specs.Core.{Core, put_lane}
 use Rattle.qs_core_laws.proofs.CoreInvariant.{LaneHistory, post, deeds, TicketOk, CoreInvariant}
 use Rattle.qs_core_laws.proofs.HandlerSteps.{put_lane_at, put_lane_there, put_up_at, put_up_there, post_path, deeds_ok, of_ahead, may_ahead}
 use Rattle.qs_core_laws.proofs.ClientSteps.{client_moves, moved, story}

@@ -16,6 +16,7 @@ use Rattle.qs_syncset.specs.Modes.{is_dynamic}
 use Rattle.qs_played.specs.ExampleRuns.{answers}
 use Rattle.qs_played.specs.Played.{Played}
 use Rattle.qs_core_laws.specs.Core.{AreCodes}
+use Rattle.qs_core_laws.specs.CoreExamples.{counted}
 use Rattle.qs_core_laws.specs.CoreSchedule.{core_played, core_scheduled}
 
 -- an account of 100, and a client whose one block is this
@@ -59,3 +60,6 @@ pub record CoalescedExamples : Type 0 where
   pub calls_dynamic : PlaysAlone call_in_repeat Dynamic (block_graph call_in_repeat) (some 100 ∷ some 100 ∷ None ∷ some 101 ∷ None ∷ []) 2
   pub calls_static : PlaysAlone call_in_repeat Static (block_graph call_in_repeat) (some 100 ∷ some 100 ∷ None ∷ some 101 ∷ None ∷ []) 3
   pub calls_both : PlaysAlone call_in_repeat Both (block_graph call_in_repeat) (some 100 ∷ some 100 ∷ None ∷ some 101 ∷ None ∷ []) 2
+  -- a Sync for each turn of the repeat and one before it
+  pub counts_static : (shown_alone Static call_in_repeat (block_graph call_in_repeat)).sync_counts ≡ (counted 0 3 ∷ []) ∷ []
+  pub counts_both : (shown_alone Both call_in_repeat (block_graph call_in_repeat)).sync_counts ≡ (counted 0 2 ∷ []) ∷ []

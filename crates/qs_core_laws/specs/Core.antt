@@ -6,7 +6,7 @@ use Rattle.qs_objects.specs.declared.held.Event.{Event}
 use Rattle.qs_objects.specs.declared.held.Ticket.{Ticket}
 use Rattle.qs_objects.specs.declared.held.Next.TheVariants as nexts
 use Rattle.qs_check.specs.Program.{ProgramShape, text_of}
-use Rattle.qs_meaning.specs.Serial.{declared, zeros}
+use Rattle.qs_meaning.specs.Serial.{zeros}
 use Rattle.qs_meaning.specs.Solo.{put}
 use Rattle.qs_check.specs.Sound.{is_in}
 use Rattle.qs_check.specs.Values.{Locals}
@@ -25,7 +25,7 @@ use Rattle.qs_client_run.specs.Client.{Client, Place, Settings, Settled, act_of,
 use Rattle.qs_client.specs.Mind.{tree_at}
 use Rattle.qs_client_run.specs.declared.act.Act as client_acts
 use Rattle.qs_client_run.specs.declared.act.Act.TheVariants as wants
-use Rattle.qs_played.specs.JournalRooms.{room_of}
+use Rattle.qs_played.specs.JournalRooms.{fresh_held}
 use Rattle.qs_played.specs.Played.{ticket}
 use Rattle.qs_played.specs.declared.actor.Actor.{Actor}
 use Rattle.qs_played.specs.declared.actor.Actor.TheVariants as actor
@@ -301,10 +301,6 @@ module _ (code : ℕ → ClientCode) (size : ℕ) where
   abbrev pub core_step : Core → Actor → Option Core
   core_step s (actor.Client c) = client_step s c (act_of (settings_of c) (blocks c) (s.client c))
   core_step s (actor.Handler h) = handler_step s h (handlers.act_of (s.handler h))
-
--- an object as declared, with its journal's room
-abbrev pub fresh_held : ProgramShape → ℕ → HeldState
-fresh_held p h = record { object = declared p h; journal = []; room = room_of p h }
 
 -- each client has its variables at 0, each handler its object, and in each lane lie four empty chunks
 abbrev pub core_begin : ProgramShape → Core

@@ -11,6 +11,7 @@ use Rattle.qs_check.specs.Program.{BlockShape, ProgramShape, client_at}
 use Rattle.qs_check.specs.Statements.{end, command}
 use Rattle.qs_graph.specs.Graphs.{block_graph}
 use Rattle.qs_syncset.specs.Codes.{BlockCode, ClientCode}
+use Rattle.qs_syncset.specs.declared.sync_counts.SyncCount.{SyncCount}
 use Rattle.qs_syncset.specs.declared.mode.Mode.TheVariants as modes
 use Rattle.qs_played.specs.ExampleRuns.{answers, holding, in_transfer}
 use Rattle.qs_played.specs.declared.actor.Actor.{Actor}
@@ -46,6 +47,10 @@ twice = program (hundred ∷ []) (client (block (0 ∷ []) (command (call 0 Depo
 -- the numbers of a ticket's commands on their way, after so many steps of client 0
 abbrev pub waiting : ProgramShape → ℕ → Ticket → List (List ℤ)
 waiting p steps t = map (λ (r : Request). r.args) (on_way (core_scheduled p (built false p) 8 (replicate steps (actor.Client 0)) 0) 0 t)
+
+-- so many Syncs for an object of a block's list
+abbrev pub counted : ℕ → ℕ → SyncCount
+counted object count = record { object = object; count = count }
 
 pub record CoreExamples : Type 0 where
   -- these are the codes of every program
@@ -93,3 +98,10 @@ pub record CoreExamples : Type 0 where
   pub second_waits : waiting twice 8 (ticket 0 1) ≡ (pos 2 ∷ []) ∷ []
   pub second_in_chunk : waiting twice 6 (ticket 0 1) ≡ (pos 2 ∷ []) ∷ []
   pub others : waiting twice 8 (ticket 1 0) ≡ []
+  -- the Syncs for each block and each object of its list; of an open block one more than its trace has queries
+  pub counts_of_one : (core_shown true deposit_of_5 [] 9).sync_counts ≡ (counted 0 1 ∷ []) ∷ []
+  pub counts_while_open : (core_shown true deposit_of_5 [] 4).sync_counts ≡ (counted 0 1 ∷ []) ∷ []
+  pub counted_before_its_reply : answers (core_shown true deposit_of_5 [] 4) ≡ (None ∷ []) ∷ []
+  pub counts_of_both :
+      (core_shown false transfer (actor.Client 0 ∷ actor.Client 1 ∷ actor.Client 1 ∷ actor.Client 1 ∷ actor.Client 1 ∷ actor.Client 1 ∷ []) 40).sync_counts
+      ≡ (counted 0 1 ∷ counted 1 1 ∷ []) ∷ (counted 0 0 ∷ []) ∷ (counted 1 1 ∷ []) ∷ []

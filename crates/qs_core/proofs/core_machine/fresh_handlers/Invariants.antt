@@ -1,6 +1,6 @@
 use Rattle.std.proofs.Common.{◌≡◌, ◌<◌, ℕ, [], length, get_or}
 use Rattle.qs_handler.specs.Handler.{free}
-use Rattle.qs_core_laws.specs.Core.{fresh_held}
+use Rattle.qs_played.specs.JournalRooms.{fresh_held}
 use Rattle.qs_core_parts.specs.CoreHandlers.{CoreHandlerState, handler_seat}
 use Rattle.qs_core.proofs.core_machine.fresh_handlers.Given as goal
 

@@ -86,5 +86,7 @@ returns c = record {
       syncs_are = refl;
       finished_is = refl;
     };
+    counts_static = refl;
+    counts_both = refl;
   };
 }

@@ -35,5 +35,9 @@ returns c = record {
     second_waits = refl;
     second_in_chunk = refl;
     others = refl;
+    counts_of_one = refl;
+    counts_while_open = refl;
+    counted_before_its_reply = refl;
+    counts_of_both = refl;
   };
 }
