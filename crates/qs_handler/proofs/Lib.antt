@@ -1,3 +1,4 @@
 pub mod Turns
 pub mod LaneTurns
 pub mod Runs
+pub mod RunTurns

@@ -43,6 +43,14 @@ given_to client (receives c parcel ∷ tasks) = given_to client tasks
 given_to client (gives c x ∷ tasks) = if c == client then x ∷ given_to client tasks else given_to client tasks
 given_to client (spares c chunk ∷ tasks) = given_to client tasks
 
+-- what it took from its queue of tickets, in order
+abbrev pub taken_by : List Task → List Next
+taken_by [] = []
+taken_by (takes next ∷ tasks) = next ∷ taken_by tasks
+taken_by (receives c parcel ∷ tasks) = taken_by tasks
+taken_by (gives c x ∷ tasks) = taken_by tasks
+taken_by (spares c chunk ∷ tasks) = taken_by tasks
+
 -- after all that it did from its first ticket on, it stands to each lane as it should, where chunks came in the lane's size
 abbrev pub RunsKeepLanes : Type 0
 RunsKeepLanes =

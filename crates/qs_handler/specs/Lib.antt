@@ -5,3 +5,4 @@ pub mod HandlerExamples
 pub mod HandlerLanes
 pub mod HandlerLaneExamples
 pub mod HandlerRuns
+pub mod HandlerTurns
