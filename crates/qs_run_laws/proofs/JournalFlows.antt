@@ -1,0 +1,107 @@
+-- An object's journal goes on along the order of reservations, block by block, where its handler served whole what each client sent.
+use Rattle.std.proofs.Common.{◌≡◌, ◌+◌, ◌≤◌, arith, ℕ, Bool, true, false, true≢false, if◌then◌else◌, List, [], ◌∷◌, ◌++◌, map, flat_map, filter, length, refl, sym, ap, ◌∙◌, subst, inl, append_assoc, append-nil}
+use Rattle.std.specs.List.{AllByRecursion}
+use Rattle.qs_objects.specs.Journals.{HeldState, replay, unstamped, IsHonest}
+use Rattle.qs_objects.specs.Parts.{logged, part, stamp}
+use Rattle.qs_objects.specs.declared.held.Entry.{Entry}
+use Rattle.qs_objects.specs.declared.held.Event.{Event}
+use Rattle.qs_objects.specs.declared.held.Ticket.{Ticket}
+use Rattle.qs_check.specs.Program.{ProgramShape}
+use Rattle.qs_meaning.specs.Following.{reserves}
+use Rattle.qs_meaning.proofs.Histories.{Flow, IsDone, Line, Page, done_of, parts_of}
+use Rattle.qs_chunk.specs.LaneViews.{ClientLane, Extends, HandlerLane, gone, sends}
+use Rattle.qs_chunk.specs.declared.parcel.Parcel.{Parcel}
+use Rattle.qs_played.proofs.JournalRooms.{total}
+use Rattle.qs_protocol.proofs.ClientInvariants.{apart_from}
+use Rattle.qs_protocol.proofs.LaneWholes.{match_over}
+use Rattle.qs_protocol.proofs.ObjectViews.{PastOf}
+use Rattle.qs_core_laws.proofs.JournalOrder.{Grown, grown, grown_room, stamped_honest, stamped_replay}
+
+-- nothing passes between a block and an object that it does not reserve
+no_requests : (t : Ticket) (sent : List Parcel) (got : List HeldState) (es : List Event) → sent ≡ [] → got ≡ [] → ClientLane t false sent got es (sends []) → es ≡ []
+no_requests t sent got es none_sent none_got lane = only (subst (λ ps. ClientLane t false ps got es (sends [])) none_sent lane)
+  where
+    only : ClientLane t false [] got es (sends []) → es ≡ []
+    only k = let none : k.0 ≡ [] = cc (k.1) in k.3 ∙ ap (λ rs. map logged rs) none
+
+module _ (p : ProgramShape) (page : Ticket → Page) (h : ℕ) (sent : Ticket → List Parcel) (got : Ticket → List HeldState) (end : HeldState) where
+  abbrev parts : Ticket → List Event
+  parts = parts_of page h
+
+  -- a block that is over, at the object
+  pub record IsOver (t : Ticket) : Type 0 where
+    pub done : IsDone (page t).rest
+    pub lane : ClientLane t false (sent t) (got t) (parts t) (apart_from p t h)
+    pub outside : reserves p t h ≡ false → (sent t ≡ []) × (got t ≡ [])
+
+  -- nothing is on its way, and the object is served by nobody
+  abbrev pub over_line : Line
+  over_line = record { may = λ t. reserves p t h; parts = parts; done = done_of page; waits = λ t. []; busy = ⊥; present = end.object }
+
+  -- what the journal got from here on, and where it leads
+  pub record Goes (x : HeldState) (ts : List Ticket) : Type 0 where
+    pub more : List Entry
+    pub journal : end.journal ≡ x.journal ++ more
+    pub by_tickets : more ≡ flat_map (λ t. map (stamp t) (parts t)) ts
+    pub flow : Flow over_line x.object more ts
+    pub honest : IsHonest x.object (unstamped more)
+    pub replayed : replay x.object (unstamped more) ≡ end.object
+
+  abbrev pub size_of : List Ticket → ℕ
+  size_of ts = total (λ t. length (parts t)) ts
+
+  none_at : (t : Ticket) → IsOver t → reserves p t h ≡ false → parts t ≡ []
+  none_at t over out =
+      let none = over.outside out in
+      no_requests t (sent t) (got t) (parts t) none.0 none.1
+      (subst (λ b. ClientLane t false (sent t) (got t) (parts t) (if b then gone else sends [])) out over.lane)
+
+  goes_past : (t : Ticket) (ts : List Ticket) (x : HeldState) → IsOver t → reserves p t h ≡ false → Goes x ts → Goes x (t ∷ ts)
+  goes_past t ts x over out next = record {
+    more = next.more;
+    journal = next.journal;
+    by_tickets = next.by_tickets ∙ ap (λ es. map (stamp t) es ++ flat_map (λ t. map (stamp t) (parts t)) ts) (sym (none_at t over out));
+    flow = (
+      record { ran = []; later = next.more; journal_is = refl; part_is = none_at t over out; honest = tt; commands = tt },
+      inl ((λ m. absurd (true≢false (sym m ∙ out))), refl, next.flow),
+    );
+    honest = next.honest;
+    replayed = next.replayed;
+  }
+
+  goes_over : (t : Ticket) (ts : List Ticket) (x y : HeldState) → IsOver t → Extends t x (parts t) y → Grown t x (parts t) y → Goes y ts → Goes x (t ∷ ts)
+  goes_over t ts x y over extends e next = record {
+    more = map (stamp t) (parts t) ++ next.more;
+    journal = next.journal ∙ (ap (λ j. j ++ next.more) e.journal ∙ append_assoc x.journal (map (stamp t) (parts t)) next.more);
+    by_tickets = ap (λ j. map (stamp t) (parts t) ++ j) next.by_tickets;
+    flow = (
+      record { ran = parts t; later = next.more; journal_is = refl; part_is = sym (append-nil (parts t)); honest = e.honest; commands = tt },
+      inl ((λ m. over.done), refl, subst (λ o. Flow over_line o next.more ts) e.state next.flow),
+    );
+    honest = stamped_honest t x y (parts t) next.more e next.honest;
+    replayed = stamped_replay t x y (parts t) next.more e ∙ next.replayed;
+  }
+
+  -- along the order, where the journal has room
+  pub goes : (ts : List Ticket) (x : HeldState) → AllByRecursion IsOver ts → PastOf sent got x (filter (λ t. reserves p t h) ts) end
+      → length x.journal + size_of ts ≤ x.room → Goes x ts
+  goes [] x over past room = record {
+    more = [];
+    journal = ap (λ (o : HeldState). o.journal) (sym past) ∙ sym (append-nil x.journal);
+    by_tickets = refl;
+    flow = (refl, ap (λ (o : HeldState). o.object) past);
+    honest = tt;
+    replayed = ap (λ (o : HeldState). o.object) past;
+  }
+  goes (t ∷ ts) x over past room = by_case (reserves p t h) refl past (λ x past room. goes ts x over.1 past room)
+    where
+      by_case : (b : Bool) → reserves p t h ≡ b → PastOf sent got x (if b then t ∷ filter (λ t. reserves p t h) ts else filter (λ t. reserves p t h) ts) end
+          → ((x : HeldState) → PastOf sent got x (filter (λ t. reserves p t h) ts) end → length x.journal + size_of ts ≤ x.room → Goes x ts)
+          → Goes x (t ∷ ts)
+      by_case false out past next = goes_past t ts x over.0 out (next x past (omega (arith, room)))
+      by_case true own past next =
+          let y = past.0 in
+          let lane = subst (λ b. ClientLane t false (sent t) (got t) (parts t) (if b then gone else sends [])) own over.0.lane in
+          let met = match_over t x y (sent t) (got t) past.1 (parts t) gone lane past.2 past.3 in
+          let e = grown t x (parts t) y met.0 (omega (arith, room)) in
+          goes_over t ts x y over.0 met.0 e (next y past.4 (grown_room t x y (parts t) (size_of ts) e room))

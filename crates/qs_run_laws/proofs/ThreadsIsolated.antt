@@ -1,0 +1,171 @@
+-- A run of threads is isolated: the blocks of its clients and the turns of its handlers make up an abstract run, whose journals flow along the
+-- order of reservations; by the one lemma on abstract runs it does what the serial run does.
+use Rattle.std.proofs.Common.{◌≡◌, ◌<◌, ◌≤◌, ◌+◌, arith, ℕ, zero, suc, Bool, true, false, if◌then◌else◌, nat_lt, get_or, List, [], ◌∷◌, ◌++◌, map, filter, length, refl, sym, ap, ◌∙◌, subst}
+use Rattle.std.proofs.lemmas.List.{get_or-map, get_or_past, length-map}
+use Rattle.std.proofs.lemmas.List.FromFn.{get_or-map-range_with_len, length-range_with_len}
+use Rattle.std.specs.List.{AllByRecursion, range_with_len}
+use Rattle.qs_objects.specs.Journals.{HeldState, replay, unstamped, IsHonest}
+use Rattle.qs_objects.specs.Parts.{HasEntry, part}
+use Rattle.qs_objects.specs.declared.held.Event.{Event}
+use Rattle.qs_objects.specs.declared.held.Ticket.{Ticket}
+use Rattle.qs_check.specs.Program.{ProgramShape, blocks_of, text_of}
+use Rattle.qs_check.specs.Sound.{IsSound}
+use Rattle.qs_check.specs.Values.{Locals}
+use Rattle.qs_check.proofs.Bounds.{AllByRecursion-get_or}
+use Rattle.qs_meaning.specs.Following.{block_tree, reserves}
+use Rattle.qs_meaning.specs.Serial.{declared, no_state}
+use Rattle.qs_meaning.proofs.Each.{each_map}
+use Rattle.qs_meaning.proofs.Histories.{Among, Begins, Flow, IsDone, IsPage, Page}
+use Rattle.qs_meaning.proofs.RequestPaths.{requests_within}
+use Rattle.qs_meaning.proofs.SerialRuns.{line}
+use Rattle.qs_syncset.specs.Codes.{ClientCode}
+use Rattle.qs_syncset.specs.declared.mode.Mode.{Mode}
+use Rattle.qs_client.specs.Mind.{Mind}
+use Rattle.qs_played.specs.Isolation.{IsFitting, IsIsolated, journal_of, state_of, ticket_at, trace_of}
+use Rattle.qs_played.specs.JournalRooms.{fresh_held, room_of}
+use Rattle.qs_played.specs.Played.{Played, ticket}
+use Rattle.qs_played.proofs.AbstractRun.{IsRun, run_isolated}
+use Rattle.qs_played.proofs.JournalRooms.{all_left, cost, leads_within, no_block_beyond, order_fits, total_less}
+use Rattle.qs_played.proofs.Orders.{legal_among}
+use Rattle.qs_core_laws.specs.Core.{AreCodes}
+use Rattle.qs_run_laws.specs.Settled.{counts_by, entry_by, shown_by, trace_by}
+use Rattle.qs_run_laws.specs.ThreadRuns.{IsThreadRun, ThreadRun}
+use Rattle.qs_run_laws.proofs.ClientLines.{legal_counts}
+use Rattle.qs_run_laws.proofs.JournalFlows.{Goes, IsOver, goes, size_of}
+use Rattle.qs_run_laws.proofs.LanesMeet.{all_counted, got_for, sent_for, served_whole}
+use Rattle.qs_run_laws.proofs.ThreadTales.{block_told, held_of, inside, mind_of, tale}
+
+module _ (p : ProgramShape) (sound : IsSound p) (mode : Mode) (code : ℕ → ClientCode) (codes : AreCodes p mode code) (size : ℕ) (r : ThreadRun)
+    (run : IsThreadRun p code size r) where
+  abbrev pub shown : Played
+  shown = shown_by p r
+
+  -- of each ticket its page, and of each object what its handler ended with
+  abbrev pub page : Ticket → Page
+  page t = (tale p sound mode code codes size r run t.client).page t.index
+
+  abbrev pub end : ℕ → HeldState
+  end h = held_of p sound mode code codes size r run h
+
+  pub all_over : (h : ℕ) → AllByRecursion (IsOver p page h (sent_for p sound mode code codes size r run h) (got_for p sound mode code codes size r run h) (end h)) r.order
+  all_over h =
+      each_map (λ (t : Ticket) (few : t.index < blocks_of p t.client).
+          let block = (tale p sound mode code codes size r run t.client).blocks t.index (block_told p sound mode code codes size r run t few) in
+          record { done = block.done; lane = block.lanes h; outside = block.outside h }) r.order (inside p sound mode code codes size r run)
+
+  pages : AllByRecursion (λ t. IsPage p t (page t)) r.order
+  pages =
+      each_map (λ (t : Ticket) (few : t.index < blocks_of p t.client).
+          ((tale p sound mode code codes size r run t.client).blocks t.index (block_told p sound mode code codes size r run t few)).page.path)
+      r.order (inside p sound mode code codes size r run)
+
+  begins_same : (c k : ℕ) (l : Locals) → Begins (λ (t : Ticket). (tale p sound mode code codes size r run c).page t.index) c k l → Begins page c k l
+  begins_same c zero l e = e
+  begins_same c (suc k) l e = e
+
+  begins : AllByRecursion (λ t. Begins page t.client t.index (page t).entry) r.order
+  begins =
+      each_map (λ (t : Ticket) (few : t.index < blocks_of p t.client).
+          begins_same t.client t.index (page t).entry
+          ((tale p sound mode code codes size r run t.client).begins t.index (block_told p sound mode code codes size r run t few)))
+      r.order (inside p sound mode code codes size r run)
+
+  -- the room of a journal is never used up
+  within_load : (h : ℕ) (t : Ticket) → IsPage p t (page t) → length (part h (page t).trace) ≤ cost p h t
+  within_load h t path = leads_within h (block_tree p t (page t).entry) (page t).trace (page t).rest (cost p h t) path (requests_within (text_of p t).body (page t).entry h)
+
+  parts_fit : (h : ℕ) → size_of p page h (sent_for p sound mode code codes size r run h) (got_for p sound mode code codes size r run h) (end h) r.order ≤ room_of p h
+  parts_fit h =
+      let short = total_less (λ t. length (part h (page t).trace)) (cost p h) r.order (each_map (within_load h) r.order pages) in
+      let whole = order_fits p h (λ _. 0) r.order run.legal in
+      let room = all_left p h in
+      omega (arith, short, whole, room)
+
+  pub object_goes : (h : ℕ) → Goes p page h (sent_for p sound mode code codes size r run h) (got_for p sound mode code codes size r run h) (end h) (fresh_held p h) r.order
+  object_goes h =
+      goes p page h (sent_for p sound mode code codes size r run h) (got_for p sound mode code codes size r run h) (end h) r.order (fresh_held p h)
+      (all_over h) (served_whole p sound mode code codes size r run h) (let fit = parts_fit h in omega (arith, fit))
+
+  pub end_is : (h : ℕ) → h < length p.objects → r.held h ≡ end h
+  end_is h own = let here : nat_lt h (length p.objects) ≡ true = grind (arith, own) in rw here refl
+
+  pub mind_is : (c : ℕ) → c < length p.clients → r.mind c ≡ mind_of p sound mode code codes size r run c
+  mind_is c own = let here : nat_lt c (length p.clients) ≡ true = grind (arith, own) in rw here refl
+
+  pub ticket_inside : (i : ℕ) → i < length r.order → (ticket_at shown i).index < blocks_of p (ticket_at shown i).client
+  ticket_inside i few =
+      AllByRecursion-get_or (λ (t : Ticket). t.index < blocks_of p t.client) r.order i (ticket 0 0) (inside p sound mode code codes size r run) few
+
+  -- what a client's rows say of a ticket
+  pub entry_is : (t : Ticket) → t.index < blocks_of p t.client → entry_by r t ≡ (page t).entry
+  entry_is t few =
+      ap (λ (m : Mind). get_or m.entries t.index []) (mind_is t.client (no_block_beyond p t.client (omega (arith, few))))
+      ∙ (tale p sound mode code codes size r run t.client).entries t.index (block_told p sound mode code codes size r run t few)
+
+  pub trace_is : (t : Ticket) → t.index < blocks_of p t.client → trace_by r t ≡ (page t).trace
+  trace_is t few =
+      ap (λ (m : Mind). get_or m.traces t.index []) (mind_is t.client (no_block_beyond p t.client (omega (arith, few))))
+      ∙ (tale p sound mode code codes size r run t.client).traces t.index (block_told p sound mode code codes size r run t few)
+
+  journal_is : (h : ℕ) → h < length p.objects → journal_of shown h ≡ (end h).journal
+  journal_is h own =
+      get_or-map-range_with_len (λ h. (r.held h).journal) 0 (length p.objects) h h [] own (omega arith) ∙ ap (λ (o : HeldState). o.journal) (end_is h own)
+
+  state_is : (h : ℕ) → h < length p.objects → state_of shown h ≡ (end h).object
+  state_is h own =
+      get_or-map-range_with_len (λ h. (r.held h).object) 0 (length p.objects) h h no_state own (omega arith) ∙ ap (λ (o : HeldState). o.object) (end_is h own)
+
+  -- an object that the program doesn't have shows no journal
+  no_journal : (h : ℕ) → length p.objects ≤ h → journal_of shown h ≡ []
+  no_journal h out =
+      let long : length (map (λ h. (r.held h).journal) (range_with_len 0 (length p.objects))) ≡ length p.objects =
+      length-map (range_with_len 0 (length p.objects)) (λ h. (r.held h).journal) ∙ length-range_with_len 0 (length p.objects) in
+      get_or_past (map (λ h. (r.held h).journal) (range_with_len 0 (length p.objects))) h [] (omega (arith, long, out))
+
+  written : (h : ℕ) (t : Ticket) (b : Bool) → nat_lt h (length p.objects) ≡ b → HasEntry t (journal_of shown h) → journal_of shown h ≡ (end h).journal
+  written h t true e has = journal_is h (grind (arith, e))
+  written h t false e has = absurd (subst (HasEntry t) (no_journal h (grind (arith, e))) has)
+
+  -- each block of the program is in the order
+  pub every : (t : Ticket) → t.index < blocks_of p t.client → Among t r.order
+  every t few =
+      let own = no_block_beyond p t.client (omega (arith, few)) in
+      let count = legal_counts p t.client (λ _. 0) r.order run.legal in
+      let all = all_counted p sound mode code codes size r run t.client own in
+      legal_among p (λ _. 0) r.order t.client t.index run.legal (omega arith) (omega (arith, few, count, all))
+
+  pub flows : (h : ℕ) → Flow (line p sound page (λ h t. []) (λ h. (end h).object) (λ h. ⊥) (λ h. (end h).journal) h) (declared p h) (end h).journal r.order
+  flows h =
+      let g = object_goes h in
+      subst (λ j. Flow (line p sound page (λ h t. []) (λ h. (end h).object) (λ h. ⊥) (λ h. (end h).journal) h) (declared p h) j r.order) (sym g.journal) g.flow
+
+  pub abstract_run : IsRun p sound shown page (λ h t. []) (λ h. (end h).object) (λ h. ⊥) (λ h. (end h).journal)
+  abstract_run = record {
+    fits = record {
+      ended = length-map r.order (λ (t : Ticket). true);
+      entries = length-map r.order (entry_by r);
+      traces = length-map r.order (trace_by r);
+      sync_counts = length-map r.order (counts_by r);
+      journals = length-map (range_with_len 0 (length p.objects)) (λ h. (r.held h).journal) ∙ length-range_with_len 0 (length p.objects);
+      states = length-map (range_with_len 0 (length p.objects)) (λ h. (r.held h).object) ∙ length-range_with_len 0 (length p.objects);
+    };
+    legal = run.legal;
+    pages = pages;
+    begins = begins;
+    flows = flows;
+    honest = λ h own. let g = object_goes h in subst (λ j. IsHonest (declared p h) (unstamped j)) (sym g.journal) g.honest;
+    replayed = λ h own. let g = object_goes h in ap (λ j. replay (declared p h) (unstamped j)) g.journal ∙ g.replayed;
+    entry = λ i few. get_or-map (entry_by r) r.order i (ticket 0 0) [] few ∙ entry_is (ticket_at shown i) (ticket_inside i few);
+    trace = λ i few. get_or-map (trace_by r) r.order i (ticket 0 0) [] few ∙ trace_is (ticket_at shown i) (ticket_inside i few);
+    ended = λ i few e.
+        let t = ticket_at shown i in
+        ((tale p sound mode code codes size r run t.client).blocks t.index (block_told p sound mode code codes size r run t (ticket_inside i few))).done;
+    journals = journal_is;
+    written = λ h t has. written h t (nat_lt h (length p.objects)) refl has;
+    states = state_is;
+    all = λ e. every;
+    idle = λ e h own busy. busy;
+  }
+
+  pub isolated : IsIsolated p shown (λ h t. [])
+  isolated = run_isolated p sound shown page (λ h t. []) (λ h. (end h).object) (λ h. ⊥) (λ h. (end h).journal) abstract_run

@@ -1,0 +1,3 @@
+pub mod ThreadRuns
+pub mod Settled
+pub mod SettledExamples
