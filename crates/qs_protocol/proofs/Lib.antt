@@ -1,5 +1,6 @@
 pub mod ActKinds
 pub mod ActObjects
+pub mod BlockLists
 pub mod ClientActs
 pub mod ClientCounts
 pub mod ClientLogs
@@ -9,6 +10,7 @@ pub mod LaneMoves
 pub mod LaneParts
 pub mod LaneWays
 pub mod LaneWholes
+pub mod MindSteps
 pub mod ObjectViews
 pub mod ObjectSteps
 pub mod SilentSteps
