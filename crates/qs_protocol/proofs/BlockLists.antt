@@ -19,6 +19,9 @@ upto_same f g (suc n) e = ap₂ (λ a b. a ++ b) (upto_same f g n (λ k lt. e k 
 pub after_not : (k j : ℕ) → j < k → (k == j) ≡ false
 after_not k j lt = eqb_apart k j (λ is. omega (arith, lt, is))
 
+pub before_not : (k j : ℕ) → k < j → (k == j) ≡ false
+before_not k j lt = eqb_apart k j (λ is. omega (arith, lt, is))
+
 -- the last of them grows
 pub upto_more : {A B : Type 0} (of : B → List A) (f : ℕ → B) (k : ℕ) (b : B) (more : List A) → of b ≡ of (f k) ++ more
     → upto (λ j. of (put f k b j)) (suc k) ≡ upto (λ j. of (f j)) (suc k) ++ more

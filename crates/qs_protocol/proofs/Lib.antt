@@ -4,6 +4,7 @@ pub mod BlockLists
 pub mod ClientActs
 pub mod ClientCounts
 pub mod ClientLogs
+pub mod ClientTales
 pub mod ClientInvariants
 pub mod LaneFronts
 pub mod LaneMoves
