@@ -1,221 +1,222 @@
--- What one client's whole run says, block by block: for each block its page, what it sent to each object and what it got from it.
--- The objects that it got are arbitrary; nothing of threads, queues or other clients is in it.
-use Rattle.std.proofs.Common.{◌≡◌, ◌<◌, ◌≤◌, arith, ℕ, zero, suc, Bool, true, false, true≢false, nat_lt, if◌then◌else◌, ◌==◌, List, [], ◌∷◌, ◌++◌, length, slice_index_or, refl, sym, ap, ap₂, ◌∙◌, subst, ⊎_elim, append-nil}
+-- What one client's whole run says, block by block: all its blocks are over, each with its page, what it sent to each object and what it got
+-- from it, and these joined are all that it sent and got. The objects that it got are arbitrary; nothing of threads, queues or other clients
+-- is in it. The run is read where nothing is left to be done for the last act, since each act begins with that.
+use Rattle.std.proofs.Common.{◌≡◌, ◌<◌, ◌≤◌, arith, ℕ, zero, suc, Bool, true, false, nat_lt, if◌then◌else◌, ◌==◌, List, [], ◌∷◌, ◌++◌, length, replicate, slice_index_or, refl, sym, ap, ap₂, ◌∙◌, subst, append-nil, append_assoc, add-zero, ◌+◌, length-append, length-set}
+use Rattle.std.proofs.lemmas.List.{length-replicate}
+use Rattle.std.proofs.Math.ListN.{get_or-eq_default}
 use Rattle.qs_objects.specs.Journals.{HeldState}
-use Rattle.qs_objects.specs.Parts.{part}
 use Rattle.qs_objects.specs.declared.held.Event.{Event}
 use Rattle.qs_objects.specs.declared.held.Ticket.{Ticket}
-use Rattle.qs_objects.proofs.Choices.{apart_eqb, num_cases}
 use Rattle.qs_check.specs.Program.{ProgramShape}
 use Rattle.qs_check.specs.Values.{Locals}
 use Rattle.qs_meaning.specs.Following.{AsksOnly, reserves, block_tree}
-use Rattle.qs_meaning.specs.Interaction as tree
 use Rattle.qs_meaning.specs.Serial.{zeros}
 use Rattle.qs_meaning.specs.Solo.{put}
-use Rattle.qs_meaning.proofs.Histories.{Page, Begins, IsDone}
-use Rattle.qs_meaning.proofs.TreeWalks.{put_here, put_there}
-use Rattle.qs_graph.specs.Synced.{Synced, erased}
+use Rattle.qs_meaning.proofs.Histories.{Page, Begins}
+use Rattle.qs_graph.specs.Synced.{erased}
+use Rattle.qs_syncset.specs.Codes.{ClientCode, code_at}
 use Rattle.qs_syncset.specs.SoundSynced.{IsSoundSynced, IsOnReserved}
-use Rattle.qs_chunk.specs.LaneViews.{ClientLane}
+use Rattle.qs_syncset.specs.declared.sync_counts.SyncCount.{SyncCount}
 use Rattle.qs_chunk.specs.declared.parcel.Parcel.{Parcel}
-use Rattle.qs_client_run.specs.Client.{Client, Settings, Settled, act_of, between, booked, sent, took_chunk}
+use Rattle.qs_client_run.specs.Client.{Client, Place, Settings, Settled, act_at, act_of, between, booked, sent, took_chunk}
 use Rattle.qs_client_run.specs.Client as clients
-use Rattle.qs_client_run.specs.declared.act.Act.TheVariants.{Reserve, Send, Await, NeedChunk, Finished}
+use Rattle.qs_client_run.specs.Standing.{count_sync, handed_of}
+use Rattle.qs_client_run.specs.declared.act.Act.TheVariants as acts
+use Rattle.qs_client_run.specs.declared.stage.Handed.TheVariants as handeds
+use Rattle.qs_client.specs.ClientRuns.{Deed, RunsTo, got_from, next_ticket, reservations, sent_to}
+use Rattle.qs_client.specs.ClientRuns as deeds
+use Rattle.qs_client.specs.Mind.{Mind, asked_of, booked_mind, chunk_mind, done, enters, fresh_mind, got_mind, hands_out, is_between, next_act, next_mind, tallied, tree_at}
 use Rattle.qs_played.specs.Played.{ticket}
-use Rattle.qs_played.proofs.FunctionUpdate.{put_all, put_both, put_kept}
-use Rattle.qs_protocol.proofs.ActObjects.{await_at, chunk_begun, got_begun, not_await, not_need, not_send, send_at, sent_begun, settle_begun}
-use Rattle.qs_protocol.proofs.BlockLists.{after_not, before_not, upto, upto_more, upto_new}
-use Rattle.qs_protocol.proofs.ClientInvariants.{HasNone, IsOpenPage, Leaving, Lined, PlaceOk, apart_from, listed}
-use Rattle.qs_protocol.proofs.ClientLogs.{books_ok, chunks_ok, gets_ok, sends_ok}
-use Rattle.qs_protocol.proofs.SilentSteps.{Ends}
+use Rattle.qs_protocol.proofs.ActObjects.{between_acts, chunk_begun, got_begun, not_await, not_need, not_send, reserve_at, sent_begun, settle_begun}
+use Rattle.qs_protocol.proofs.BlockLists.{row_push, row_set, upto}
+use Rattle.qs_protocol.proofs.BlockTales.{BlockTold, Telling, chunk_told, get_told, in_block, nothing_told, reserve_told, rests, retold, send_told}
+use Rattle.qs_protocol.proofs.ClientInvariants.{HasNone, Lined, PlaceOk, listed}
+use Rattle.qs_protocol.proofs.FullChunks.{ComesFull, HasFull, chunk_full, finished_all, finished_at, got_full, reserves_more, sent_full, settle_full}
+use Rattle.qs_protocol.proofs.MindSteps.{came, chunk_does, deeds_keep, done_still, get_does, reserve_does, send_does}
 
-module _ (program : ProgramShape) (c : ℕ) where
-  -- a block that is over: its page, and for each object what was sent and got
-  pub record BlockTold (k : ℕ) (pg : Page) (sent : ℕ → List Parcel) (got : ℕ → List HeldState) : Type 0 where
-    pub page : IsOpenPage program (ticket c k) pg
-    pub done : IsDone pg.rest
-    pub lanes : (h : ℕ) → ClientLane (ticket c k) false (sent h) (got h) (part h pg.trace) (apart_from program (ticket c k) h)
-    pub outside : (h : ℕ) → reserves program (ticket c k) h ≡ false → (sent h ≡ []) × (got h ≡ [])
+-- the rows of a mind, by block
+abbrev pub entry_rows : Mind → ℕ → Locals
+entry_rows m k = slice_index_or m.entries k []
 
--- what is known of a block: its page, what was sent to each object and what was got from it
-pub record Block : Type 0 where
-  pub page : Page
-  pub sent : ℕ → List Parcel
-  pub got : ℕ → List HeldState
+abbrev pub trace_rows : Mind → ℕ → List Event
+trace_rows m k = slice_index_or m.traces k []
 
-abbrev pub block_with : Page → (ℕ → List Parcel) → (ℕ → List HeldState) → Block
-block_with page sent got = record { page = page; sent = sent; got = got }
+-- what one client's whole run says
+pub record Tale (program : ProgramShape) (c : ℕ) (code : ClientCode) (deeds : List Deed) (end : Mind) : Type 0 where
+  pub page : ℕ → Page
+  pub sent : ℕ → ℕ → List Parcel
+  pub got : ℕ → ℕ → List HeldState
+  pub begun : end.client.begun ≡ length code.blocks
+  pub reserved : reservations deeds ≡ length code.blocks
+  pub between : is_between end.client.place ≡ true
+  pub hands : (h : ℕ) → HasNone end.client h
+  pub first : length code.blocks ≡ 0 → end.client.place ≡ clients.between zeros
+  pub blocks : (k : ℕ) → k < length code.blocks → BlockTold program c k (page k) (sent k) (got k)
+  pub begins : (k : ℕ) → k < length code.blocks → Begins (λ (t : Ticket). page t.index) c k (page k).entry
+  pub entries : (k : ℕ) → k < length code.blocks → slice_index_or end.entries k [] ≡ (page k).entry
+  pub traces : (k : ℕ) → k < length code.blocks → slice_index_or end.traces k [] ≡ (page k).trace
+  pub sent_is : (h : ℕ) → sent_to h deeds ≡ upto (λ k. sent k h) (length code.blocks)
+  pub got_is : (h : ℕ) → got_from h deeds ≡ upto (λ k. got k h) (length code.blocks)
 
--- a client with so many blocks, in the midst of its run: the variables at entry and the trace of each block that it began, and all that it sent and got
-pub record Telling (program : ProgramShape) (c blocks : ℕ) (m : Client) (entry : ℕ → Locals) (trace : ℕ → List Event)
-    (sent : ℕ → List Parcel) (got : ℕ → List HeldState) : Type 0 where
-  pub block : ℕ → Block
-  pub within : m.begun ≤ blocks
-  pub idle : m.begun ≡ 0 → (m.place ≡ between zeros) × ((h : ℕ) → HasNone m h)
-  pub last : (k : ℕ) → m.begun ≡ suc k → PlaceOk program (ticket c k) (block k).sent (block k).got m (block k).page m.place
-  pub older : (k : ℕ) → suc k < m.begun → BlockTold program c k (block k).page (block k).sent (block k).got
-  pub begins : (k : ℕ) → k < m.begun → Begins (λ (t : Ticket). (block t.index).page) c k (block k).page.entry
-  pub outside : (k : ℕ) → k < m.begun → (h : ℕ) → reserves program (ticket c k) h ≡ false → ((block k).sent h ≡ []) × ((block k).got h ≡ [])
-  pub entries : (k : ℕ) → k < m.begun → entry k ≡ (block k).page.entry
-  pub traces : (k : ℕ) → k < m.begun → trace k ≡ (block k).page.trace
-  pub fresh : (k : ℕ) → m.begun ≤ k → trace k ≡ []
-  pub sent_is : (h : ℕ) → sent h ≡ upto (λ k. (block k).sent h) m.begun
-  pub got_is : (h : ℕ) → got h ≡ upto (λ k. (block k).got h) m.begun
+-- one more in front, or not
+front_join : {A : Type 0} (b : Bool) (x : A) (all front back : List A) → all ≡ front ++ back
+    → (if b then x ∷ all else all) ≡ (if b then x ∷ front else front) ++ back
+front_join true x all front back e = ap (λ xs. x ∷ xs) e
+front_join false x all front back e = e
 
--- the same by other names
-pub retold : (program : ProgramShape) (c blocks : ℕ) (m : Client) (entry entry' : ℕ → Locals) (trace trace' : ℕ → List Event)
-    (sent sent' : ℕ → List Parcel) (got got' : ℕ → List HeldState) → ((k : ℕ) → k < m.begun → entry k ≡ entry' k) → ((k : ℕ) → trace k ≡ trace' k)
-    → ((h : ℕ) → sent h ≡ sent' h) → ((h : ℕ) → got h ≡ got' h)
-    → Telling program c blocks m entry trace sent got → Telling program c blocks m entry' trace' sent' got'
-retold program c blocks m entry entry' trace trace' sent sent' got got' en tr se go o = record {
-  block = o.block;
-  within = o.within;
-  idle = o.idle;
-  last = o.last;
-  older = o.older;
-  begins = o.begins;
-  outside = o.outside;
-  entries = λ k lt. sym (en k lt) ∙ o.entries k lt;
-  traces = λ k lt. sym (tr k) ∙ o.traces k lt;
-  fresh = λ k low. sym (tr k) ∙ o.fresh k low;
-  sent_is = λ h. sym (se h) ∙ o.sent_is h;
-  got_is = λ h. sym (go h) ∙ o.got_is h;
-}
+-- what it sent and got, and reserved, by deeds one after another
+sent_join : (h : ℕ) (before after : List Deed) → sent_to h (before ++ after) ≡ sent_to h before ++ sent_to h after
+sent_join h [] after = refl
+sent_join h (deeds.reserves ∷ before) after = sent_join h before after
+sent_join h (deeds.sends a p ∷ before) after =
+    front_join (a == h) p (sent_to h (before ++ after)) (sent_to h before) (sent_to h after) (sent_join h before after)
+sent_join h (deeds.gets a x ∷ before) after = sent_join h before after
+sent_join h (deeds.takes_chunk a ∷ before) after = sent_join h before after
 
--- before the first block
-pub nothing_told : (program : ProgramShape) (c blocks : ℕ) (m : Client) (entry : ℕ → Locals) (trace : ℕ → List Event) → m.begun ≡ 0 → m.place ≡ between zeros
-    → ((h : ℕ) → HasNone m h) → ((k : ℕ) → trace k ≡ []) → Telling program c blocks m entry trace (λ h. []) (λ h. [])
-nothing_told program c blocks m entry trace none at hands empty = record {
-  block = λ k. block_with (record { entry = []; trace = []; rest = tree.Done [] }) (λ h. []) (λ h. []);
-  within = omega (arith, none);
-  idle = λ e. (at, hands);
-  last = λ k e. absurd (omega (arith, none, e));
-  older = λ k lt. absurd (omega (arith, none, lt));
-  begins = λ k lt. absurd (omega (arith, none, lt));
-  outside = λ k lt. absurd (omega (arith, none, lt));
-  entries = λ k lt. absurd (omega (arith, none, lt));
-  traces = λ k lt. absurd (omega (arith, none, lt));
-  fresh = λ k low. empty k;
-  sent_is = λ h. sym (ap (upto (λ k. [])) none);
-  got_is = λ h. sym (ap (upto (λ k. [])) none);
-}
+got_join : (h : ℕ) (before after : List Deed) → got_from h (before ++ after) ≡ got_from h before ++ got_from h after
+got_join h [] after = refl
+got_join h (deeds.reserves ∷ before) after = got_join h before after
+got_join h (deeds.sends a p ∷ before) after = got_join h before after
+got_join h (deeds.gets a x ∷ before) after =
+    front_join (a == h) x (got_from h (before ++ after)) (got_from h before) (got_from h after) (got_join h before after)
+got_join h (deeds.takes_chunk a ∷ before) after = got_join h before after
 
--- a block begins with what the one before it left, whatever becomes of that block's own page
-begins_still : (block : ℕ → Block) (c k : ℕ) (new : Block) (j : ℕ) (l : Locals) → j ≤ k
-    → Begins (λ (t : Ticket). (block t.index).page) c j l → Begins (λ (t : Ticket). (put block k new t.index).page) c j l
-begins_still block c k new zero l low b = b
-begins_still block c k new (suc j) l low b = ap (λ (b : Block). b.page.rest) (put_there block k new j (after_not k j (omega (arith, low)))) ∙ b
+reservations_join : (before after : List Deed) → reservations (before ++ after) ≡ reservations after + reservations before
+reservations_join [] after = sym (add-zero (reservations after))
+reservations_join (deeds.reserves ∷ before) after = let ih = reservations_join before after in omega (arith, ih)
+reservations_join (deeds.sends a p ∷ before) after = reservations_join before after
+reservations_join (deeds.gets a x ∷ before) after = reservations_join before after
+reservations_join (deeds.takes_chunk a ∷ before) after = reservations_join before after
 
-module _ (program : ProgramShape) (c blocks : ℕ) (settings : Settings) (m : Client) (entry : ℕ → Locals) (trace : ℕ → List Event)
-    (snt : ℕ → List Parcel) (got : ℕ → List HeldState) (o : Telling program c blocks m entry trace snt got) where
-  -- between blocks all that were begun are over, the next begins with these variables, and nothing is in hand
-  pub record Rests (l : Locals) (n : ℕ) : Type 0 where
-    pub next : Begins (λ (t : Ticket). (o.block t.index).page) c n l
-    pub hands : (h : ℕ) → HasNone m h
-    pub over : (k : ℕ) → k < n → BlockTold program c k (o.block k).page (o.block k).sent (o.block k).got
+module _ (program : ProgramShape) (fine : (t : Ticket) (l : Locals) → AsksOnly (reserves program t) (block_tree program t l))
+    (lined : (t : Ticket) → Lined (reserves program t) (listed program t)) (c : ℕ) (code : ClientCode) (size : ℕ)
+    (reserved_is : (k : ℕ) → k < length code.blocks → (code_at code k).reserved ≡ listed program (ticket c k))
+    (walk_is : (k : ℕ) (l : Locals) → k < length code.blocks
+        → (erased (tree_at code k l) ≡ block_tree program (ticket c k) l) × IsSoundSynced (λ h. false) (tree_at code k l)
+        × IsOnReserved (listed program (ticket c k)) (tree_at code k l)) where
+  abbrev pub settings : Settings
+  settings = record { dynamic = code.dynamic; size = size }
 
-  pub rests : (l : Locals) → m.place ≡ between l → (n : ℕ) → m.begun ≡ n → Rests l n
-  rests l at zero e =
-      let i = o.idle e in
-      record { next = cc (sym at ∙ i.0); hands = i.1; over = λ k lt. absurd (omega (arith, lt)) }
-  rests l at (suc k) e =
-      let b = o.block k in
-      let ok : Leaving program (ticket c k) b.sent b.got m b.page [] l = subst (PlaceOk program (ticket c k) b.sent b.got m b.page) at (o.last k e) in
-      record {
-        next = ok.rest;
-        hands = λ h. ok.empty h refl;
-        over = λ j lt. ⊎_elim
-            (λ (is : k ≡ j). subst (λ j. BlockTold program c j (o.block j).page (o.block j).sent (o.block j).got) is (record {
-              page = ok.page;
-              done = subst IsDone (sym ok.rest) tt;
-              lanes = ok.lanes;
-              outside = o.outside k (omega (arith, e));
-            }))
-            (λ (other : (k == j) ≡ false). let apart = apart_eqb k j other in o.older j (omega (arith, e, lt, apart)))
-            (num_cases k j);
-      }
+  -- what is known of its mind in the midst of a run, by its deeds so far
+  pub record InTale (before : List Deed) (m : Mind) : Type 0 where
+    pub code_is : m.code ≡ code
+    pub size_is : m.size ≡ size
+    pub ticket_is : (k : ℕ) → m.client.begun ≡ suc k → m.ticket ≡ ticket c k
+    pub entry_count : length m.entries ≡ m.client.begun
+    pub trace_count : length m.traces ≡ length code.blocks
+    pub reserved : m.client.begun ≡ reservations before
+    pub full : HasFull m.client m.client.place
+    pub telling : Telling program c (length code.blocks) m.client (entry_rows m) (trace_rows m) (λ h. sent_to h before) (λ h. got_from h before)
 
-  -- it did something in the block that it is in
-  module _ (k : ℕ) (e : m.begun ≡ suc k) (r : Settled) (still : r.client.begun ≡ m.begun) (new : Block)
-      (more : ℕ → List Parcel) (came : ℕ → List HeldState) where
-    pub told_within : new.page.entry ≡ (o.block k).page.entry → new.page.trace ≡ (o.block k).page.trace ++ r.events
-        → PlaceOk program (ticket c k) new.sent new.got r.client new.page r.client.place
-        → ((h : ℕ) → new.sent h ≡ (o.block k).sent h ++ more h) → ((h : ℕ) → new.got h ≡ (o.block k).got h ++ came h)
-        → ((h : ℕ) → reserves program (ticket c k) h ≡ false → (more h ≡ []) × (came h ≡ []))
-        → Telling program c blocks r.client entry (put trace k (trace k ++ r.events)) (λ h. snt h ++ more h) (λ h. got h ++ came h)
-    told_within same_entry trace_is ok sent_more got_more none =
-        let n : r.client.begun ≡ suc k = still ∙ e in
-        record {
-          block = put o.block k new;
-          within = let w = o.within in omega (arith, w, still);
-          idle = λ z. absurd (omega (arith, n, z));
-          last = λ j i.
-              let is : k ≡ j = omega (arith, n, i) in
-              subst (λ j. PlaceOk program (ticket c j) (put o.block k new j).sent (put o.block k new j).got r.client (put o.block k new j).page r.client.place) is
-              (subst (λ (b : Block). PlaceOk program (ticket c k) b.sent b.got r.client b.page r.client.place) (sym (put_here o.block k new)) ok);
-          older = λ j lt.
-              subst (λ (b : Block). BlockTold program c j b.page b.sent b.got) (sym (put_there o.block k new j (after_not k j (omega (arith, n, lt)))))
-              (o.older j (omega (arith, still, lt)));
-          begins = λ j lt.
-              subst (Begins (λ (t : Ticket). (put o.block k new t.index).page) c j) (sym (put_kept (λ (b : Block). b.page.entry) o.block k new same_entry j))
-              (begins_still o.block c k new j (o.block j).page.entry (omega (arith, n, lt)) (o.begins j (omega (arith, still, lt))));
-          outside = λ j lt. put_all (λ j (b : Block). j < suc k → (h : ℕ) → reserves program (ticket c j) h ≡ false → (b.sent h ≡ []) × (b.got h ≡ []))
-              o.block k new
-              (λ lt h no.
-              let old = o.outside k (omega (arith, e)) h no in
-              let here = none h no in
-              (sent_more h ∙ ap₂ (λ a b. a ++ b) old.0 here.0, got_more h ∙ ap₂ (λ a b. a ++ b) old.1 here.1))
-              (λ j other lt. o.outside j (omega (arith, e, lt))) j (omega (arith, n, lt));
-          entries = λ j lt. o.entries j (omega (arith, still, lt)) ∙ sym (put_kept (λ (b : Block). b.page.entry) o.block k new same_entry j);
-          traces = λ j lt. put_both (λ j es (b : Block). j < suc k → es ≡ b.page.trace) trace o.block k (trace k ++ r.events) new
-              (λ lt. ap (λ es. es ++ r.events) (o.traces k (omega (arith, e))) ∙ sym trace_is)
-              (λ j other lt. o.traces j (omega (arith, e, lt))) j (omega (arith, n, lt));
-          fresh = λ j low.
-              put_there trace k (trace k ++ r.events) j (before_not k j (omega (arith, n, low))) ∙ o.fresh j (omega (arith, still, low));
-          sent_is = λ h.
-              ap (λ x. x ++ more h) (o.sent_is h ∙ ap (upto (λ k. (o.block k).sent h)) e)
-              ∙ (sym (upto_more (λ (b : Block). b.sent h) o.block k new (more h) (sent_more h)) ∙ ap (upto (λ j. (put o.block k new j).sent h)) (sym n));
-          got_is = λ h.
-              ap (λ x. x ++ came h) (o.got_is h ∙ ap (upto (λ k. (o.block k).got h)) e)
-              ∙ (sym (upto_more (λ (b : Block). b.got h) o.block k new (came h) (got_more h)) ∙ ap (upto (λ j. (put o.block k new j).got h)) (sym n));
-        }
+  -- a mind of this code, in this block
+  abbrev pub own : Mind → Ticket → Mind
+  own m t = record {
+    code = code;
+    size = size;
+    ticket = t;
+    client = m.client;
+    entries = m.entries;
+    traces = m.traces;
+    syncs = m.syncs;
+    counts = m.counts;
+    handed = m.handed;
+  }
 
-  -- its next block begins
-  pub told_begun : (l : Locals) → m.place ≡ between l → m.begun < blocks → (r : Settled) (new : Block) → r.client.begun ≡ suc m.begun
-      → new.page.entry ≡ l → new.page.trace ≡ r.events → PlaceOk program (ticket c m.begun) new.sent new.got r.client new.page r.client.place
-      → ((h : ℕ) → new.sent h ≡ []) → ((h : ℕ) → new.got h ≡ [])
-      → Telling program c blocks r.client (put entry m.begun l) (put trace m.begun (trace m.begun ++ r.events)) snt got
-  told_begun l at less r new n entry_is trace_is ok none_sent none_got =
-      let k = m.begun in
-      let before = rests l at k refl in
-      record {
-        block = put o.block k new;
-        within = omega (arith, less, n);
-        idle = λ z. absurd (omega (arith, n, z));
-        last = λ j i.
-            let is : k ≡ j = omega (arith, n, i) in
-            subst (λ j. PlaceOk program (ticket c j) (put o.block k new j).sent (put o.block k new j).got r.client (put o.block k new j).page r.client.place) is
-            (subst (λ (b : Block). PlaceOk program (ticket c k) b.sent b.got r.client b.page r.client.place) (sym (put_here o.block k new)) ok);
-        older = λ j lt.
-            let low : j < k = omega (arith, n, lt) in
-            subst (λ (b : Block). BlockTold program c j b.page b.sent b.got) (sym (put_there o.block k new j (after_not k j low))) (before.over j low);
-        begins = λ j lt. put_all (λ j (b : Block). j < suc k → Begins (λ (t : Ticket). (put o.block k new t.index).page) c j b.page.entry) o.block k new
-            (λ lt. begins_still o.block c k new k new.page.entry (omega arith) (subst (Begins (λ (t : Ticket). (o.block t.index).page) c k) (sym entry_is) before.next))
-            (λ j other lt.
-            let apart = apart_eqb k j other in
-            begins_still o.block c k new j (o.block j).page.entry (omega (arith, lt)) (o.begins j (omega (arith, lt, apart)))) j (omega (arith, n, lt));
-        outside = λ j lt. put_all (λ j (b : Block). j < suc k → (h : ℕ) → reserves program (ticket c j) h ≡ false → (b.sent h ≡ []) × (b.got h ≡ []))
-            o.block k new
-            (λ lt h no. (none_sent h, none_got h))
-            (λ j other lt h no. let apart = apart_eqb k j other in o.outside j (omega (arith, lt, apart)) h no) j (omega (arith, n, lt));
-        entries = λ j lt. put_both (λ j x (b : Block). j < suc k → x ≡ b.page.entry) entry o.block k l new
-            (λ lt. sym entry_is)
-            (λ j other lt. let apart = apart_eqb k j other in o.entries j (omega (arith, lt, apart))) j (omega (arith, n, lt));
-        traces = λ j lt. put_both (λ j es (b : Block). j < suc k → es ≡ b.page.trace) trace o.block k (trace k ++ r.events) new
-            (λ lt. ap (λ es. es ++ r.events) (o.fresh k (omega arith)) ∙ sym trace_is)
-            (λ j other lt. let apart = apart_eqb k j other in o.traces j (omega (arith, lt, apart))) j (omega (arith, n, lt));
-        fresh = λ j low.
-            put_there trace k (trace k ++ r.events) j (before_not k j (omega (arith, n, low))) ∙ o.fresh j (omega (arith, n, low));
-        sent_is = λ h. o.sent_is h ∙ (sym (upto_new (λ (b : Block). b.sent h) o.block k new (none_sent h)) ∙ ap (upto (λ j. (put o.block k new j).sent h)) (sym n));
-        got_is = λ h. o.got_is h ∙ (sym (upto_new (λ (b : Block). b.got h) o.block k new (none_got h)) ∙ ap (upto (λ j. (put o.block k new j).got h)) (sym n));
-      }
+  pub own_is : (m : Mind) (t : Ticket) → m.code ≡ code → m.size ≡ size → m.ticket ≡ t → m ≡ own m t
+  own_is m t a b d = λ i. record {
+    code = a i;
+    size = b i;
+    ticket = d i;
+    client = m.client;
+    entries = m.entries;
+    traces = m.traces;
+    syncs = m.syncs;
+    counts = m.counts;
+    handed = m.handed;
+  }
+
+  module _ (before : List Deed) (m : Mind) (o : InTale before m) where
+    asks : asked_of m ≡ act_of settings (length code.blocks) m.client
+    asks = ap₂ (λ (code : ClientCode) (size : ℕ). act_of (record { dynamic = code.dynamic; size = size }) (length code.blocks) m.client) o.code_is o.size_is
+
+    -- it came to this in the block that it is in, by a deed that reserves none
+    comes : (d : Deed) (k : ℕ) → m.client.begun ≡ suc k → (r : Settled) → r.client.begun ≡ m.client.begun → ComesFull r → reservations (d ∷ []) ≡ 0
+        → (syncs : ℕ) (counts : List (List SyncCount))
+        → Telling program c (length code.blocks) r.client (entry_rows m) (put (trace_rows m) k (trace_rows m k ++ r.events))
+        (λ h. sent_to h before ++ sent_to h (d ∷ [])) (λ h. got_from h before ++ got_from h (d ∷ []))
+        → InTale (before ++ d ∷ []) (came (own m (ticket c k)) r syncs counts)
+    comes d k e r still full none syncs counts telling = record {
+      code_is = refl;
+      size_is = refl;
+      ticket_is = λ j i. ap (ticket c) (omega (arith, e, still, i));
+      entry_count = o.entry_count ∙ sym still;
+      trace_count = length-set m.traces k (trace_rows m k ++ r.events) ∙ o.trace_count;
+      reserved = let all = reservations_join before (d ∷ []) in let old = o.reserved in omega (arith, all, old, still, none);
+      full = full;
+      telling = retold program c (length code.blocks) r.client (entry_rows m) (entry_rows m)
+          (put (trace_rows m) k (trace_rows m k ++ r.events)) (trace_rows (came (own m (ticket c k)) r syncs counts))
+          (λ h. sent_to h before ++ sent_to h (d ∷ [])) (λ h. sent_to h (before ++ d ∷ []))
+          (λ h. got_from h before ++ got_from h (d ∷ [])) (λ h. got_from h (before ++ d ∷ []))
+          (λ j lt. refl)
+          (row_set m.traces k (trace_rows m k ++ r.events) (let long = o.trace_count in let within = o.telling.within in omega (arith, e, long, within)))
+          (λ h. sym (sent_join h before (d ∷ []))) (λ h. sym (got_join h before (d ∷ []))) telling;
+    }
+
+    inside : (k : ℕ) → m.client.begun ≡ suc k → k < length code.blocks
+    inside k e = let within = o.telling.within in omega (arith, e, within)
+
+    pub in_tale_block : ((l : Locals) → m.client.place ≡ between l → ⊥) → (k : ℕ) × (m.client.begun ≡ suc k)
+    in_tale_block none =
+        in_block program fine lined c (length code.blocks) settings m.client (entry_rows m) (trace_rows m)
+        (λ h. sent_to h before) (λ h. got_from h before) o.telling none
+
+    sending : (h : ℕ) (p : Parcel) → asked_of m ≡ acts.Send h p → InTale (before ++ deeds.sends h p ∷ []) (done (hands_out m (acts.Send h p)))
+    sending h p asked =
+        let act : act_of settings (length code.blocks) m.client ≡ acts.Send h p = sym asks ∙ asked in
+        let at = in_tale_block (λ l e. not_send settings (length code.blocks) m.client l h p e act) in
+        let k = at.0 in
+        let t = ticket c k in
+        let syncs = m.syncs + count_sync (handed_of (acts.Send h p)) in
+        let counts = tallied (handed_of (acts.Send h p)) k m.counts in
+        let after : List Deed = before ++ deeds.sends h p ∷ [] in
+        subst (λ (m : Mind). InTale after (done (hands_out m (acts.Send h p)))) (sym (own_is m t o.code_is o.size_is (o.ticket_is k at.1)))
+        (subst (InTale after) (sym (send_does (own m t) h p act))
+        (subst (λ names. InTale after (came (own m t) (sent settings t names m.client h p) syncs counts)) (sym (reserved_is k (inside k at.1)))
+        (comes (deeds.sends h p) k at.1 (sent settings t (listed program t) m.client h p) (sent_begun settings t (listed program t) m.client h p)
+        (sent_full settings t (listed program t) m.client h p o.full) refl syncs counts
+        (send_told program fine lined c (length code.blocks) settings m.client (entry_rows m) (trace_rows m)
+        (λ h. sent_to h before) (λ h. got_from h before) o.telling k at.1 h p act))))
+
+    getting : (h : ℕ) (x : HeldState) → asked_of m ≡ acts.Await h → InTale (before ++ deeds.gets h x ∷ []) (done (got_mind (hands_out m (acts.Await h)) x))
+    getting h x asked =
+        let act : act_of settings (length code.blocks) m.client ≡ acts.Await h = sym asks ∙ asked in
+        let at = in_tale_block (λ l e. not_await settings (length code.blocks) m.client l h e act) in
+        let k = at.0 in
+        let t = ticket c k in
+        let after : List Deed = before ++ deeds.gets h x ∷ [] in
+        subst (λ (m : Mind). InTale after (done (got_mind (hands_out m (acts.Await h)) x))) (sym (own_is m t o.code_is o.size_is (o.ticket_is k at.1)))
+        (subst (InTale after) (sym (get_does (own m t) h x))
+        (subst (λ names. InTale after (came (own m t) (clients.got settings t names m.client x m.client.place) m.syncs m.counts))
+        (sym (reserved_is k (inside k at.1)))
+        (comes (deeds.gets h x) k at.1 (clients.got settings t (listed program t) m.client x m.client.place)
+        (got_begun settings t (listed program t) m.client h x m.client.place)
+        (got_full settings t (listed program t) m.client x m.client.place o.full) refl m.syncs m.counts
+        (get_told program fine lined c (length code.blocks) settings m.client (entry_rows m) (trace_rows m)
+        (λ h. sent_to h before) (λ h. got_from h before) o.telling k at.1 h x act))))
+
+    taking : (h : ℕ) → asked_of m ≡ acts.NeedChunk h → InTale (before ++ deeds.takes_chunk h ∷ []) (done (chunk_mind (hands_out m (acts.NeedChunk h)) h))
+    taking h asked =
+        let act : act_of settings (length code.blocks) m.client ≡ acts.NeedChunk h = sym asks ∙ asked in
+        let at = in_tale_block (λ l e. not_need settings (length code.blocks) m.client l h e act) in
+        let k = at.0 in
+        let t = ticket c k in
+        let after : List Deed = before ++ deeds.takes_chunk h ∷ [] in
+        subst (λ (m : Mind). InTale after (done (chunk_mind (hands_out m (acts.NeedChunk h)) h))) (sym (own_is m t o.code_is o.size_is (o.ticket_is k at.1)))
+        (subst (InTale after) (sym (chunk_does (own m t) h))
+        (subst (λ names. InTale after (came (own m t) (took_chunk settings t names m.client h m.client.place) m.syncs m.counts))
+        (sym (reserved_is k (inside k at.1)))
+        (comes (deeds.takes_chunk h) k at.1 (took_chunk settings t (listed program t) m.client h m.client.place)
+        (chunk_begun settings t (listed program t) m.client h m.client.place)
+        (chunk_full settings t (listed program t) m.client h m.client.place o.full) refl m.syncs m.counts
+        (chunk_told program fine lined c (length code.blocks) settings m.client (entry_rows m) (trace_rows m)
+        (λ h. sent_to h before) (λ h. got_from h before) o.telling k at.1 h act))))

@@ -1,11 +1,13 @@
 pub mod ActKinds
 pub mod ActObjects
 pub mod BlockLists
+pub mod BlockTales
 pub mod ClientActs
 pub mod ClientCounts
 pub mod ClientLogs
 pub mod ClientTales
 pub mod ClientInvariants
+pub mod FullChunks
 pub mod LaneFronts
 pub mod LaneMoves
 pub mod LaneParts
