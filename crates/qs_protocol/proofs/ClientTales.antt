@@ -23,10 +23,10 @@ use Rattle.qs_client_run.specs.Client as clients
 use Rattle.qs_client_run.specs.Standing.{count_sync, handed_of}
 use Rattle.qs_client_run.specs.declared.act.Act.TheVariants as acts
 use Rattle.qs_client_run.specs.declared.stage.Handed.TheVariants as handeds
-use Rattle.qs_client.specs.ClientRuns.{Deed, RunsTo, got_from, next_ticket, reservations, sent_to}
+use Rattle.qs_client.specs.ClientRuns.{Deed, DeedsLead, RunsTo, got_from, next_ticket, reservations, sent_to}
 use Rattle.qs_client.specs.ClientRuns as deeds
 use Rattle.qs_client.specs.Mind.{Mind, asked_of, booked_mind, chunk_mind, done, enters, fresh_mind, got_mind, hands_out, is_between, next_act, next_mind, tallied, tree_at}
-use Rattle.qs_played.specs.Played.{ticket}
+use Rattle.qs_played.specs.Played.{no_events, ticket}
 use Rattle.qs_protocol.proofs.ActObjects.{between_acts, chunk_begun, got_begun, not_await, not_need, not_send, reserve_at, sent_begun, settle_begun}
 use Rattle.qs_protocol.proofs.BlockLists.{row_push, row_set, upto}
 use Rattle.qs_protocol.proofs.BlockTales.{BlockTold, Telling, chunk_told, get_told, in_block, nothing_told, reserve_told, rests, retold, send_told}
@@ -220,3 +220,143 @@ module _ (program : ProgramShape) (fine : (t : Ticket) (l : Locals) → AsksOnly
         (chunk_full settings t (listed program t) m.client h m.client.place o.full) refl m.syncs m.counts
         (chunk_told program fine lined c (length code.blocks) settings m.client (entry_rows m) (trace_rows m)
         (λ h. sent_to h before) (λ h. got_from h before) o.telling k at.1 h act))))
+
+    -- a client that reserves is between blocks, of which some are left
+    pub reserves_between : asked_of m ≡ acts.Reserve → (l : Locals) × (m.client.place ≡ clients.between l) × (m.client.begun < length code.blocks)
+    reserves_between asked =
+        let act : act_of settings (length code.blocks) m.client ≡ acts.Reserve = sym asks ∙ asked in
+        let at = place_of m.client.begun refl act in
+        (at.0, at.1, reserves_more settings (length code.blocks) m.client at.0 at.1 act)
+      where
+        place_of : (n : ℕ) → m.client.begun ≡ n → act_of settings (length code.blocks) m.client ≡ acts.Reserve
+            → (l : Locals) × (m.client.place ≡ clients.between l)
+        place_of zero e act = (zeros, (o.telling.idle e).0)
+        place_of (suc k) e act =
+            let b = o.telling.block k in
+            reserve_at program (ticket c k) b.sent b.got settings (length code.blocks) m.client b.page m.client.place (o.telling.last k e) act
+
+    reserving : asked_of m ≡ acts.Reserve
+        → InTale (before ++ deeds.reserves ∷ []) (done (booked_mind (hands_out m acts.Reserve) (next_ticket c (hands_out m acts.Reserve))))
+    reserving asked =
+        let found = reserves_between asked in
+        let l = found.0 in
+        let k = m.client.begun in
+        let t = ticket c k in
+        let after : List Deed = before ++ deeds.reserves ∷ [] in
+        let walk = walk_is k l found.2 in
+        subst (λ (m : Mind). InTale after (done (booked_mind (hands_out m acts.Reserve) (next_ticket c (hands_out m acts.Reserve)))))
+        (sym (own_is m m.ticket o.code_is o.size_is refl))
+        (subst (InTale after) (sym (reserve_does (own m m.ticket) c l found.1))
+        (subst (λ names. InTale after (came (enters (own m m.ticket) t l) (booked settings t names m.client (tree_at code k l)) m.syncs m.counts))
+        (sym (reserved_is k found.2))
+        (begun_with l found.2 (booked settings t (listed program t) m.client (tree_at code k l))
+        (settle_begun settings t (listed program t) (tree_at code k l) (record m.client { begun = suc m.client.begun }))
+        (settle_full settings t (listed program t) (tree_at code k l) (record m.client { begun = suc m.client.begun }))
+        (reserve_told program fine lined c (length code.blocks) settings m.client (entry_rows m) (trace_rows m)
+        (λ h. sent_to h before) (λ h. got_from h before) o.telling l found.1 found.2 (tree_at code k l) walk.0 walk.1 walk.2))))
+      where
+        begun_with : (l : Locals) → m.client.begun < length code.blocks → (r : Settled) → r.client.begun ≡ suc m.client.begun → ComesFull r
+            → Telling program c (length code.blocks) r.client (put (entry_rows m) m.client.begun l)
+            (put (trace_rows m) m.client.begun (trace_rows m m.client.begun ++ r.events)) (λ h. sent_to h before) (λ h. got_from h before)
+            → InTale (before ++ deeds.reserves ∷ []) (came (enters (own m m.ticket) (ticket c m.client.begun) l) r m.syncs m.counts)
+        begun_with l less r more full telling =
+            let k = m.client.begun in
+            let old = o.entry_count in
+            record {
+              code_is = refl;
+              size_is = refl;
+              ticket_is = λ j i. ap (ticket c) (omega (arith, more, i));
+              entry_count = let long = length-append m.entries (l ∷ []) in omega (arith, long, old, more);
+              trace_count = length-set m.traces k (trace_rows m k ++ r.events) ∙ o.trace_count;
+              reserved = let all = reservations_join before (deeds.reserves ∷ []) in let was = o.reserved in omega (arith, all, was, more);
+              full = full;
+              telling = retold program c (length code.blocks) r.client (put (entry_rows m) k l) (λ j. slice_index_or (m.entries ++ l ∷ []) j [])
+                  (put (trace_rows m) k (trace_rows m k ++ r.events)) (trace_rows (came (enters (own m m.ticket) (ticket c k) l) r m.syncs m.counts))
+                  (λ h. sent_to h before) (λ h. sent_to h (before ++ deeds.reserves ∷ []))
+                  (λ h. got_from h before) (λ h. got_from h (before ++ deeds.reserves ∷ []))
+                  (λ j lt. row_push m.entries k l old j (omega (arith, lt, more)))
+                  (row_set m.traces k (trace_rows m k ++ r.events) (let long = o.trace_count in omega (arith, long, less)))
+                  (λ h. sym (sent_join h before (deeds.reserves ∷ []) ∙ append-nil (sent_to h before)))
+                  (λ h. sym (got_join h before (deeds.reserves ∷ []) ∙ append-nil (got_from h before))) telling;
+            }
+
+  -- before the first deed
+  pub fresh_tale : InTale [] (done (fresh_mind code size))
+  fresh_tale = subst (InTale []) (sym (done_still (fresh_mind code size) refl)) (record {
+    code_is = refl;
+    size_is = refl;
+    ticket_is = λ k e. absurd (omega (arith, e));
+    entry_count = refl;
+    trace_count = length-replicate (length code.blocks) [];
+    reserved = refl;
+    full = tt;
+    telling = nothing_told program c (length code.blocks) (clients.first_client zeros) (entry_rows (fresh_mind code size)) (trace_rows (fresh_mind code size))
+        refl refl (λ h. (refl, refl)) (none_at (length code.blocks));
+  })
+    where
+      none_at : (n k : ℕ) → slice_index_or (replicate n (no_events)) k [] ≡ []
+      none_at zero k = refl
+      none_at (suc n) zero = refl
+      none_at (suc n) (suc k) = none_at n k
+
+  pub in_tale : (deeds : List Deed) (last : Mind) → DeedsLead c (fresh_mind code size) deeds last → InTale deeds (done last)
+  in_tale deeds last lead = deeds_keep c InTale reserving sending getting taking deeds [] (fresh_mind code size) last fresh_tale lead
+
+  -- a mind that asks for nothing more
+  finished_tale : (deeds : List Deed) (m : Mind) → InTale deeds m → asked_of m ≡ acts.Finished → Tale program c code deeds m
+  finished_tale deeds m o asked =
+      let act : act_of settings (length code.blocks) m.client ≡ acts.Finished = sym (asks deeds m o) ∙ asked in
+      let w = o.telling in
+      let at = place_of m.client.begun refl act in
+      let over = rests program c (length code.blocks) settings m.client (entry_rows m) (trace_rows m)
+      (λ h. sent_to h deeds) (λ h. got_from h deeds) w at.0 at.1 m.client.begun refl in
+      let all : m.client.begun ≡ length code.blocks =
+      (let within = w.within in let none = finished_all settings (length code.blocks) m.client at.0 at.1 act in omega (arith, within, none)) in
+      record {
+        page = λ k. (w.block k).page;
+        sent = λ k. (w.block k).sent;
+        got = λ k. (w.block k).got;
+        begun = all;
+        reserved = sym o.reserved ∙ all;
+        between = ap is_between at.1;
+        hands = over.hands;
+        first = λ none. (w.idle (all ∙ none)).0;
+        blocks = λ k lt. over.over k (omega (arith, all, lt));
+        begins = λ k lt. w.begins k (omega (arith, all, lt));
+        entries = λ k lt. w.entries k (omega (arith, all, lt));
+        traces = λ k lt. w.traces k (omega (arith, all, lt));
+        sent_is = λ h. w.sent_is h ∙ ap (upto (λ k. (w.block k).sent h)) all;
+        got_is = λ h. w.got_is h ∙ ap (upto (λ k. (w.block k).got h)) all;
+      }
+    where
+      place_of : (n : ℕ) → m.client.begun ≡ n → act_of settings (length code.blocks) m.client ≡ acts.Finished
+          → (l : Locals) × (m.client.place ≡ clients.between l)
+      place_of zero e act = (zeros, (o.telling.idle e).0)
+      place_of (suc k) e act =
+          let b = o.telling.block k in
+          finished_at program (ticket c k) b.sent b.got settings (length code.blocks) m.client b.page m.client.place (o.telling.last k e) o.full act
+
+  -- what a client's whole run says
+  pub told : (deeds : List Deed) (end : Mind) → RunsTo c (fresh_mind code size) deeds end → Tale program c code deeds end
+  told deeds end run =
+      subst (Tale program c code deeds) (sym (run.end_is ∙ ap (hands_out (done run.last)) run.finished))
+      (ended (finished_tale deeds (done run.last) (in_tale deeds run.last run.deeds_lead) run.finished))
+    where
+      -- an act that carries nothing changes nothing of it
+      ended : Tale program c code deeds (done run.last) → Tale program c code deeds (hands_out (done run.last) acts.Finished)
+      ended w = record {
+        page = w.page;
+        sent = w.sent;
+        got = w.got;
+        begun = w.begun;
+        reserved = w.reserved;
+        between = w.between;
+        hands = w.hands;
+        first = w.first;
+        blocks = w.blocks;
+        begins = w.begins;
+        entries = w.entries;
+        traces = w.traces;
+        sent_is = w.sent_is;
+        got_is = w.got_is;
+      }
