@@ -136,7 +136,7 @@ module _ (program : ProgramShape) (fine : (t : Ticket) (l : Locals) → AsksOnly
   }
 
   module _ (before : List Deed) (m : Mind) (o : InTale before m) where
-    asks : asked_of m ≡ act_of settings (length code.blocks) m.client
+    pub asks : asked_of m ≡ act_of settings (length code.blocks) m.client
     asks = ap₂ (λ (code : ClientCode) (size : ℕ). act_of (record { dynamic = code.dynamic; size = size }) (length code.blocks) m.client) o.code_is o.size_is
 
     -- it came to this in the block that it is in, by a deed that reserves none
@@ -162,7 +162,7 @@ module _ (program : ProgramShape) (fine : (t : Ticket) (l : Locals) → AsksOnly
           (λ h. sym (sent_join h before (d ∷ []))) (λ h. sym (got_join h before (d ∷ []))) telling;
     }
 
-    inside : (k : ℕ) → m.client.begun ≡ suc k → k < length code.blocks
+    pub inside : (k : ℕ) → m.client.begun ≡ suc k → k < length code.blocks
     inside k e = let within = o.telling.within in omega (arith, e, within)
 
     pub in_tale_block : ((l : Locals) → m.client.place ≡ between l → ⊥) → (k : ℕ) × (m.client.begun ≡ suc k)
@@ -170,7 +170,7 @@ module _ (program : ProgramShape) (fine : (t : Ticket) (l : Locals) → AsksOnly
         in_block program fine lined c (length code.blocks) settings m.client (entry_rows m) (trace_rows m)
         (λ h. sent_to h before) (λ h. got_from h before) o.telling none
 
-    sending : (h : ℕ) (p : Parcel) → asked_of m ≡ acts.Send h p → InTale (before ++ deeds.sends h p ∷ []) (done (hands_out m (acts.Send h p)))
+    pub sending : (h : ℕ) (p : Parcel) → asked_of m ≡ acts.Send h p → InTale (before ++ deeds.sends h p ∷ []) (done (hands_out m (acts.Send h p)))
     sending h p asked =
         let act : act_of settings (length code.blocks) m.client ≡ acts.Send h p = sym asks ∙ asked in
         let at = in_tale_block (λ l e. not_send settings (length code.blocks) m.client l h p e act) in
@@ -187,7 +187,7 @@ module _ (program : ProgramShape) (fine : (t : Ticket) (l : Locals) → AsksOnly
         (send_told program fine lined c (length code.blocks) settings m.client (entry_rows m) (trace_rows m)
         (λ h. sent_to h before) (λ h. got_from h before) o.telling k at.1 h p act))))
 
-    getting : (h : ℕ) (x : HeldState) → asked_of m ≡ acts.Await h → InTale (before ++ deeds.gets h x ∷ []) (done (got_mind (hands_out m (acts.Await h)) x))
+    pub getting : (h : ℕ) (x : HeldState) → asked_of m ≡ acts.Await h → InTale (before ++ deeds.gets h x ∷ []) (done (got_mind (hands_out m (acts.Await h)) x))
     getting h x asked =
         let act : act_of settings (length code.blocks) m.client ≡ acts.Await h = sym asks ∙ asked in
         let at = in_tale_block (λ l e. not_await settings (length code.blocks) m.client l h e act) in
@@ -204,7 +204,7 @@ module _ (program : ProgramShape) (fine : (t : Ticket) (l : Locals) → AsksOnly
         (get_told program fine lined c (length code.blocks) settings m.client (entry_rows m) (trace_rows m)
         (λ h. sent_to h before) (λ h. got_from h before) o.telling k at.1 h x act))))
 
-    taking : (h : ℕ) → asked_of m ≡ acts.NeedChunk h → InTale (before ++ deeds.takes_chunk h ∷ []) (done (chunk_mind (hands_out m (acts.NeedChunk h)) h))
+    pub taking : (h : ℕ) → asked_of m ≡ acts.NeedChunk h → InTale (before ++ deeds.takes_chunk h ∷ []) (done (chunk_mind (hands_out m (acts.NeedChunk h)) h))
     taking h asked =
         let act : act_of settings (length code.blocks) m.client ≡ acts.NeedChunk h = sym asks ∙ asked in
         let at = in_tale_block (λ l e. not_need settings (length code.blocks) m.client l h e act) in
@@ -235,7 +235,7 @@ module _ (program : ProgramShape) (fine : (t : Ticket) (l : Locals) → AsksOnly
             let b = o.telling.block k in
             reserve_at program (ticket c k) b.sent b.got settings (length code.blocks) m.client b.page m.client.place (o.telling.last k e) act
 
-    reserving : asked_of m ≡ acts.Reserve
+    pub reserving : asked_of m ≡ acts.Reserve
         → InTale (before ++ deeds.reserves ∷ []) (done (booked_mind (hands_out m acts.Reserve) (next_ticket c (hands_out m acts.Reserve))))
     reserving asked =
         let found = reserves_between asked in

@@ -17,3 +17,4 @@ pub mod MindSteps
 pub mod ObjectViews
 pub mod ObjectSteps
 pub mod SilentSteps
+pub mod TaleCounts
