@@ -30,7 +30,7 @@ use Rattle.qs_client_run.specs.declared.act.Act.TheVariants as acts
 use Rattle.qs_client_run.specs.declared.stage.Handed.TheVariants as handeds
 use Rattle.qs_client.specs.ClientRuns.{Deed, DeedsLead, RunsTo, next_ticket}
 use Rattle.qs_client.specs.ClientRuns as deeds
-use Rattle.qs_client.specs.Mind.{Mind, asked_of, booked_mind, chunk_mind, done, enters, fresh_mind, got_mind, hands_out, lists_of, next_act, tallied, tree_at}
+use Rattle.qs_client.specs.Mind.{Mind, asked_of, booked_mind, chunk_mind, done, enters, fresh_mind, got_mind, hands_out, is_between, lists_of, next_act, tallied, tree_at}
 use Rattle.qs_played.specs.Played.{ticket}
 use Rattle.qs_played.proofs.FunctionUpdate.{put_both}
 use Rattle.qs_played.proofs.SyncTallies.{none_for, objects_none, objects_stay, sent_for}
@@ -167,3 +167,206 @@ module _ (program : ProgramShape) (fine : (t : Ticket) (l : Locals) → AsksOnly
           objects_are = objects_stay h xs ∙ old.objects_are;
           numbers = sent_for h xs n (subst (λ hs. is_in hs h ≡ true) (sym old.objects_are) mine) (subst (IsDistinct ◌==◌) (sym old.objects_are) distinct) old.numbers;
         }
+
+    -- between blocks all that were begun are over
+    all_past : (l : Locals) → m.client.place ≡ between l → (j : ℕ) → j < m.client.begun → Past j (entry_rows m j) (trace_rows m j) (w.syncs j)
+    all_past l at j lt = ⊎_elim
+        (λ (is : m.client.begun ≡ suc j).
+        let t = ticket c j in
+        subst (CountAt set_by t (listed program t) (tree_at code j (entry_rows m j)) (trace_rows m j) (w.syncs j) m.client) at (w.newest j is))
+        (λ (other : (m.client.begun == suc j) ≡ false). let apart = apart_eqb m.client.begun (suc j) other in w.older j (omega (arith, lt, apart)))
+        (num_cases m.client.begun (suc j))
+
+    asks_own : asked_of m ≡ act_of set_by (length code.blocks) m.client
+    asks_own = asks program fine lined c code size reserved_is walk_is before m o
+
+    inside_own : (k : ℕ) → m.client.begun ≡ suc k → k < length code.blocks
+    inside_own k e = inside program fine lined c code size reserved_is walk_is before m o k e
+
+    send_counted : (h : ℕ) (p : Parcel) → asked_of m ≡ acts.Send h p → InCounts (done (hands_out m (acts.Send h p)))
+    send_counted h p asked =
+        let act : act_of set_by (length code.blocks) m.client ≡ acts.Send h p = sym asks_own ∙ asked in
+        let at = in_tale_block program fine lined c code size reserved_is walk_is before m o (λ l e. not_send set_by (length code.blocks) m.client l h p e act) in
+        let k = at.0 in
+        let t = ticket c k in
+        let total = m.syncs + count_sync (handed_of (acts.Send h p)) in
+        subst (λ (m : Mind). InCounts (done (hands_out m (acts.Send h p))))
+        (sym (own_is program fine lined c code size reserved_is walk_is m t o.code_is o.size_is (o.ticket_is k at.1)))
+        (subst InCounts (sym (send_does (own program fine lined c code size reserved_is walk_is m t) h p act))
+        (subst (λ names. InCounts (came (own program fine lined c code size reserved_is walk_is m t) (sent set_by t names m.client h p) total
+        (tallied (handed_of (acts.Send h p)) k m.counts))) (sym (reserved_is k (inside_own k at.1)))
+        (by_parcel k at.1 p act total)))
+      where
+        by_parcel : (k : ℕ) → m.client.begun ≡ suc k → (p : Parcel) → act_of set_by (length code.blocks) m.client ≡ acts.Send h p → (total : ℕ)
+            → InCounts (came (own program fine lined c code size reserved_is walk_is m (ticket c k))
+            (sent set_by (ticket c k) (listed program (ticket c k)) m.client h p) total (tallied (handed_of (acts.Send h p)) k m.counts))
+        by_parcel k e (parcels.Home x) act total =
+            let t = ticket c k in
+            comes_alike k e (sent set_by t (listed program t) m.client h (parcels.Home x)) (sent_begun set_by t (listed program t) m.client h (parcels.Home x)) total
+            (send_counts set_by t (listed program t) (tree_at code k (entry_rows m k)) (length code.blocks) (trace_rows m k) (w.syncs k) m.client
+            (w.newest k e) h (parcels.Home x) act)
+        by_parcel k e (parcels.Work chunk) act total =
+            let t = ticket c k in
+            comes_alike k e (sent set_by t (listed program t) m.client h (parcels.Work chunk)) (sent_begun set_by t (listed program t) m.client h (parcels.Work chunk))
+            total
+            (send_counts set_by t (listed program t) (tree_at code k (entry_rows m k)) (length code.blocks) (trace_rows m k) (w.syncs k) m.client
+            (w.newest k e) h (parcels.Work chunk) act)
+        by_parcel k e parcels.Sync act total =
+            let t = ticket c k in
+            let b = o.telling.block k in
+            let mine = (send_at program t b.sent b.got set_by (length code.blocks) m.client b.page m.client.place (o.telling.last k e) h parcels.Sync act).0 in
+            comes_synced k e h mine (sent set_by t (listed program t) m.client h parcels.Sync) (sent_begun set_by t (listed program t) m.client h parcels.Sync) total
+            (send_counts set_by t (listed program t) (tree_at code k (entry_rows m k)) (length code.blocks) (trace_rows m k) (w.syncs k) m.client
+            (w.newest k e) h parcels.Sync act)
+        by_parcel k e parcels.End act total =
+            let t = ticket c k in
+            comes_alike k e (sent set_by t (listed program t) m.client h parcels.End) (sent_begun set_by t (listed program t) m.client h parcels.End) total
+            (send_counts set_by t (listed program t) (tree_at code k (entry_rows m k)) (length code.blocks) (trace_rows m k) (w.syncs k) m.client
+            (w.newest k e) h parcels.End act)
+
+    get_counted : (h : ℕ) (x : HeldState) → asked_of m ≡ acts.Await h → InCounts (done (got_mind (hands_out m (acts.Await h)) x))
+    get_counted h x asked =
+        let act : act_of set_by (length code.blocks) m.client ≡ acts.Await h = sym asks_own ∙ asked in
+        let at = in_tale_block program fine lined c code size reserved_is walk_is before m o (λ l e. not_await set_by (length code.blocks) m.client l h e act) in
+        let k = at.0 in
+        let t = ticket c k in
+        subst (λ (m : Mind). InCounts (done (got_mind (hands_out m (acts.Await h)) x)))
+        (sym (own_is program fine lined c code size reserved_is walk_is m t o.code_is o.size_is (o.ticket_is k at.1)))
+        (subst InCounts (sym (get_does (own program fine lined c code size reserved_is walk_is m t) h x))
+        (subst (λ names. InCounts (came (own program fine lined c code size reserved_is walk_is m t)
+        (clients.got set_by t names m.client x m.client.place) m.syncs m.counts)) (sym (reserved_is k (inside_own k at.1)))
+        (comes_alike k at.1 (clients.got set_by t (listed program t) m.client x m.client.place)
+        (got_begun set_by t (listed program t) m.client h x m.client.place) m.syncs
+        (got_counts set_by t (listed program t) (tree_at code k (entry_rows m k)) (trace_rows m k) (w.syncs k) m.client x m.client.place (w.newest k at.1)))))
+
+    chunk_counted : (h : ℕ) → asked_of m ≡ acts.NeedChunk h → InCounts (done (chunk_mind (hands_out m (acts.NeedChunk h)) h))
+    chunk_counted h asked =
+        let act : act_of set_by (length code.blocks) m.client ≡ acts.NeedChunk h = sym asks_own ∙ asked in
+        let at = in_tale_block program fine lined c code size reserved_is walk_is before m o (λ l e. not_need set_by (length code.blocks) m.client l h e act) in
+        let k = at.0 in
+        let t = ticket c k in
+        subst (λ (m : Mind). InCounts (done (chunk_mind (hands_out m (acts.NeedChunk h)) h)))
+        (sym (own_is program fine lined c code size reserved_is walk_is m t o.code_is o.size_is (o.ticket_is k at.1)))
+        (subst InCounts (sym (chunk_does (own program fine lined c code size reserved_is walk_is m t) h))
+        (subst (λ names. InCounts (came (own program fine lined c code size reserved_is walk_is m t)
+        (took_chunk set_by t names m.client h m.client.place) m.syncs m.counts)) (sym (reserved_is k (inside_own k at.1)))
+        (comes_alike k at.1 (took_chunk set_by t (listed program t) m.client h m.client.place)
+        (chunk_begun set_by t (listed program t) m.client h m.client.place) m.syncs
+        (chunk_counts set_by t (listed program t) (tree_at code k (entry_rows m k)) (trace_rows m k) (w.syncs k) m.client h m.client.place (w.newest k at.1)))))
+
+    reserve_counted : asked_of m ≡ acts.Reserve → InCounts (done (booked_mind (hands_out m acts.Reserve) (next_ticket c (hands_out m acts.Reserve))))
+    reserve_counted asked =
+        let found = reserves_between program fine lined c code size reserved_is walk_is before m o asked in
+        let l = found.0 in
+        let k = m.client.begun in
+        let t = ticket c k in
+        subst (λ (m : Mind). InCounts (done (booked_mind (hands_out m acts.Reserve) (next_ticket c (hands_out m acts.Reserve)))))
+        (sym (own_is program fine lined c code size reserved_is walk_is m m.ticket o.code_is o.size_is refl))
+        (subst InCounts (sym (reserve_does (own program fine lined c code size reserved_is walk_is m m.ticket) c l found.1))
+        (subst (λ names. InCounts (came (enters (own program fine lined c code size reserved_is walk_is m m.ticket) t l)
+        (booked set_by t names m.client (tree_at code k l)) m.syncs m.counts)) (sym (reserved_is k found.2))
+        (begun_with l found.1 found.2)))
+      where
+        begun_with : (l : Locals) → m.client.place ≡ between l → m.client.begun < length code.blocks
+            → let t = ticket c m.client.begun in
+            InCounts (came (enters (own program fine lined c code size reserved_is walk_is m m.ticket) t l)
+            (booked set_by t (listed program t) m.client (tree_at code m.client.begun l)) m.syncs m.counts)
+        begun_with l at less =
+            let k = m.client.begun in
+            let t = ticket c k in
+            let names = listed program t in
+            let tree = tree_at code k l in
+            let began : Client = record m.client { begun = suc m.client.begun } in
+            let r : Settled = booked set_by t names m.client tree in
+            let row : List Event = trace_rows m k ++ r.events in
+            let more : r.client.begun ≡ suc k = settle_begun set_by t names tree began in
+            let trace_is = row_set m.traces k row (let long = o.trace_count in omega (arith, long, less)) in
+            let entry_is = λ (j : ℕ) (lt : j < suc k). row_push m.entries k l o.entry_count j lt in
+            let hands = (rests program c (length code.blocks) set_by m.client (entry_rows m) (trace_rows m)
+            (λ h. deeds.sent_to h before) (λ h. deeds.got_from h before) o.telling l at k refl).hands in
+            let start : Even set_by t names tree [] (w.syncs k) (λ h. is_some (m.client.held h)) tree =
+            λ h es. ap (λ x. syncs_along set_by.dynamic h x tree es) (sym (ap is_some (hands h).0)) ∙ (let z = w.fresh k (omega arith) h in omega (arith, z)) in
+            let now : At k l r.events (w.syncs k) r.client =
+            settle_counts set_by t names tree tree [] (w.syncs k) began (asking k l less) start in
+            let none : r.events ≡ row = sym (ap (λ es. es ++ r.events) (o.telling.fresh k (omega arith))) in
+            record {
+              syncs = w.syncs;
+              newest = λ j i.
+                  let is : k ≡ j = omega (arith, more, i) in
+                  subst (λ j. At j (slice_index_or (m.entries ++ l ∷ []) j []) (slice_index_or (slice_set m.traces k row) j []) (w.syncs j) r.client) is
+                  (subst (λ x. At k x (slice_index_or (slice_set m.traces k row) k []) (w.syncs k) r.client)
+                  (sym (put_here (entry_rows m) k l) ∙ entry_is k (omega arith))
+                  (subst (λ es. At k l es (w.syncs k) r.client) (none ∙ (sym (put_here (trace_rows m) k row) ∙ trace_is k)) now));
+              older = λ j lt.
+                  let low : j < k = omega (arith, more, lt) in
+                  let other : (k == j) ≡ false = after_not k j low in
+                  subst (λ x. Past j x (slice_index_or (slice_set m.traces k row) j []) (w.syncs j))
+                  (sym (put_there (entry_rows m) k l j other) ∙ entry_is j (omega (arith, low)))
+                  (subst (λ es. Past j (entry_rows m j) es (w.syncs j)) (sym (put_there (trace_rows m) k row j other) ∙ trace_is j) (all_past l at j low));
+              fresh = λ j low h. w.fresh j (omega (arith, more, low)) h;
+              row_count = w.row_count;
+              rows = w.rows;
+            }
+
+  -- before the first deed
+  fresh_counts : InCounts (done (fresh_mind code size))
+  fresh_counts = subst InCounts (sym (done_still (fresh_mind code size) refl)) (record {
+    syncs = λ k h. 0;
+    newest = λ k e. absurd (omega (arith, e));
+    older = λ k lt. absurd (omega (arith, lt));
+    fresh = λ k low h. refl;
+    row_count = length-map (lists_of code.blocks) no_syncs ∙ length-map code.blocks (λ (b : BlockCode). b.reserved);
+    rows = λ k lt. subst (λ xs. IsTallied (listed program (ticket c k)) xs (λ h. 0)) (sym (row_is k lt)) (record {
+      objects_are = objects_none (listed program (ticket c k));
+      numbers = λ h. none_for (listed program (ticket c k)) h;
+    });
+  })
+    where
+      row_is : (k : ℕ) → k < length code.blocks → slice_index_or (fresh_rows (lists_of code.blocks)) k [] ≡ no_syncs (listed program (ticket c k))
+      row_is k lt =
+          let many = length-map code.blocks (λ (b : BlockCode). b.reserved) in
+          get_or-map no_syncs (lists_of code.blocks) k [] [] (omega (arith, many, lt))
+          ∙ ap no_syncs (get_or-map (λ (b : BlockCode). b.reserved) code.blocks k no_code [] lt ∙ reserved_is k lt)
+
+  abbrev pub Both : List Deed → Mind → Type 0
+  Both before m = Known before m × InCounts m
+
+  pub in_counts : (deeds : List Deed) (last : Mind) → DeedsLead c (fresh_mind code size) deeds last → Both deeds (done last)
+  in_counts deeds last lead =
+      deeds_keep c Both
+      (λ before m k asked. (reserving program fine lined c code size reserved_is walk_is before m k.0 asked, reserve_counted before m k.0 k.1 asked))
+      (λ before m k h p asked. (sending program fine lined c code size reserved_is walk_is before m k.0 h p asked, send_counted before m k.0 k.1 h p asked))
+      (λ before m k h x asked. (getting program fine lined c code size reserved_is walk_is before m k.0 h x asked, get_counted before m k.0 k.1 h x asked))
+      (λ before m k h asked. (taking program fine lined c code size reserved_is walk_is before m k.0 h asked, chunk_counted before m k.0 k.1 h asked))
+      deeds [] (fresh_mind code size) last (fresh_tale program fine lined c code size reserved_is walk_is, fresh_counts) lead
+
+  stands_between : (p : Place) → is_between p ≡ true → (l : Locals) × (p ≡ between l)
+  stands_between (between l) e = (l, refl)
+  stands_between (clients.runs rest) e = absurd (true≢false (sym e))
+  stands_between (clients.full h rest) e = absurd (true≢false (sym e))
+  stands_between (clients.awaits h rest) e = absurd (true≢false (sym e))
+  stands_between (clients.leaves h hs l) e = absurd (true≢false (sym e))
+
+  -- how many Syncs a client's whole run sent
+  pub told_counts : (deeds : List Deed) (end : Mind) → RunsTo c (fresh_mind code size) deeds end → (tale : Tale program c code deeds end)
+      → TaleCounts program c code size deeds end tale
+  told_counts deeds end run tale =
+      subst (λ (end : Mind). (tale : Tale program c code deeds end) → TaleCounts program c code size deeds end tale)
+      (sym (run.end_is ∙ ap (hands_out (done run.last)) run.finished)) ended tale
+    where
+      ended : (tale : Tale program c code deeds (hands_out (done run.last) acts.Finished))
+          → TaleCounts program c code size deeds (hands_out (done run.last) acts.Finished) tale
+      ended tale =
+          let m = done run.last in
+          let both = in_counts deeds run.last run.deeds_lead in
+          let w = both.1 in
+          let at = stands_between m.client.place tale.between in
+          record {
+            syncs = w.syncs;
+            counted = λ k lt.
+                let all = tale.begun in
+                subst (λ l. Past k l (tale.page k).trace (w.syncs k)) (tale.entries k lt)
+                (subst (λ es. Past k (entry_rows m k) es (w.syncs k)) (tale.traces k lt)
+                (all_past deeds m both.0 w at.0 at.1 k (omega (arith, all, lt))));
+            tallied = λ k lt. w.rows k lt;
+          }
