@@ -2,14 +2,14 @@
 use Rattle.std.proofs.Common.{◌≡◌, ◌+◌, ◌≤◌, arith, ℕ, Bool, true, false, true≢false, if◌then◌else◌, List, [], ◌∷◌, ◌++◌, map, flat_map, filter, length, refl, sym, ap, ◌∙◌, subst, inl, append_assoc, append-nil}
 use Rattle.std.specs.List.{AllByRecursion}
 use Rattle.qs_objects.specs.Journals.{HeldState, replay, unstamped, IsHonest}
-use Rattle.qs_objects.specs.Parts.{logged, part, stamp}
+use Rattle.qs_objects.specs.Parts.{logged, stamp}
 use Rattle.qs_objects.specs.declared.held.Entry.{Entry}
 use Rattle.qs_objects.specs.declared.held.Event.{Event}
 use Rattle.qs_objects.specs.declared.held.Ticket.{Ticket}
 use Rattle.qs_check.specs.Program.{ProgramShape}
 use Rattle.qs_meaning.specs.Following.{reserves}
 use Rattle.qs_meaning.proofs.Histories.{Flow, IsDone, Line, Page, done_of, parts_of}
-use Rattle.qs_chunk.specs.LaneViews.{ClientLane, Extends, HandlerLane, gone, sends}
+use Rattle.qs_chunk.specs.LaneViews.{ClientLane, Extends, gone, sends}
 use Rattle.qs_chunk.specs.declared.parcel.Parcel.{Parcel}
 use Rattle.qs_played.proofs.JournalRooms.{total}
 use Rattle.qs_protocol.proofs.ClientInvariants.{apart_from}

@@ -1,6 +1,6 @@
 -- A lane is cut into tickets at the Ends, from both its ends alike: where what a handler received is a front of what a client sent, ticket by
 -- ticket up to an End each, and what the client got is a front of what the handler gave, each ticket has the same on both sides.
-use Rattle.std.proofs.Common.{◌≡◌, arith, ℕ, suc, Bool, true, false, if◌then◌else◌, ◌==◌, List, [], ◌∷◌, ◌++◌, filter, flat_map, length, refl, sym, ap, ap₂, ◌∙◌, subst}
+use Rattle.std.proofs.Common.{◌≡◌, arith, ℕ, suc, Bool, true, false, if◌then◌else◌, ◌==◌, List, [], ◌∷◌, ◌++◌, flat_map, length, refl, sym, ap, ap₂, ◌∙◌, subst}
 use Rattle.std.specs.List.{AllByRecursion}
 use Rattle.qs_objects.specs.Journals.{HeldState}
 use Rattle.qs_objects.specs.Parts.{IsFront}

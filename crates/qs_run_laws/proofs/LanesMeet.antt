@@ -1,5 +1,5 @@
 -- What each client sent and got for a block is what each handler received and gave in its turn.
-use Rattle.std.proofs.Common.{◌≡◌, ◌<◌, arith, ℕ, Bool, true, false, if◌then◌else◌, nat_lt, ◌==◌, List, [], ◌∷◌, ◌++◌, map, filter, flat_map, length, refl, sym, ap, ◌∙◌, subst, append-nil}
+use Rattle.std.proofs.Common.{◌≡◌, ◌<◌, arith, ℕ, true, false, if◌then◌else◌, nat_lt, ◌==◌, List, [], ◌∷◌, map, flat_map, length, refl, sym, ap, ◌∙◌, subst, append-nil}
 use Rattle.std.specs.List.{AllByRecursion}
 use Rattle.qs_objects.specs.Journals.{HeldState}
 use Rattle.qs_objects.specs.Parts.{IsFront, part}
@@ -20,13 +20,13 @@ use Rattle.qs_client.specs.ClientRuns.{got_from, reservations, sent_to}
 use Rattle.qs_played.specs.Played.{ticket}
 use Rattle.qs_played.proofs.JournalRooms.{no_block_beyond}
 use Rattle.qs_played.proofs.ReservedObjects.{reserved_inside}
-use Rattle.qs_protocol.proofs.ClientTales.{upto}
+use Rattle.qs_protocol.proofs.BlockLists.{upto}
 use Rattle.qs_protocol.proofs.ObjectViews.{PastOf}
 use Rattle.qs_played.specs.JournalRooms.{fresh_held}
 use Rattle.qs_core_laws.specs.Core.{AreCodes}
 use Rattle.qs_desk.specs.Tickets.{of_client, of_handler}
 use Rattle.qs_run_laws.specs.ThreadRuns.{IsThreadRun, ThreadRun}
-use Rattle.qs_run_laws.proofs.ClientLines.{along_turns, legal_line, line, upto_line, without_others}
+use Rattle.qs_run_laws.proofs.ClientLines.{along_turns, legal_line, upto_line, without_others}
 use Rattle.qs_run_laws.proofs.LaneCuts.{AreFronts, IsMet, Sent, block_whole, turns_meet}
 use Rattle.qs_run_laws.proofs.ThreadTales.{block_told, count_is, count_of, deeds_of, held_of, inside, tale, tasks_of, turned, turns_are}
 

@@ -1,14 +1,13 @@
 -- The worked run is a run: its program is sound, and all that the law asks for holds, computed step by step.
-use Rattle.std.proofs.Common.{◌≡◌, ◌<◌, ◌≤◌, ◌==◌, arith, ℕ, zero, suc, Bool, true, false, true≢false, List, [], ◌∷◌, length, map, refl, sym, ap, ◌∙◌, append-nil}
-use Rattle.std.specs.List.{AllByRecursion, IsDistinct}
+use Rattle.std.proofs.Common.{◌≡◌, ◌<◌, ◌==◌, arith, ℕ, zero, suc, true, false, true≢false, List, [], ◌∷◌, length, map, refl, sym, ap, append-nil}
+use Rattle.std.specs.List.{IsDistinct}
 use Rattle.qs_objects.specs.Journals.{HeldState}
 use Rattle.qs_objects.specs.declared.held.Event.{Event}
 use Rattle.qs_objects.specs.declared.held.Ticket.{Ticket}
 use Rattle.qs_check.specs.Numbering.{same_name}
-use Rattle.qs_check.specs.Program.{ProgramShape, blocks_of, client_at, whole_load, whole_weight}
-use Rattle.qs_check.specs.Sound.{AreNamesApart, IsFormedBlock, IsFormedClient, IsFormedProgram, IsSound, IsSoundBlock, IsSoundBody, IsSoundClient}
+use Rattle.qs_check.specs.Program.{blocks_of, client_at, whole_load, whole_weight}
+use Rattle.qs_check.specs.Sound.{AreNamesApart, IsFormedClient, IsFormedProgram, IsSound, IsSoundBody, IsSoundClient}
 use Rattle.qs_meaning.specs.Following.{reserves}
-use Rattle.qs_meaning.specs.Serial.{Place, serial}
 use Rattle.qs_graph.specs.Steps.{limit}
 use Rattle.qs_graph.specs.Walk.{move}
 use Rattle.qs_syncset.specs.declared.mode.Mode.TheVariants as modes
@@ -27,7 +26,7 @@ use Rattle.qs_core_laws.specs.Core.{AreCodes}
 use Rattle.qs_core_laws.specs.CoreExamples.{built}
 use Rattle.qs_core_laws.proofs.BuiltCodes.{built_codes}
 use Rattle.qs_desk.specs.Tickets.{of_client, pushed_to}
-use Rattle.qs_run_laws.specs.Settled.{IsSettled, trace_by}
+use Rattle.qs_run_laws.specs.Settled.{IsSettled}
 use Rattle.qs_run_laws.specs.SettledExamples.{SettledExamples, bank, bank_deeds, bank_held, bank_run, bank_tasks, deposited, deposits_and_asks, depositor_deeds, mind_after, mover_deeds, moves_30, taker_more, withdrawn}
 use Rattle.qs_run_laws.specs.ThreadRuns.{IsThreadRun}
 use Rattle.qs_run_laws.proofs.Settling.{threads_settle}

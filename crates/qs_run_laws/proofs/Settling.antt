@@ -1,17 +1,15 @@
 -- The law of running threads: from the abstract run, what the serial run of the order says; and each block's synchronisations, by its trace.
-use Rattle.std.proofs.Common.{◌≡◌, ◌<◌, arith, ℕ, Bool, true, false, List, [], ◌∷◌, ◌++◌, map, flat_map, filter, length, get_or, refl, sym, ap, ap₂, ◌∙◌, subst, inl}
+use Rattle.std.proofs.Common.{◌≡◌, ◌<◌, arith, ℕ, false, List, [], ◌∷◌, ◌++◌, map, flat_map, length, get_or, refl, sym, ap, ap₂, ◌∙◌, subst, inl}
 use Rattle.std.proofs.lemmas.List.{get_or-map}
 use Rattle.std.specs.List.{AllByRecursion, AllZip}
 use Rattle.qs_objects.specs.Journals.{HeldState}
-use Rattle.qs_objects.specs.Parts.{part, same, stamp}
+use Rattle.qs_objects.specs.Parts.{part, stamp}
 use Rattle.qs_objects.specs.declared.held.Entry.{Entry}
-use Rattle.qs_objects.specs.declared.held.Event.{Event}
 use Rattle.qs_objects.specs.declared.held.Ticket.{Ticket}
 use Rattle.qs_check.specs.Program.{ProgramShape, blocks_of}
 use Rattle.qs_check.specs.Sound.{IsSound}
 use Rattle.qs_meaning.specs.Following.{Leads, block_tree}
 use Rattle.qs_meaning.specs.Serial.{Place, serial}
-use Rattle.qs_meaning.proofs.Histories.{IsDone}
 use Rattle.qs_meaning.proofs.SerialRuns.{Agrees, legal_apart, runs_serially}
 use Rattle.qs_syncset.specs.Codes.{ClientCode}
 use Rattle.qs_syncset.specs.SyncCounts.{syncs_along}
@@ -20,15 +18,16 @@ use Rattle.qs_syncset.specs.declared.mode.Mode.{Mode}
 use Rattle.qs_client.specs.Mind.{Mind}
 use Rattle.qs_played.specs.Isolation.{ended_of, entry_of, ticket_at, trace_of}
 use Rattle.qs_played.specs.Played.{ticket}
-use Rattle.qs_played.specs.SyncSums.{AreListed, AreSent, AreSyncsCounted, IsCounted, counts_at, syncs_at}
+use Rattle.qs_played.specs.SyncSums.{AreSent, AreSyncsCounted, IsCounted, counts_at, syncs_at}
 use Rattle.qs_played.proofs.JournalRooms.{no_block_beyond}
 use Rattle.qs_played.proofs.Orders.{among_once}
 use Rattle.qs_protocol.proofs.ClientInvariants.{listed}
+use Rattle.qs_protocol.proofs.TaleCounts.{IsTallied}
 use Rattle.qs_core_laws.specs.Core.{AreCodes, tree_of}
 use Rattle.qs_core_laws.proofs.CountedTraces.{trace_counted, tree_count}
-use Rattle.qs_run_laws.specs.Settled.{IsSettled, ThreadRunsSettle, counts_by, entry_by, part_at, shown_by, trace_by}
+use Rattle.qs_run_laws.specs.Settled.{IsSettled, ThreadRunsSettle, counts_by, entry_by, part_at, trace_by}
 use Rattle.qs_run_laws.specs.ThreadRuns.{IsThreadRun, ThreadRun}
-use Rattle.qs_run_laws.proofs.ThreadTales.{block_told, inside, tale}
+use Rattle.qs_run_laws.proofs.ThreadTales.{block_told, inside, tale, tale_counts}
 use Rattle.qs_run_laws.proofs.ThreadsIsolated.{abstract_run, end, end_is, entry_is, every, isolated, mind_is, object_goes, page, shown, ticket_inside, trace_is}
 
 -- what holds of all tickets, and of each with its place
@@ -125,12 +124,12 @@ module _ (p : ProgramShape) (sound : IsSound p) (mode : Mode) (code : ℕ → Cl
     counts_are : counts_at (shown p sound mode code codes size r run) i ≡ counts_by r t
     counts_are = get_or-map (counts_by r) r.order i (ticket 0 0) [] few
 
-    tallied : (map object_of (counts_by r t) ≡ listed p t) × ((h : ℕ) → syncs_for (counts_by r t) h ≡ (tale p sound mode code codes size r run t.client).syncs t.index h)
+    tallied : IsTallied (listed p t) (counts_by r t) ((tale_counts p sound mode code codes size r run t.client).syncs t.index)
     tallied =
         let client = no_block_beyond p t.client (let o = own in omega (arith, o)) in
-        subst (λ (m : Mind). (map object_of (get_or m.counts t.index []) ≡ listed p t) × ((h : ℕ) → syncs_for (get_or m.counts t.index []) h ≡ (tale p sound mode code codes size r run t.client).syncs t.index h))
+        subst (λ (m : Mind). IsTallied (listed p t) (get_or m.counts t.index []) ((tale_counts p sound mode code codes size r run t.client).syncs t.index))
         (sym (mind_is p sound mode code codes size r run t.client client))
-        ((tale p sound mode code codes size r run t.client).tallied t.index (block_told p sound mode code codes size r run t own))
+        ((tale_counts p sound mode code codes size r run t.client).tallied t.index (block_told p sound mode code codes size r run t own))
 
     leads : Leads (block_tree p t (entry_of (shown p sound mode code codes size r run) i)) (trace_of (shown p sound mode code codes size r run) i) (page p sound mode code codes size r run t).rest
     leads =
@@ -142,14 +141,14 @@ module _ (p : ProgramShape) (sound : IsSound p) (mode : Mode) (code : ℕ → Cl
         (tree_count p sound mode code codes size (shown p sound mode code codes size r run) i)
     sent = inl (λ h.
         ap (λ xs. syncs_for xs h) counts_are
-        ∙ (tallied.1 h
-        ∙ ((tale p sound mode code codes size r run t.client).counted t.index (block_told p sound mode code codes size r run t own) h
+        ∙ (tallied.numbers h
+        ∙ ((tale_counts p sound mode code codes size r run t.client).counted t.index (block_told p sound mode code codes size r run t own) h
         ∙ sym (ap₂ (λ l es. syncs_along (code t.client).dynamic h false (tree_of code size t l) es) entry_at trace_at))))
 
     reservation_counted : IsCounted p mode (shown p sound mode code codes size r run) i
     reservation_counted =
         trace_counted p sound mode code codes size (shown p sound mode code codes size r run) i own (page p sound mode code codes size r run t).rest leads sent
-        (ap (map object_of) counts_are ∙ tallied.0)
+        (ap (map object_of) counts_are ∙ tallied.objects_are)
 
   counted : AreSyncsCounted p mode (shown p sound mode code codes size r run)
   unfolding AreSyncsCounted

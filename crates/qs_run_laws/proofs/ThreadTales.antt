@@ -1,15 +1,13 @@
 -- What each client and each handler of a run did, block by block and turn by turn; beyond the program nobody does anything.
-use Rattle.std.proofs.Common.{◌≡◌, ◌<◌, ◌≤◌, arith, ℕ, Bool, true, false, if◌then◌else◌, nat_lt, List, [], ◌∷◌, ◌++◌, map, filter, length, refl, sym, ap, ap₂, ◌∙◌, subst}
+use Rattle.std.proofs.Common.{◌≡◌, ◌<◌, ◌≤◌, arith, ℕ, Bool, true, false, if◌then◌else◌, nat_lt, List, [], ◌∷◌, ◌++◌, map, length, refl, sym, ap, ap₂, ◌∙◌, subst}
 use Rattle.std.specs.List.{AllByRecursion}
 use Rattle.qs_objects.specs.Journals.{HeldState}
-use Rattle.qs_objects.specs.declared.held.Next.{Next}
 use Rattle.qs_objects.specs.declared.held.Next.TheVariants as nexts
 use Rattle.qs_objects.specs.declared.held.Ticket.{Ticket}
 use Rattle.qs_check.specs.Program.{ProgramShape, blocks_of}
 use Rattle.qs_check.specs.Sound.{IsSound}
 use Rattle.qs_check.specs.Values.{Locals}
 use Rattle.qs_meaning.specs.Following.{reserves, block_tree}
-use Rattle.qs_meaning.proofs.Each.{each_map}
 use Rattle.qs_meaning.proofs.SoundTrees.{blocks_ask_only}
 use Rattle.qs_graph.specs.Synced.{erased}
 use Rattle.qs_syncset.specs.Codes.{BlockCode, ClientCode, code_at}
@@ -30,11 +28,12 @@ use Rattle.qs_played.proofs.JournalRooms.{no_block_beyond}
 use Rattle.qs_played.proofs.ReservedObjects.{reserved_inside}
 use Rattle.qs_played.proofs.SyncLists.{legal_blocks}
 use Rattle.qs_protocol.proofs.ClientInvariants.{listed}
-use Rattle.qs_protocol.proofs.ClientTales.{BlockTold, Tale, told}
+use Rattle.qs_protocol.proofs.ClientTales.{Tale, told}
+use Rattle.qs_protocol.proofs.TaleCounts.{TaleCounts, told_counts}
 use Rattle.qs_played.specs.JournalRooms.{fresh_held}
-use Rattle.qs_core_laws.specs.Core.{AreCodes, blocks, reserved_of, tree_of}
+use Rattle.qs_core_laws.specs.Core.{AreCodes}
 use Rattle.qs_core_laws.proofs.CoreCodes.{block_walk, blocks_are, lined, longest_covers, reserved_is}
-use Rattle.qs_desk.specs.Tickets.{of_handler, pushed_to}
+use Rattle.qs_desk.specs.Tickets.{of_handler}
 use Rattle.qs_run_laws.specs.ThreadRuns.{IsThreadRun, ThreadRun}
 
 -- the tickets of turns, by what was taken up to the closing mark
@@ -84,25 +83,26 @@ module _ (p : ProgramShape) (sound : IsSound p) (mode : Mode) (code : ℕ → Cl
   pub count_is : (c : ℕ) → count_of c ≡ blocks_of p c
   count_is c = blocks_are p sound mode code codes size c
 
-  pub own_list : (c k : ℕ) → k < count_of c → (code_at (code c) k).reserved ≡ listed p (ticket c k)
+  own_list : (c k : ℕ) → k < count_of c → (code_at (code c) k).reserved ≡ listed p (ticket c k)
   own_list c k few = reserved_is p sound mode code codes size (ticket c k)
 
-  pub own_walk : (c k : ℕ) (l : Locals) → k < count_of c
+  own_walk : (c k : ℕ) (l : Locals) → k < count_of c
       → (erased (tree_at (code c) k l) ≡ block_tree p (ticket c k) l) × IsSoundSynced (λ h. false) (tree_at (code c) k l) × IsOnReserved (listed p (ticket c k)) (tree_at (code c) k l)
   own_walk c k l few = block_walk p sound mode code codes size (ticket c k) l (let n = count_is c in omega (arith, few, n))
 
-  pub own_asks : (c k : ℕ) (l : Locals) → k < count_of c → IsAsking (tree_at (code c) k l)
+  own_asks : (c k : ℕ) (l : Locals) → k < count_of c → IsAsking (tree_at (code c) k l)
   own_asks c k l few =
       let n = count_is c in
       let inside : k < blocks_of p c = omega (arith, few, n) in
       let own = no_block_beyond p c (omega (arith, inside)) in
       code_asks p mode c (code c) sound (codes.own c own) k (longest (code c).blocks) l inside (longest_covers (code c).blocks k)
 
-  abbrev pub TaleOf : ℕ → Type 0
-  TaleOf c = Tale p (blocks_ask_only p sound) (lined p sound) c (code c) size (own_list c) (own_walk c) (own_asks c) (deeds_of c) (mind_of c)
+  pub tale : (c : ℕ) → Tale p c (code c) (deeds_of c) (mind_of c)
+  tale c = told p (blocks_ask_only p sound) (lined p sound) c (code c) size (own_list c) (own_walk c) (deeds_of c) (mind_of c) (client_runs c)
 
-  pub tale : (c : ℕ) → TaleOf c
-  tale c = told p (blocks_ask_only p sound) (lined p sound) c (code c) size (own_list c) (own_walk c) (own_asks c) (deeds_of c) (mind_of c) (client_runs c)
+  pub tale_counts : (c : ℕ) → TaleCounts p c (code c) size (deeds_of c) (mind_of c) (tale c)
+  tale_counts c =
+      told_counts p (blocks_ask_only p sound) (lined p sound) c (code c) size (own_list c) (own_walk c) (own_asks c) (deeds_of c) (mind_of c) (client_runs c) (tale c)
 
   -- what handler h did, and its object at the end
   abbrev pub tasks_of : ℕ → List Task

@@ -1,27 +1,26 @@
 -- A run of threads is isolated: the blocks of its clients and the turns of its handlers make up an abstract run, whose journals flow along the
 -- order of reservations; by the one lemma on abstract runs it does what the serial run does.
-use Rattle.std.proofs.Common.{◌≡◌, ◌<◌, ◌≤◌, ◌+◌, arith, ℕ, zero, suc, Bool, true, false, if◌then◌else◌, nat_lt, get_or, List, [], ◌∷◌, ◌++◌, map, filter, length, refl, sym, ap, ◌∙◌, subst}
+use Rattle.std.proofs.Common.{◌≡◌, ◌<◌, ◌≤◌, arith, ℕ, zero, suc, Bool, true, false, nat_lt, get_or, [], map, length, refl, sym, ap, ◌∙◌, subst}
 use Rattle.std.proofs.lemmas.List.{get_or-map, get_or_past, length-map}
 use Rattle.std.proofs.lemmas.List.FromFn.{get_or-map-range_with_len, length-range_with_len}
 use Rattle.std.specs.List.{AllByRecursion, range_with_len}
 use Rattle.qs_objects.specs.Journals.{HeldState, replay, unstamped, IsHonest}
 use Rattle.qs_objects.specs.Parts.{HasEntry, part}
-use Rattle.qs_objects.specs.declared.held.Event.{Event}
 use Rattle.qs_objects.specs.declared.held.Ticket.{Ticket}
 use Rattle.qs_check.specs.Program.{ProgramShape, blocks_of, text_of}
 use Rattle.qs_check.specs.Sound.{IsSound}
 use Rattle.qs_check.specs.Values.{Locals}
 use Rattle.qs_check.proofs.Bounds.{AllByRecursion-get_or}
-use Rattle.qs_meaning.specs.Following.{block_tree, reserves}
+use Rattle.qs_meaning.specs.Following.{block_tree}
 use Rattle.qs_meaning.specs.Serial.{declared, no_state}
 use Rattle.qs_meaning.proofs.Each.{each_map}
-use Rattle.qs_meaning.proofs.Histories.{Among, Begins, Flow, IsDone, IsPage, Page}
+use Rattle.qs_meaning.proofs.Histories.{Among, Begins, Flow, IsPage, Page}
 use Rattle.qs_meaning.proofs.RequestPaths.{requests_within}
 use Rattle.qs_meaning.proofs.SerialRuns.{line}
 use Rattle.qs_syncset.specs.Codes.{ClientCode}
 use Rattle.qs_syncset.specs.declared.mode.Mode.{Mode}
 use Rattle.qs_client.specs.Mind.{Mind}
-use Rattle.qs_played.specs.Isolation.{IsFitting, IsIsolated, journal_of, state_of, ticket_at, trace_of}
+use Rattle.qs_played.specs.Isolation.{IsIsolated, journal_of, state_of, ticket_at}
 use Rattle.qs_played.specs.JournalRooms.{fresh_held, room_of}
 use Rattle.qs_played.specs.Played.{Played, ticket}
 use Rattle.qs_played.proofs.AbstractRun.{IsRun, run_isolated}

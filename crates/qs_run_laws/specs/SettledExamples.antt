@@ -22,7 +22,6 @@ use Rattle.qs_chunk.specs.declared.parcel.Parcel.TheVariants.{Work, Sync, Home, 
 use Rattle.qs_handler.specs.HandlerRuns.{Task, takes, receives, gives, spares}
 use Rattle.qs_client.specs.ClientRuns.{Deed, next_ticket, reserves, sends, gets, takes_chunk}
 use Rattle.qs_client.specs.Mind.{Mind, booked_mind, chunk_mind, fresh_mind, got_mind, next_mind}
-use Rattle.qs_played.specs.JournalRooms.{fresh_held}
 use Rattle.qs_played.specs.Played.{ticket}
 use Rattle.qs_core_laws.specs.Core.{AreCodes}
 use Rattle.qs_core_laws.specs.CoreExamples.{built, counted}
