@@ -1,5 +1,6 @@
 -- A client that stands with a full chunk has that chunk: so where it asks for nothing more it is between blocks.
-use Rattle.std.proofs.Common.{◌≡◌, ◌<◌, ◌≤◌, arith, ℕ, nat_lt, Bool, true, false, if◌then◌else◌, ◌==◌, ◌&&◌, is_some, List, [], ◌∷◌, ◌++◌, length, refl, sym, ap, ◌∙◌, Option, Some, None, ℤ}
+use Rattle.std.proofs.Common.{◌≡◌, ◌<◌, ◌≤◌, arith, ℕ, nat_lt, Bool, true, false, if◌then◌else◌, ◌==◌, ◌&&◌, is_some, List, [], ◌∷◌, ◌++◌, length, refl, sym}
+use Rattle.std.proofs.Common.{ap, ◌∙◌, Option, Some, None, ℤ}
 use Rattle.std.proofs.lemmas.Bool.Decides.{nat_tests}
 use Rattle.qs_objects.specs.Journals.{HeldState, ran}
 use Rattle.qs_objects.specs.declared.held.Ticket.{Ticket}
@@ -14,7 +15,8 @@ use Rattle.qs_chunk.specs.declared.parcel.Parcel.{Parcel}
 use Rattle.qs_chunk.specs.declared.parcel.Parcel.TheVariants as parcels
 use Rattle.qs_client_run.specs.declared.act.Act.{Act}
 use Rattle.qs_client_run.specs.declared.act.Act.TheVariants.{Reserve, Send, Finished}
-use Rattle.qs_client_run.specs.Client.{Client, Place, Settings, Settled, between, runs, full, awaits, leaves, act_at, call_act, calls, clears, leaving, queries, sent, sent_end, sent_home, sent_sync, sent_work, settle, stays, took_chunk}
+use Rattle.qs_client_run.specs.Client.{Client, Place, Settings, Settled, between, runs, full, awaits, leaves, act_at, call_act, calls, clears, leaving}
+use Rattle.qs_client_run.specs.Client.{queries, sent, sent_end, sent_home, sent_sync, sent_work, settle, stays, took_chunk}
 use Rattle.qs_client_run.specs.Client as clients
 use Rattle.qs_protocol.proofs.ActObjects.{between_acts}
 use Rattle.qs_protocol.proofs.ClientInvariants.{PlaceOk}

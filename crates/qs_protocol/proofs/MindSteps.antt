@@ -12,7 +12,8 @@ use Rattle.qs_client_run.specs.declared.stage.Handed.TheVariants as handeds
 use Rattle.qs_client_run.specs.declared.act.Act.TheVariants as acts
 use Rattle.qs_client_run.proofs.Parting.{sends_are_parted}
 use Rattle.qs_client.specs.ClientRuns.{Deed, DeedsLead, reserves, sends, gets, takes_chunk, next_ticket}
-use Rattle.qs_client.specs.Mind.{Mind, asked_of, booked_mind, chunk_mind, done, enters, extended, got_mind, hands_out, locals_at, next_mind, reserved_by, settings_of, tallied, tree_at}
+use Rattle.qs_client.specs.Mind.{Mind, asked_of, booked_mind, chunk_mind, done, enters, extended, got_mind, hands_out, locals_at, next_mind, reserved_by}
+use Rattle.qs_client.specs.Mind.{settings_of, tallied, tree_at}
 use Rattle.qs_client.proofs.Keeping.{extended_none}
 
 -- a mind whose client came to this, with these numbers of Syncs, for whose last act nothing is left

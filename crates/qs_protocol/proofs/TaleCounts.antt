@@ -1,5 +1,6 @@
 -- How many Syncs a client's whole run sent for each object, block by block: as many as its block's tree and trace say, and as its rows count.
-use Rattle.std.proofs.Common.{◌≡◌, ◌<◌, ◌≤◌, arith, ℕ, suc, ◌+◌, Bool, true, false, ◌==◌, is_some, List, [], ◌∷◌, ◌++◌, length, map, slice_index_or, slice_set, refl, sym, ap, ◌∙◌, subst, true≢false, ⊎_elim, length-set}
+use Rattle.std.proofs.Common.{◌≡◌, ◌<◌, ◌≤◌, arith, ℕ, suc, ◌+◌, Bool, true, false, ◌==◌, is_some, List, [], ◌∷◌, ◌++◌, length, map, slice_index_or}
+use Rattle.std.proofs.Common.{slice_set, refl, sym, ap, ◌∙◌, subst, true≢false, ⊎_elim, length-set}
 use Rattle.std.specs.List.{AllByRecursion, IsDistinct}
 use Rattle.std.proofs.lemmas.List.{get_or-map, length-map}
 use Rattle.qs_objects.specs.Journals.{HeldState}
@@ -37,7 +38,8 @@ use Rattle.qs_protocol.proofs.BlockLists.{after_not, before_not, row_push, row_s
 use Rattle.qs_protocol.proofs.BlockTales.{rests}
 use Rattle.qs_protocol.proofs.ClientCounts.{CountAt, Counts, Even, Over, chunk_counts, got_counts, send_counts, settle_counts}
 use Rattle.qs_protocol.proofs.ClientInvariants.{Lined, listed}
-use Rattle.qs_protocol.proofs.ClientTales.{InTale, Tale, asks, entry_rows, fresh_tale, getting, in_tale_block, inside, own, own_is, reserves_between, reserving, sending, taking, trace_rows}
+use Rattle.qs_protocol.proofs.ClientTales.{InTale, Tale, asks, entry_rows, fresh_tale, getting, in_tale_block, inside, own, own_is, reserves_between}
+use Rattle.qs_protocol.proofs.ClientTales.{reserving, sending, taking, trace_rows}
 use Rattle.qs_protocol.proofs.MindSteps.{came, chunk_does, deeds_keep, done_still, get_does, reserve_does, send_does}
 
 -- the counts of a mind, by block
