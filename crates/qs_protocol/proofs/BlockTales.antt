@@ -1,6 +1,7 @@
 -- What one client did so far, block by block: for each block its page, what it sent to each object and what it got from it, and what each act
 -- adds to that. The last block is where the client stands; those before it are over.
-use Rattle.std.proofs.Common.{◌≡◌, ◌<◌, ◌≤◌, arith, ℕ, zero, suc, Bool, true, false, true≢false, nat_lt, if◌then◌else◌, ◌==◌, List, [], ◌∷◌, ◌++◌, length, slice_index_or, refl, sym, ap, ap₂, ◌∙◌, subst, ⊎_elim, append-nil}
+use Rattle.std.proofs.Common.{◌≡◌, ◌<◌, ◌≤◌, arith, ℕ, zero, suc, true, false, true≢false, if◌then◌else◌, ◌==◌, List, [], ◌∷◌, ◌++◌, refl, sym, ap, ap₂, ◌∙◌}
+use Rattle.std.proofs.Common.{subst, ⊎_elim, append-nil}
 use Rattle.qs_objects.specs.Journals.{HeldState}
 use Rattle.qs_objects.specs.Parts.{part}
 use Rattle.qs_objects.specs.declared.held.Event.{Event}
@@ -20,10 +21,10 @@ use Rattle.qs_chunk.specs.LaneViews.{ClientLane}
 use Rattle.qs_chunk.specs.declared.parcel.Parcel.{Parcel}
 use Rattle.qs_client_run.specs.Client.{Client, Settings, Settled, act_of, between, booked, sent, took_chunk}
 use Rattle.qs_client_run.specs.Client as clients
-use Rattle.qs_client_run.specs.declared.act.Act.TheVariants.{Reserve, Send, Await, NeedChunk, Finished}
+use Rattle.qs_client_run.specs.declared.act.Act.TheVariants.{Send, Await, NeedChunk}
 use Rattle.qs_played.specs.Played.{ticket}
 use Rattle.qs_played.proofs.FunctionUpdate.{put_all, put_both, put_kept}
-use Rattle.qs_protocol.proofs.ActObjects.{await_at, chunk_begun, got_begun, not_await, not_need, not_send, send_at, sent_begun, settle_begun}
+use Rattle.qs_protocol.proofs.ActObjects.{await_at, chunk_begun, got_begun, send_at, sent_begun, settle_begun}
 use Rattle.qs_protocol.proofs.BlockLists.{after_not, before_not, upto, upto_more, upto_new}
 use Rattle.qs_protocol.proofs.ClientInvariants.{HasNone, IsOpenPage, Leaving, Lined, PlaceOk, apart_from, listed}
 use Rattle.qs_protocol.proofs.ClientLogs.{books_ok, chunks_ok, gets_ok, sends_ok}
@@ -151,7 +152,7 @@ module _ (program : ProgramShape) (c blocks : ℕ) (settings : Settings) (m : Cl
           idle = λ z. absurd (omega (arith, n, z));
           last = λ j i.
               let is : k ≡ j = omega (arith, n, i) in
-              subst (λ j. PlaceOk program (ticket c j) (put o.block k new j).sent (put o.block k new j).got r.client (put o.block k new j).page r.client.place) is
+              subst (λ j. let b = put o.block k new j in PlaceOk program (ticket c j) b.sent b.got r.client b.page r.client.place) is
               (subst (λ (b : Block). PlaceOk program (ticket c k) b.sent b.got r.client b.page r.client.place) (sym (put_here o.block k new)) ok);
           older = λ j lt.
               subst (λ (b : Block). BlockTold program c j b.page b.sent b.got) (sym (put_there o.block k new j (after_not k j (omega (arith, n, lt)))))
@@ -194,13 +195,14 @@ module _ (program : ProgramShape) (c blocks : ℕ) (settings : Settings) (m : Cl
         idle = λ z. absurd (omega (arith, n, z));
         last = λ j i.
             let is : k ≡ j = omega (arith, n, i) in
-            subst (λ j. PlaceOk program (ticket c j) (put o.block k new j).sent (put o.block k new j).got r.client (put o.block k new j).page r.client.place) is
+            subst (λ j. let b = put o.block k new j in PlaceOk program (ticket c j) b.sent b.got r.client b.page r.client.place) is
             (subst (λ (b : Block). PlaceOk program (ticket c k) b.sent b.got r.client b.page r.client.place) (sym (put_here o.block k new)) ok);
         older = λ j lt.
             let low : j < k = omega (arith, n, lt) in
             subst (λ (b : Block). BlockTold program c j b.page b.sent b.got) (sym (put_there o.block k new j (after_not k j low))) (before.over j low);
         begins = λ j lt. put_all (λ j (b : Block). j < suc k → Begins (λ (t : Ticket). (put o.block k new t.index).page) c j b.page.entry) o.block k new
-            (λ lt. begins_still o.block c k new k new.page.entry (omega arith) (subst (Begins (λ (t : Ticket). (o.block t.index).page) c k) (sym entry_is) before.next))
+            (λ lt. begins_still o.block c k new k new.page.entry (omega arith)
+            (subst (Begins (λ (t : Ticket). (o.block t.index).page) c k) (sym entry_is) before.next))
             (λ j other lt.
             let apart = apart_eqb k j other in
             begins_still o.block c k new j (o.block j).page.entry (omega (arith, lt)) (o.begins j (omega (arith, lt, apart)))) j (omega (arith, n, lt));
@@ -216,8 +218,10 @@ module _ (program : ProgramShape) (c blocks : ℕ) (settings : Settings) (m : Cl
             (λ j other lt. let apart = apart_eqb k j other in o.traces j (omega (arith, lt, apart))) j (omega (arith, n, lt));
         fresh = λ j low.
             put_there trace k (trace k ++ r.events) j (before_not k j (omega (arith, n, low))) ∙ o.fresh j (omega (arith, n, low));
-        sent_is = λ h. o.sent_is h ∙ (sym (upto_new (λ (b : Block). b.sent h) o.block k new (none_sent h)) ∙ ap (upto (λ j. (put o.block k new j).sent h)) (sym n));
-        got_is = λ h. o.got_is h ∙ (sym (upto_new (λ (b : Block). b.got h) o.block k new (none_got h)) ∙ ap (upto (λ j. (put o.block k new j).got h)) (sym n));
+        sent_is = λ h. o.sent_is h
+            ∙ (sym (upto_new (λ (b : Block). b.sent h) o.block k new (none_sent h)) ∙ ap (upto (λ j. (put o.block k new j).sent h)) (sym n));
+        got_is = λ h. o.got_is h
+            ∙ (sym (upto_new (λ (b : Block). b.got h) o.block k new (none_got h)) ∙ ap (upto (λ j. (put o.block k new j).got h)) (sym n));
       }
 
 -- a list with one more at a place

@@ -1,9 +1,9 @@
 -- What one client's whole run says, block by block: all its blocks are over, each with its page, what it sent to each object and what it got
 -- from it, and these joined are all that it sent and got. The objects that it got are arbitrary; nothing of threads, queues or other clients
 -- is in it. The run is read where nothing is left to be done for the last act, since each act begins with that.
-use Rattle.std.proofs.Common.{◌≡◌, ◌<◌, ◌≤◌, arith, ℕ, zero, suc, Bool, true, false, nat_lt, if◌then◌else◌, ◌==◌, List, [], ◌∷◌, ◌++◌, length, replicate, slice_index_or, refl, sym, ap, ap₂, ◌∙◌, subst, append-nil, append_assoc, add-zero, ◌+◌, length-append, length-set}
+use Rattle.std.proofs.Common.{◌≡◌, ◌<◌, arith, ℕ, zero, suc, Bool, true, false, if◌then◌else◌, ◌==◌, List, [], ◌∷◌, ◌++◌, length, replicate, slice_index_or}
+use Rattle.std.proofs.Common.{refl, sym, ap, ap₂, ◌∙◌, subst, append-nil, add-zero, ◌+◌, length-append, length-set}
 use Rattle.std.proofs.lemmas.List.{length-replicate}
-use Rattle.std.proofs.Math.ListN.{get_or-eq_default}
 use Rattle.qs_objects.specs.Journals.{HeldState}
 use Rattle.qs_objects.specs.declared.held.Event.{Event}
 use Rattle.qs_objects.specs.declared.held.Ticket.{Ticket}
@@ -22,15 +22,14 @@ use Rattle.qs_client_run.specs.Client.{Client, Place, Settings, Settled, act_at,
 use Rattle.qs_client_run.specs.Client as clients
 use Rattle.qs_client_run.specs.Standing.{count_sync, handed_of}
 use Rattle.qs_client_run.specs.declared.act.Act.TheVariants as acts
-use Rattle.qs_client_run.specs.declared.stage.Handed.TheVariants as handeds
 use Rattle.qs_client.specs.ClientRuns.{Deed, DeedsLead, RunsTo, got_from, next_ticket, reservations, sent_to}
 use Rattle.qs_client.specs.ClientRuns as deeds
-use Rattle.qs_client.specs.Mind.{Mind, asked_of, booked_mind, chunk_mind, done, enters, fresh_mind, got_mind, hands_out, is_between, next_act, next_mind, tallied, tree_at}
+use Rattle.qs_client.specs.Mind.{Mind, asked_of, booked_mind, chunk_mind, done, enters, fresh_mind, got_mind, hands_out, is_between, tallied, tree_at}
 use Rattle.qs_played.specs.Played.{no_events, ticket}
-use Rattle.qs_protocol.proofs.ActObjects.{between_acts, chunk_begun, got_begun, not_await, not_need, not_send, reserve_at, sent_begun, settle_begun}
+use Rattle.qs_protocol.proofs.ActObjects.{chunk_begun, got_begun, not_await, not_need, not_send, reserve_at, sent_begun, settle_begun}
 use Rattle.qs_protocol.proofs.BlockLists.{row_push, row_set, upto}
 use Rattle.qs_protocol.proofs.BlockTales.{BlockTold, Telling, chunk_told, get_told, in_block, nothing_told, reserve_told, rests, retold, send_told}
-use Rattle.qs_protocol.proofs.ClientInvariants.{HasNone, Lined, PlaceOk, listed}
+use Rattle.qs_protocol.proofs.ClientInvariants.{HasNone, Lined, listed}
 use Rattle.qs_protocol.proofs.FullChunks.{ComesFull, HasFull, chunk_full, finished_all, finished_at, got_full, reserves_more, sent_full, settle_full}
 use Rattle.qs_protocol.proofs.MindSteps.{came, chunk_does, deeds_keep, done_still, get_does, reserve_does, send_does}
 
@@ -92,8 +91,8 @@ module _ (program : ProgramShape) (fine : (t : Ticket) (l : Locals) → AsksOnly
     (lined : (t : Ticket) → Lined (reserves program t) (listed program t)) (c : ℕ) (code : ClientCode) (size : ℕ)
     (reserved_is : (k : ℕ) → k < length code.blocks → (code_at code k).reserved ≡ listed program (ticket c k))
     (walk_is : (k : ℕ) (l : Locals) → k < length code.blocks
-        → (erased (tree_at code k l) ≡ block_tree program (ticket c k) l) × IsSoundSynced (λ h. false) (tree_at code k l)
-        × IsOnReserved (listed program (ticket c k)) (tree_at code k l)) where
+    → (erased (tree_at code k l) ≡ block_tree program (ticket c k) l) × IsSoundSynced (λ h. false) (tree_at code k l)
+    × IsOnReserved (listed program (ticket c k)) (tree_at code k l)) where
   abbrev pub settings : Settings
   settings = record { dynamic = code.dynamic; size = size }
 

@@ -1,5 +1,6 @@
 -- A client that stands with a full chunk has that chunk: so where it asks for nothing more it is between blocks.
-use Rattle.std.proofs.Common.{◌≡◌, ◌<◌, ◌≤◌, arith, ℕ, nat_lt, Bool, true, false, if◌then◌else◌, ◌==◌, ◌&&◌, is_some, List, [], ◌∷◌, ◌++◌, length, refl, sym, ap, ◌∙◌, subst, Option, Some, None, ℤ}
+use Rattle.std.proofs.Common.{◌≡◌, ◌<◌, ◌≤◌, arith, ℕ, nat_lt, Bool, true, false, if◌then◌else◌, ◌==◌, ◌&&◌, is_some, List, [], ◌∷◌, ◌++◌, length, refl, sym}
+use Rattle.std.proofs.Common.{ap, ◌∙◌, Option, Some, None, ℤ}
 use Rattle.std.proofs.lemmas.Bool.Decides.{nat_tests}
 use Rattle.qs_objects.specs.Journals.{HeldState, ran}
 use Rattle.qs_objects.specs.declared.held.Ticket.{Ticket}
@@ -13,8 +14,9 @@ use Rattle.qs_graph.specs.Synced.{Synced, Done, Call, Sync, Query}
 use Rattle.qs_chunk.specs.declared.parcel.Parcel.{Parcel}
 use Rattle.qs_chunk.specs.declared.parcel.Parcel.TheVariants as parcels
 use Rattle.qs_client_run.specs.declared.act.Act.{Act}
-use Rattle.qs_client_run.specs.declared.act.Act.TheVariants.{Reserve, Send, Await, NeedChunk, Finished}
-use Rattle.qs_client_run.specs.Client.{Client, Place, Settings, Settled, between, runs, full, awaits, leaves, act_at, call_act, calls, clears, leaving, queries, sent, sent_end, sent_home, sent_sync, sent_work, settle, stays, took_chunk}
+use Rattle.qs_client_run.specs.declared.act.Act.TheVariants.{Reserve, Send, Finished}
+use Rattle.qs_client_run.specs.Client.{Client, Place, Settings, Settled, between, runs, full, awaits, leaves, act_at, call_act, calls, clears, leaving}
+use Rattle.qs_client_run.specs.Client.{queries, sent, sent_end, sent_home, sent_sync, sent_work, settle, stays, took_chunk}
 use Rattle.qs_client_run.specs.Client as clients
 use Rattle.qs_protocol.proofs.ActObjects.{between_acts}
 use Rattle.qs_protocol.proofs.ClientInvariants.{PlaceOk}
@@ -34,8 +36,8 @@ module _ (settings : Settings) (t : Ticket) (names : List ℕ) where
   leaving_full m [] l = tt
   leaving_full m (h ∷ hs) l = tt
 
-  call_full : (m : Client) (r : Request) (next : Synced) (hd : Option HeldState) (ck : Option (List Request)) → ((m : Client) → ComesFull (settle settings t names next m))
-      → ComesFull (calls settings t names m r next (λ m. settle settings t names next m) hd ck)
+  call_full : (m : Client) (r : Request) (next : Synced) (hd : Option HeldState) (ck : Option (List Request))
+      → ((m : Client) → ComesFull (settle settings t names next m)) → ComesFull (calls settings t names m r next (λ m. settle settings t names next m) hd ck)
   call_full m r next (Some x) ck ih = tt
   call_full m r next None None ih = tt
   call_full m r next None (Some rs) ih = by_case (length (rs ++ r ∷ []) == settings.size)
@@ -145,14 +147,16 @@ finished_at program t snt got settings blocks m pg (leaves g hs l) k some e =
     absurd (clears_not_last settings g (m.held g) (m.chunk g) parcels.End e)
 
 -- between blocks it reserves where a block is left, and is finished where none is
-pub reserves_more : (settings : Settings) (blocks : ℕ) (m : Client) (l : Locals) → m.place ≡ between l → clients.act_of settings blocks m ≡ Reserve → m.begun < blocks
+pub reserves_more : (settings : Settings) (blocks : ℕ) (m : Client) (l : Locals) → m.place ≡ between l
+    → clients.act_of settings blocks m ≡ Reserve → m.begun < blocks
 reserves_more settings blocks m l at act = by_test (nat_lt m.begun blocks) refl (sym (between_acts settings blocks m l at) ∙ act)
   where
     by_test : (b : Bool) → nat_lt m.begun blocks ≡ b → ◌≡◌ {A = Act} (if b then Reserve else Finished) Reserve → m.begun < blocks
     by_test true e is = grind (arith, nat_tests)
     by_test false e is = absurd (cc)
 
-pub finished_all : (settings : Settings) (blocks : ℕ) (m : Client) (l : Locals) → m.place ≡ between l → clients.act_of settings blocks m ≡ Finished → blocks ≤ m.begun
+pub finished_all : (settings : Settings) (blocks : ℕ) (m : Client) (l : Locals) → m.place ≡ between l
+    → clients.act_of settings blocks m ≡ Finished → blocks ≤ m.begun
 finished_all settings blocks m l at act = by_test (nat_lt m.begun blocks) refl (sym (between_acts settings blocks m l at) ∙ act)
   where
     by_test : (b : Bool) → nat_lt m.begun blocks ≡ b → ◌≡◌ {A = Act} (if b then Reserve else Finished) Finished → blocks ≤ m.begun

@@ -12,8 +12,8 @@ use Rattle.qs_client_run.specs.declared.stage.Handed.TheVariants as handeds
 use Rattle.qs_client_run.specs.declared.act.Act.TheVariants as acts
 use Rattle.qs_client_run.proofs.Parting.{sends_are_parted}
 use Rattle.qs_client.specs.ClientRuns.{Deed, DeedsLead, reserves, sends, gets, takes_chunk, next_ticket}
-use Rattle.qs_client.specs.Mind.{Mind, asked_of, booked_mind, chunk_mind, counted, done, enters, extended, got_mind, hands_out, locals_at, next_act, next_mind, reserved_by, settings_of, tallied, tree_at}
-use Rattle.qs_client.specs.Mind as minds
+use Rattle.qs_client.specs.Mind.{Mind, asked_of, booked_mind, chunk_mind, done, enters, extended, got_mind, hands_out, locals_at, next_mind, reserved_by}
+use Rattle.qs_client.specs.Mind.{settings_of, tallied, tree_at}
 use Rattle.qs_client.proofs.Keeping.{extended_none}
 
 -- a mind whose client came to this, with these numbers of Syncs, for whose last act nothing is left
@@ -97,13 +97,13 @@ module _ (m : Mind) where
 -- what each deed keeps of a mind, by the deeds so far, a whole run keeps
 module _ (c : ℕ) (Kept : List Deed → Mind → Type 0)
     (reserving : (before : List Deed) (m : Mind) → Kept before m → asked_of m ≡ acts.Reserve
-        → Kept (before ++ reserves ∷ []) (done (booked_mind (hands_out m acts.Reserve) (next_ticket c (hands_out m acts.Reserve)))))
+    → Kept (before ++ reserves ∷ []) (done (booked_mind (hands_out m acts.Reserve) (next_ticket c (hands_out m acts.Reserve)))))
     (sending : (before : List Deed) (m : Mind) → Kept before m → (h : ℕ) (p : Parcel) → asked_of m ≡ acts.Send h p
-        → Kept (before ++ sends h p ∷ []) (done (hands_out m (acts.Send h p))))
+    → Kept (before ++ sends h p ∷ []) (done (hands_out m (acts.Send h p))))
     (getting : (before : List Deed) (m : Mind) → Kept before m → (h : ℕ) (x : HeldState) → asked_of m ≡ acts.Await h
-        → Kept (before ++ gets h x ∷ []) (done (got_mind (hands_out m (acts.Await h)) x)))
+    → Kept (before ++ gets h x ∷ []) (done (got_mind (hands_out m (acts.Await h)) x)))
     (taking : (before : List Deed) (m : Mind) → Kept before m → (h : ℕ) → asked_of m ≡ acts.NeedChunk h
-        → Kept (before ++ takes_chunk h ∷ []) (done (chunk_mind (hands_out m (acts.NeedChunk h)) h))) where
+    → Kept (before ++ takes_chunk h ∷ []) (done (chunk_mind (hands_out m (acts.NeedChunk h)) h))) where
   pub deeds_keep : (deeds before : List Deed) (m end : Mind) → Kept before (done m) → DeedsLead c m deeds end → Kept (before ++ deeds) (done end)
   deeds_keep [] before m end k lead =
       subst (λ b. Kept b (done end)) (sym (append-nil before)) (subst (λ (m : Mind). Kept before (done m)) lead k)
@@ -123,4 +123,5 @@ module _ (c : ℕ) (Kept : List Deed → Mind → Type 0)
   deeds_keep (takes_chunk h ∷ deeds) before m end k lead =
       subst (λ b. Kept b (done end)) (append_assoc before (takes_chunk h ∷ []) deeds)
       (deeds_keep deeds (before ++ takes_chunk h ∷ []) (chunk_mind (next_mind m) h) end
-      (subst (λ act. Kept (before ++ takes_chunk h ∷ []) (done (chunk_mind (hands_out (done m) act) h))) (sym lead.0) (taking before (done m) k h lead.0)) lead.1)
+      (subst (λ act. Kept (before ++ takes_chunk h ∷ []) (done (chunk_mind (hands_out (done m) act) h))) (sym lead.0)
+      (taking before (done m) k h lead.0)) lead.1)

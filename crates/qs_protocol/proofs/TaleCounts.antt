@@ -1,8 +1,8 @@
 -- How many Syncs a client's whole run sent for each object, block by block: as many as its block's tree and trace say, and as its rows count.
-use Rattle.std.proofs.Common.{◌≡◌, ◌<◌, ◌≤◌, arith, ℕ, zero, suc, ◌+◌, Bool, true, false, ◌==◌, is_some, List, [], ◌∷◌, ◌++◌, length, map, slice_index_or, slice_set, refl, sym, ap, ◌∙◌, subst, true≢false, ⊎_elim, length-set, None}
+use Rattle.std.proofs.Common.{◌≡◌, ◌<◌, ◌≤◌, arith, ℕ, suc, ◌+◌, Bool, true, false, ◌==◌, is_some, List, [], ◌∷◌, ◌++◌, length, map, slice_index_or}
+use Rattle.std.proofs.Common.{slice_set, refl, sym, ap, ◌∙◌, subst, true≢false, ⊎_elim, length-set}
 use Rattle.std.specs.List.{AllByRecursion, IsDistinct}
 use Rattle.std.proofs.lemmas.List.{get_or-map, length-map}
-use Rattle.std.proofs.lemmas.Map.Keys.{IsDistinct-cons}
 use Rattle.qs_objects.specs.Journals.{HeldState}
 use Rattle.qs_objects.specs.declared.held.Event.{Event}
 use Rattle.qs_objects.specs.declared.held.Ticket.{Ticket}
@@ -11,10 +11,9 @@ use Rattle.qs_check.specs.Program.{ProgramShape}
 use Rattle.qs_check.specs.Sound.{is_in}
 use Rattle.qs_check.specs.Values.{Locals}
 use Rattle.qs_meaning.specs.Following.{AsksOnly, reserves, block_tree}
-use Rattle.qs_meaning.specs.Serial.{zeros}
 use Rattle.qs_meaning.specs.Solo.{put}
 use Rattle.qs_meaning.proofs.TreeWalks.{put_here, put_there}
-use Rattle.qs_graph.specs.Synced.{Synced, erased}
+use Rattle.qs_graph.specs.Synced.{erased}
 use Rattle.qs_syncset.specs.Codes.{BlockCode, ClientCode, code_at, no_code}
 use Rattle.qs_syncset.specs.SoundSynced.{IsSoundSynced, IsOnReserved}
 use Rattle.qs_syncset.specs.SyncCounts.{syncs_along}
@@ -30,16 +29,17 @@ use Rattle.qs_client_run.specs.declared.act.Act.TheVariants as acts
 use Rattle.qs_client_run.specs.declared.stage.Handed.TheVariants as handeds
 use Rattle.qs_client.specs.ClientRuns.{Deed, DeedsLead, RunsTo, next_ticket}
 use Rattle.qs_client.specs.ClientRuns as deeds
-use Rattle.qs_client.specs.Mind.{Mind, asked_of, booked_mind, chunk_mind, done, enters, fresh_mind, got_mind, hands_out, is_between, lists_of, next_act, tallied, tree_at}
+use Rattle.qs_client.specs.Mind.{Mind, asked_of, booked_mind, chunk_mind, done, enters, fresh_mind, got_mind, hands_out, is_between, lists_of, tallied, tree_at}
 use Rattle.qs_played.specs.Played.{ticket}
 use Rattle.qs_played.proofs.FunctionUpdate.{put_both}
 use Rattle.qs_played.proofs.SyncTallies.{none_for, objects_none, objects_stay, sent_for}
 use Rattle.qs_protocol.proofs.ActObjects.{chunk_begun, got_begun, not_await, not_need, not_send, send_at, sent_begun, settle_begun}
 use Rattle.qs_protocol.proofs.BlockLists.{after_not, before_not, row_push, row_set}
 use Rattle.qs_protocol.proofs.BlockTales.{rests}
-use Rattle.qs_protocol.proofs.ClientCounts.{CountAt, Counts, Even, Over, chunk_counts, count_up, got_counts, send_counts, settle_counts}
+use Rattle.qs_protocol.proofs.ClientCounts.{CountAt, Counts, Even, Over, chunk_counts, got_counts, send_counts, settle_counts}
 use Rattle.qs_protocol.proofs.ClientInvariants.{Lined, listed}
-use Rattle.qs_protocol.proofs.ClientTales.{InTale, Tale, asks, entry_rows, fresh_tale, getting, in_tale_block, inside, own, own_is, reserves_between, reserving, sending, settings, taking, trace_rows}
+use Rattle.qs_protocol.proofs.ClientTales.{InTale, Tale, asks, entry_rows, fresh_tale, getting, in_tale_block, inside, own, own_is, reserves_between}
+use Rattle.qs_protocol.proofs.ClientTales.{reserving, sending, taking, trace_rows}
 use Rattle.qs_protocol.proofs.MindSteps.{came, chunk_does, deeds_keep, done_still, get_does, reserve_does, send_does}
 
 -- the counts of a mind, by block
@@ -78,8 +78,8 @@ module _ (program : ProgramShape) (fine : (t : Ticket) (l : Locals) → AsksOnly
     (lined : (t : Ticket) → Lined (reserves program t) (listed program t)) (c : ℕ) (code : ClientCode) (size : ℕ)
     (reserved_is : (k : ℕ) → k < length code.blocks → (code_at code k).reserved ≡ listed program (ticket c k))
     (walk_is : (k : ℕ) (l : Locals) → k < length code.blocks
-        → (erased (tree_at code k l) ≡ block_tree program (ticket c k) l) × IsSoundSynced (λ h. false) (tree_at code k l)
-        × IsOnReserved (listed program (ticket c k)) (tree_at code k l))
+    → (erased (tree_at code k l) ≡ block_tree program (ticket c k) l) × IsSoundSynced (λ h. false) (tree_at code k l)
+    × IsOnReserved (listed program (ticket c k)) (tree_at code k l))
     (asking : (k : ℕ) (l : Locals) → k < length code.blocks → IsAsking (tree_at code k l)) where
   abbrev Known : List Deed → Mind → Type 0
   Known before m = InTale program fine lined c code size reserved_is walk_is before m
@@ -165,7 +165,8 @@ module _ (program : ProgramShape) (fine : (t : Ticket) (l : Locals) → AsksOnly
             → IsTallied hs (with_sync h xs) (put n h (suc (n h)))
         more_tallied hs xs n distinct h mine old = record {
           objects_are = objects_stay h xs ∙ old.objects_are;
-          numbers = sent_for h xs n (subst (λ hs. is_in hs h ≡ true) (sym old.objects_are) mine) (subst (IsDistinct ◌==◌) (sym old.objects_are) distinct) old.numbers;
+          numbers = sent_for h xs n (subst (λ hs. is_in hs h ≡ true) (sym old.objects_are) mine)
+              (subst (IsDistinct ◌==◌) (sym old.objects_are) distinct) old.numbers;
         }
 
     -- between blocks all that were begun are over
@@ -186,7 +187,8 @@ module _ (program : ProgramShape) (fine : (t : Ticket) (l : Locals) → AsksOnly
     send_counted : (h : ℕ) (p : Parcel) → asked_of m ≡ acts.Send h p → InCounts (done (hands_out m (acts.Send h p)))
     send_counted h p asked =
         let act : act_of set_by (length code.blocks) m.client ≡ acts.Send h p = sym asks_own ∙ asked in
-        let at = in_tale_block program fine lined c code size reserved_is walk_is before m o (λ l e. not_send set_by (length code.blocks) m.client l h p e act) in
+        let at = in_tale_block program fine lined c code size reserved_is walk_is before m o
+        (λ l e. not_send set_by (length code.blocks) m.client l h p e act) in
         let k = at.0 in
         let t = ticket c k in
         let total = m.syncs + count_sync (handed_of (acts.Send h p)) in
@@ -202,32 +204,36 @@ module _ (program : ProgramShape) (fine : (t : Ticket) (l : Locals) → AsksOnly
             (sent set_by (ticket c k) (listed program (ticket c k)) m.client h p) total (tallied (handed_of (acts.Send h p)) k m.counts))
         by_parcel k e (parcels.Home x) act total =
             let t = ticket c k in
-            comes_alike k e (sent set_by t (listed program t) m.client h (parcels.Home x)) (sent_begun set_by t (listed program t) m.client h (parcels.Home x)) total
+            comes_alike k e (sent set_by t (listed program t) m.client h (parcels.Home x))
+            (sent_begun set_by t (listed program t) m.client h (parcels.Home x)) total
             (send_counts set_by t (listed program t) (tree_at code k (entry_rows m k)) (length code.blocks) (trace_rows m k) (w.syncs k) m.client
             (w.newest k e) h (parcels.Home x) act)
         by_parcel k e (parcels.Work chunk) act total =
             let t = ticket c k in
-            comes_alike k e (sent set_by t (listed program t) m.client h (parcels.Work chunk)) (sent_begun set_by t (listed program t) m.client h (parcels.Work chunk))
-            total
+            comes_alike k e (sent set_by t (listed program t) m.client h (parcels.Work chunk))
+            (sent_begun set_by t (listed program t) m.client h (parcels.Work chunk)) total
             (send_counts set_by t (listed program t) (tree_at code k (entry_rows m k)) (length code.blocks) (trace_rows m k) (w.syncs k) m.client
             (w.newest k e) h (parcels.Work chunk) act)
         by_parcel k e parcels.Sync act total =
             let t = ticket c k in
             let b = o.telling.block k in
             let mine = (send_at program t b.sent b.got set_by (length code.blocks) m.client b.page m.client.place (o.telling.last k e) h parcels.Sync act).0 in
-            comes_synced k e h mine (sent set_by t (listed program t) m.client h parcels.Sync) (sent_begun set_by t (listed program t) m.client h parcels.Sync) total
+            comes_synced k e h mine (sent set_by t (listed program t) m.client h parcels.Sync)
+            (sent_begun set_by t (listed program t) m.client h parcels.Sync) total
             (send_counts set_by t (listed program t) (tree_at code k (entry_rows m k)) (length code.blocks) (trace_rows m k) (w.syncs k) m.client
             (w.newest k e) h parcels.Sync act)
         by_parcel k e parcels.End act total =
             let t = ticket c k in
-            comes_alike k e (sent set_by t (listed program t) m.client h parcels.End) (sent_begun set_by t (listed program t) m.client h parcels.End) total
+            comes_alike k e (sent set_by t (listed program t) m.client h parcels.End)
+            (sent_begun set_by t (listed program t) m.client h parcels.End) total
             (send_counts set_by t (listed program t) (tree_at code k (entry_rows m k)) (length code.blocks) (trace_rows m k) (w.syncs k) m.client
             (w.newest k e) h parcels.End act)
 
     get_counted : (h : ℕ) (x : HeldState) → asked_of m ≡ acts.Await h → InCounts (done (got_mind (hands_out m (acts.Await h)) x))
     get_counted h x asked =
         let act : act_of set_by (length code.blocks) m.client ≡ acts.Await h = sym asks_own ∙ asked in
-        let at = in_tale_block program fine lined c code size reserved_is walk_is before m o (λ l e. not_await set_by (length code.blocks) m.client l h e act) in
+        let at = in_tale_block program fine lined c code size reserved_is walk_is before m o
+        (λ l e. not_await set_by (length code.blocks) m.client l h e act) in
         let k = at.0 in
         let t = ticket c k in
         subst (λ (m : Mind). InCounts (done (got_mind (hands_out m (acts.Await h)) x)))
@@ -242,7 +248,8 @@ module _ (program : ProgramShape) (fine : (t : Ticket) (l : Locals) → AsksOnly
     chunk_counted : (h : ℕ) → asked_of m ≡ acts.NeedChunk h → InCounts (done (chunk_mind (hands_out m (acts.NeedChunk h)) h))
     chunk_counted h asked =
         let act : act_of set_by (length code.blocks) m.client ≡ acts.NeedChunk h = sym asks_own ∙ asked in
-        let at = in_tale_block program fine lined c code size reserved_is walk_is before m o (λ l e. not_need set_by (length code.blocks) m.client l h e act) in
+        let at = in_tale_block program fine lined c code size reserved_is walk_is before m o
+        (λ l e. not_need set_by (length code.blocks) m.client l h e act) in
         let k = at.0 in
         let t = ticket c k in
         subst (λ (m : Mind). InCounts (done (chunk_mind (hands_out m (acts.NeedChunk h)) h)))
