@@ -1,0 +1,56 @@
+//! A handler's whole run.
+
+ghost use Rattle.std.specs.Prelude.{◌≡◌, ◌<◌, ℕ, [], List, IsSome, true};
+ghost use Rattle.qs_handler.specs.Handler.{closed};
+ghost use Rattle.qs_handler.specs.HandlerRuns.{Task};
+ghost use Rattle.qs_handler_thread.specs.HandlerThreads.{IsFresh, IsServing, lane_at};
+ghost use Rattle.qs_meaning.specs.Following.{reserves};
+
+use crate::ends::{Lanes, give, spare, take_parcel};
+use crate::gate::Gate;
+use qs_desk::{DeskName, Tickets};
+use qs_handler::{Act, Mind};
+use qs_objects::{Held, Next, Ticket};
+use std::sync::Wait;
+
+// The gate is passed as a ticket is begun.
+fn announce<G: Gate>(gate: &G, next: Next, object: u8) {
+    if let Next::Ticket(ticket) = next {
+        gate.pass(ticket, object);
+    }
+}
+
+/// Serves tickets at their clients' lanes until no further one comes: what the handler was told to do, one thing after another, from its
+/// object as it was. The gate is passed as each ticket is begun. Waits for tickets and for parcels.
+pub fn serve<D: DeskName, G: Gate, R: Wait>(
+    rt: &R,
+    gate: &G,
+    held: Held,
+    tickets: Tickets<D>,
+    lanes: Lanes,
+) -> (Held, Tickets<D>, Lanes)
+    requires taken { tickets.taken ≡ [] }
+    requires fresh { (c : ℕ) → IsFresh (lane_at lanes c) }
+    requires reached { (t : Ticket) → reserves D.program t tickets.handler ≡ true → (t.client < 8) × IsSome (lane_at lanes t.client) }
+    ensures served { (tasks : List Task)
+        × IsServing D.program tickets.handler held lanes tasks (closed result.0) result.1 result.2 }
+{
+    let object = tickets.handler();
+    let mut tickets = tickets;
+    let mut lanes = lanes;
+    let mut mind = Mind::new(held);
+    for _ in rt.forever() {
+        match mind.next() {
+            Act::TakeTicket => {
+                let next = tickets.take(rt);
+                announce(gate, next, object);
+                mind.ticket(next);
+            }
+            Act::TakeParcel(client) => mind.parcel(take_parcel(rt, &mut lanes, client)),
+            Act::Give(client, held) => give(rt, &mut lanes, client, held),
+            Act::Spare(client, chunk) => spare(rt, &mut lanes, client, chunk),
+            Act::Closed => return (mind.into_held(), tickets, lanes),
+        }
+    }
+    unreachable!()
+}
