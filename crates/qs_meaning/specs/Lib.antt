@@ -4,4 +4,5 @@ pub mod Following
 pub mod Serial
 pub mod Paths
 pub mod TraceLoads
+pub mod Alike
 pub mod MeaningExamples

@@ -1,5 +1,6 @@
 //! What the definitions say of blocks, for callers' proofs and for readers.
 
+ghost use Rattle.qs_meaning.specs.Alike.{BlocksAlike, PlacesAlike, ValuesByName};
 ghost use Rattle.qs_meaning.specs.Following.{BlocksAskOnly, HonestTracesRun};
 ghost use Rattle.qs_meaning.specs.Interaction.{TreesAgree};
 ghost use Rattle.qs_meaning.specs.MeaningExamples.{MeaningExamples};
@@ -40,4 +41,15 @@ pub fn honest_traces_run()
 /// queries. It does nothing.
 pub fn blocks_ask_only()
     ensures only { BlocksAskOnly }
+{}
+
+/// Two blocks of equal text, of one checked program or of two, with equal entry values of the variables that the text names: if the
+/// states from which they start are equal on each object on which both make a request, matched by name, their traces are equal,
+/// replies and all. Whatever the states, their traces are equal up to the first query on an object whose states differ, and wholly
+/// if there is no such query. The same holds of two places of serial runs; and where all variables of one name have equal
+/// values, those that the text names do. It does nothing.
+pub fn alike()
+    ensures blocks { BlocksAlike }
+    ensures places { PlacesAlike }
+    ensures by_name { ValuesByName }
 {}
