@@ -1,34 +1,33 @@
 -- Blocks of equal text make the same requests and get the same replies, up to a query on an object that started in another state. Two twin trees are
 -- run side by side: as long as all replies were equal, objects that started in the same state are in the same state, since both served the same
 -- requests.
-use Rattle.std.proofs.Common.{◌≡◌, ◌≢◌, ◌<◌, ◌≤◌, ℕ, zero, suc, ℤ, pos, Bool, true, false, true≢false, ◌==◌, ◌||◌, if◌then◌else◌, List, [], ◌∷◌, ◌++◌, length, map, get_or, slice_set, slice_index_or, replicate, Option, Some, None, ◌⊎◌, inl, inr, ⊎_elim, refl, sym, ap, ap₂, ◌∙◌, subst, arith}
-use Rattle.std.specs.List.{AllByRecursion, AllZip, IsDistinct}
+use Rattle.std.proofs.Common.{◌≡◌, ◌≢◌, ◌<◌, ◌≤◌, ℕ, zero, suc, ℤ, Bool, true, false, true≢false, ◌==◌, if◌then◌else◌, List, [], ◌∷◌, ◌++◌, length, map, get_or, slice_set, Option, Some, None, ◌⊎◌, inl, inr, ⊎_elim, refl, sym, ap, ◌∙◌, subst, arith}
+use Rattle.std.specs.List.{AllByRecursion, IsDistinct}
 use Rattle.std.specs.Cmp.Lexicographic.{other_text}
 use Rattle.std.proofs.Math.IntN.{ℤ_discrete}
-use Rattle.std.proofs.lemmas.List.{length-set, length-map, get_or-map, length-replicate}
+use Rattle.std.proofs.lemmas.List.{length-set, length-map, get_or-map}
 use Rattle.qs_objects.specs.Act.{State, act, Outcome}
 use Rattle.qs_objects.specs.Journals.{after, answer}
 use Rattle.qs_objects.specs.Operations.{is_query}
 use Rattle.qs_objects.specs.Parts.{IsFront, part}
-use Rattle.qs_objects.specs.declared.Op.{Op}
 use Rattle.qs_objects.specs.declared.Request.{Request}
 use Rattle.qs_objects.specs.declared.held.Event.{Event}
 use Rattle.qs_objects.specs.declared.held.Ticket.{Ticket}
 use Rattle.qs_objects.proofs.Choices.{eqb_self, eqb_apart, apart_eqb, num_cases}
 use Rattle.qs_check.specs.Numbering.{Name, same_name}
 use Rattle.qs_check.specs.declared.program.Declared.{Declared}
-use Rattle.qs_check.specs.Program.{BlockShape, ClientShape, ProgramShape, object_at, client_at, text_of, no_block, no_client, no_object}
-use Rattle.qs_check.specs.Sound.{AreVariablesBelow, IsFormedBlock, IsFormedClient, IsFormedProgram, IsSound, IsSoundBlock, IsSoundClient, AreNamesApart, is_in}
+use Rattle.qs_check.specs.Program.{BlockShape, ClientShape, ProgramShape, client_at, text_of, no_block, no_client, no_object}
+use Rattle.qs_check.specs.Sound.{AreVariablesBelow, IsFormedBlock, IsFormedClient, IsFormedProgram, IsSound, IsSoundBlock, IsSoundClient, is_in}
 use Rattle.qs_check.specs.Statements.{Statements, end, command, query, assign, choose, again, leave}
-use Rattle.qs_check.specs.Values.{Locals, expr_value, test_value, request_of}
+use Rattle.qs_check.specs.Values.{Locals, expr_value, test_value}
 use Rattle.qs_meaning.specs.Alike.{SameStatements, SameText, SameValues, SameObject, SameRequest, SameEvent, SameTrace, StartAlike, AskAlike, AlikeFrom, HasValues, BlocksAlike, PlacesAlike, ValuesByName, object_name, variable_name, value_at}
-use Rattle.qs_meaning.specs.Following.{AsksOnly, reserves, block_tree}
+use Rattle.qs_meaning.specs.Following.{AsksOnly, reserves}
 use Rattle.qs_meaning.specs.Interaction.{Interaction, Done, Call, Query, Next, turns, meaning, tree_of, run}
 use Rattle.qs_meaning.specs.Serial.{Place, serial, serial_from, declared, zeros}
 use Rattle.qs_meaning.specs.Solo as alone
 use Rattle.qs_meaning.specs.Solo.{States, changed, event, put, solo, value_of}
 use Rattle.qs_meaning.proofs.Each.{each_map}
-use Rattle.qs_meaning.proofs.EqualTexts.{Below, Equal, Twin, all_below, both, tree_twin}
+use Rattle.qs_meaning.proofs.EqualTexts.{Below, Twin, all_below, both, tree_twin}
 use Rattle.qs_meaning.proofs.SoundTrees.{blocks_ask_only}
 use Rattle.qs_meaning.proofs.Trees.{trees_agree}
 use Rattle.qs_meaning.proofs.TreeWalks.{put_here, put_there}

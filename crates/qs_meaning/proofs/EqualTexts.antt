@@ -1,10 +1,9 @@
 -- What equal texts are worth: the relations of two comparisons of the same statements hold together, and the interaction trees of blocks of equal
 -- text ask for the same, reply by reply. Variables of one name have one number in each client, so an assignment keeps equal values equal.
-use Rattle.std.proofs.Common.{◌≡◌, ◌<◌, ◌≤◌, ℕ, zero, suc, ℤ, pos, Bool, true, false, true≢false, ◌==◌, if◌then◌else◌, List, [], ◌∷◌, length, map, get_or, slice_set, slice_index_or, refl, sym, ap, ap₂, ◌∙◌, subst, ⊎_elim, arith}
+use Rattle.std.proofs.Common.{◌≡◌, ◌<◌, ◌≤◌, ℕ, zero, suc, ℤ, pos, Bool, true, false, ◌==◌, if◌then◌else◌, List, [], ◌∷◌, length, map, slice_set, refl, sym, ap₂, ◌∙◌, subst, ⊎_elim, arith}
 use Rattle.std.specs.List.{AllByRecursion, AllZip}
 use Rattle.std.proofs.lemmas.List.{length-set, get_or-set_same, get_or-set_other}
 use Rattle.qs_objects.specs.Act.{clamped}
-use Rattle.qs_objects.specs.declared.Request.{Request}
 use Rattle.qs_objects.proofs.Choices.{num_cases, apart_eqb}
 use Rattle.qs_check.specs.declared.code.Atom.{Atom}
 use Rattle.qs_check.specs.declared.code.Atom.TheVariants.{Variable, Number}

@@ -8,3 +8,4 @@ pub mod SerialRuns
 pub mod TraceLoads
 pub mod EqualTexts
 pub mod AlikeTraces
+pub mod ExampleBlocks

@@ -6,3 +6,4 @@ pub mod Paths
 pub mod TraceLoads
 pub mod Alike
 pub mod MeaningExamples
+pub mod AlikeExamples

@@ -1,6 +1,7 @@
 //! What the definitions say of blocks, for callers' proofs and for readers.
 
 ghost use Rattle.qs_meaning.specs.Alike.{BlocksAlike, PlacesAlike, ValuesByName};
+ghost use Rattle.qs_meaning.specs.AlikeExamples.{AlikeExamples};
 ghost use Rattle.qs_meaning.specs.Following.{BlocksAskOnly, HonestTracesRun};
 ghost use Rattle.qs_meaning.specs.Interaction.{TreesAgree};
 ghost use Rattle.qs_meaning.specs.MeaningExamples.{MeaningExamples};
@@ -52,4 +53,10 @@ pub fn alike()
     ensures blocks { BlocksAlike }
     ensures places { PlacesAlike }
     ensures by_name { ValuesByName }
+{}
+
+/// Three clients of two programs with blocks of equal text under other numbers, two of which find their objects in the same states,
+/// computed by the definitions; it does nothing.
+pub fn alike_examples()
+    ensures examples { AlikeExamples }
 {}
