@@ -34,7 +34,7 @@ use Rattle.qs_meaning.proofs.TreeWalks.{put_here, put_there}
 
 -- Names that differ: two places of a list of distinct names that have one name are one place.
 
-all_at : {X : Type 0} (P : X → Type 0) (xs : List X) (i : ℕ) (d : X) → AllByRecursion P xs → P d → P (get_or xs i d)
+pub all_at : {X : Type 0} (P : X → Type 0) (xs : List X) (i : ℕ) (d : X) → AllByRecursion P xs → P d → P (get_or xs i d)
 all_at P [] i d each past = past
 all_at P (x ∷ xs) zero d each past = each.0
 all_at P (x ∷ xs) (suc i) d each past = all_at P xs i d each.1 past

@@ -8,4 +8,5 @@ pub mod SerialRuns
 pub mod TraceLoads
 pub mod EqualTexts
 pub mod AlikeTraces
+pub mod StateKinds
 pub mod ExampleBlocks

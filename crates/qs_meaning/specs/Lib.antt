@@ -5,5 +5,6 @@ pub mod Serial
 pub mod Paths
 pub mod TraceLoads
 pub mod Alike
+pub mod StateKinds
 pub mod MeaningExamples
 pub mod AlikeExamples

@@ -6,6 +6,7 @@ ghost use Rattle.qs_meaning.specs.Following.{BlocksAskOnly, HonestTracesRun};
 ghost use Rattle.qs_meaning.specs.Interaction.{TreesAgree};
 ghost use Rattle.qs_meaning.specs.MeaningExamples.{MeaningExamples};
 ghost use Rattle.qs_meaning.specs.Paths.{RequestsWithinLoad};
+ghost use Rattle.qs_meaning.specs.StateKinds.{SerialKeepsKinds};
 ghost use Rattle.qs_meaning.specs.TraceLoads.{SerialWithinLoad, TracesWithinLoad};
 
 /// A block alone, its statements run one after another, does what its interaction tree does: the same requests with the same
@@ -59,4 +60,10 @@ pub fn alike()
 /// computed by the definitions; it does nothing.
 pub fn alike_examples()
     ensures examples { AlikeExamples }
+{}
+
+/// The states that each place of a serial run of a checked program finds, and those at its end, are of the declared kinds: each object
+/// has the operations of its kind, and no others. It does nothing.
+pub fn serial_keeps_kinds()
+    ensures kinds { SerialKeepsKinds }
 {}
