@@ -1,7 +1,8 @@
 -- Blocks of equal text make the same requests and get the same replies, up to a query on an object that started in another state. Two twin trees are
 -- run side by side: as long as all replies were equal, objects that started in the same state are in the same state, since both served the same
 -- requests.
-use Rattle.std.proofs.Common.{◌≡◌, ◌≢◌, ◌<◌, ◌≤◌, ℕ, zero, suc, ℤ, Bool, true, false, true≢false, ◌==◌, if◌then◌else◌, List, [], ◌∷◌, ◌++◌, length, map, get_or, slice_set, Option, Some, None, ◌⊎◌, inl, inr, ⊎_elim, refl, sym, ap, ◌∙◌, subst, arith}
+use Rattle.std.proofs.Common.{◌≡◌, ◌≢◌, ◌<◌, ◌≤◌, ℕ, zero, suc, ℤ, Bool, true, false, true≢false, ◌==◌, if◌then◌else◌, List, [], ◌∷◌, ◌++◌, length, map, get_or}
+use Rattle.std.proofs.Common.{slice_set, Option, Some, None, ◌⊎◌, inl, inr, ⊎_elim, refl, sym, ap, ◌∙◌, subst, arith}
 use Rattle.std.specs.List.{AllByRecursion, IsDistinct}
 use Rattle.std.specs.Cmp.Lexicographic.{other_text}
 use Rattle.std.proofs.Math.IntN.{ℤ_discrete}
@@ -20,7 +21,8 @@ use Rattle.qs_check.specs.Program.{BlockShape, ClientShape, ProgramShape, client
 use Rattle.qs_check.specs.Sound.{AreVariablesBelow, IsFormedBlock, IsFormedClient, IsFormedProgram, IsSound, IsSoundBlock, IsSoundClient, is_in}
 use Rattle.qs_check.specs.Statements.{Statements, end, command, query, assign, choose, again, leave}
 use Rattle.qs_check.specs.Values.{Locals, expr_value, test_value}
-use Rattle.qs_meaning.specs.Alike.{SameStatements, SameText, SameValues, SameObject, SameRequest, SameEvent, SameTrace, StartAlike, AskAlike, AlikeFrom, HasValues, BlocksAlike, PlacesAlike, ValuesByName, object_name, variable_name, value_at}
+use Rattle.qs_meaning.specs.Alike.{SameStatements, SameText, SameValues, SameObject, SameRequest, SameEvent, SameTrace, StartAlike, AskAlike, AlikeFrom}
+use Rattle.qs_meaning.specs.Alike.{HasValues, BlocksAlike, PlacesAlike, ValuesByName, object_name, variable_name, value_at}
 use Rattle.qs_meaning.specs.Following.{AsksOnly, reserves}
 use Rattle.qs_meaning.specs.Interaction.{Interaction, Done, Call, Query, Next, turns, meaning, tree_of, run}
 use Rattle.qs_meaning.specs.Serial.{Place, serial, serial_from, declared, zeros}
@@ -70,12 +72,16 @@ formed_client : (p : ProgramShape) → IsSound p → (c : ℕ)
     → IsDistinct same_name (client_at p c).variables × AllByRecursion (λ b. AreVariablesBelow (length (client_at p c).variables) b.body) (client_at p c).blocks
 unfolding IsFormedProgram IsDistinct
 formed_client p sound c =
-    let P : ClientShape → Type 0 = λ c. IsDistinct same_name c.variables × AllByRecursion (λ (b : BlockShape). AreVariablesBelow (length c.variables) b.body) c.blocks in
+    let Q : ClientShape → BlockShape → Type 0 = λ c b. AreVariablesBelow (length c.variables) b.body in
+    let P : ClientShape → Type 0 = λ c. IsDistinct same_name c.variables × AllByRecursion (Q c) c.blocks in
+    let each : (c : ClientShape) → IsFormedClient c → P c =
+    λ c f. (f.variables, each_map (λ (b : BlockShape) (k : IsFormedBlock (length c.variables) b). k.below) c.blocks f.each) in
     all_at P p.clients c no_client
-    (each_map (λ (c : ClientShape) (f : IsFormedClient c). (f.variables, each_map (λ (b : BlockShape) (k : IsFormedBlock (length c.variables) b). k.below) c.blocks f.each)) p.clients sound.form.1)
+    (each_map each p.clients sound.form.1)
     (tt, tt)
 
-one_variable : (p : ProgramShape) → IsSound p → (t : Ticket) (x y : ℕ) → x < length (client_at p t.client).variables → y < length (client_at p t.client).variables
+one_variable : (p : ProgramShape) → IsSound p → (t : Ticket) (x y : ℕ)
+    → x < length (client_at p t.client).variables → y < length (client_at p t.client).variables
     → variable_name p t x ≡ variable_name p t y → x ≡ y
 one_variable p sound t x y a b e = one_place (client_at p t.client).variables x y (formed_client p sound t.client).0 a b e
 
@@ -89,7 +95,9 @@ reserved_below p sound t =
     let P : BlockShape → Type 0 = λ b. AllByRecursion (λ h. h < length p.objects) b.reserved in
     all_at P (client_at p t.client).blocks t.index no_block
     (all_at (λ (c : ClientShape). AllByRecursion P c.blocks) p.clients t.client no_client
-    (each_map (λ (c : ClientShape) (f : IsSoundClient p.objects c). each_map (λ (b : BlockShape) (k : IsSoundBlock p.objects b). k.reserved) c.blocks f.each) p.clients sound.each) tt)
+    (each_map
+    (λ (c : ClientShape) (f : IsSoundClient p.objects c). each_map (λ (b : BlockShape) (k : IsSoundBlock p.objects b). k.reserved) c.blocks f.each)
+    p.clients sound.each) tt)
     tt
 
 member : (P : ℕ → Type 0) (xs : List ℕ) (x : ℕ) → is_in xs x ≡ true → AllByRecursion P xs → P x
@@ -126,7 +134,6 @@ part_has h e es is i = by_case (e.request.object == h) (ap (λ n. n == h) is ∙
 
 -- a block of each of two sound programs, and the states from which they start
 module _ (p q : ProgramShape) (sound : IsSound p) (right : IsSound q) (t u : Ticket) (st tu : States) where
-
   abbrev Same : ℕ → ℕ → Type 0
   Same h g = SameObject p q t u h g
 
@@ -178,18 +185,22 @@ module _ (p q : ProgramShape) (sound : IsSound p) (right : IsSound q) (t u : Tic
       → Alike (run a s).trace (run b z).trace
   twin_alike (Done l) (Done k) f g w s z kept = tt
   twin_alike (Call r next) (Call r' later) f g w s z kept =
-      inl (record { request = w.0; reply = refl },
-        twin_alike next later f.2 g.2 w.1 (changed s r) (changed z r') (changed_kept s z r r' (matched r r' f.1 g.1 w.0) w.0 kept))
+      inl (
+        record { request = w.0; reply = refl },
+        twin_alike next later f.2 g.2 w.1 (changed s r) (changed z r') (changed_kept s z r r' (matched r r' f.1 g.1 w.0) w.0 kept),
+      )
   twin_alike (Query r next) (Query r' later) f g w s z kept =
       let v : Option ℤ = answer (s r.object) r in
       let v' : Option ℤ = answer (z r'.object) r' in
       let mine : Same r.object r'.object = matched r r' f.1 g.1 w.0 in
       ⊎_elim
       (λ (is : v ≡ v').
-      inl (record { request = w.0; reply = is },
+      inl (
+        record { request = w.0; reply = is },
         subst (λ x. Alike (run (next (value_of v)) (changed s r)).trace (run (later (value_of x)) (changed z r')).trace) is
-        (twin_alike (next (value_of v)) (later (value_of v)) (f.2 (value_of v)) (g.2 (value_of v)) (w.1 (value_of v)) (changed s r) (changed z r')
-        (changed_kept s z r r' mine w.0 kept))))
+            (twin_alike (next (value_of v)) (later (value_of v)) (f.2 (value_of v)) (g.2 (value_of v)) (w.1 (value_of v)) (changed s r) (changed z r')
+            (changed_kept s z r r' mine w.0 kept)),
+      ))
       (λ (no : v ≢ v').
       inr (record {
         same = mine;
@@ -250,18 +261,18 @@ module _ (p q : ProgramShape) (sound : IsSound p) (right : IsSound q) (t u : Tic
       let E : ℕ → ℕ → Type 0 = λ x y. value_at l x ≡ value_at k y in
       let below : SameStatements O (Below n m) b c = all_below O V n m b c text.body (variables_below p sound t) (variables_below q right u) in
       let valued : SameStatements O (λ x y. V x y × E x y) b c =
-          both O (λ h g. Unit {0}) O V E (λ x y. V x y × E x y) (λ h g a b. a) (λ x y a b. (a, b)) b c text.body values in
+      both O (λ h g. Unit {0}) O V E (λ x y. V x y × E x y) (λ h g a b. a) (λ x y a b. (a, b)) b c text.body values in
       let whole : SameStatements O (Named l k) b c =
-          both O O O (λ x y. V x y × E x y) (Below n m) (Named l k) (λ h g a b. a)
-          (λ x y (a : V x y × E x y) b. record { name = a.0; value = a.1; below = b }) b c valued below in
+      both O O O (λ x y. V x y × E x y) (Below n m) (Named l k) (λ h g a b. a)
+      (λ x y (a : V x y × E x y) b. record { name = a.0; value = a.1; below = b }) b c valued below in
       let twin : Twin p q (tree_of b l) (tree_of c k) =
-          tree_twin p q (Named l k) n m
-          (λ x y z (a : Named l k x y) (b : Named l k x z). one_variable q right u y z a.below.1 b.below.1 (sym a.name ∙ b.name))
-          (λ x y z (a : Named l k x z) (b : Named l k y z). one_variable p sound t x y a.below.0 b.below.0 (a.name ∙ sym b.name))
-          (λ x y (a : Named l k x y). a.below)
-          b c whole l k (record { many = many; much = much; same = λ x y (a : Named l k x y). a.value }) in
+      tree_twin p q (Named l k) n m
+      (λ x y z (a : Named l k x y) (b : Named l k x z). one_variable q right u y z a.below.1 b.below.1 (sym a.name ∙ b.name))
+      (λ x y z (a : Named l k x z) (b : Named l k y z). one_variable p sound t x y a.below.0 b.below.0 (a.name ∙ sym b.name))
+      (λ x y (a : Named l k x y). a.below)
+      b c whole l k (record { many = many; much = much; same = λ x y (a : Named l k x y). a.value }) in
       let k_trees : Alike (run (tree_of b l) st).trace (run (tree_of c k) tu).trace =
-          twin_alike (tree_of b l) (tree_of c k) (blocks_ask_only p sound t l) (blocks_ask_only q right u k) twin st tu (λ h g same began. began) in
+      twin_alike (tree_of b l) (tree_of c k) (blocks_ask_only p sound t l) (blocks_ask_only q right u k) twin st tu (λ h g same began. began) in
       alike_from (solo b l st).trace (solo c k tu).trace
       (subst (λ es. Alike es (solo c k tu).trace) (sym (ap (λ (o : alone.Outcome). o.trace) (trees_agree b l st)))
       (subst (λ ds. Alike (run (tree_of b l) st).trace ds) (sym (ap (λ (o : alone.Outcome). o.trace) (trees_agree c k tu))) k_trees))
@@ -302,7 +313,8 @@ meaning_long (assign x a rest) next leaves f g l e = meaning_long rest next leav
 meaning_long (choose t has_else first other rest) next leaves f g l e =
     let later : Next = meaning rest next leaves in
     let after : Stay later = meaning_long rest next leaves f g in
-    if_long (test_value l t) (meaning first later leaves l) (meaning other later leaves l) (meaning_long first later leaves after g l e) (meaning_long other later leaves after g l e)
+    if_long (test_value l t) (meaning first later leaves l) (meaning other later leaves l)
+    (meaning_long first later leaves after g l e) (meaning_long other later leaves after g l e)
 meaning_long (again n body rest) next leaves f g l e =
     let later : Next = meaning rest next leaves in
     let after : Stay later = meaning_long rest next leaves f g in
@@ -319,7 +331,8 @@ solo_long b l st e =
     ap (λ (o : alone.Outcome). length o.locals) (trees_agree b l st) ∙ run_long (tree_of b l) st (meaning_long b Done Done (λ l e. e) (λ l e. e) l e)
 
 entries_long : (p : ProgramShape) (order : List Ticket) (ls : ℕ → Locals) (st : States) → ((c : ℕ) → length (ls c) ≡ 16)
-    → AllByRecursion (λ (s : Place). (length s.entry ≡ 16) × (s.trace ≡ (solo (text_of p s.ticket).body s.entry s.starts).trace)) (serial_from p ls st order).places
+    → AllByRecursion
+    (λ (s : Place). (length s.entry ≡ 16) × (s.trace ≡ (solo (text_of p s.ticket).body s.entry s.starts).trace)) (serial_from p ls st order).places
 entries_long p [] ls st e = tt
 entries_long p (t ∷ ts) ls st e =
     let o : alone.Outcome = solo (text_of p t).body (ls t.client) st in
@@ -358,5 +371,7 @@ two_places p q sound right a b here there text values =
 pub places_alike : PlacesAlike
 places_alike p q sound right order other =
     each_map {P = IsPlaceOf p} {Q = λ a. AllByRecursion (ArePlacesAlike p q a) (serial q other).places}
-    (λ a here. each_map {P = IsPlaceOf q} {Q = ArePlacesAlike p q a} (λ b there. two_places p q sound right a b here there) (serial q other).places (places_of q right other))
+    (λ a here.
+    each_map {P = IsPlaceOf q} {Q = ArePlacesAlike p q a} (λ b there. two_places p q sound right a b here there)
+    (serial q other).places (places_of q right other))
     (serial p order).places (places_of p sound order)

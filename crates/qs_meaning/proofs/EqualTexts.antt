@@ -1,6 +1,7 @@
 -- What equal texts are worth: the relations of two comparisons of the same statements hold together, and the interaction trees of blocks of equal
 -- text ask for the same, reply by reply. Variables of one name have one number in each client, so an assignment keeps equal values equal.
-use Rattle.std.proofs.Common.{◌≡◌, ◌<◌, ◌≤◌, ℕ, zero, suc, ℤ, pos, Bool, true, false, ◌==◌, if◌then◌else◌, List, [], ◌∷◌, length, map, slice_set, refl, sym, ap₂, ◌∙◌, subst, ⊎_elim, arith}
+use Rattle.std.proofs.Common.{◌≡◌, ◌<◌, ◌≤◌, ℕ, zero, suc, ℤ, pos, Bool, true, false, ◌==◌, if◌then◌else◌, List, [], ◌∷◌, length, map, slice_set, refl, sym}
+use Rattle.std.proofs.Common.{ap₂, ◌∙◌, subst, ⊎_elim, arith}
 use Rattle.std.specs.List.{AllByRecursion, AllZip}
 use Rattle.std.proofs.lemmas.List.{length-set, get_or-set_same, get_or-set_other}
 use Rattle.qs_objects.specs.Act.{clamped}
@@ -88,9 +89,13 @@ module _ (O V : ℕ → ℕ → Type 0) (n m : ℕ) where
   all_below (command c rest) (command d later) s i j = (below_call c d s.0 i.0 j.0, all_below rest later s.1 i.1 j.1)
   all_below (query x c rest) (query y d later) s i j = ((i.0, j.0), below_call c d s.1 i.1 j.1, all_below rest later s.2 i.2 j.2)
   all_below (assign x e rest) (assign y f later) s i j = ((i.0, j.0), below_expr e f s.1 i.1 j.1, all_below rest later s.2 i.2 j.2)
-  all_below (choose t has_else first other rest) (choose u has_too one two later) s i j =
-      ((below_atom t.left u.left s.0.0 i.0 j.0, s.0.1, below_atom t.right u.right s.0.2 i.1 j.1), s.1,
-        all_below first one s.2 i.2 j.2, all_below other two s.3 i.3 j.3, all_below rest later s.4 i.4 j.4)
+  all_below (choose t has_else first other rest) (choose u has_too one two later) s i j = (
+    (below_atom t.left u.left s.0.0 i.0 j.0, s.0.1, below_atom t.right u.right s.0.2 i.1 j.1),
+    s.1,
+    all_below first one s.2 i.2 j.2,
+    all_below other two s.3 i.3 j.3,
+    all_below rest later s.4 i.4 j.4,
+  )
   all_below (again k body rest) (again l text later) s i j = (s.0, all_below body text s.1 i.0 j.0, all_below rest later s.2 i.1 j.1)
   all_below (leave rest) (leave later) s i j = all_below rest later s i j
   all_below _ _ s i j = absurd s
@@ -105,7 +110,6 @@ Twin p q _ _ = ⊥
 -- V: variables of one name, each the only one of its client that is matched with the other; n and m: how many values there are
 module _ (p q : ProgramShape) (V : ℕ → ℕ → Type 0) (n m : ℕ)
     (one : (x y z : ℕ) → V x y → V x z → y ≡ z) (only : (x y z : ℕ) → V x z → V y z → x ≡ y) (bound : (x y : ℕ) → V x y → Below n m x y) where
-
   abbrev Objects : ℕ → ℕ → Type 0
   Objects h g = object_name p h ≡ object_name q g
 
@@ -183,9 +187,10 @@ module _ (p q : ProgramShape) (V : ℕ → ℕ → Type 0) (n m : ℕ)
   meaning_twin end end s next leaves next' leaves' f g l k e = f l k e
   meaning_twin (command c rest) (command d later) s next leaves next' leaves' f g l k e =
       (request_same l k e c d s.0, meaning_twin rest later s.1 next leaves next' leaves' f g l k e)
-  meaning_twin (query x c rest) (query y d later) s next leaves next' leaves' f g l k e =
-      (request_same l k e c d s.1,
-        λ v. meaning_twin rest later s.2 next leaves next' leaves' f g (slice_set l x v) (slice_set k y v) (set_same l k e x y s.0 v v refl))
+  meaning_twin (query x c rest) (query y d later) s next leaves next' leaves' f g l k e = (
+    request_same l k e c d s.1,
+    λ v. meaning_twin rest later s.2 next leaves next' leaves' f g (slice_set l x v) (slice_set k y v) (set_same l k e x y s.0 v v refl),
+  )
   meaning_twin (assign x a rest) (assign y b later) s next leaves next' leaves' f g l k e =
       meaning_twin rest later s.2 next leaves next' leaves' f g (slice_set l x (expr_value l a)) (slice_set k y (expr_value k b))
       (set_same l k e x y s.0 (expr_value l a) (expr_value k b) (expr_same l k e a b s.1))

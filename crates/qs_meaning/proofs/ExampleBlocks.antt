@@ -1,5 +1,6 @@
 -- The premises of the law on blocks of equal text are met by the example programs; their traces are computed.
-use Rattle.std.proofs.Common.{◌≡◌, ◌≢◌, ◌<◌, ◌≤◌, ℕ, true, false, true≢false, ◌==◌, List, [], ◌∷◌, length, codes, slice_index_or, refl, sym, ap, ⊎_elim, subst, arith}
+use Rattle.std.proofs.Common.{◌≡◌, ◌≢◌, ◌<◌, ◌≤◌, ℕ, true, false, true≢false, ◌==◌, List, [], ◌∷◌, length, codes, slice_index_or, refl, sym, ap, ⊎_elim, subst}
+use Rattle.std.proofs.Common.{arith}
 use Rattle.std.specs.List.{IsDistinct}
 use Rattle.qs_objects.proofs.Choices.{eqb_self, num_cases}
 use Rattle.qs_objects.specs.Operations.{fits}

@@ -1,5 +1,6 @@
 -- No request changes an object's kind; so the states of a serial run stay of the declared kinds, from the declared states on.
-use Rattle.std.proofs.Common.{◌≡◌, ℕ, Bool, true, false, true≢false, ◌==◌, ◌&&◌, ◌*◌, replicate, pos, if◌then◌else◌, List, [], ◌∷◌, Option, Some, None, refl, sym, ap, ◌∙◌, subst, ⊎_elim}
+use Rattle.std.proofs.Common.{◌≡◌, ℕ, Bool, true, false, true≢false, ◌==◌, ◌&&◌, ◌*◌, replicate, pos, if◌then◌else◌, List, [], ◌∷◌, Option, Some, None, refl}
+use Rattle.std.proofs.Common.{sym, ◌∙◌, subst, ⊎_elim}
 use Rattle.std.specs.List.{AllByRecursion}
 use Rattle.std.specs.Prelude.{IsSome}
 use Rattle.qs_objects.specs.Act.{State, Content, account, buffer, grid, size_of}
@@ -20,7 +21,7 @@ use Rattle.qs_check.specs.Sound.{IsSound}
 use Rattle.qs_check.specs.Statements.{Statements}
 use Rattle.qs_check.specs.Values.{Locals}
 use Rattle.qs_meaning.specs.Interaction.{Interaction, Done, Call, Query, run, tree_of}
-use Rattle.qs_meaning.specs.Serial.{Place, Serial, serial_from, declared, state_or_none, zeros}
+use Rattle.qs_meaning.specs.Serial.{Place, serial_from, declared, state_or_none, zeros}
 use Rattle.qs_meaning.specs.Solo as alone
 use Rattle.qs_meaning.specs.Solo.{States, changed, put, solo, value_of}
 use Rattle.qs_meaning.specs.StateKinds.{IsOfKind, AreOfKind, SerialKeepsKinds}

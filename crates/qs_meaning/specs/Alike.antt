@@ -128,13 +128,13 @@ PlacesAlike =
     (p q : ProgramShape) → IsSound p → IsSound q
     → (order other : List Ticket)
     → AllByRecursion
-      (λ (a : Place).
-      AllByRecursion
-      (λ (b : Place).
-      SameText p q a.ticket b.ticket → SameValues p q a.ticket b.ticket a.entry b.entry
-      → AlikeFrom p q a.ticket b.ticket a.starts b.starts a.trace b.trace)
-      (serial q other).places)
-      (serial p order).places
+    (λ (a : Place).
+    AllByRecursion
+    (λ (b : Place).
+    SameText p q a.ticket b.ticket → SameValues p q a.ticket b.ticket a.entry b.entry
+    → AlikeFrom p q a.ticket b.ticket a.starts b.starts a.trace b.trace)
+    (serial q other).places)
+    (serial p order).places
 
 -- Equal values of all variables of one name are equal values of those that the text names.
 abbrev pub ValuesByName : Type 0
