@@ -6,3 +6,7 @@ pub mod Each
 pub mod Histories
 pub mod SerialRuns
 pub mod TraceLoads
+pub mod EqualTexts
+pub mod AlikeTraces
+pub mod StateKinds
+pub mod ExampleBlocks

@@ -4,4 +4,7 @@ pub mod Following
 pub mod Serial
 pub mod Paths
 pub mod TraceLoads
+pub mod Alike
+pub mod StateKinds
 pub mod MeaningExamples
+pub mod AlikeExamples

@@ -1,9 +1,12 @@
 //! What the definitions say of blocks, for callers' proofs and for readers.
 
+ghost use Rattle.qs_meaning.specs.Alike.{BlocksAlike, PlacesAlike, ValuesByName};
+ghost use Rattle.qs_meaning.specs.AlikeExamples.{AlikeExamples};
 ghost use Rattle.qs_meaning.specs.Following.{BlocksAskOnly, HonestTracesRun};
 ghost use Rattle.qs_meaning.specs.Interaction.{TreesAgree};
 ghost use Rattle.qs_meaning.specs.MeaningExamples.{MeaningExamples};
 ghost use Rattle.qs_meaning.specs.Paths.{RequestsWithinLoad};
+ghost use Rattle.qs_meaning.specs.StateKinds.{SerialKeepsKinds};
 ghost use Rattle.qs_meaning.specs.TraceLoads.{SerialWithinLoad, TracesWithinLoad};
 
 /// A block alone, its statements run one after another, does what its interaction tree does: the same requests with the same
@@ -40,4 +43,27 @@ pub fn honest_traces_run()
 /// queries. It does nothing.
 pub fn blocks_ask_only()
     ensures only { BlocksAskOnly }
+{}
+
+/// Two blocks of equal text, of one checked program or of two, with equal entry values of the variables that the text names: if the
+/// states from which they start are equal on each object on which both make a request, matched by name, their traces are equal,
+/// replies and all. Whatever the states, their traces are equal up to the first query on an object whose states differ, and wholly
+/// if there is no such query. The same holds of two places of serial runs; and where all variables of one name have equal
+/// values, those that the text names do. It does nothing.
+pub fn alike()
+    ensures blocks { BlocksAlike }
+    ensures places { PlacesAlike }
+    ensures by_name { ValuesByName }
+{}
+
+/// Three clients of two programs with blocks of equal text under other numbers, two of which find their objects in the same states,
+/// computed by the definitions; it does nothing.
+pub fn alike_examples()
+    ensures examples { AlikeExamples }
+{}
+
+/// The states that each place of a serial run of a checked program finds, and those at its end, are of the declared kinds: each object
+/// has the operations of its kind, and no others. It does nothing.
+pub fn serial_keeps_kinds()
+    ensures kinds { SerialKeepsKinds }
 {}
