@@ -1,6 +1,6 @@
 //! All blocks of two clients, booked one after another and reserved from two threads, and what the handlers take.
 
-ghost use Rattle.std.specs.Prelude.{◌≡◌, IfSome, false, true};
+ghost use Rattle.std.specs.Prelude.{◌≡◌, IfSome, false};
 
 use crate::laws::{booked, follows};
 use crate::{Desk, DeskName, DeskParts, Front, RawDesk, Share, Tickets};
