@@ -1,6 +1,6 @@
-//! All blocks of two clients, reserved one client after the other and from two threads, and what the handlers find.
+//! All blocks of two clients, booked one after another and reserved from two threads, and what the handlers take.
 
-ghost use Rattle.std.specs.Prelude.{◌≡◌};
+ghost use Rattle.std.specs.Prelude.{◌≡◌, IfSome, false};
 
 use crate::laws::{booked, follows};
 use crate::{Desk, DeskName, DeskParts, Front, RawDesk, Share, Tickets};
@@ -45,7 +45,7 @@ fn crowd(alloc: Global) -> Option<Program> {
 
 // A desk with the shares of two clients and the tickets of two handlers.
 struct Opened<D: DeskName> {
-    front: Front<D>,
+    desk: Desk<D>,
     ann: Share<D>,
     bob: Share<D>,
     a: Tickets<D>,
@@ -74,26 +74,26 @@ fn first_two<T: Drop>(items: [Option<T>; 8]) -> Option<(T, T)> {
 
 fn open_two<D: DeskName>(raw: RawDesk) -> Option<Opened<D>>
     requires { (D.program ≡ raw.program) × (D.queues ≡ raw.queues) × (D.ledgers ≡ raw.ledgers) }
+    ensures { IfSome result (λ opened. opened.desk.closed ≡ false) }
 {
     let DeskParts {
         desk,
         shares,
         tickets,
     } = raw.open::<D>();
-    let front = Front::new(desk);
     let Some((ann, bob)) = first_two(shares) else {
-        drop(front);
+        drop(desk);
         drop(tickets);
         return None;
     };
     let Some((a, b)) = first_two(tickets) else {
-        drop(front);
+        drop(desk);
         drop(ann);
         drop(bob);
         return None;
     };
     Some(Opened {
-        front,
+        desk,
         ann,
         bob,
         a,
@@ -101,7 +101,22 @@ fn open_two<D: DeskName>(raw: RawDesk) -> Option<Opened<D>>
     })
 }
 
-// Books all blocks of a client.
+// Books a client's next block, where one is left.
+fn book_next<D: DeskName, R: Wait>(
+    rt: &R,
+    desk: &mut Desk<D>,
+    share: &mut Share<D>,
+) -> Option<Ticket>
+    requires { desk.old.closed ≡ false }
+    ensures { desk.new.closed ≡ false }
+{
+    if share.left() {
+        return Some(desk.book(rt, share));
+    }
+    None
+}
+
+// Reserves all blocks of a client.
 fn reserve_all<D: DeskName, R: Wait>(rt: &R, front: &Front<D>, share: Share<D>) -> Share<D> {
     let mut share = share;
     for _ in 0..64u8 {
@@ -117,17 +132,12 @@ fn reserve_both<D: DeskName + Send + Sync, R: Threads + Wait + Sync>(
     front: &Front<D>,
     ann: Share<D>,
     bob: Share<D>,
-    at_once: bool,
 ) -> (Share<D>, Share<D>) {
-    if at_once {
-        thread::join(
-            rt,
-            move || reserve_all(rt, front, ann),
-            move || reserve_all(rt, front, bob),
-        )
-    } else {
-        (reserve_all(rt, front, ann), reserve_all(rt, front, bob))
-    }
+    thread::join(
+        rt,
+        move || reserve_all(rt, front, ann),
+        move || reserve_all(rt, front, bob),
+    )
 }
 
 // How many blocks a client booked; none where one is left.
@@ -140,79 +150,116 @@ fn count_of<D: DeskName>(desk: &mut Desk<D>, share: Share<D>) -> Option<u8> {
     (!left).then_some(count)
 }
 
-// All that a handler finds; whether the closing mark comes, and memory is left.
-fn gather<D: DeskName, R: Wait>(rt: &R, tickets: &mut Tickets<D>, found: &mut Vec<Ticket>) -> bool {
+// All that a handler takes, up to the closing mark.
+fn take_all<D: DeskName, R: Wait>(
+    rt: &R,
+    tickets: &mut Tickets<D>,
+    taken: &mut Vec<Next>,
+) -> Result<(), AllocError> {
     for _ in 0..513u16 {
-        match tickets.take(rt) {
-            Next::Ticket(ticket) => {
-                if found.push(ticket).is_err() {
-                    return false;
-                }
-            }
-            Next::Closed => return true,
+        let next = tickets.take(rt);
+        taken.push(next)?;
+        if next == Next::Closed {
+            return Ok(());
         }
     }
-    false
+    Ok(())
 }
 
-fn found<D: DeskName, R: Wait>(
-    rt: &R,
-    alloc: Global,
-    tickets: &mut Tickets<D>,
-) -> Option<Vec<Ticket>> {
-    let mut found = Vec::new(alloc);
-    if gather(rt, tickets, &mut found) {
-        return Some(found);
-    }
-    drop(found);
-    None
-}
-
-fn found_at<D: DeskName, R: Wait>(
+// The same; none where memory is refused.
+fn taken_at<D: DeskName, R: Wait>(
     rt: &R,
     alloc: Global,
     desk: &mut Desk<D>,
     tickets: Tickets<D>,
-) -> Option<Vec<Ticket>> {
+) -> Option<Vec<Next>> {
     let mut tickets = tickets;
-    let found = found(rt, alloc, &mut tickets);
+    let mut taken = Vec::new(alloc);
+    let done = take_all(rt, &mut tickets, &mut taken);
     follows(desk, tickets);
-    found
+    if done.is_ok() {
+        return Some(taken);
+    }
+    drop(taken);
+    None
 }
 
-// How many blocks the clients booked, and the orders at the desk, at a and at b.
+// What three bookings answered, one after another; how many blocks the clients booked in all; the order at the desk, and what a and b took.
 #[derive(Drop)]
 struct Day {
+    booked: [Option<Ticket>; 3],
     counts: [Option<u8>; 2],
     order: Vec<Ticket>,
-    at_a: Option<Vec<Ticket>>,
-    at_b: Option<Vec<Ticket>>,
+    at_a: Vec<Next>,
+    at_b: Vec<Next>,
 }
 
-fn day_of<D: DeskName + Send + Sync, R: Threads + Wait + Sync>(
+// What stands at a desk that was closed; none where memory is refused.
+fn day_of<D: DeskName, R: Wait>(
+    rt: &R,
+    alloc: Global,
+    closed: Opened<D>,
+    booked: [Option<Ticket>; 3],
+) -> Option<Day> {
+    let Opened {
+        mut desk,
+        ann,
+        bob,
+        a,
+        b,
+    } = closed;
+    let at_a = taken_at(rt, alloc, &mut desk, a);
+    let at_b = taken_at(rt, alloc, &mut desk, b);
+    let counts = [count_of(&mut desk, ann), count_of(&mut desk, bob)];
+    let order = desk.into_order();
+    let at_a = at_a?;
+    let at_b = at_b?;
+    Some(Day {
+        booked,
+        counts,
+        order,
+        at_a,
+        at_b,
+    })
+}
+
+// Ann books a block, and bob two.
+fn book_by_hand<D: DeskName, R: Wait>(rt: &R, alloc: Global, opened: Opened<D>) -> Option<Day>
+    requires { opened.desk.closed ≡ false }
+{
+    let mut opened = opened;
+    let first = book_next(rt, &mut opened.desk, &mut opened.ann);
+    let second = book_next(rt, &mut opened.desk, &mut opened.bob);
+    let third = book_next(rt, &mut opened.desk, &mut opened.bob);
+    opened.desk.close(rt);
+    day_of(rt, alloc, opened, [first, second, third])
+}
+
+// Both clients reserve all their blocks, each from a thread.
+fn reserve_at_once<D: DeskName + Send + Sync, R: Threads + Wait + Sync>(
     rt: &R,
     alloc: Global,
     opened: Opened<D>,
-    at_once: bool,
-) -> Day {
+) -> Option<Day>
+    requires { opened.desk.closed ≡ false }
+{
     let Opened {
-        front,
+        desk,
         ann,
         bob,
         a,
         b,
     } = opened;
-    let (ann, bob) = reserve_both(rt, &front, ann, bob, at_once);
-    let mut desk = front.close(rt);
-    let at_a = found_at(rt, alloc, &mut desk, a);
-    let at_b = found_at(rt, alloc, &mut desk, b);
-    let counts = [count_of(&mut desk, ann), count_of(&mut desk, bob)];
-    Day {
-        counts,
-        order: desk.into_order(),
-        at_a,
-        at_b,
-    }
+    let front = Front::new(desk);
+    let (ann, bob) = reserve_both(rt, &front, ann, bob);
+    let closed = Opened {
+        desk: front.close(rt),
+        ann,
+        bob,
+        a,
+        b,
+    };
+    day_of(rt, alloc, closed, [None, None, None])
 }
 
 fn spend<D: DeskName + Send + Sync, R: Threads + Wait + Sync>(
@@ -224,20 +271,14 @@ fn spend<D: DeskName + Send + Sync, R: Threads + Wait + Sync>(
     requires { (D.program ≡ raw.program) × (D.queues ≡ raw.queues) × (D.ledgers ≡ raw.ledgers) }
 {
     let opened = open_two::<D>(raw)?;
-    Some(day_of(rt, alloc, opened, at_once))
-}
-
-fn is_found(found: &Option<Vec<Ticket>>, due: &[Ticket]) -> bool {
-    match found {
-        Some(found) => found.as_slice() == due,
-        None => false,
+    if at_once {
+        reserve_at_once(rt, alloc, opened)
+    } else {
+        book_by_hand(rt, alloc, opened)
     }
 }
 
-const fn ticket(client: u8, index: u8) -> Ticket {
-    Ticket { client, index }
-}
-
+// A day at a new desk; none where memory is refused.
 fn day_at<R: Threads + Wait + Sync>(
     rt: &R,
     alloc: Global,
@@ -248,12 +289,27 @@ fn day_at<R: Threads + Wait + Sync>(
     spend::<Brand, R>(rt, alloc, raw, at_once)
 }
 
+const fn ticket(client: u8, index: u8) -> Ticket {
+    Ticket { client, index }
+}
+
+// Whether a handler took these tickets, and then the closing mark.
+fn is_taken(taken: &[Next], due: &[Ticket]) -> bool {
+    taken.len() == due.len() + 1
+        && taken.last() == Some(&Next::Closed)
+        && taken
+            .iter()
+            .zip(due)
+            .all(|(next, due)| *next == Next::Ticket(*due))
+}
+
 fn is_transfer(day: &Day) -> bool {
     let [ann, bob, late] = [ticket(0, 0), ticket(1, 0), ticket(1, 1)];
-    day.counts == [Some(1), Some(2)]
+    day.booked == [Some(ann), Some(bob), Some(late)]
+        && day.counts == [Some(1), Some(2)]
         && day.order.as_slice() == [ann, bob, late].as_slice()
-        && is_found(&day.at_a, &[ann, bob])
-        && is_found(&day.at_b, &[ann, late])
+        && is_taken(&day.at_a, &[ann, bob])
+        && is_taken(&day.at_b, &[ann, late])
 }
 
 #[test]
@@ -261,7 +317,8 @@ fn bookings_come_in_their_order(rt: HostRuntime) -> Result<(), Fail> {
     let program = program(rt.alloc(), TRANSFER).ok_or("no program")?;
     let day = day_at(&rt, rt.alloc(), &program, false);
     drop(program);
-    let is_due = day.as_ref().is_some_and(is_transfer);
+    let day = day.ok_or("out of memory")?;
+    let is_due = is_transfer(&day);
     drop(day);
     assert!(rt; is_due);
     Ok(())
@@ -286,8 +343,8 @@ fn is_crowded(day: &Day) -> bool {
         && day.order.len() == 128
         && all_in_order(&day.order, 0)
         && all_in_order(&day.order, 1)
-        && is_found(&day.at_a, &day.order)
-        && is_found(&day.at_b, &day.order)
+        && is_taken(&day.at_a, &day.order)
+        && is_taken(&day.at_b, &day.order)
 }
 
 #[test]
@@ -295,7 +352,8 @@ fn two_threads_reserve_in_one_order(rt: HostRuntime) -> Result<(), Fail> {
     let program = crowd(rt.alloc()).ok_or("no program")?;
     let day = day_at(&rt, rt.alloc(), &program, true);
     drop(program);
-    let is_due = day.as_ref().is_some_and(is_crowded);
+    let day = day.ok_or("out of memory")?;
+    let is_due = is_crowded(&day);
     drop(day);
     assert!(rt; is_due);
     Ok(())

@@ -6,3 +6,4 @@ pub mod HandlerLanes
 pub mod HandlerLaneExamples
 pub mod HandlerRuns
 pub mod HandlerTurns
+pub mod HandlerTurnExamples

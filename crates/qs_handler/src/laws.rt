@@ -5,6 +5,7 @@ ghost use Rattle.qs_handler.specs.HandlerLaneExamples.{HandlerLaneExamples};
 ghost use Rattle.qs_handler.specs.HandlerLanes.{HandlerLaneLaws};
 ghost use Rattle.qs_handler.specs.HandlerLaws.{HandlerLaws};
 ghost use Rattle.qs_handler.specs.HandlerRuns.{HandlerRunLaws};
+ghost use Rattle.qs_handler.specs.HandlerTurnExamples.{HandlerTurnExamples};
 ghost use Rattle.qs_handler.specs.HandlerTurns.{HandlersTakeTurns};
 
 /// An act and what stays behind are the handler that it was; a handler takes what it asks for, exactly where a lane may carry it;
@@ -41,4 +42,9 @@ pub fn handler_examples()
 /// A handler at its clients' lanes, by the definitions; it does nothing.
 pub fn handler_lane_examples()
     ensures examples { HandlerLaneExamples }
+{}
+
+/// A handler's whole run as one turn, by the definitions; it does nothing.
+pub fn handler_turn_examples()
+    ensures examples { HandlerTurnExamples }
 {}

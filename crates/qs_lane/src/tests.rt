@@ -210,8 +210,8 @@ fn carry<R: Wait>(
     })
 }
 
-// What a new lane carries; none where memory is refused, or where another parcel comes than was sent.
-fn carry_through<R: Wait>(rt: &R, alloc: Global, size: ChunkSize) -> Option<Carried> {
+// What a new lane carries, or that another parcel comes than was sent; none where memory is refused.
+fn carry_through<R: Wait>(rt: &R, alloc: Global, size: ChunkSize) -> Option<Option<Carried>> {
     let held = account(alloc)?;
     let Ok((mut out, mut inside)) = lane(rt, alloc, size) else {
         drop(held);
@@ -219,7 +219,7 @@ fn carry_through<R: Wait>(rt: &R, alloc: Global, size: ChunkSize) -> Option<Carr
     };
     let carried = carry(rt, alloc, &mut out, &mut inside, held);
     agree(out, inside);
-    carried
+    Some(carried)
 }
 
 fn is_all(carried: Carried) -> bool {
@@ -234,7 +234,7 @@ fn is_all(carried: Carried) -> bool {
 #[test]
 fn a_lane_carries_what_is_sent(rt: HostRuntime) -> Result<(), Fail> {
     let size = ChunkSize::new(3).ok_or("no size")?;
-    let carried = carry_through(&rt, rt.alloc(), size).ok_or("nothing was carried")?;
-    assert!(rt; is_all(carried));
+    let carried = carry_through(&rt, rt.alloc(), size).ok_or("out of memory")?;
+    assert!(rt; carried.is_some_and(is_all));
     Ok(())
 }
