@@ -1,8 +1,8 @@
 -- What one client's whole run says, block by block: all its blocks are over, each with its page, what it sent to each object and what it got
 -- from it, and these joined are all that it sent and got. The objects that it got are arbitrary; nothing of threads, queues or other clients
 -- is in it. The run is read where nothing is left to be done for the last act, since each act begins with that.
-use Rattle.std.proofs.Common.{◌≡◌, ◌<◌, arith, ℕ, zero, suc, Bool, true, false, if◌then◌else◌, ◌==◌, List, [], ◌∷◌, ◌++◌, length, replicate, slice_index_or}
-use Rattle.std.proofs.Common.{refl, sym, ap, ap₂, ◌∙◌, subst, append-nil, add-zero, ◌+◌, length-append, length-set}
+use Rattle.std.proofs.Common.{◌≡◌, ◌<◌, arith, ℕ, zero, suc, true, false, List, [], ◌∷◌, ◌++◌, length, replicate, slice_index_or}
+use Rattle.std.proofs.Common.{refl, sym, ap, ap₂, ◌∙◌, subst, append-nil, ◌+◌, length-append, length-set}
 use Rattle.std.proofs.lemmas.List.{length-replicate}
 use Rattle.qs_objects.specs.Journals.{HeldState}
 use Rattle.qs_objects.specs.declared.held.Event.{Event}
@@ -30,6 +30,7 @@ use Rattle.qs_protocol.proofs.ActObjects.{chunk_begun, got_begun, not_await, not
 use Rattle.qs_protocol.proofs.BlockLists.{row_push, row_set, upto}
 use Rattle.qs_protocol.proofs.BlockTales.{BlockTold, Telling, chunk_told, get_told, in_block, nothing_told, reserve_told, rests, retold, send_told}
 use Rattle.qs_protocol.proofs.ClientInvariants.{HasNone, Lined, listed}
+use Rattle.qs_protocol.proofs.DeedJoins.{got_join, reservations_join, sent_join}
 use Rattle.qs_protocol.proofs.FullChunks.{ComesFull, HasFull, chunk_full, finished_all, finished_at, got_full, reserves_more, sent_full, settle_full}
 use Rattle.qs_protocol.proofs.MindSteps.{came, chunk_does, deeds_keep, done_still, get_does, reserve_does, send_does}
 
@@ -56,36 +57,6 @@ pub record Tale (program : ProgramShape) (c : ℕ) (code : ClientCode) (deeds : 
   pub traces : (k : ℕ) → k < length code.blocks → slice_index_or end.traces k [] ≡ (page k).trace
   pub sent_is : (h : ℕ) → sent_to h deeds ≡ upto (λ k. sent k h) (length code.blocks)
   pub got_is : (h : ℕ) → got_from h deeds ≡ upto (λ k. got k h) (length code.blocks)
-
--- one more in front, or not
-front_join : {A : Type 0} (b : Bool) (x : A) (all front back : List A) → all ≡ front ++ back
-    → (if b then x ∷ all else all) ≡ (if b then x ∷ front else front) ++ back
-front_join true x all front back e = ap (λ xs. x ∷ xs) e
-front_join false x all front back e = e
-
--- what it sent and got, and reserved, by deeds one after another
-sent_join : (h : ℕ) (before after : List Deed) → sent_to h (before ++ after) ≡ sent_to h before ++ sent_to h after
-sent_join h [] after = refl
-sent_join h (deeds.reserves ∷ before) after = sent_join h before after
-sent_join h (deeds.sends a p ∷ before) after =
-    front_join (a == h) p (sent_to h (before ++ after)) (sent_to h before) (sent_to h after) (sent_join h before after)
-sent_join h (deeds.gets a x ∷ before) after = sent_join h before after
-sent_join h (deeds.takes_chunk a ∷ before) after = sent_join h before after
-
-got_join : (h : ℕ) (before after : List Deed) → got_from h (before ++ after) ≡ got_from h before ++ got_from h after
-got_join h [] after = refl
-got_join h (deeds.reserves ∷ before) after = got_join h before after
-got_join h (deeds.sends a p ∷ before) after = got_join h before after
-got_join h (deeds.gets a x ∷ before) after =
-    front_join (a == h) x (got_from h (before ++ after)) (got_from h before) (got_from h after) (got_join h before after)
-got_join h (deeds.takes_chunk a ∷ before) after = got_join h before after
-
-reservations_join : (before after : List Deed) → reservations (before ++ after) ≡ reservations after + reservations before
-reservations_join [] after = sym (add-zero (reservations after))
-reservations_join (deeds.reserves ∷ before) after = let ih = reservations_join before after in omega (arith, ih)
-reservations_join (deeds.sends a p ∷ before) after = reservations_join before after
-reservations_join (deeds.gets a x ∷ before) after = reservations_join before after
-reservations_join (deeds.takes_chunk a ∷ before) after = reservations_join before after
 
 module _ (program : ProgramShape) (fine : (t : Ticket) (l : Locals) → AsksOnly (reserves program t) (block_tree program t l))
     (lined : (t : Ticket) → Lined (reserves program t) (listed program t)) (c : ℕ) (code : ClientCode) (size : ℕ)

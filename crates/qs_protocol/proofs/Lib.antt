@@ -6,6 +6,8 @@ pub mod ClientActs
 pub mod ClientCounts
 pub mod ClientLogs
 pub mod ClientTales
+pub mod DeedJoins
+pub mod DeedLanes
 pub mod ClientInvariants
 pub mod FullChunks
 pub mod LaneFronts
@@ -16,5 +18,6 @@ pub mod LaneWholes
 pub mod MindSteps
 pub mod ObjectViews
 pub mod ObjectSteps
+pub mod ReservedActs
 pub mod SilentSteps
 pub mod TaleCounts

@@ -1,0 +1,3 @@
+pub mod RunActs
+pub mod DoneDeeds
+pub mod ThreadActs

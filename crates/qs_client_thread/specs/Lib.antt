@@ -1,0 +1,2 @@
+pub mod ClientThreads
+pub mod RunActs

@@ -1,0 +1,55 @@
+//! A client's ends of its lanes to handlers.
+
+ghost use Rattle.std.specs.Prelude.{◌≡◌, ◌+◌, ◌<◌, [], ◌∷◌, ◌++◌, false, slice_set, IsSome, Some};
+ghost use Rattle.qs_chunk.specs.Batch.{batch};
+ghost use Rattle.qs_chunk.specs.Lanes.{MayFollow, is_asked};
+ghost use Rattle.qs_client_thread.specs.ClientThreads.{lane_at};
+ghost use Rattle.qs_lane.specs.Views.{OutView};
+
+use qs_chunk::{Chunk, Parcel};
+use qs_lane::LaneOut;
+use qs_objects::{Held, Request};
+use std::sync::Wait;
+
+/// The client's end of the lane to each handler that has one.
+pub type Lanes = [Option<LaneOut>; 8];
+
+/// Sends a parcel, which may follow what was sent, to a handler. Waits until there is room.
+pub(crate) fn send<R: Wait>(rt: &R, lanes: &mut Lanes, handler: u8, parcel: Parcel)
+    requires handler { handler < 8 }
+    requires lane { IsSome (lane_at lanes.old handler) }
+    requires follows { (lane : OutView) → lane_at lanes.old handler ≡ Some lane → MayFollow lane.size (is_asked false lane.sent) parcel }
+    ensures sent { (lane : OutView) → lane_at lanes.old handler ≡ Some lane
+        → lanes.new ≡ slice_set lanes.old handler (Some (record lane { sent = lane.sent ++ parcel ∷ [] })) }
+{
+    match &mut lanes[usize::from(handler)] {
+        Some(lane) => lane.send(rt, parcel),
+        None => unreachable!(),
+    }
+}
+
+/// Takes the next object that a handler gave. Waits until there is one.
+pub(crate) fn get<R: Wait>(rt: &R, lanes: &mut Lanes, handler: u8) -> Held
+    requires handler { handler < 8 }
+    requires lane { IsSome (lane_at lanes.old handler) }
+    ensures got { (lane : OutView) → lane_at lanes.old handler ≡ Some lane
+        → lanes.new ≡ slice_set lanes.old handler (Some (record lane { got = lane.got ++ result ∷ [] })) }
+{
+    match &mut lanes[usize::from(handler)] {
+        Some(lane) => lane.get(rt),
+        None => unreachable!(),
+    }
+}
+
+/// Takes an empty chunk of the lane to a handler. Waits until there is one.
+pub(crate) fn empty<R: Wait>(rt: &R, lanes: &mut Lanes, handler: u8) -> Chunk<Request>
+    requires handler { handler < 8 }
+    requires lane { IsSome (lane_at lanes.old handler) }
+    ensures taken { (lane : OutView) → lane_at lanes.old handler ≡ Some lane
+        → (lanes.new ≡ slice_set lanes.old handler (Some (record lane { taken = lane.taken + 1 }))) × (result ≡ batch [] lane.size) }
+{
+    match &mut lanes[usize::from(handler)] {
+        Some(lane) => lane.empty(rt),
+        None => unreachable!(),
+    }
+}

@@ -1,0 +1,47 @@
+-- A client's deeds, one run of them after another: where they lead, and what was sent, got and reserved by them. So what is known of a run
+-- grows with its next deed, at the end.
+use Rattle.std.proofs.Common.{◌≡◌, arith, ℕ, ◌+◌, Bool, true, false, if◌then◌else◌, ◌==◌, List, [], ◌∷◌, ◌++◌, refl, sym, ap, subst, add-zero}
+use Rattle.qs_client.specs.ClientRuns.{Deed, DeedsLead, got_from, next_ticket, reservations, sent_to}
+use Rattle.qs_client.specs.ClientRuns as deeds
+use Rattle.qs_client.specs.Mind.{Mind, booked_mind, chunk_mind, got_mind, next_mind}
+
+-- they lead on
+pub deeds_join : (c : ℕ) (before after : List Deed) (first m end : Mind) → DeedsLead c first before m → DeedsLead c m after end
+    → DeedsLead c first (before ++ after) end
+deeds_join c [] after first m end lead next = subst (λ (first : Mind). DeedsLead c first after end) (sym lead) next
+deeds_join c (deeds.reserves ∷ before) after first m end lead next =
+    (lead.0, deeds_join c before after (booked_mind (next_mind first) (next_ticket c (next_mind first))) m end lead.1 next)
+deeds_join c (deeds.sends h p ∷ before) after first m end lead next = (lead.0, deeds_join c before after (next_mind first) m end lead.1 next)
+deeds_join c (deeds.gets h x ∷ before) after first m end lead next = (lead.0, deeds_join c before after (got_mind (next_mind first) x) m end lead.1 next)
+deeds_join c (deeds.takes_chunk h ∷ before) after first m end lead next =
+    (lead.0, deeds_join c before after (chunk_mind (next_mind first) h) m end lead.1 next)
+
+-- one more in front, or not
+pub front_join : {A : Type 0} (b : Bool) (x : A) (all front back : List A) → all ≡ front ++ back
+    → (if b then x ∷ all else all) ≡ (if b then x ∷ front else front) ++ back
+front_join true x all front back e = ap (λ xs. x ∷ xs) e
+front_join false x all front back e = e
+
+-- what it sent and got, and reserved, by deeds one after another
+pub sent_join : (h : ℕ) (before after : List Deed) → sent_to h (before ++ after) ≡ sent_to h before ++ sent_to h after
+sent_join h [] after = refl
+sent_join h (deeds.reserves ∷ before) after = sent_join h before after
+sent_join h (deeds.sends a p ∷ before) after =
+    front_join (a == h) p (sent_to h (before ++ after)) (sent_to h before) (sent_to h after) (sent_join h before after)
+sent_join h (deeds.gets a x ∷ before) after = sent_join h before after
+sent_join h (deeds.takes_chunk a ∷ before) after = sent_join h before after
+
+pub got_join : (h : ℕ) (before after : List Deed) → got_from h (before ++ after) ≡ got_from h before ++ got_from h after
+got_join h [] after = refl
+got_join h (deeds.reserves ∷ before) after = got_join h before after
+got_join h (deeds.sends a p ∷ before) after = got_join h before after
+got_join h (deeds.gets a x ∷ before) after =
+    front_join (a == h) x (got_from h (before ++ after)) (got_from h before) (got_from h after) (got_join h before after)
+got_join h (deeds.takes_chunk a ∷ before) after = got_join h before after
+
+pub reservations_join : (before after : List Deed) → reservations (before ++ after) ≡ reservations after + reservations before
+reservations_join [] after = sym (add-zero (reservations after))
+reservations_join (deeds.reserves ∷ before) after = let ih = reservations_join before after in omega (arith, ih)
+reservations_join (deeds.sends a p ∷ before) after = reservations_join before after
+reservations_join (deeds.gets a x ∷ before) after = reservations_join before after
+reservations_join (deeds.takes_chunk a ∷ before) after = reservations_join before after
