@@ -1,6 +1,6 @@
 //! Rows of values in one list.
 
-ghost use Rattle.std.specs.Prelude.{◌≡◌, ◌<◌, ◌≤◌, ◌+◌, ◌-◌, ℕ, [], ◌∷◌, ◌++◌, IfOk, drop, length, replicate, slice_index_or, slice_set, take};
+ghost use Rattle.std.specs.Prelude.{◌≡◌, ◌<◌, ◌≤◌, ◌+◌, ◌-◌, ℕ, [], ◌∷◌, ◌++◌, IfOk, IsErr, drop, length, replicate, slice_index_or, slice_set, take};
 ghost use Rattle.qs_objects.specs.Rows.{IsLast, joined, rows_state};
 
 use std::alloc::{AllocError, Global};
@@ -36,13 +36,25 @@ fn part<T>(items: &[T], start: usize, count: usize) -> &[T]
     &items[start..start + count]
 }
 
+// So many zeros; `vec!` does not say when its error comes.
+fn zeros(alloc: Global, count: usize) -> Result<Vec<usize>, AllocError>
+    ensures value { IfOk result (λ v. v.items ≡ replicate count 0) }
+    ensures memory { IsErr result → 0 < count }
+{
+    let mut zeros = Vec::with_capacity(alloc, count)?;
+    zeros.resize(count, 0)?;
+    Ok(zeros)
+}
+
 impl<T> Rows<T> {
-    /// So many empty rows, with room for so many values together.
+    /// So many empty rows, with room for so many values together. An error says that this memory was refused: it comes only where there is a
+    /// row or room.
     pub fn new(alloc: Global, rows: usize, room: usize) -> Result<Rows<T>, AllocError>
         ensures fresh { IfOk result (λ r. r ≡ rows_state (replicate rows []) room) }
+        ensures memory { IsErr result → 0 < rows + room }
     {
-        let starts = vec![in alloc; 0; rows]?;
-        let lengths = vec![in alloc; 0; rows]?;
+        let starts = zeros(alloc, rows)?;
+        let lengths = zeros(alloc, rows)?;
         let items = Vec::with_capacity(alloc, room)?;
         Ok(Rows {
             items,

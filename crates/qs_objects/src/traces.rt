@@ -1,6 +1,6 @@
 //! The traces of a client's blocks.
 
-ghost use Rattle.std.specs.Prelude.{◌≡◌, ◌<◌, IfOk, length, map};
+ghost use Rattle.std.specs.Prelude.{◌≡◌, ◌<◌, IfOk, IsErr, length, map};
 ghost use Rattle.qs_objects.specs.Rows.{joined};
 ghost use Rattle.qs_objects.specs.Sums.{total};
 ghost use Rattle.qs_objects.specs.Traces.{AreEmptyAfter, empty_trace, events_of, noted_at, trace_at};
@@ -30,10 +30,12 @@ impl Model for Traces {
 }
 
 impl Traces {
-    /// For each room an empty trace with room for so many events; `room` is their sum.
+    /// For each room an empty trace with room for so many events; `room` is their sum. An error says that memory was refused: it comes only
+    /// where there is a room.
     pub fn new(alloc: Global, rooms: Vec<usize>, room: usize) -> Result<Traces, AllocError>
         requires whole { total rooms.items ≡ room }
         ensures fresh { IfOk result (λ t. t ≡ map empty_trace rooms.items) }
+        ensures memory { IsErr result → 0 < length rooms.items }
     {
         let rows = Rows::new(alloc, rooms.len(), room)?;
         Ok(Traces { rows, rooms })

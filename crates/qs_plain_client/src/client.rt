@@ -7,7 +7,7 @@ ghost use Rattle.qs_syncset.specs.SyncRows.{fresh_rows};
 ghost use Rattle.qs_played.specs.Schedule.{queries_in};
 ghost use Rattle.qs_plain_client.specs.ReplyDelivery.{Hears};
 ghost use Rattle.qs_plain_client.specs.FreshClients.{AreFresh};
-ghost use Rattle.std.specs.Prelude.{◌≡◌, ◌+◌, ◌<◌, ◌≤◌, ℕ, IfOk, length, map, nat_lt, slice_set};
+ghost use Rattle.std.specs.Prelude.{◌≡◌, ◌+◌, ◌<◌, ◌≤◌, ℕ, IfOk, IsErr, length, map, nat_lt, slice_set};
 ghost use Rattle.qs_plain_client.specs.Frames.{load_left};
 ghost use Rattle.qs_plain_client.specs.declared.stage.Stage.TheVariants as stages;
 
@@ -84,7 +84,8 @@ impl<'p> ClientState<'p> {
     ghost use Rattle.qs_plain_laws.specs.PlainSchedule.{has_ended, is_done, syncs_of, waits};
     ghost use Rattle.qs_plain_client.specs.ClientMoves.{Begins, Goes, Replies, requested_of, IsReserved};
 
-    /// A client of the program before its first block, with all the memory that it will need.
+    /// A client of the program before its first block, with all the memory that it will need. An error says that this memory was refused: it
+    /// comes only where the client has a block.
     pub fn new(
         alloc: Global,
         program: &'p Program,
@@ -92,6 +93,7 @@ impl<'p> ClientState<'p> {
     ) -> Result<ClientState<'p>, AllocError>
         requires { number < length program.now.clients }
         ensures fresh { IfOk result (IsFresh program.now number) }
+        ensures memory { IsErr result → 0 < blocks_of program.now number }
     {
         program.is_sound();
         let count = program.blocks_of(number);
@@ -322,10 +324,11 @@ fn room_of(program: &Program, number: u8, index: u8) -> usize
     room
 }
 
-// The empty traces of all blocks of a client, each with room for its block's load.
+// The empty traces of all blocks of a client, each with room for its block's load. An error comes only where there is a block.
 fn fresh_traces(alloc: Global, program: &Program, number: u8) -> Result<Traces, AllocError>
     requires { number < length program.now.clients }
     ensures fresh { IfOk result (λ traces. traces ≡ map empty_trace (rooms_of program.now number)) }
+    ensures memory { IsErr result → 0 < blocks_of program.now number }
 {
     program.is_sound();
     let count = program.blocks_of(number);
@@ -339,10 +342,11 @@ fn fresh_traces(alloc: Global, program: &Program, number: u8) -> Result<Traces, 
     Traces::new(alloc, rooms, room)
 }
 
-// Of each block of a client no query is counted yet.
+// Of each block of a client no query is counted yet. An error comes only where there is a block.
 fn fresh_counts(alloc: Global, program: &Program, number: u8) -> Result<SyncCounts, AllocError>
     requires { number < length program.now.clients }
     ensures fresh { IfOk result (λ counts. counts.rows ≡ fresh_rows (lists_of program.now number)) }
+    ensures memory { IsErr result → 0 < blocks_of program.now number }
 {
     program.is_sound();
     let count = program.blocks_of(number);

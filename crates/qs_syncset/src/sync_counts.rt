@@ -1,6 +1,6 @@
 //! How many Syncs a client has sent, for each block and each object of its list.
 
-ghost use Rattle.std.specs.Prelude.{◌≡◌, ◌<◌, ◌≤◌, ◌-◌, ◌==◌, suc, if◌then◌else◌, [], ◌∷◌, ◌++◌, IfOk, length, map, replicate, slice_index_or, slice_set};
+ghost use Rattle.std.specs.Prelude.{◌≡◌, ◌<◌, ◌≤◌, ◌+◌, ◌-◌, ◌==◌, suc, if◌then◌else◌, [], ◌∷◌, ◌++◌, IfOk, IsErr, length, map, replicate, slice_index_or, slice_set};
 ghost use Rattle.qs_objects.specs.Rows.{IsLast, joined};
 ghost use Rattle.qs_syncset.specs.SyncRows.{AreFew, all_counts, count_of, counts_state, no_syncs, object_of, one_more, sync_count, with_sync};
 
@@ -48,9 +48,11 @@ fn next_count(objects: &[u8], counts: &[u32], place: usize, object: u8) -> u32
 }
 
 impl SyncCounts {
-    /// So many blocks without objects, with room for so many objects together.
+    /// So many blocks without objects, with room for so many objects together. An error says that this memory was refused: it comes only
+    /// where there is a block or room.
     pub fn new(alloc: Global, blocks: usize, room: usize) -> Result<SyncCounts, AllocError>
         ensures fresh { IfOk result (λ s. s ≡ counts_state (replicate blocks []) room) }
+        ensures memory { IsErr result → 0 < blocks + room }
     {
         let objects = Rows::new(alloc, blocks, room)?;
         let counts = Rows::new(alloc, blocks, room)?;

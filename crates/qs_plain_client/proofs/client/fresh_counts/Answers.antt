@@ -92,10 +92,10 @@ loop-index-2-preserved c =
       room = omega (arith, room, c.loop-index-2.invariant.room, next, same);
     }
 
-pub returns : goal.returns
-returns c =
+pub returns-clause-fresh : goal.returns-clause-fresh
+returns-clause-fresh c =
     let lists = lists_of c.args.program.now c.args.number in
     let long = many c.args.program.now c.args.number in
     let whole : c.loop-index-2.index ≡ length lists =
     omega (arith, c.loop-index-2-test.false, c.loop-index-2.auto.index-end, c.blocks_of-count.ensures.value, long) in
-    record { fresh = c.loop-index-2.invariant.rows ∙ (ap (λ n. begun_rows n lists) whole ∙ begun_all lists) }
+    c.loop-index-2.invariant.rows ∙ (ap (λ n. begun_rows n lists) whole ∙ begun_all lists)

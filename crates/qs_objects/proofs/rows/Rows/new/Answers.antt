@@ -6,8 +6,8 @@ use Rattle.qs_objects.proofs.rows.Rows.new.Goals as goal
 
 pub invariant_of-result : goal.invariant_of-result
 invariant_of-result g c =
-    let starts : c.in_ok-starts.starts.items ≡ replicate c.args.rows 0 = c.in_ok-starts.ensures.items_if_clones_equal (λ y same. same) in
-    let lengths : c.in_ok-lengths.lengths.items ≡ replicate c.args.rows 0 = c.in_ok-lengths.ensures.items_if_clones_equal (λ y same. same) in
+    let starts : c.in_ok-starts.starts.items ≡ replicate c.args.rows 0 = c.in_ok-starts.ensures.value in
+    let lengths : c.in_ok-lengths.lengths.items ≡ replicate c.args.rows 0 = c.in_ok-lengths.ensures.value in
     let none : length c.in_ok-items.items.items ≡ 0 = ap length c.in_ok-items.ensures.items in
     let zeros = total_replicate c.args.rows in
     let wide = c.in_ok-items.ensures.capacity in
@@ -15,9 +15,7 @@ invariant_of-result g c =
     (subst (λ ns. FillList (replicate c.args.rows 0) ns (length c.in_ok-items.items.items) c.args.room (vec_capacity c.in_ok-items.items)) (sym lengths)
     (record { whole = omega (arith, zeros, none); fits = omega (arith, wide, none); many = refl; begin = zero_starts c.args.rows }))
 
-pub returns : goal.returns
-returns g c = record {
-  fresh = ap (λ ns. rows_state (cut ns c.in_ok-items.items.items) c.args.room) (c.in_ok-lengths.ensures.items_if_clones_equal (λ y same. same))
-      ∙ (ap (λ xs. rows_state (cut (replicate c.args.rows 0) xs) c.args.room) c.in_ok-items.ensures.items
-      ∙ ap (λ rows. rows_state rows c.args.room) (cut_empty {X = g.row.T.Denot} c.args.rows));
-}
+pub returns-clause-fresh : goal.returns-clause-fresh
+returns-clause-fresh g c = ap (λ ns. rows_state (cut ns c.in_ok-items.items.items) c.args.room) c.in_ok-lengths.ensures.value
+    ∙ (ap (λ xs. rows_state (cut (replicate c.args.rows 0) xs) c.args.room) c.in_ok-items.ensures.items
+    ∙ ap (λ rows. rows_state rows c.args.room) (cut_empty {X = g.row.T.Denot} c.args.rows))

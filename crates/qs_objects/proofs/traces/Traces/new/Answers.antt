@@ -5,8 +5,6 @@ use Rattle.qs_objects.proofs.TraceRows.{fresh_rooms}
 use Rattle.qs_objects.specs.declared.held.Event.{Event}
 use Rattle.qs_objects.proofs.traces.Traces.new.Goals as goal
 
-pub returns : goal.returns
-returns c = record {
-  fresh = ap (λ (s : RowsState Event). with_rooms s.rows c.args.rooms.items) c.in_ok-rows.ensures.fresh
-      ∙ (ap (λ n. with_rooms (replicate n []) c.args.rooms.items) (c.len.ensures ∙ c.args.rooms.ok.0) ∙ fresh_rooms c.args.rooms.items);
-}
+pub returns-clause-fresh : goal.returns-clause-fresh
+returns-clause-fresh c = ap (λ (s : RowsState Event). with_rooms s.rows c.args.rooms.items) c.in_ok-rows.ensures.fresh
+    ∙ (ap (λ n. with_rooms (replicate n []) c.args.rooms.items) (c.len.ensures ∙ c.args.rooms.ok.0) ∙ fresh_rooms c.args.rooms.items)

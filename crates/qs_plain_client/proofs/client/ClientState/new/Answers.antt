@@ -55,8 +55,8 @@ invariant_of-result c =
       omega (arith, c.in_ok-with_capacity.ensures.len, c.in_ok-with_capacity.ensures.capacity, c.blocks_of-count.ensures.value, many, c.loop-index.prepared.ok),
     )
 
-pub returns : goal.returns
-returns c =
+pub returns-clause-fresh : goal.returns-clause-fresh
+returns-clause-fresh c =
     let p = c.args.program.now in
     let number = c.args.number in
     let queues = c.loop-index.prepared.items in
@@ -68,14 +68,12 @@ returns c =
     let counts = c.in_ok-fresh_counts.ensures.fresh in
     let prepared = (λ i. length (prepared_of (drop (length (none i)) (traces i)) (drop (length (none i)) (counts i)) queues)) ∙ (many_prepared 0 (map empty_trace (rooms_of p number)) (fresh_rows (lists_of p number)) queues stored ∙ many) in
     record {
-      fresh = record {
-        program = refl;
-        number = refl;
-        stage = refl;
-        locals = refl;
-        entries = none;
-        traces = ap (λ es. take (length es) c.in_ok-fresh_traces.field-0) none;
-        counts = ap (λ es. take (length es) c.in_ok-fresh_counts.field-0.rows) none;
-        prepared = prepared;
-      };
+      program = refl;
+      number = refl;
+      stage = refl;
+      locals = refl;
+      entries = none;
+      traces = ap (λ es. take (length es) c.in_ok-fresh_traces.field-0) none;
+      counts = ap (λ es. take (length es) c.in_ok-fresh_counts.field-0.rows) none;
+      prepared = prepared;
     }

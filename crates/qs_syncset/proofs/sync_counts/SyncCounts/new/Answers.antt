@@ -10,9 +10,8 @@ invariant_of-result c =
     (subst (AreAlike (rows_state (replicate c.args.blocks []) c.args.room)) (sym c.in_ok-counts.ensures.fresh)
     (record { each = have_fresh c.args.blocks; room = refl }))
 
-pub returns : goal.returns
-returns c = record {
-  fresh = ap (λ (s : RowsState ℕ). counts_state (with_counts s.rows c.in_ok-counts.counts.rows) s.room) c.in_ok-objects.ensures.fresh
-      ∙ (ap (λ (s : RowsState ℕ). counts_state (with_counts (replicate c.args.blocks []) s.rows) c.args.room) c.in_ok-counts.ensures.fresh
-      ∙ ap (λ rows. counts_state rows c.args.room) (fresh_counts c.args.blocks));
-}
+pub returns-clause-fresh : goal.returns-clause-fresh
+returns-clause-fresh c =
+    ap (λ (s : RowsState ℕ). counts_state (with_counts s.rows c.in_ok-counts.counts.rows) s.room) c.in_ok-objects.ensures.fresh
+    ∙ (ap (λ (s : RowsState ℕ). counts_state (with_counts (replicate c.args.blocks []) s.rows) c.args.room) c.in_ok-counts.ensures.fresh
+    ∙ ap (λ rows. counts_state rows c.args.room) (fresh_counts c.args.blocks))
