@@ -5,5 +5,6 @@ mod ends;
 mod gate;
 mod serving;
 
+pub use ends::Lanes;
 pub use gate::{FreeGate, Gate};
 pub use serving::serve;
