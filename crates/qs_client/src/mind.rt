@@ -1,6 +1,6 @@
 //! A client's mind.
 
-ghost use Rattle.std.specs.Prelude.{◌≡◌, ◌<◌, ℕ, [], IfOk, length, option_copied, slice_index_or};
+ghost use Rattle.std.specs.Prelude.{◌≡◌, ◌<◌, ℕ, [], IfOk, IsErr, length, option_copied, slice_index_or};
 ghost use Rattle.qs_chunk.specs.Batch.{batch};
 ghost use Rattle.qs_client.specs.Mind.{Asks, lists_of, tallied, booked_mind, chunk_mind, done, ended_by, fresh_mind, got_mind, is_between, next_act, next_mind};
 ghost use Rattle.qs_syncset.specs.SyncRows.{AreFew, all_counts, counts_state, fresh_rows};
@@ -60,9 +60,10 @@ impl Model for Mind {
     }) };
 }
 
-// Of each block of a code no Sync is counted yet.
+// Of each block of a code no Sync is counted yet. An error comes only where there is a block.
 fn fresh_counts(alloc: Global, code: &Code) -> Result<SyncCounts, AllocError>
     ensures fresh { IfOk result (λ counts. counts.rows ≡ fresh_rows (lists_of code.now.blocks)) }
+    ensures memory { IsErr result → 0 < length code.now.blocks }
 {
     code.is_code();
     let blocks = code.blocks();
@@ -90,8 +91,10 @@ fn tally(counts: &mut SyncCounts, handed: Handed, block: usize)
 
 impl Mind {
     /// The mind of a client that runs this code in chunks of this size, before its first block, with all the memory that it will ever need.
+    /// An error says that this memory was refused: it comes only where the client has a block.
     pub fn new(alloc: Global, code: Code, size: ChunkSize) -> Result<Mind, AllocError>
         ensures fresh { IfOk result (λ m. mind_of m ≡ fresh_mind code size) }
+        ensures memory { IsErr result → 0 < length code.blocks }
     {
         code.is_code();
         let _ = size.get();

@@ -1,6 +1,6 @@
 //! All the memory of a client, and the beginning of a block.
 
-ghost use Rattle.std.specs.Prelude.{◌≡◌, ◌<◌, ◌≤◌, ℕ, IfOk, length};
+ghost use Rattle.std.specs.Prelude.{◌≡◌, ◌<◌, ◌≤◌, ℕ, IfOk, IsErr, length, replicate};
 ghost use Rattle.qs_syncset.specs.Codes.{code_at};
 ghost use Rattle.qs_client_run.specs.Beginning.{begins_at, fresh_run};
 ghost use Rattle.qs_client_run.specs.Client.{Place, Settings};
@@ -41,9 +41,10 @@ fn room_of(code: &Code, block: usize) -> usize
     room
 }
 
-// The empty traces of all blocks, with all the memory.
+// The empty traces of all blocks, with all the memory. An error comes only where there is a block.
 fn empty_traces(alloc: Global, code: &Code) -> Result<Traces, AllocError>
     ensures empty { IfOk result (λ traces. traces ≡ empty_rows code.now.blocks) }
+    ensures memory { IsErr result → 0 < length code.now.blocks }
 {
     code.is_code();
     let count = code.blocks();
@@ -57,15 +58,28 @@ fn empty_traces(alloc: Global, code: &Code) -> Result<Traces, AllocError>
     Traces::new(alloc, rooms, room)
 }
 
+// A count of 0 for each node of the longest graph. An error comes only where there is a block.
+fn repeat_counts(alloc: Global, code: &Code) -> Result<Vec<u64>, AllocError>
+    ensures value { IfOk result (λ counts. counts.items ≡ replicate (longest code.now.blocks) 0) }
+    ensures memory { IsErr result → 0 < length code.now.blocks }
+{
+    let nodes = longest_graph(code);
+    let mut counts = Vec::with_capacity(alloc, nodes)?;
+    counts.resize(nodes, 0)?;
+    Ok(counts)
+}
+
 impl Run {
-    /// Before the first block, with all variables 0 and all the memory.
+    /// Before the first block, with all variables 0 and all the memory. An error says that this memory was refused: it comes only where the
+    /// client has a block.
     pub fn new(alloc: Global, code: &Code) -> Result<Run, AllocError>
         ensures fresh { IfOk result (λ run. run ≡ fresh_run code.now.blocks) }
+        ensures memory { IsErr result → 0 < length code.now.blocks }
     {
-        let counts = vec![in alloc; 0; longest_graph(code)]?;
+        let counts = repeat_counts(alloc, code)?;
         Ok(Run {
             way: Way::new(0, [0; 16], counts),
-            hands: Hands::new(alloc)?,
+            hands: Hands::new(),
             traces: empty_traces(alloc, code)?,
             stage: Stage::Between,
         })

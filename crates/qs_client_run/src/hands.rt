@@ -1,44 +1,40 @@
 //! The objects that a client holds, and its open chunks.
 
-ghost use Rattle.std.specs.Prelude.{◌≡◌, ◌<◌, IfOk, None, Some, is_some, length, option_copied};
+ghost use Rattle.std.specs.Prelude.{◌≡◌, ◌<◌, None, Some, is_some, length, option_copied};
 ghost use Rattle.qs_client_run.specs.Hand.{held_at, chunk_at, with_held, with_chunk, no_hands};
 
 use qs_chunk::Chunk;
 use qs_objects::{Held, Request};
-use std::alloc::{AllocError, Global};
 use std::marker::Model;
 use std::mem;
 
 /// For each of 8 handlers the object, where the client holds it, and the open chunk, where there is one.
 #[derive(Drop)]
 pub struct Hands {
-    held: Vec<Option<Held>>,
-    chunks: Vec<Option<Chunk<Request>>>,
+    held: [Option<Held>; 8],
+    chunks: [Option<Chunk<Request>>; 8],
 }
 
 impl Model for Hands {
-    ghost use Rattle.std.specs.Prelude.{◌≡◌, vec_len};
+    ghost use Rattle.std.specs.Prelude.{◌≡◌, length};
     ghost use Rattle.qs_client_run.specs.Hand.{HandsState};
 
     ghost Value = { HandsState };
 
-    ghost view = { λ h. record { held = h.held.items; chunks = h.chunks.items } };
+    ghost view = { λ h. record { held = h.held; chunks = h.chunks } };
 
-    ghost invariant = { λ h. (vec_len h.held ≡ 8) × (vec_len h.chunks ≡ 8) };
+    ghost invariant = { λ h. (length h.held ≡ 8) × (length h.chunks ≡ 8) };
 }
 
 impl Hands {
-    /// No object and no open chunk, with all the memory.
-    pub fn new(alloc: Global) -> Result<Hands, AllocError>
-        ensures none { IfOk result (λ hands. hands ≡ no_hands) }
+    /// No object and no open chunk; takes no memory.
+    pub fn new() -> Hands
+        ensures none { result ≡ no_hands }
     {
-        let mut held = Vec::with_capacity(alloc, 8)?;
-        let mut chunks = Vec::with_capacity(alloc, 8)?;
-        for _handler in 0..8usize {
-            held.push_reserved(None);
-            chunks.push_reserved(None);
+        Hands {
+            held: [None, None, None, None, None, None, None, None],
+            chunks: [None, None, None, None, None, None, None, None],
         }
-        Ok(Hands { held, chunks })
     }
 
     /// What holds of all hands: there are 8 places of each kind. It does nothing.

@@ -89,10 +89,10 @@ loop-block-2-preserved c =
       room = omega (arith, room, c.loop-block-2.invariant.room, next, same);
     }
 
-pub returns : goal.returns
-returns c =
+pub returns-clause-fresh : goal.returns-clause-fresh
+returns-clause-fresh c =
     let lists = lists_of c.args.code.now.blocks in
     let long = many c.args.code.now.blocks in
     let whole : c.loop-block-2.block ≡ length lists =
     omega (arith, c.loop-block-2-test.false, c.loop-block-2.auto.block-end, c.blocks-blocks.ensures.value, long) in
-    record { fresh = c.loop-block-2.invariant.rows ∙ (ap (λ n. begun_rows n lists) whole ∙ begun_all lists) }
+    c.loop-block-2.invariant.rows ∙ (ap (λ n. begun_rows n lists) whole ∙ begun_all lists)

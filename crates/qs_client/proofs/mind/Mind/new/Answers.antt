@@ -16,11 +16,9 @@ invariant_of-result c =
           (fresh_kept c.args.code c.args.size c.in_ok-counts.counts.room c.is_code.ensures.code sized),
     )
 
-pub returns : goal.returns
-returns c =
+pub returns-clause-fresh : goal.returns-clause-fresh
+returns-clause-fresh c =
     let run : c.in_ok-run.run' ≡ fresh_run c.args.code.blocks = c.in_ok-run.ensures.fresh in
     let none = c.in_ok-entries.ensures.items in
-    record {
-      fresh = (λ i. mind_of (fresh_with c.args.code c.args.size (run i) (none i) (counts_state (c.in_ok-counts.ensures.fresh i) c.in_ok-counts.counts.room)))
-          ∙ fresh_is c.args.code c.args.size c.in_ok-counts.counts.room;
-    }
+    (λ i. mind_of (fresh_with c.args.code c.args.size (run i) (none i) (counts_state (c.in_ok-counts.ensures.fresh i) c.in_ok-counts.counts.room)))
+    ∙ fresh_is c.args.code c.args.size c.in_ok-counts.counts.room
