@@ -150,12 +150,15 @@ module _ (p : ProgramShape) (h : ℕ) where
     -- before its first ticket
     pub begins : (m : Handler) (tickets : TicketsView) → m ≡ free x → tickets.handler ≡ h → tickets.taken ≡ [] → ((c : ℕ) → IsFresh (lane_at start c))
         → Kept m tickets start
-    begins m tickets is handler none fresh = ([], record {
-      lead = sym is;
-      queue = tickets_path tickets handler none;
-      ends = λ c. at_lane c (lane_at start c) (fresh c);
-      own = subst (λ m. AllByRecursion (λ t. reserves p t h ≡ true) (serving m)) (sym is) tt;
-    })
+    begins m tickets is handler none fresh = (
+      [],
+      record {
+        lead = sym is;
+        queue = tickets_path tickets handler none;
+        ends = λ c. at_lane c (lane_at start c) (fresh c);
+        own = subst (λ m. AllByRecursion (λ t. reserves p t h ≡ true) (serving m)) (sym is) tt;
+      },
+    )
       where
         tickets_path : (v : TicketsView) → v.handler ≡ h → v.taken ≡ [] → v ≡ record { handler = h; taken = [] }
         tickets_path v a b = λ i. record { handler = a i; taken = b i }
@@ -171,14 +174,16 @@ module _ (p : ProgramShape) (h : ℕ) where
     took_ticket m n m' next tickets tickets' lanes k at asks takes own more =
         let done = k.0 in
         let same : gave m ≡ m = (tickets_are_asked_for m next).1 asks in
-        let here : taken m next ≡ Some m' = ap (λ m. taken m next) (sym (at ∙ same)) ∙ takes in
-        (done ++ tasks.takes next ∷ [], record {
-          lead = tasks_lead done (tasks.takes next ∷ []) (free x) m m' k.1.lead (m', here, refl);
-          queue = more ∙ (ap (λ (v : TicketsView). record { handler = v.handler; taken = v.taken ++ next ∷ [] }) k.1.queue
-              ∙ ap (λ xs. record { handler = h; taken = xs }) (sym (taken_more done (tasks.takes next ∷ []))));
-          ends = λ c. unchanged c done (tasks.takes next) (lane_at start c) (lane_at lanes c) refl refl (k.1.ends c);
-          own = serving_taken m m' next here (subst (λ h. IsFor p h next) (ap (λ (v : TicketsView). v.handler) k.1.queue) own);
-        })
+        let here : taken m next ≡ Some m' = ap (λ m. taken m next) (sym (at ∙ same)) ∙ takes in (
+          done ++ tasks.takes next ∷ [],
+          record {
+            lead = tasks_lead done (tasks.takes next ∷ []) (free x) m m' k.1.lead (m', here, refl);
+            queue = more ∙ (ap (λ (v : TicketsView). record { handler = v.handler; taken = v.taken ++ next ∷ [] }) k.1.queue
+                ∙ ap (λ xs. record { handler = h; taken = xs }) (sym (taken_more done (tasks.takes next ∷ []))));
+            ends = λ c. unchanged c done (tasks.takes next) (lane_at start c) (lane_at lanes c) refl refl (k.1.ends c);
+            own = serving_taken m m' next here (subst (λ h. IsFor p h next) (ap (λ (v : TicketsView). v.handler) k.1.queue) own);
+          },
+        )
 
     module _ (m n : Handler) (tickets : TicketsView) (lanes : List (Option InView)) (k : Kept m tickets lanes) (at : n ≡ gave m)
         (reached : (t : Ticket) → reserves p t h ≡ true → (t.client < 8) × IsSome (lane_at start t.client)) where
@@ -226,19 +231,21 @@ module _ (p : ProgramShape) (h : ℕ) where
           let d = tasks.receives c parcel in
           let same : gave m ≡ m = (parcels_stand m c parcel asks).1 in
           let here : received m parcel ≡ Some m' = ap (λ m. received m parcel) (sym (at ∙ same)) ∙ receives in
-          let b = lane_is c lane is in
-          (done ++ d ∷ [], record {
-            lead = tasks_lead done (d ∷ []) (free x) m m' k.1.lead (m', asks, here, refl);
-            queue = k.1.queue ∙ ap (λ xs. record { handler = h; taken = xs }) (sym (taken_more done (d ∷ []) ∙ append-nil (taken_by done)));
-            ends = λ a. subst (λ ls. HasServed a (done ++ d ∷ []) (lane_at start a) (lane_at ls a)) (sym more) (⊎_elim
-                (λ (own : c ≡ a). subst (λ a. HasServed a (done ++ d ∷ []) (lane_at start a) (lane_at (slice_set lanes c (Some (record lane { received = lane.received ++ parcel ∷ [] }))) a)) own
-                (here_now b))
-                (λ (other : (c == a) ≡ false).
-                subst (HasServed a (done ++ d ∷ []) (lane_at start a)) (sym (get_or-set_other lanes c a (Some (record lane { received = lane.received ++ parcel ∷ [] })) None (λ is. apart_eqb c a other (sym is))))
-                (unchanged a done d (lane_at start a) (lane_at lanes a) (rw other refl) refl (k.1.ends a)))
-                (num_cases c a));
-            own = serving_received (λ t. reserves p t h ≡ true) m m' parcel here k.1.own;
-          })
+          let b = lane_is c lane is in (
+            done ++ d ∷ [],
+            record {
+              lead = tasks_lead done (d ∷ []) (free x) m m' k.1.lead (m', asks, here, refl);
+              queue = k.1.queue ∙ ap (λ xs. record { handler = h; taken = xs }) (sym (taken_more done (d ∷ []) ∙ append-nil (taken_by done)));
+              ends = λ a. subst (λ ls. HasServed a (done ++ d ∷ []) (lane_at start a) (lane_at ls a)) (sym more) (⊎_elim
+                  (λ (own : c ≡ a). subst (λ a. HasServed a (done ++ d ∷ []) (lane_at start a) (lane_at (slice_set lanes c (Some (record lane { received = lane.received ++ parcel ∷ [] }))) a)) own
+                  (here_now b))
+                  (λ (other : (c == a) ≡ false).
+                  subst (HasServed a (done ++ d ∷ []) (lane_at start a)) (sym (get_or-set_other lanes c a (Some (record lane { received = lane.received ++ parcel ∷ [] })) None (λ is. apart_eqb c a other (sym is))))
+                  (unchanged a done d (lane_at start a) (lane_at lanes a) (rw other refl) refl (k.1.ends a)))
+                  (num_cases c a));
+              own = serving_received (λ t. reserves p t h ≡ true) m m' parcel here k.1.own;
+            },
+          )
         where
           here_now : Between c k.0 (lane_at start c) lane
               → HasServed c (k.0 ++ tasks.receives c parcel ∷ []) (lane_at start c) (lane_at (slice_set lanes c (Some (record lane { received = lane.received ++ parcel ∷ [] }))) c)
@@ -268,19 +275,21 @@ module _ (p : ProgramShape) (h : ℕ) where
       gave_object c y lane lanes' asks is more =
           let done = k.0 in
           let d = tasks.gives c y in
-          let b = lane_is c lane is in
-          (done ++ d ∷ [], record {
-            lead = tasks_lead done (d ∷ []) (free x) m n k.1.lead (asks, sym at);
-            queue = k.1.queue ∙ ap (λ xs. record { handler = h; taken = xs }) (sym (taken_more done (d ∷ []) ∙ append-nil (taken_by done)));
-            ends = λ a. subst (λ ls. HasServed a (done ++ d ∷ []) (lane_at start a) (lane_at ls a)) (sym more) (⊎_elim
-                (λ (own : c ≡ a). subst (λ a. HasServed a (done ++ d ∷ []) (lane_at start a) (lane_at (slice_set lanes c (Some (record lane { given = lane.given ++ y ∷ [] }))) a)) own
-                (here_now b))
-                (λ (other : (c == a) ≡ false).
-                subst (HasServed a (done ++ d ∷ []) (lane_at start a)) (sym (get_or-set_other lanes c a (Some (record lane { given = lane.given ++ y ∷ [] })) None (λ is. apart_eqb c a other (sym is))))
-                (unchanged a done d (lane_at start a) (lane_at lanes a) refl (rw other refl) (k.1.ends a)))
-                (num_cases c a));
-            own = subst (λ m. AllByRecursion (λ t. reserves p t h ≡ true) (serving m)) (sym at) (serving_gave (λ t. reserves p t h ≡ true) m k.1.own);
-          })
+          let b = lane_is c lane is in (
+            done ++ d ∷ [],
+            record {
+              lead = tasks_lead done (d ∷ []) (free x) m n k.1.lead (asks, sym at);
+              queue = k.1.queue ∙ ap (λ xs. record { handler = h; taken = xs }) (sym (taken_more done (d ∷ []) ∙ append-nil (taken_by done)));
+              ends = λ a. subst (λ ls. HasServed a (done ++ d ∷ []) (lane_at start a) (lane_at ls a)) (sym more) (⊎_elim
+                  (λ (own : c ≡ a). subst (λ a. HasServed a (done ++ d ∷ []) (lane_at start a) (lane_at (slice_set lanes c (Some (record lane { given = lane.given ++ y ∷ [] }))) a)) own
+                  (here_now b))
+                  (λ (other : (c == a) ≡ false).
+                  subst (HasServed a (done ++ d ∷ []) (lane_at start a)) (sym (get_or-set_other lanes c a (Some (record lane { given = lane.given ++ y ∷ [] })) None (λ is. apart_eqb c a other (sym is))))
+                  (unchanged a done d (lane_at start a) (lane_at lanes a) refl (rw other refl) (k.1.ends a)))
+                  (num_cases c a));
+              own = subst (λ m. AllByRecursion (λ t. reserves p t h ≡ true) (serving m)) (sym at) (serving_gave (λ t. reserves p t h ≡ true) m k.1.own);
+            },
+          )
         where
           here_now : Between c k.0 (lane_at start c) lane
               → HasServed c (k.0 ++ tasks.gives c y ∷ []) (lane_at start c) (lane_at (slice_set lanes c (Some (record lane { given = lane.given ++ y ∷ [] }))) c)
@@ -306,13 +315,15 @@ module _ (p : ProgramShape) (h : ℕ) where
           → (lanes' ≡ slice_set lanes c (Some (record lane { spared = lane.spared + 1 }))) ⊎ (lanes' ≡ lanes) → Kept n tickets lanes'
       spared_chunk c chunk lane lanes' asks is more =
           let done = k.0 in
-          let d = tasks.spares c chunk in
-          (done ++ d ∷ [], record {
-            lead = tasks_lead done (d ∷ []) (free x) m n k.1.lead (asks, sym at);
-            queue = k.1.queue ∙ ap (λ xs. record { handler = h; taken = xs }) (sym (taken_more done (d ∷ []) ∙ append-nil (taken_by done)));
-            ends = λ a. unchanged a done d (lane_at start a) (lane_at lanes' a) refl refl (kept a more);
-            own = subst (λ m. AllByRecursion (λ t. reserves p t h ≡ true) (serving m)) (sym at) (serving_gave (λ t. reserves p t h ≡ true) m k.1.own);
-          })
+          let d = tasks.spares c chunk in (
+            done ++ d ∷ [],
+            record {
+              lead = tasks_lead done (d ∷ []) (free x) m n k.1.lead (asks, sym at);
+              queue = k.1.queue ∙ ap (λ xs. record { handler = h; taken = xs }) (sym (taken_more done (d ∷ []) ∙ append-nil (taken_by done)));
+              ends = λ a. unchanged a done d (lane_at start a) (lane_at lanes' a) refl refl (kept a more);
+              own = subst (λ m. AllByRecursion (λ t. reserves p t h ≡ true) (serving m)) (sym at) (serving_gave (λ t. reserves p t h ≡ true) m k.1.own);
+            },
+          )
         where
           kept : (a : ℕ) → (lanes' ≡ slice_set lanes c (Some (record lane { spared = lane.spared + 1 }))) ⊎ (lanes' ≡ lanes) → HasServed a k.0 (lane_at start a) (lane_at lanes' a)
           kept a (inr same) = subst (λ ls. HasServed a k.0 (lane_at start a) (lane_at ls a)) (sym same) (k.1.ends a)

@@ -146,6 +146,6 @@ module _ (sent : Ticket → List Parcel) (got : Ticket → List HeldState) where
   pub turns_meet : (x z : HeldState) (us : List Turn) → TurnsLead x us z → Sent us → ((c : ℕ) → AreFronts (turns_for c us)) → AllByRecursion (IsMet sent got) us
   turns_meet x z us lead whole fronts =
       each_client (IsMet sent got) us (λ c.
-          let own : Turn → Bool = λ u. u.ticket.client == c in
-          cut (turns_for c us) (each_kept (λ (u : Turn). IsWhole u.received u.gave) own us (turns_whole x z us lead))
-          (each_kept (λ (u : Turn). IsWhole (sent u.ticket) (got u.ticket)) own us whole) (fronts c))
+      let own : Turn → Bool = λ u. u.ticket.client == c in
+      cut (turns_for c us) (each_kept (λ (u : Turn). IsWhole u.received u.gave) own us (turns_whole x z us lead))
+      (each_kept (λ (u : Turn). IsWhole (sent u.ticket) (got u.ticket)) own us whole) (fronts c))

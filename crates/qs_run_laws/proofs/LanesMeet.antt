@@ -75,12 +75,12 @@ module _ (p : ProgramShape) (sound : IsSound p) (mode : Mode) (code : ℕ → Cl
   sent_whole : (h : ℕ) → Sent (sent_for h) (got_for h) (turned p sound mode code codes size r run h).turns
   sent_whole h =
       each_map (λ (u : Turn) (is : IsOwn h u.ticket).
-          let t = u.ticket in
-          let told = tale p sound mode code codes size r run t.client in
-          let block = told.blocks t.index (block_told p sound mode code codes size r run t is.few) in
-          let events = part h (told.page t.index).trace in
-          block_whole t (sent_for h t) (got_for h t) events
-          (subst (λ b. ClientLane t false (sent_for h t) (got_for h t) events (if b then gone else sends [])) is.own (block.lanes h)))
+      let t = u.ticket in
+      let told = tale p sound mode code codes size r run t.client in
+      let block = told.blocks t.index (block_told p sound mode code codes size r run t is.few) in
+      let events = part h (told.page t.index).trace in
+      block_whole t (sent_for h t) (got_for h t) events
+      (subst (λ b. ClientLane t false (sent_for h t) (got_for h t) events (if b then gone else sends [])) is.own (block.lanes h)))
       (turned p sound mode code codes size r run h).turns (own_turns h)
 
   -- a client's blocks are as many as its tickets in the order

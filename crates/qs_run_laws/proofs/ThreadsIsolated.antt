@@ -49,13 +49,13 @@ module _ (p : ProgramShape) (sound : IsSound p) (mode : Mode) (code : ℕ → Cl
   pub all_over : (h : ℕ) → AllByRecursion (IsOver p page h (sent_for p sound mode code codes size r run h) (got_for p sound mode code codes size r run h) (end h)) r.order
   all_over h =
       each_map (λ (t : Ticket) (few : t.index < blocks_of p t.client).
-          let block = (tale p sound mode code codes size r run t.client).blocks t.index (block_told p sound mode code codes size r run t few) in
-          record { done = block.done; lane = block.lanes h; outside = block.outside h }) r.order (inside p sound mode code codes size r run)
+      let block = (tale p sound mode code codes size r run t.client).blocks t.index (block_told p sound mode code codes size r run t few) in
+      record { done = block.done; lane = block.lanes h; outside = block.outside h }) r.order (inside p sound mode code codes size r run)
 
   pages : AllByRecursion (λ t. IsPage p t (page t)) r.order
   pages =
       each_map (λ (t : Ticket) (few : t.index < blocks_of p t.client).
-          ((tale p sound mode code codes size r run t.client).blocks t.index (block_told p sound mode code codes size r run t few)).page.path)
+      ((tale p sound mode code codes size r run t.client).blocks t.index (block_told p sound mode code codes size r run t few)).page.path)
       r.order (inside p sound mode code codes size r run)
 
   begins_same : (c k : ℕ) (l : Locals) → Begins (λ (t : Ticket). (tale p sound mode code codes size r run c).page t.index) c k l → Begins page c k l
@@ -65,8 +65,8 @@ module _ (p : ProgramShape) (sound : IsSound p) (mode : Mode) (code : ℕ → Cl
   begins : AllByRecursion (λ t. Begins page t.client t.index (page t).entry) r.order
   begins =
       each_map (λ (t : Ticket) (few : t.index < blocks_of p t.client).
-          begins_same t.client t.index (page t).entry
-          ((tale p sound mode code codes size r run t.client).begins t.index (block_told p sound mode code codes size r run t few)))
+      begins_same t.client t.index (page t).entry
+      ((tale p sound mode code codes size r run t.client).begins t.index (block_told p sound mode code codes size r run t few)))
       r.order (inside p sound mode code codes size r run)
 
   -- the room of a journal is never used up
