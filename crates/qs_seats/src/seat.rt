@@ -1,0 +1,78 @@
+//! Seats of workers.
+
+ghost use Rattle.std.specs.Prelude.{◌≡◌};
+ghost use Rattle.qs_seats.specs.Seats.{IsClientReady, IsHandlerReady};
+
+use qs_client::Mind;
+use qs_client_thread::Lanes as ClientLanes;
+use qs_desk::{DeskName, Share, Tickets};
+use qs_handler_thread::Lanes as HandlerLanes;
+use qs_objects::Held;
+
+/// What a handler's worker has: its object with the journal, its queue of tickets, and its end of the lane from each client that has one.
+#[derive(Drop)]
+pub struct HandlerSeat<D: DeskName> {
+    pub held: Held,
+    pub tickets: Tickets<D>,
+    pub lanes: HandlerLanes,
+}
+
+/// What a client's worker has: its mind, its share of the desk, and its end of the lane to each handler that has one.
+#[derive(Drop)]
+pub struct ClientSeat<D: DeskName> {
+    pub mind: Mind,
+    pub share: Share<D>,
+    pub lanes: ClientLanes,
+}
+
+/// A handler's seat before the run: nothing is taken and nothing has passed, and there is a lane from each client that may reserve it.
+#[derive(Drop)]
+pub struct ReadyHandler<D: DeskName> {
+    pub seat: HandlerSeat<D>,
+    ghost is_ready: { IsHandlerReady D.program seat },
+}
+
+impl<D: DeskName> ReadyHandler<D> {
+    /// A seat that is ready.
+    pub fn new(seat: HandlerSeat<D>) -> ReadyHandler<D>
+        requires ready { IsHandlerReady D.program seat }
+        ensures seat { result.seat ≡ seat }
+    {
+        ReadyHandler { seat }
+    }
+
+    /// The seat, which is ready.
+    pub fn into_seat(self) -> HandlerSeat<D>
+        ensures seat { result ≡ self.seat }
+        ensures ready { IsHandlerReady D.program result }
+    {
+        let ReadyHandler { seat } = self;
+        seat
+    }
+}
+
+/// A client's seat before the run: no block is booked and nothing has passed, and there is a lane to each handler that its blocks reserve.
+#[derive(Drop)]
+pub struct ReadyClient<D: DeskName> {
+    pub seat: ClientSeat<D>,
+    ghost is_ready: { IsClientReady D.program seat },
+}
+
+impl<D: DeskName> ReadyClient<D> {
+    /// A seat that is ready.
+    pub fn new(seat: ClientSeat<D>) -> ReadyClient<D>
+        requires ready { IsClientReady D.program seat }
+        ensures seat { result.seat ≡ seat }
+    {
+        ReadyClient { seat }
+    }
+
+    /// The seat, which is ready.
+    pub fn into_seat(self) -> ClientSeat<D>
+        ensures seat { result ≡ self.seat }
+        ensures ready { IsClientReady D.program result }
+    {
+        let ReadyClient { seat } = self;
+        seat
+    }
+}
