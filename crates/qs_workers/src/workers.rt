@@ -91,7 +91,8 @@ fn run_clients<D: DeskName + Send + Sync, R: Threads + Wait + Sync>(
             ensures ran { IfSome result (λ seats. AllZip ClientRan (ready.items ++ seat ∷ []) seats.items × (vec_len seats ≡ vec_len ready + 1) × (vec_capacity seats ≡ vec_capacity room)) }
         {
             let promise = Runs(Snapshot::of(&seat));
-            let Ok(handle) = scope.spawn_with(promise, move || run_seat(rt, latch, front, seat)) else {
+            let Ok(handle) = scope.spawn_with(promise, move || run_seat(rt, latch, front, seat))
+            else {
                 latch.open(rt, false);
                 return None;
             };
@@ -142,7 +143,8 @@ fn serve_all<D: DeskName + Send + Sync, G: Gate, R: Threads + Wait + Sync>(
             ensures closed { IfSome result (λ gone. gone.desk.closed ≡ true) }
         {
             let promise = Serves(Snapshot::of(&seat));
-            let Ok(handle) = scope.spawn_with(promise, move || serve_seat(rt, gate, latch, seat)) else {
+            let Ok(handle) = scope.spawn_with(promise, move || serve_seat(rt, gate, latch, seat))
+            else {
                 latch.open(rt, false);
                 return None;
             };

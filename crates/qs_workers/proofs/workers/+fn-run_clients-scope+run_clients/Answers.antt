@@ -1,5 +1,5 @@
 -- The clients before the last have run, and so has the last.
-use Rattle.std.proofs.Common.{◌≡◌, ◌∙◌, arith, rules}
+use Rattle.std.proofs.Common.{◌∙◌, arith, rules}
 use Rattle.qs_seats.specs.Seats.{ClientRan}
 use Rattle.qs_workers.proofs.MoreWorkers.{all_and_one}
 use Rattle.qs_workers.proofs.workers.+fn-run_clients-scope+run_clients.Goals as goal

@@ -1,5 +1,5 @@
 -- The handlers before the last have served, and so has the last.
-use Rattle.std.proofs.Common.{◌≡◌, ◌∙◌, arith, rules}
+use Rattle.std.proofs.Common.{◌∙◌, arith, rules}
 use Rattle.qs_seats.specs.Seats.{HandlerServed}
 use Rattle.qs_workers.proofs.MoreWorkers.{all_and_one}
 use Rattle.qs_workers.proofs.workers.+fn-serve_all-scope+serve_all.Goals as goal
