@@ -1,5 +1,5 @@
 -- What comes of a program that is run on threads: what the serial run of its blocks shows, along a legal order of them.
-use Rattle.std.specs.Prelude.{◌≡◌, ◌<◌, ℕ, true, List, [], filter, flat_map, length, map}
+use Rattle.std.specs.Prelude.{◌≡◌, ◌<◌, ℕ, true, [], filter, flat_map, length, map}
 use Rattle.std.specs.List.{range_with_len}
 use Rattle.qs_objects.specs.Parts.{same}
 use Rattle.qs_objects.specs.declared.held.Ticket.{Ticket}
