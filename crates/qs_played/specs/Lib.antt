@@ -1,5 +1,6 @@
 pub mod Isolation
 pub mod Played
+pub mod Outcomes
 pub mod JournalRooms
 pub mod ExampleRuns
 pub mod Schedule

@@ -4,6 +4,7 @@
 mod actor;
 mod fault;
 mod journal_rooms;
+mod outcome;
 mod picks;
 mod played;
 mod row;
@@ -11,6 +12,7 @@ mod row;
 pub use actor::Actor;
 pub use fault::PlayFault;
 pub use journal_rooms::declared_held;
+pub use outcome::Outcome;
 pub use picks::are_named;
 pub use played::{ClientRows, Endings, Played};
 pub use row::Row;

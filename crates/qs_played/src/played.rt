@@ -103,6 +103,30 @@ impl Played {
         }
     }
 
+    /// The same with this number of Syncs; takes no memory.
+    pub fn with_syncs(self, syncs: u64) -> Played
+        ensures value { result ≡ record self { syncs = syncs } }
+    {
+        let Played {
+            order,
+            ended,
+            clients,
+            journals,
+            states,
+            syncs: _,
+            finished,
+        } = self;
+        Played {
+            order,
+            ended,
+            clients,
+            journals,
+            states,
+            syncs,
+            finished,
+        }
+    }
+
     /// The tickets in the order of reservations.
     pub fn order(&self) -> &[Ticket]
         ensures value { result.now ≡ self.now.order }

@@ -6,3 +6,4 @@ pub mod LanesMeet
 pub mod ThreadsIsolated
 pub mod Settling
 pub mod SettledSample
+pub mod Outcomes

@@ -22,14 +22,14 @@ use Rattle.qs_handler.specs.HandlerRuns.{Task, takes, TasksLead, taken_by}
 use Rattle.qs_handler.specs.HandlerTurns.{HasTurns, Turn}
 use Rattle.qs_handler.proofs.RunTurns.{handlers_take_turns}
 use Rattle.qs_client.specs.ClientRuns.{Deed, RunsTo}
-use Rattle.qs_client.specs.Mind.{Mind, fresh_mind, next_act, next_mind, tree_at}
+use Rattle.qs_client.specs.Mind.{Mind, done, fresh_mind, hands_out, next_act, next_mind, tree_at}
 use Rattle.qs_played.specs.Played.{ticket}
 use Rattle.qs_played.proofs.JournalRooms.{no_block_beyond}
 use Rattle.qs_played.proofs.ReservedObjects.{reserved_inside}
 use Rattle.qs_played.proofs.SyncLists.{legal_blocks}
 use Rattle.qs_protocol.proofs.ClientInvariants.{listed}
 use Rattle.qs_protocol.proofs.ClientTales.{Tale, told}
-use Rattle.qs_protocol.proofs.TaleCounts.{TaleCounts, told_counts}
+use Rattle.qs_protocol.proofs.TaleCounts.{TaleCounts, in_counts, told_counts}
 use Rattle.qs_played.specs.JournalRooms.{fresh_held}
 use Rattle.qs_core_laws.specs.Core.{AreCodes}
 use Rattle.qs_core_laws.proofs.CoreCodes.{block_walk, blocks_are, lined, longest_covers, reserved_is}
@@ -139,3 +139,14 @@ module _ (p : ProgramShape) (sound : IsSound p) (mode : Mode) (code : ℕ → Cl
 
   pub block_told : (t : Ticket) → t.index < blocks_of p t.client → t.index < count_of t.client
   block_told t few = let n = count_is t.client in omega (arith, few, n)
+
+  -- a client's mind ends with a row for each of its blocks
+  pub rows_end : (c : ℕ) → (length (mind_of c).entries ≡ count_of c) × (length (mind_of c).traces ≡ count_of c) × (length (mind_of c).counts ≡ count_of c)
+  rows_end c =
+      let run = client_runs c in
+      let both = in_counts p (blocks_ask_only p sound) (lined p sound) c (code c) size (own_list c) (own_walk c) (own_asks c) (deeds_of c) run.last run.deeds_lead in
+      let is : mind_of c ≡ hands_out (done run.last) acts.Finished = run.end_is ∙ ap (hands_out (done run.last)) run.finished in (
+        ap (λ (m : Mind). length m.entries) is ∙ (both.0.entry_count ∙ (sym (ap (λ (m : Mind). m.client.begun) is) ∙ (tale c).begun)),
+        ap (λ (m : Mind). length m.traces) is ∙ both.0.trace_count,
+        ap (λ (m : Mind). length m.counts) is ∙ both.1.row_count,
+      )

@@ -1,3 +1,4 @@
 pub mod ThreadRuns
 pub mod Settled
 pub mod SettledExamples
+pub mod Outcomes

@@ -1,0 +1,38 @@
+-- What the workers of a run know together once all have ended: each client's share with the desk, each handler's tickets with the desk, and
+-- the two ends of each lane.
+use Rattle.std.specs.Prelude.{◌≡◌, ℕ, true, List, [], ◌∷◌, ◌++◌, Option, Some, None, length, slice_get}
+use Rattle.std.specs.List.{AllByRecursion}
+use Rattle.qs_objects.specs.declared.held.Next.{Next}
+use Rattle.qs_objects.specs.declared.held.Next.TheVariants.{Closed}
+use Rattle.qs_objects.specs.declared.held.Ticket.{Ticket}
+use Rattle.qs_check.specs.Program.{ProgramShape}
+use Rattle.qs_meaning.specs.Serial.{IsLegal}
+use Rattle.qs_chunk.specs.LaneRun.{IsLaneRun}
+use Rattle.qs_client_thread.specs.ClientThreads as running
+use Rattle.qs_desk.specs.Tickets.{of_client, pushed_to}
+use Rattle.qs_handler_thread.specs.HandlerThreads as handling
+use Rattle.qs_lane.specs.Views.{InView, OutView}
+use Rattle.qs_seats.specs.declared.seat.ClientSeat.{ClientSeat}
+use Rattle.qs_seats.specs.declared.seat.HandlerSeat.{HandlerSeat}
+
+-- the two ends of one lane, where there is one, are a lane's run
+abbrev pub HaveMet : Option OutView → Option InView → Type 0
+HaveMet None inside = Unit {0}
+HaveMet (Some out) None = Unit {0}
+HaveMet (Some out) (Some inside) = IsLaneRun out.size out.sent inside.received inside.given out.got
+
+module _ {D : Type 0} where
+  -- the order has as many tickets of the client as its share says
+  abbrev pub IsBooked : List Ticket → ClientSeat D → Type 0
+  IsBooked order s = length (of_client s.share.client order) ≡ s.share.count
+
+  -- a handler that took the closing mark took all that was pushed to it
+  abbrev pub HasFollowed : ProgramShape → List Ticket → HandlerSeat D → Type 0
+  HasFollowed p order s = (before : List Next) → s.tickets.taken ≡ before ++ Closed ∷ [] → pushed_to p s.tickets.handler order true ≡ s.tickets.taken
+
+  pub record AllMet (p : ProgramShape) (order : List Ticket) (handlers : List (HandlerSeat D)) (clients : List (ClientSeat D)) : Type 0 where
+    pub legal : IsLegal p order
+    pub booked : AllByRecursion (IsBooked order) clients
+    pub followed : AllByRecursion (HasFollowed p order) handlers
+    pub lanes : (c h : ℕ) (s : ClientSeat D) (r : HandlerSeat D) → slice_get clients c ≡ Some s → slice_get handlers h ≡ Some r
+        → HaveMet (running.lane_at s.lanes h) (handling.lane_at r.lanes c)

@@ -1,0 +1,37 @@
+//! The room that a run's outcome takes.
+
+ghost use Rattle.std.specs.Prelude.{◌≡◌, ◌≤◌, ◌*◌, vec_len, vec_capacity};
+ghost use Rattle.qs_check.specs.Limits.{most_blocks, most_clients, most_objects};
+
+use qs_objects::{Journal, Object};
+use qs_played::ClientRows;
+use std::alloc::{AllocError, Global};
+
+/// The room that the outcome of any program's run takes, which is all empty yet: for each of 512 tickets whether its block has ended, for
+/// each of 8 clients its rows, and for each of 8 objects its journal and its state.
+#[derive(Drop)]
+pub struct Rooms {
+    pub(crate) ended: Vec<bool>,
+    pub(crate) rows: Vec<ClientRows>,
+    pub(crate) journals: Vec<Journal>,
+    pub(crate) states: Vec<Object>,
+    ghost empty: { (vec_len ended ≡ 0) × (vec_len rows ≡ 0) × (vec_len journals ≡ 0) × (vec_len states ≡ 0) },
+    ghost room: { (most_clients * most_blocks ≤ vec_capacity ended) × (most_clients ≤ vec_capacity rows)
+        × (most_objects ≤ vec_capacity journals) × (most_objects ≤ vec_capacity states) },
+}
+
+impl Rooms {
+    /// All the room. An error says that this memory was refused.
+    pub fn new(alloc: Global) -> Result<Rooms, AllocError> {
+        let ended = Vec::with_capacity(alloc, 512)?;
+        let rows = Vec::with_capacity(alloc, 8)?;
+        let journals = Vec::with_capacity(alloc, 8)?;
+        let states = Vec::with_capacity(alloc, 8)?;
+        Ok(Rooms {
+            ended,
+            rows,
+            journals,
+            states,
+        })
+    }
+}

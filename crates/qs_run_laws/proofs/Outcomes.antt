@@ -1,0 +1,68 @@
+-- What a run of threads shows is an outcome: the law of running threads says it object by object, and here it is said of whole lists. And
+-- the clients' minds end with rows for all blocks of the order.
+use Rattle.std.proofs.Common.{◌≡◌, ◌<◌, ◌≤◌, ◌+◌, arith, ℕ, zero, suc, map, refl, sym, ap₂, subst, length, ◌∷◌}
+use Rattle.std.specs.List.{AllByRecursion, range_with_len}
+use Rattle.qs_objects.specs.declared.held.Ticket.{Ticket}
+use Rattle.qs_check.specs.Program.{ProgramShape, blocks_of}
+use Rattle.qs_check.specs.Sound.{IsSound}
+use Rattle.qs_meaning.proofs.Each.{each_map}
+use Rattle.qs_syncset.specs.Codes.{ClientCode}
+use Rattle.qs_syncset.specs.declared.mode.Mode.{Mode}
+use Rattle.qs_client.specs.Mind.{Mind}
+use Rattle.qs_played.proofs.JournalRooms.{no_block_beyond}
+use Rattle.qs_core_laws.specs.Core.{AreCodes}
+use Rattle.qs_run_laws.specs.Outcomes.{ThreadRunsHaveOutcomes}
+use Rattle.qs_run_laws.specs.ThreadRuns.{IsThreadRun, ThreadRun}
+use Rattle.qs_run_laws.proofs.Settling.{threads_settle}
+use Rattle.qs_run_laws.proofs.ThreadTales.{count_is, inside, rows_end}
+use Rattle.qs_run_laws.proofs.ThreadsIsolated.{mind_is}
+
+-- the same for each number of a range
+pub same_range : {A : Type 0} (f g : ℕ → A) (a n : ℕ) → ((i : ℕ) → a ≤ i → i < a + n → f i ≡ g i) → map f (range_with_len a n) ≡ map g (range_with_len a n)
+same_range f g a zero each = refl
+same_range f g a (suc n) each =
+    ap₂ (λ x xs. x ∷ xs) (each a (omega arith) (omega arith))
+    (same_range f g (a + 1) n (λ i low high. each i (omega (arith, low)) (omega (arith, high))))
+
+pub settled_outcome : ThreadRunsHaveOutcomes
+settled_outcome p sound mode code codes size r run =
+    let s = threads_settle p sound mode code codes size r run in
+    record {
+      legal = run.legal;
+      once = s.once;
+      entries = s.entries;
+      traces = s.traces;
+      journals = same_range _ _ 0 _ (λ h low high. s.journals h (omega (arith, high)));
+      states = same_range _ _ 0 _ (λ h low high. s.states h (omega (arith, high)));
+      ended = refl;
+      finished = refl;
+      isolated = s.isolated;
+      counted = s.counted;
+    }
+
+-- a mind has what was said of this block
+pub record HasRow (m : Mind) (k : ℕ) : Type 0 where
+  pub entry : k < length m.entries
+  pub trace : k < length m.traces
+  pub counts : k < length m.counts
+
+module _ (p : ProgramShape) (sound : IsSound p) (mode : Mode) (code : ℕ → ClientCode) (codes : AreCodes p mode code) (size : ℕ) (r : ThreadRun)
+    (run : IsThreadRun p code size r) where
+  row_there : (t : Ticket) → t.index < blocks_of p t.client → (t.client < length p.clients) × HasRow (r.mind t.client) t.index
+  row_there t few =
+      let client = no_block_beyond p t.client (omega (arith, few)) in
+      let rows = rows_end p sound mode code codes size r run t.client in
+      let count = count_is p sound mode code codes size r run t.client in
+      let entries = rows.0 in
+      let traces = rows.1 in
+      let counts = rows.2 in (
+        client,
+        subst (λ (m : Mind). HasRow m t.index) (sym (mind_is p sound mode code codes size r run t.client client)) (record {
+          entry = omega (arith, few, count, entries);
+          trace = omega (arith, few, count, traces);
+          counts = omega (arith, few, count, counts);
+        }),
+      )
+
+  pub rows_there : AllByRecursion (λ (t : Ticket). (t.client < length p.clients) × HasRow (r.mind t.client) t.index) r.order
+  rows_there = each_map row_there r.order (inside p sound mode code codes size r run)

@@ -1,0 +1,38 @@
+-- What comes of a program that is run on threads: what the serial run of its blocks shows, along a legal order of them.
+use Rattle.std.specs.Prelude.{◌≡◌, ◌<◌, ℕ, true, [], filter, flat_map, length, map}
+use Rattle.std.specs.List.{range_with_len}
+use Rattle.qs_objects.specs.Parts.{same}
+use Rattle.qs_objects.specs.declared.held.Ticket.{Ticket}
+use Rattle.qs_check.specs.Program.{ProgramShape, blocks_of}
+use Rattle.qs_check.specs.Sound.{IsSound}
+use Rattle.qs_meaning.specs.Serial.{IsLegal, Place, serial}
+use Rattle.qs_syncset.specs.Codes.{ClientCode}
+use Rattle.qs_syncset.specs.declared.mode.Mode.{Mode}
+use Rattle.qs_played.specs.Isolation.{IsIsolated}
+use Rattle.qs_played.specs.Played.{Played}
+use Rattle.qs_played.specs.SyncSums.{AreSyncsCounted}
+use Rattle.qs_core_laws.specs.Core.{AreCodes}
+use Rattle.qs_run_laws.specs.Settled.{part_at, shown_by}
+use Rattle.qs_run_laws.specs.ThreadRuns.{IsThreadRun, ThreadRun}
+
+-- The order is legal, and each block of the program stands in it exactly once. The variables at entry and the traces are those of the serial
+-- run of that order; each object's journal is the serial run's requests on it, one ticket after another, and its state is the one that
+-- the serial run leaves. Each block has ended, and the run is finished; so it is isolated with nothing on its way, and its
+-- synchronisations are the exact counts of its mode.
+pub record IsOutcome (p : ProgramShape) (mode : Mode) (o : Played) : Type 0 where
+  pub legal : IsLegal p o.order
+  pub once : (t : Ticket) → t.index < blocks_of p t.client → length (filter (same t) o.order) ≡ 1
+  pub entries : o.entries ≡ map (λ (q : Place). q.entry) (serial p o.order).places
+  pub traces : o.traces ≡ map (λ (q : Place). q.trace) (serial p o.order).places
+  pub journals : o.journals ≡ map (λ h. flat_map (part_at h) (serial p o.order).places) (range_with_len 0 (length p.objects))
+  pub states : o.states ≡ map (serial p o.order).states (range_with_len 0 (length p.objects))
+  pub ended : o.ended ≡ map (λ t. true) o.order
+  pub finished : o.finished ≡ true
+  pub isolated : IsIsolated p o (λ h t. [])
+  pub counted : AreSyncsCounted p mode o
+
+-- for every checked program, mode, chunk size and run
+abbrev pub ThreadRunsHaveOutcomes : Type 0
+ThreadRunsHaveOutcomes =
+    (p : ProgramShape) → IsSound p → (mode : Mode) (code : ℕ → ClientCode) → AreCodes p mode code → (size : ℕ) (r : ThreadRun)
+    → IsThreadRun p code size r → IsOutcome p mode (shown_by p r)
