@@ -1,5 +1,5 @@
 -- All workers of a program's run: before it, and after it.
-use Rattle.std.specs.Prelude.{◌≡◌, ◌<◌, ℕ, List, [], ◌∷◌, length, Option, Some, None, slice_get}
+use Rattle.std.specs.Prelude.{◌≡◌, ℕ, List, [], ◌∷◌, length, Option, Some, None, slice_get}
 use Rattle.qs_check.specs.Program.{ProgramShape}
 use Rattle.qs_syncset.specs.Codes.{IsCodeOf}
 use Rattle.qs_syncset.specs.declared.mode.Mode.{Mode}
@@ -9,11 +9,9 @@ use Rattle.qs_client_thread.specs.ClientThreads as running
 use Rattle.qs_handler_thread.specs.HandlerThreads as handling
 use Rattle.qs_lane.specs.Views.{InView, OutView}
 use Rattle.qs_played.specs.JournalRooms.{fresh_held}
-use Rattle.qs_seats.specs.Seats.{ClientRan, HandlerServed}
+use Rattle.qs_seats.specs.Seats.{ClientRan, HandlerServed, IsClientReady, IsHandlerReady}
 use Rattle.qs_seats.specs.declared.seat.ClientSeat.{ClientSeat}
 use Rattle.qs_seats.specs.declared.seat.HandlerSeat.{HandlerSeat}
-use Rattle.qs_seats.specs.declared.seat.ReadyClient.{ReadyClient}
-use Rattle.qs_seats.specs.declared.seat.ReadyHandler.{ReadyHandler}
 
 -- the two ends of one lane, or no lane
 abbrev pub AreOneLane : Option OutView → Option InView → Type 0
@@ -32,32 +30,35 @@ module _ {D : Type 0} where
   IsReadyClient p mode size c s =
       (s.share.client ≡ c) × IsCodeOf p mode c (mind_of s.mind).code × (mind_of s.mind ≡ fresh_mind (mind_of s.mind).code size)
 
-  -- All workers of a program before a run: one for each handler and for each client, in their order, and their ends of lanes are paired.
-  pub record AreReady (p : ProgramShape) (mode : Mode) (size : ℕ) (handlers : List (ReadyHandler D)) (clients : List (ReadyClient D)) : Type 0 where
+  -- All workers of a program before a run: one for each handler and for each client, in their order, each ready, and their ends of lanes
+  -- are paired.
+  pub record AreReady (p : ProgramShape) (mode : Mode) (size : ℕ) (handlers : List (HandlerSeat D)) (clients : List (ClientSeat D)) : Type 0 where
     pub all_handlers : length handlers ≡ length p.objects
     pub all_clients : length clients ≡ length p.clients
-    pub handler : (h : ℕ) (s : ReadyHandler D) → slice_get handlers h ≡ Some s → IsReadyHandler p h s.seat
-    pub client : (c : ℕ) (s : ReadyClient D) → slice_get clients c ≡ Some s → IsReadyClient p mode size c s.seat
-    pub lanes : (c h : ℕ) (s : ReadyClient D) (r : ReadyHandler D) → slice_get clients c ≡ Some s → slice_get handlers h ≡ Some r
-        → AreOneLane (running.lane_at s.seat.lanes h) (handling.lane_at r.seat.lanes c)
+    pub handler : (h : ℕ) (s : HandlerSeat D) → slice_get handlers h ≡ Some s → IsReadyHandler p h s
+    pub client : (c : ℕ) (s : ClientSeat D) → slice_get clients c ≡ Some s → IsReadyClient p mode size c s
+    pub handler_ready : (h : ℕ) (s : HandlerSeat D) → slice_get handlers h ≡ Some s → IsHandlerReady p s
+    pub client_ready : (c : ℕ) (s : ClientSeat D) → slice_get clients c ≡ Some s → IsClientReady p s
+    pub lanes : (c h : ℕ) (s : ClientSeat D) (r : HandlerSeat D) → slice_get clients c ≡ Some s → slice_get handlers h ≡ Some r
+        → AreOneLane (running.lane_at s.lanes h) (handling.lane_at r.lanes c)
 
   -- each handler has served, and each client has run, in their order
-  abbrev pub AllServed : ProgramShape → List (ReadyHandler D) → List (HandlerSeat D) → Type 0
+  abbrev pub AllServed : ProgramShape → List (HandlerSeat D) → List (HandlerSeat D) → Type 0
   AllServed p [] [] = Unit {0}
   AllServed p [] (y ∷ ys) = ⊥
   AllServed p (x ∷ xs) [] = ⊥
-  AllServed p (x ∷ xs) (y ∷ ys) = HandlerServed p x.seat y × AllServed p xs ys
+  AllServed p (x ∷ xs) (y ∷ ys) = HandlerServed p x y × AllServed p xs ys
 
-  abbrev pub AllRan : List (ReadyClient D) → List (ClientSeat D) → Type 0
+  abbrev pub AllRan : List (ClientSeat D) → List (ClientSeat D) → Type 0
   AllRan [] [] = Unit {0}
   AllRan [] (y ∷ ys) = ⊥
   AllRan (x ∷ xs) [] = ⊥
-  AllRan (x ∷ xs) (y ∷ ys) = ClientRan x.seat y × AllRan xs ys
+  AllRan (x ∷ xs) (y ∷ ys) = ClientRan x y × AllRan xs ys
 
   -- All workers of a program after a run: what each did, from when all were ready.
   pub record HaveRun (p : ProgramShape) (mode : Mode) (size : ℕ) (handlers : List (HandlerSeat D)) (clients : List (ClientSeat D)) : Type 0 where
-    pub before_handlers : List (ReadyHandler D)
-    pub before_clients : List (ReadyClient D)
+    pub before_handlers : List (HandlerSeat D)
+    pub before_clients : List (ClientSeat D)
     pub ready : AreReady p mode size before_handlers before_clients
     pub served : AllServed p before_handlers handlers
     pub ran : AllRan before_clients clients

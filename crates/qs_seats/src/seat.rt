@@ -8,6 +8,7 @@ use qs_client_thread::Lanes as ClientLanes;
 use qs_desk::{DeskName, Share, Tickets};
 use qs_handler_thread::Lanes as HandlerLanes;
 use qs_objects::Held;
+use std::marker::Model;
 
 /// What a handler's worker has: its object with the journal, its queue of tickets, and its end of the lane from each client that has one.
 #[derive(Drop)]
@@ -28,22 +29,32 @@ pub struct ClientSeat<D: DeskName> {
 /// A handler's seat before the run: nothing is taken and nothing has passed, and there is a lane from each client that may reserve it.
 #[derive(Drop)]
 pub struct ReadyHandler<D: DeskName> {
-    pub seat: HandlerSeat<D>,
-    ghost is_ready: { IsHandlerReady D.program seat },
+    seat: HandlerSeat<D>,
+}
+
+impl<D: DeskName> Model for ReadyHandler<D> {
+    ghost use Rattle.qs_seats.specs.Seats.{IsHandlerReady};
+    ghost use Rattle.qs_seats.specs.declared.seat.HandlerSeat.{HandlerSeat};
+
+    ghost Value = { HandlerSeat D };
+
+    ghost view = { λ r. r.seat };
+
+    ghost invariant = { λ r. IsHandlerReady D.program r.seat };
 }
 
 impl<D: DeskName> ReadyHandler<D> {
     /// A seat that is ready.
     pub fn new(seat: HandlerSeat<D>) -> ReadyHandler<D>
         requires ready { IsHandlerReady D.program seat }
-        ensures seat { result.seat ≡ seat }
+        ensures seat { result ≡ seat }
     {
         ReadyHandler { seat }
     }
 
     /// The seat, which is ready.
     pub fn into_seat(self) -> HandlerSeat<D>
-        ensures seat { result ≡ self.seat }
+        ensures seat { result ≡ self }
         ensures ready { IsHandlerReady D.program result }
     {
         let ReadyHandler { seat } = self;
@@ -54,22 +65,32 @@ impl<D: DeskName> ReadyHandler<D> {
 /// A client's seat before the run: no block is booked and nothing has passed, and there is a lane to each handler that its blocks reserve.
 #[derive(Drop)]
 pub struct ReadyClient<D: DeskName> {
-    pub seat: ClientSeat<D>,
-    ghost is_ready: { IsClientReady D.program seat },
+    seat: ClientSeat<D>,
+}
+
+impl<D: DeskName> Model for ReadyClient<D> {
+    ghost use Rattle.qs_seats.specs.Seats.{IsClientReady};
+    ghost use Rattle.qs_seats.specs.declared.seat.ClientSeat.{ClientSeat};
+
+    ghost Value = { ClientSeat D };
+
+    ghost view = { λ r. r.seat };
+
+    ghost invariant = { λ r. IsClientReady D.program r.seat };
 }
 
 impl<D: DeskName> ReadyClient<D> {
     /// A seat that is ready.
     pub fn new(seat: ClientSeat<D>) -> ReadyClient<D>
         requires ready { IsClientReady D.program seat }
-        ensures seat { result.seat ≡ seat }
+        ensures seat { result ≡ seat }
     {
         ReadyClient { seat }
     }
 
     /// The seat, which is ready.
     pub fn into_seat(self) -> ClientSeat<D>
-        ensures seat { result ≡ self.seat }
+        ensures seat { result ≡ self }
         ensures ready { IsClientReady D.program result }
     {
         let ReadyClient { seat } = self;
