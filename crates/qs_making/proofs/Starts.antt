@@ -1,0 +1,35 @@
+-- What the desk has for each client and each handler of a program.
+use Rattle.std.proofs.Common.{◌≡◌, ℕ, zero, suc, ◌<◌, ◌≤◌, true, nat_lt, if◌then◌else◌, [], map, length, get_or, Some, None, refl, ap, ◌∙◌, arith, rules, tests}
+use Rattle.std.proofs.lemmas.List.{get_or-map}
+use Rattle.qs_check.specs.Program.{ProgramShape}
+use Rattle.qs_desk.specs.Lines.{tickets_at}
+use Rattle.qs_desk.specs.Places.{places, share_at}
+
+place_at : (i : ℕ) → i < 8 → get_or places i 0 ≡ i
+place_at zero less = refl
+place_at (suc zero) less = refl
+place_at (suc (suc zero)) less = refl
+place_at (suc (suc (suc zero))) less = refl
+place_at (suc (suc (suc (suc zero)))) less = refl
+place_at (suc (suc (suc (suc (suc zero))))) less = refl
+place_at (suc (suc (suc (suc (suc (suc zero)))))) less = refl
+place_at (suc (suc (suc (suc (suc (suc (suc zero))))))) less = refl
+place_at (suc (suc (suc (suc (suc (suc (suc (suc i)))))))) less = absurd (omega (arith, less))
+
+at_place : {X : Type 0} (f : ℕ → X) (i : ℕ) (d : X) → i < 8 → get_or (map f places) i d ≡ f i
+at_place f i d less = get_or-map f places i 0 d less ∙ ap f (place_at i less)
+
+passes : (i n : ℕ) → i < n → nat_lt i n ≡ true
+passes i n less = search (rules, tests)
+
+pub share_there : (p : ProgramShape) (c : ℕ) → length p.clients ≤ 8 → c < length p.clients
+    → get_or (map (share_at p) places) c None ≡ Some (record { client = c; count = 0 })
+share_there p c few less =
+    at_place (share_at p) c None (omega (arith, few, less))
+    ∙ ap (λ b. if b then Some (record { client = c; count = 0 }) else None) (passes c (length p.clients) less)
+
+pub tickets_there : (p : ProgramShape) (h : ℕ) → length p.objects ≤ 8 → h < length p.objects
+    → get_or (map (tickets_at p) places) h None ≡ Some (record { handler = h; taken = [] })
+tickets_there p h few less =
+    at_place (tickets_at p) h None (omega (arith, few, less))
+    ∙ ap (λ b. if b then Some (record { handler = h; taken = [] }) else None) (passes h (length p.objects) less)
