@@ -9,10 +9,10 @@ ghost use Rattle.qs_client.specs.MindState.{IsMind, mind_of};
 ghost use Rattle.qs_objects.specs.Rows.{joined};
 ghost use Rattle.qs_objects.specs.Traces.{events_of};
 
-use qs_check::Locals;
 use qs_chunk::{Chunk, ChunkSize};
 use qs_client_run::{Act, Handed, Run, Stage};
 use qs_objects::{Event, Held, Request, Ticket, Traces};
+use qs_program::Locals;
 use qs_syncset::{Code, SyncCounts};
 use std::alloc::{AllocError, Global};
 use std::marker::Model;

@@ -2,11 +2,11 @@
 use Rattle.std.proofs.Common.{◌≡◌, ℕ, zero, suc, ◌+◌, ◌<◌, ◌≤◌, ◌==◌, Bool, true, false, List, [], ◌∷◌, ◌++◌, cond, length, slice_index_or, refl, ap, ◌∙◌, arith}
 use Rattle.std.specs.List.{AllByRecursion}
 use Rattle.qs_objects.specs.declared.held.Ticket.{Ticket}
-use Rattle.qs_check.specs.Program.{ClientShape, ProgramShape, no_client, blocks_of}
+use Rattle.qs_program.specs.Program.{ClientShape, ProgramShape, no_client, blocks_of}
 use Rattle.qs_meaning.specs.Serial.{LegalFrom, IsLegal}
 use Rattle.qs_meaning.specs.Solo.{put}
-use Rattle.qs_check.specs.Sound.{IsSound, IsSoundClient}
-use Rattle.qs_check.specs.declared.program.Declared.{Declared}
+use Rattle.qs_program.specs.Sound.{IsSound, IsSoundClient}
+use Rattle.qs_program.specs.declared.program.Declared.{Declared}
 use Rattle.qs_desk.specs.Tickets.{of_client}
 
 eqb_true : (m n : ℕ) → (m == n) ≡ true → m ≡ n

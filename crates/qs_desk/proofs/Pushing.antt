@@ -7,7 +7,7 @@ use Rattle.qs_objects.specs.declared.held.Ticket as held
 use Rattle.qs_objects.specs.declared.held.Next.{Next}
 use Rattle.qs_objects.specs.declared.held.Next.TheVariants.{Ticket, Closed}
 use Rattle.qs_meaning.specs.Following.{reserves}
-use Rattle.qs_check.specs.Program.{ProgramShape}
+use Rattle.qs_program.specs.Program.{ProgramShape}
 use Rattle.qs_desk.specs.Lines.{LineView, IsLineOf, grown, closed_line, MayGrow, MayClose}
 use Rattle.qs_desk.specs.Tickets.{of_handler, pushed_to, IsFor, AreFor, for_front}
 

@@ -6,9 +6,9 @@ use Rattle.std.proofs.lemmas.List.Elements.{filter-append}
 use Rattle.std.specs.Prelude.{slice_index, slice_set, nat_eq}
 use Rattle.atomic_table.specs.Seated.{TableId}
 use Rattle.qs_objects.specs.declared.held.Ticket.{Ticket}
-use Rattle.qs_check.specs.Program.{ProgramShape, blocks_of}
+use Rattle.qs_program.specs.Program.{ProgramShape, blocks_of}
 use Rattle.qs_meaning.specs.Serial.{IsLegal}
-use Rattle.qs_check.specs.Sound.{IsSound}
+use Rattle.qs_program.specs.Sound.{IsSound}
 use Rattle.qs_desk.specs.Desks.{IsDesk}
 use Rattle.qs_desk.specs.Lines.{LineView, line_at, line_name, IsLineOf, IsNewLine, grown, closed_line, MayGrow, MayClose}
 use Rattle.qs_desk.specs.Tickets.{ticket, of_client}

@@ -5,7 +5,7 @@ use Rattle.qs_objects.specs.declared.held.Ticket as held
 use Rattle.qs_objects.specs.declared.held.Next.{Next}
 use Rattle.qs_objects.specs.declared.held.Next.TheVariants.{Ticket, Closed}
 use Rattle.qs_meaning.specs.Following.{reserves}
-use Rattle.qs_check.specs.Program.{ProgramShape}
+use Rattle.qs_program.specs.Program.{ProgramShape}
 use Rattle.qs_queue.specs.Views.{SenderView, TakerView}
 use Rattle.qs_desk.specs.declared.queue.Whose.{Whose}
 use Rattle.qs_desk.specs.Tickets.{pushed_to, AreFor}

@@ -1,9 +1,9 @@
 //! The desk.
 
 ghost use Rattle.std.specs.Prelude.{◌≡◌, ℕ, ◌+◌, ◌<◌, ◌≤◌, false, true, List, [], ◌∷◌, ◌++◌, length, vec_len, vec_capacity, map, replicate};
-ghost use Rattle.qs_check.specs.Program.{blocks_of};
+ghost use Rattle.qs_program.specs.Program.{blocks_of};
 ghost use Rattle.qs_meaning.specs.Serial.{IsLegal};
-ghost use Rattle.qs_check.specs.Sound.{IsSound};
+ghost use Rattle.qs_program.specs.Sound.{IsSound};
 ghost use Rattle.qs_desk.specs.Lines.{line_at, grown, closed_line, line_name, IsNewLine, MayGrow, MayClose};
 ghost use Rattle.qs_desk.specs.Plans.{lists_of};
 ghost use Rattle.qs_desk.specs.Tickets.{ticket, of_client, pushed_to};

@@ -1,7 +1,7 @@
 //! What a client has booked, as it knows and as the desk knows.
 
 ghost use Rattle.std.specs.Prelude.{◌≡◌, ◌+◌, ◌<◌, ◌∷◌, [], slice_index, slice_set, replicate, nat_lt, length, map};
-ghost use Rattle.qs_check.specs.Program.{blocks_of};
+ghost use Rattle.qs_program.specs.Program.{blocks_of};
 ghost use Rattle.qs_desk.specs.Places.{client_of, parts_of, amount_of, share_at, places};
 ghost use Rattle.qs_desk.specs.Plans.{lists_of};
 ghost use Rattle.qs_desk.specs.Tickets.{ticket};
@@ -49,7 +49,7 @@ pub struct Share<D: DeskName> {
 
 impl<D: DeskName> Model for Share<D> {
     ghost use Rattle.std.specs.Prelude.{◌≡◌};
-    ghost use Rattle.qs_check.specs.Program.{blocks_of};
+    ghost use Rattle.qs_program.specs.Program.{blocks_of};
     ghost use Rattle.qs_desk.specs.Places.{client_of, parts_of, amount_of};
     ghost use Rattle.qs_desk.specs.Views.{ShareView};
 

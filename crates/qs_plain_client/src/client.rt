@@ -1,6 +1,6 @@
 //! Clients under the plain rules.
 
-ghost use Rattle.qs_check.specs.Program.{block_at, block_load, blocks_of};
+ghost use Rattle.qs_program.specs.Program.{block_at, block_load, blocks_of};
 ghost use Rattle.qs_plain_client.specs.PreparedBlock.{AreQueues, lists_of, rooms_of};
 ghost use Rattle.qs_objects.specs.Traces.{empty_trace};
 ghost use Rattle.qs_syncset.specs.SyncRows.{fresh_rows};
@@ -14,9 +14,9 @@ ghost use Rattle.qs_plain_client.specs.declared.stage.Stage.TheVariants as stage
 use crate::frames::{Ask, Frames, grow};
 use crate::private_queue::PrivateQueue;
 use crate::stage::Stage;
-use qs_check::{Locals, Program};
 use qs_objects::{Event, Request, Ticket, Traces};
 use qs_played::ClientRows;
+use qs_program::{Locals, Program};
 use qs_syncset::SyncCounts;
 use std::alloc::{AllocError, Global};
 use std::collections::VecDeque;

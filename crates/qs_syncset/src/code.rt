@@ -1,16 +1,16 @@
 //! What a client runs.
 
 ghost use Rattle.std.specs.Prelude.{◌≡◌, ◌<◌, ◌≤◌, ℕ, length, slice_index_or, IfOk};
-ghost use Rattle.qs_check.specs.Program.{block_at, blocks_of};
-ghost use Rattle.qs_check.specs.Loads.{load_of};
+ghost use Rattle.qs_program.specs.Program.{block_at, blocks_of};
+ghost use Rattle.qs_program.specs.Loads.{load_of};
 ghost use Rattle.qs_syncset.specs.Codes.{IsCode, IsCodeOf, IsBlockCode, IsGraphOf, code_at, load_at};
 ghost use Rattle.qs_syncset.specs.Modes.{is_static};
 
 use crate::fixpoint::held_sets;
 use crate::mode::Mode;
 use crate::removal::coalesce;
-use qs_check::Program;
 use qs_graph::{Graph, graph};
+use qs_program::Program;
 use std::alloc::{AllocError, Global};
 use std::marker::Model;
 

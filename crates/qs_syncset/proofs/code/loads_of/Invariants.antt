@@ -1,6 +1,6 @@
 use Rattle.std.proofs.Common.{◌≡◌, ℕ, ◌<◌, ◌≤◌, length, slice_index_or}
-use Rattle.qs_check.specs.Loads.{load_of}
-use Rattle.qs_check.specs.Program.{block_at}
+use Rattle.qs_program.specs.Loads.{load_of}
+use Rattle.qs_program.specs.Program.{block_at}
 use Rattle.qs_syncset.proofs.code.loads_of.Given as goal
 
 abbrev pub invariant-loop-handler : goal.invariant-loop-handler

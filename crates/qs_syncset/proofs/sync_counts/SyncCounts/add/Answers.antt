@@ -1,6 +1,6 @@
 use Rattle.std.proofs.Common.{◌≡◌, ◌<◌, ℕ, suc, ◌+◌, List, [], length, get_or, set, refl, sym, ap, ◌∙◌, subst, arith}
 use Rattle.std.proofs.lemmas.List.{get_or-set_same, length-set, set-get_or, set-set}
-use Rattle.qs_check.proofs.Bounds.{AllByRecursion-get_or}
+use Rattle.qs_program.proofs.Bounds.{AllByRecursion-get_or}
 use Rattle.qs_syncset.specs.SyncRows.{CountsState, count_of, counts_state, one_more, sync_count}
 use Rattle.qs_syncset.specs.declared.sync_counts.SyncCount.{SyncCount}
 use Rattle.qs_syncset.proofs.CountRows.{changed_front, front_all, front_at, front_length, front_set, have_at, length_paired, length_rows, row_at}
