@@ -31,6 +31,7 @@ pub struct RawDesk {
 impl Model for RawDesk {
     ghost use Rattle.std.specs.Prelude.{◌≡◌, ℕ, ◌≤◌, ◌<◌, map, length, [], vec_capacity};
     ghost use Rattle.qs_program.specs.Sound.{IsSound};
+    ghost use Rattle.qs_desk.specs.Limits.{all_bookings};
     ghost use Rattle.qs_desk.specs.Lines.{line_at, line_name, IsNewLine, end_at};
     ghost use Rattle.qs_desk.specs.Places.{places};
     ghost use Rattle.qs_desk.specs.Plans.{lists_of};
@@ -45,7 +46,7 @@ impl Model for RawDesk {
     ghost invariant = { λ r.
         IsSound r.program.value
         × (r.plan ≡ lists_of r.program.value)
-        × (r.history.items ≡ []) × (512 ≤ vec_capacity r.history)
+        × (r.history.items ≡ []) × (all_bookings ≤ vec_capacity r.history)
         × (length r.lines.items ≡ length r.program.value.objects)
         × ((h : ℕ) → h < length r.lines.items → IsNewLine r.program.value h (line_at r.lines.items h))
         × (r.ends ≡ map (end_at r.program.value (map line_name r.lines.items)) places) };
