@@ -6,7 +6,7 @@ use Rattle.std.specs.List.{AllByRecursion}
 use Rattle.qs_objects.specs.declared.object.Kind.{Kind}
 use Rattle.qs_check.specs.declared.fault.CheckFault.{CheckFault}
 use Rattle.qs_check.specs.declared.fault.CheckFault.TheVariants as f
-use Rattle.qs_check.specs.Numbering.{Name, is_among, named}
+use Rattle.qs_program.specs.Numbering.{Name, is_among, named}
 use Rattle.qs_check.specs.Places.{Scope, Place, Met, object, number, client, separate, listed, target, operation, arguments, variable, leaves, step, met, then_at, with_variable, op_at, is_known, takes}
 use Rattle.qs_check.specs.Resolve.{variables_at}
 use Rattle.qs_check.proofs.Inner.{Inner}

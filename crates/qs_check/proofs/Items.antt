@@ -7,7 +7,7 @@ use Rattle.qs_script.specs.declared.tree.Item.{Item}
 use Rattle.qs_script.specs.declared.tree.Item.TheVariants.{Object, Client}
 use Rattle.qs_check.specs.declared.fault.CheckFault.{CheckFault}
 use Rattle.qs_check.specs.declared.fault.CheckFault.TheVariants as f
-use Rattle.qs_check.specs.Numbering.{Name, is_among}
+use Rattle.qs_program.specs.Numbering.{Name, is_among}
 use Rattle.qs_check.specs.Places.{Scope, Place, Met, number, met, then_at, over, without_variables, with_object, kind_of, kind_places, script_places, Fails}
 use Rattle.qs_check.specs.Resolve.{lists_of}
 use Rattle.qs_check.proofs.Walks.{met-then, fails_first}

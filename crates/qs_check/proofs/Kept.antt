@@ -1,7 +1,7 @@
 -- What the places of a block keep.
 use Rattle.std.proofs.Common.{◌≡◌, ℕ, ◌+◌, ◌<◌, ◌≤◌, false, List, [], ◌∷◌, ◌++◌, length, refl, ap, sym, ◌∙◌, subst, arith, Ok}
 use Rattle.qs_script.specs.declared.tree.Block.{Block}
-use Rattle.qs_check.specs.Numbering.{Name}
+use Rattle.qs_program.specs.Numbering.{Name}
 use Rattle.qs_check.specs.Places.{Scope, Place, object, number, client, separate, listed, target, operation, arguments, variable, leaves, met, places, listed_places, block_places, blocks_places, with_block, with_listed}
 use Rattle.qs_check.proofs.Steps.{split, ok_same}
 use Rattle.qs_check.proofs.Inner.{Inner, parted, inner_body}

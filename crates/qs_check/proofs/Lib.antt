@@ -1,16 +1,12 @@
-pub mod StatementLists
-pub mod Loads
 pub mod Walks
 pub mod Resolving
 pub mod Steps
 pub mod Items
-pub mod Found
 pub mod Inner
 pub mod Kept
 pub mod SoundStatements
 pub mod Scripts
 pub mod Soundness
-pub mod Bounds
 pub mod FinePlaces
 pub mod TextNames
 pub mod TextRequests

@@ -1,15 +1,18 @@
--- Lists of statements by number, one after another.
-use Rattle.std.proofs.Common.{◌≡◌, ℕ, suc, ◌+◌, ◌<◌, ◌≤◌, List, ◌∷◌, length, get_or, drop, refl, ap, sym, ◌∙◌, add-one}
+-- Lists of statements by number, one after another, and how deep they are nested.
+use Rattle.std.proofs.Common.{◌≡◌, ℕ, zero, suc, ◌+◌, ◌<◌, ◌≤◌, max, List, [], ◌∷◌, length, get_or, drop, refl, ap, sym, ◌∙◌, add-one, arith}
 use Rattle.std.proofs.Math.Seq.{drop-cons}
 use Rattle.qs_objects.specs.declared.object.Kind.{Kind}
+use Rattle.qs_script.specs.Form as form
+use Rattle.qs_script.specs.Tree as tree
 use Rattle.qs_script.specs.declared.tree.Stmt as text
 use Rattle.qs_script.specs.declared.tree.Stmt.TheVariants as t
 use Rattle.qs_script.specs.Views as views
 use Rattle.qs_script.proofs.Sizes.{drop_past}
-use Rattle.qs_check.specs.Numbering.{Name}
-use Rattle.qs_check.specs.declared.code.Stmt.{Stmt}
-use Rattle.qs_check.specs.Statements.{Statements, end, command, query, assign, choose, again, leave, joined}
-use Rattle.qs_check.specs.Views.{single}
+use Rattle.qs_program.specs.Numbering.{Name}
+use Rattle.qs_program.specs.declared.code.Stmt.{Stmt}
+use Rattle.qs_program.specs.Sound.{levels_of}
+use Rattle.qs_program.specs.Statements.{Statements, end, command, query, assign, choose, again, leave, joined}
+use Rattle.qs_program.specs.Views.{single}
 use Rattle.qs_check.specs.Resolve.{body_of}
 
 pub joined_assoc : (xs ys zs : Statements) → joined (joined xs ys) zs ≡ joined xs (joined ys zs)
@@ -30,6 +33,31 @@ joined-end (choose t b first other xs) = ap (choose t b first other) (joined-end
 joined-end (again n body xs) = ap (again n body) (joined-end xs)
 joined-end (leave xs) = ap leave (joined-end xs)
 
+-- a list is nested as deep as its first statement, or as the others
+first_levels : (s : text.Stmt) (xs : List text.Stmt) → form.levels_of (views.single s) ≤ form.levels_of (views.stmts_of (s ∷ xs))
+first_levels (t.Command c) xs = omega arith
+first_levels (t.Query x c) xs = omega arith
+first_levels (t.Assign x e) xs = omega arith
+first_levels (t.If q first) xs = omega arith
+first_levels (t.IfElse q first other) xs = omega arith
+first_levels (t.Repeat n body) xs = omega arith
+first_levels t.Leave xs = omega arith
+
+later_levels : (s : text.Stmt) (xs : List text.Stmt) → form.levels_of (views.stmts_of xs) ≤ form.levels_of (views.stmts_of (s ∷ xs))
+later_levels (t.Command c) xs = omega arith
+later_levels (t.Query x c) xs = omega arith
+later_levels (t.Assign x e) xs = omega arith
+later_levels (t.If q first) xs = omega arith
+later_levels (t.IfElse q first other) xs = omega arith
+later_levels (t.Repeat n body) xs = omega arith
+later_levels t.Leave xs = omega arith
+
+-- a statement of a list is nested no deeper than the list
+pub levels_at : (xs : List text.Stmt) (i : ℕ) (d : text.Stmt) → i < length xs → form.levels_of (views.single (get_or xs i d)) ≤ form.levels_of (views.stmts_of xs)
+levels_at [] i d within = absurd (omega arith)
+levels_at (x ∷ xs) zero d within = first_levels x xs
+levels_at (x ∷ xs) (suc i) d within = omega (arith, levels_at xs i d (omega arith), later_levels x xs)
+
 -- names, kinds and variables, as body_of takes them
 module _ (os : List Name) (ks : List Kind) (vs : List Name) where
   body_of-cons : (s : text.Stmt) (xs : List text.Stmt) → body_of os ks vs (views.stmts_of (s ∷ xs)) ≡ joined (body_of os ks vs (views.single s)) (body_of os ks vs (views.stmts_of xs))
@@ -43,6 +71,17 @@ module _ (os : List Name) (ks : List Kind) (vs : List Name) where
 
   body_of-drop : (xs : List text.Stmt) (i : ℕ) (d : text.Stmt) → i < length xs → body_of os ks vs (views.stmts_of (drop i xs)) ≡ joined (body_of os ks vs (views.single (get_or xs i d))) (body_of os ks vs (views.stmts_of (drop (i + 1) xs)))
   body_of-drop xs i d within = rw (drop-cons xs i d within, add-one) (body_of-cons (get_or xs i d) (drop (suc i) xs))
+
+  -- statements by number are nested as the text's
+  pub levels_same : (body : tree.Stmts) → levels_of (body_of os ks vs body) ≡ form.levels_of body
+  levels_same tree.end = refl
+  levels_same (tree.command c rest) = ap (max 1) (levels_same rest)
+  levels_same (tree.query x c rest) = ap (max 1) (levels_same rest)
+  levels_same (tree.assign x e rest) = ap (max 1) (levels_same rest)
+  levels_same (tree.choose t one rest) = omega (arith, levels_same one, levels_same rest)
+  levels_same (tree.choose_else t one other rest) = omega (arith, levels_same one, levels_same other, levels_same rest)
+  levels_same (tree.again n body rest) = omega (arith, levels_same body, levels_same rest)
+  levels_same (tree.leave rest) = ap (max 1) (levels_same rest)
 
   module _ (xs : List text.Stmt) (i : ℕ) (code : Statements)
       (so_far : body_of os ks vs (views.stmts_of xs) ≡ joined code (body_of os ks vs (views.stmts_of (drop i xs)))) where

@@ -9,7 +9,7 @@ use Rattle.qs_script.specs.declared.tree.ClientItem.{ClientItem}
 use Rattle.qs_script.specs.declared.tree.ObjectItem.{ObjectItem}
 use Rattle.qs_script.specs.declared.tree.Item.{Item}
 use Rattle.qs_script.specs.declared.tree.Item.TheVariants.{Object, Client}
-use Rattle.qs_check.specs.declared.program.Declared.{Declared}
+use Rattle.qs_program.specs.declared.program.Declared.{Declared}
 use Rattle.qs_check.specs.Places.{Scope, object, number, client, met, kind_of, kind_places, item_places, blocks_places, script_places, with_object, with_client}
 use Rattle.qs_check.specs.Resolve.{objects_of, names_of, kinds_of, lists_of, variables_of}
 use Rattle.qs_check.proofs.Steps.{split, variables_met, ok_same}

@@ -15,14 +15,14 @@ use Rattle.qs_script.specs.declared.tree.Expr.TheVariants.{Plain, Binary}
 use Rattle.qs_script.specs.declared.tree.Test as text_test
 use Rattle.qs_script.specs.declared.tree.Call as text_call
 use Rattle.qs_script.specs.Tree as tree
-use Rattle.qs_check.specs.declared.program.Declared.{Declared}
-use Rattle.qs_check.specs.Numbering.{Name, same_name, is_among, found_at}
+use Rattle.qs_program.specs.declared.program.Declared.{Declared}
+use Rattle.qs_program.specs.Numbering.{Name, same_name, is_among, found_at}
 use Rattle.qs_check.specs.Operators.{means, op_of, op_or_refused}
 use Rattle.qs_check.specs.Places.{Scope, Place, number, target, operation, arguments, variable, leaves, met, places, atoms_places, expr_places, test_places, call_places, op_at, is_known, takes}
-use Rattle.qs_check.specs.Program.{no_object}
+use Rattle.qs_program.specs.Program.{no_object}
 use Rattle.qs_check.specs.Resolve.{atom_of, expr_of, test_of, call_of, body_of}
-use Rattle.qs_check.specs.Sound.{IsSoundAtom, IsSoundExpr, IsSoundTest, IsSoundCall, IsSoundBody, is_in}
-use Rattle.qs_check.proofs.Found.{found_small}
+use Rattle.qs_program.specs.Sound.{IsSoundAtom, IsSoundExpr, IsSoundTest, IsSoundCall, IsSoundBody, is_in}
+use Rattle.qs_program.proofs.Found.{found_small}
 use Rattle.qs_check.proofs.Inner.{Inner, kept, parted, inner_body, inner_call, inner_expr, inner_test}
 use Rattle.qs_check.proofs.Steps.{split}
 

@@ -1,9 +1,8 @@
 -- Why the program of a script with no fault is sound: names apart, variables of the client, leaves inside repeats, few levels.
-use Rattle.std.proofs.Common.{◌≡◌, ◌≤◌, max, Bool, true, false, ◌||◌, List, [], ◌∷◌, ◌++◌, length, map, None, refl, ap, sym, ◌∙◌, subst, arith, Ok, Err}
+use Rattle.std.proofs.Common.{◌≡◌, ◌≤◌, Bool, true, false, ◌||◌, List, [], ◌∷◌, ◌++◌, length, map, None, refl, ap, sym, ◌∙◌, subst, arith, Ok, Err}
 use Rattle.std.proofs.lemmas.List.{length-map}
 use Rattle.std.specs.List.{AllByRecursion, IsDistinct}
 use Rattle.qs_objects.specs.declared.object.Kind.{Kind}
-use Rattle.qs_script.specs.Form as text_form
 use Rattle.qs_script.specs.Form.{HasForm}
 use Rattle.qs_script.specs.declared.tree.Atom as text
 use Rattle.qs_script.specs.declared.tree.Atom.TheVariants.{Variable, Number}
@@ -14,15 +13,16 @@ use Rattle.qs_script.specs.declared.tree.Expr.TheVariants.{Plain, Binary}
 use Rattle.qs_script.specs.declared.tree.Item.{Item}
 use Rattle.qs_script.specs.declared.tree.Item.TheVariants.{Object, Client}
 use Rattle.qs_script.specs.Tree as tree
-use Rattle.qs_check.specs.declared.program.Declared.{Declared}
+use Rattle.qs_program.specs.declared.program.Declared.{Declared}
 use Rattle.qs_check.specs.Checked.{first_fault, text_fault, fault_of, excess_of}
-use Rattle.qs_check.specs.Numbering.{Name, same_name, is_among, found_at}
+use Rattle.qs_program.specs.Numbering.{Name, same_name, is_among, found_at}
 use Rattle.qs_check.specs.Places.{Scope, Met, met, start, script_places}
-use Rattle.qs_check.specs.Program.{ClientShape, ProgramShape, whole_load, whole_weight}
+use Rattle.qs_program.specs.Program.{ClientShape, ProgramShape, whole_load, whole_weight}
 use Rattle.qs_check.specs.Resolve.{atom_of, expr_of, body_of, block_of, clients_of, names_of, kinds_of, variables_of, resolved}
-use Rattle.qs_check.specs.Sound.{IsAtomBelow, IsExprBelow, AreVariablesBelow, AreLeavesInside, levels_of, IsFormedBlock, IsFormedClient, AreNamesApart, IsFormedProgram, IsSound}
+use Rattle.qs_program.specs.Sound.{IsAtomBelow, IsExprBelow, AreVariablesBelow, AreLeavesInside, IsFormedBlock, IsFormedClient, AreNamesApart, IsFormedProgram, IsSound}
 use Rattle.qs_check.specs.WellFormed.{atom_names, atoms_names, expr_names, test_names, variables_in, variables_in_all, AreStatements, AreItems, IsWellFormedBlock, clients_in, IsWellFormed}
-use Rattle.qs_check.proofs.Found.{found_within, or_true, same_name-refl}
+use Rattle.qs_program.proofs.Found.{found_within, or_true, same_name-refl}
+use Rattle.qs_check.proofs.Resolving.{levels_same}
 use Rattle.qs_check.proofs.Soundness.{sound}
 use Rattle.qs_check.proofs.TextNames.{distinct_variables, among_variables}
 use Rattle.qs_check.proofs.TextRequests.{all_first, all_later}
@@ -92,16 +92,6 @@ module _ (N : List Name) (K : List Kind) (V : List Name) where
   leaves_inside D R inside (tree.again n body rest) (r, k, h) = (leaves_inside D R true body k, leaves_inside D R inside rest h)
   leaves_inside D R inside (tree.leave rest) (i, h) = (i, leaves_inside D R inside rest h)
 
-  levels_same : (body : tree.Stmts) → levels_of (body_of N K V body) ≡ text_form.levels_of body
-  levels_same tree.end = refl
-  levels_same (tree.command c rest) = ap (max 1) (levels_same rest)
-  levels_same (tree.query x c rest) = ap (max 1) (levels_same rest)
-  levels_same (tree.assign x e rest) = ap (max 1) (levels_same rest)
-  levels_same (tree.choose t one rest) = omega (arith, levels_same one, levels_same rest)
-  levels_same (tree.choose_else t one other rest) = omega (arith, levels_same one, levels_same other, levels_same rest)
-  levels_same (tree.again n body rest) = omega (arith, levels_same body, levels_same rest)
-  levels_same (tree.leave rest) = ap (max 1) (levels_same rest)
-
   blocks_formed : (D : List Declared) (bs : List text_block.Block) → AllByRecursion (IsWellFormedBlock D) bs → Among (variables_in_all bs) → AllByRecursion (IsFormedBlock (length V)) (map (block_of N K V) bs)
   blocks_formed D [] h k = tt
   blocks_formed D (b ∷ bs) h k = (
@@ -109,7 +99,7 @@ module _ (N : List Name) (K : List Kind) (V : List Name) where
       some = omega (arith, h.0.some, length-map b.reserved (found_at N));
       below = body_below b.body (first (variables_in b.body) (variables_in_all bs) k);
       leaves = leaves_inside D b.reserved false b.body h.0.statements;
-      levels = omega (arith, h.0.levels, levels_same b.body);
+      levels = omega (arith, h.0.levels, levels_same N K V b.body);
     },
     blocks_formed D bs h.1 (later (variables_in b.body) (variables_in_all bs) k),
   )

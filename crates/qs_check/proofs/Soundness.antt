@@ -10,13 +10,13 @@ use Rattle.qs_script.specs.declared.tree.Block.{Block}
 use Rattle.qs_script.specs.declared.tree.ClientItem.{ClientItem}
 use Rattle.qs_script.specs.declared.tree.Item.{Item}
 use Rattle.qs_script.specs.declared.tree.Item.TheVariants.{Object, Client}
-use Rattle.qs_check.specs.declared.program.Declared.{Declared}
-use Rattle.qs_check.specs.Numbering.{Name, same_name, is_among, found_at}
+use Rattle.qs_program.specs.declared.program.Declared.{Declared}
+use Rattle.qs_program.specs.Numbering.{Name, same_name, is_among, found_at}
 use Rattle.qs_check.specs.Places.{Scope, Met, separate, listed, met, places, listed_places, block_places, blocks_places, item_places, script_places, start, with_block, with_listed, with_client, kind_of, over, without_variables}
-use Rattle.qs_check.specs.Program.{whole_load, whole_weight}
+use Rattle.qs_program.specs.Program.{whole_load, whole_weight}
 use Rattle.qs_check.specs.Resolve.{block_of, client_of, clients_of, objects_of, names_of, kinds_of, lists_of, variables_of, resolved}
-use Rattle.qs_check.specs.Sound.{IsSoundBlock, IsSoundClient, IsFormedProgram, IsSound, is_in}
-use Rattle.qs_check.proofs.Found.{apart, same, false_not_true, or_true, is_among-append, is_among-last, found_within, found_append, found_apart}
+use Rattle.qs_program.specs.Sound.{IsSoundBlock, IsSoundClient, IsFormedProgram, IsSound, is_in}
+use Rattle.qs_program.proofs.Found.{apart, same, false_not_true, or_true, is_among-append, is_among-last, found_within, found_append, found_apart}
 use Rattle.qs_check.proofs.Inner.{parted}
 use Rattle.qs_check.proofs.Kept.{block_stays, blocks_stay}
 use Rattle.qs_check.proofs.Scripts.{object_stays, client_stays, few_variables, scripted}

@@ -3,7 +3,7 @@ use Rattle.std.proofs.Common.{◌≡◌, ℕ, ◌<◌, ◌≤◌, Bool, true, fa
 use Rattle.std.proofs.lemmas.Bool.Decides.{nat_tests}
 use Rattle.qs_check.specs.declared.fault.CheckFault.{CheckFault}
 use Rattle.qs_check.specs.declared.fault.CheckFault.TheVariants as f
-use Rattle.qs_check.specs.Numbering.{Name, is_among, named}
+use Rattle.qs_program.specs.Numbering.{Name, is_among, named}
 use Rattle.qs_check.specs.Places.{Scope, Place, Met, object, number, client, separate, listed, target, operation, arguments, variable, leaves, step, met, then_at, with_object, with_client, with_block, with_listed, with_variable, op_at, is_known, takes, Meets}
 use Rattle.qs_check.specs.Resolve.{variables_at}
 

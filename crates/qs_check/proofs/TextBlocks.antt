@@ -5,8 +5,8 @@ use Rattle.std.proofs.lemmas.List.Folds.{list_any-append}
 use Rattle.std.specs.List.{AllByRecursion, IsDistinct}
 use Rattle.qs_script.specs.declared.tree.Block.{Block}
 use Rattle.qs_check.specs.declared.fault.CheckFault.TheVariants as f
-use Rattle.qs_check.specs.declared.program.Declared.{Declared}
-use Rattle.qs_check.specs.Numbering.{Name, same_name, is_among, named}
+use Rattle.qs_program.specs.declared.program.Declared.{Declared}
+use Rattle.qs_program.specs.Numbering.{Name, same_name, is_among, named}
 use Rattle.qs_check.specs.Places.{Scope, listed, separate, met, places, listed_places, block_places, blocks_places, with_listed}
 use Rattle.qs_check.specs.Resolve.{variables_at}
 use Rattle.qs_check.specs.WellFormed.{AreStatements, variables_in_all}

@@ -7,14 +7,14 @@ use Rattle.std.specs.List.{AllByRecursion, Contains}
 use Rattle.qs_objects.specs.declared.object.Kind.{Kind}
 use Rattle.qs_script.specs.declared.tree.Block.{Block}
 use Rattle.qs_script.specs.Tree as tree
-use Rattle.qs_check.specs.declared.program.Declared.{Declared}
-use Rattle.qs_check.specs.Loads.{load_of, weight_of}
-use Rattle.qs_check.specs.Numbering.{Name, same_name, is_among, found_at}
-use Rattle.qs_check.specs.Program.{BlockShape, block_load}
+use Rattle.qs_program.specs.declared.program.Declared.{Declared}
+use Rattle.qs_program.specs.Loads.{load_of, weight_of}
+use Rattle.qs_program.specs.Numbering.{Name, same_name, is_among, found_at}
+use Rattle.qs_program.specs.Program.{BlockShape, block_load}
 use Rattle.qs_check.specs.Resolve.{body_of, block_of}
 use Rattle.qs_check.specs.TextLoads.{requests_on, steps_in, text_block_load}
 use Rattle.qs_check.specs.WellFormed.{AreStatements}
-use Rattle.qs_check.proofs.Found.{apart, same, found_apart, is_among-append, false_not_true, same_name-refl}
+use Rattle.qs_program.proofs.Found.{apart, same, found_apart, is_among-append, false_not_true, same_name-refl}
 use Rattle.qs_check.proofs.SoundStatements.{names}
 use Rattle.qs_check.proofs.TextBlocks.{IsRight}
 use Rattle.qs_check.proofs.TextRequests.{among_at, at_number}

@@ -16,12 +16,12 @@ use Rattle.qs_script.specs.declared.tree.KindText.TheVariants.{Account, Buffer, 
 use Rattle.qs_script.specs.declared.tree.ObjectItem.{ObjectItem}
 use Rattle.qs_check.specs.declared.fault.CheckFault.{CheckFault}
 use Rattle.qs_check.specs.declared.fault.CheckFault.TheVariants as f
-use Rattle.qs_check.specs.declared.program.Declared.{Declared}
+use Rattle.qs_program.specs.declared.program.Declared.{Declared}
 use Rattle.qs_check.specs.Checked.{excess_of, first_fault, fault_of, IsCheckOf}
-use Rattle.qs_check.specs.Loads.{weight_of}
-use Rattle.qs_check.specs.Numbering.{Name, same_name, is_among}
+use Rattle.qs_program.specs.Loads.{weight_of}
+use Rattle.qs_program.specs.Numbering.{Name, same_name, is_among}
 use Rattle.qs_check.specs.Places.{Scope, Met, number, object, client, met, start, kind_of, kind_places, item_places, blocks_places, script_places, with_object}
-use Rattle.qs_check.specs.Program.{BlockShape, ClientShape, ProgramShape, block_load, whole_load, whole_weight}
+use Rattle.qs_program.specs.Program.{BlockShape, ClientShape, ProgramShape, block_load, whole_load, whole_weight}
 use Rattle.qs_check.specs.Resolve.{objects_of, names_of, kinds_of, clients_of, client_of, lists_of, variables_of, resolved}
 use Rattle.qs_check.specs.TextLoads.{steps_in, text_block_load, text_load, text_weight}
 use Rattle.qs_check.specs.WellFormed.{IsKindInRange, IsDeclared, IsWellFormedBlock, IsWellFormedClient, AreItems, clients_in, IsWellFormed, FaultlessAreWellFormed, AcceptsWellFormed}

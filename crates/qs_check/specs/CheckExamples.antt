@@ -11,8 +11,8 @@ use Rattle.qs_script.specs.declared.tree.KindText.TheVariants.{Account, Buffer, 
 use Rattle.qs_script.specs.declared.tree.Item.{Item}
 use Rattle.qs_script.specs.declared.tree.Item.TheVariants.{Object, Client}
 use Rattle.qs_check.specs.declared.fault.CheckFault.TheVariants as f
-use Rattle.qs_check.specs.Numbering.{Name}
-use Rattle.qs_check.specs.Program.{whole_load, whole_weight}
+use Rattle.qs_program.specs.Numbering.{Name}
+use Rattle.qs_program.specs.Program.{whole_load, whole_weight}
 use Rattle.qs_check.specs.Resolve.{resolved}
 use Rattle.qs_check.specs.Checked.{fault_of}
 

@@ -1,12 +1,12 @@
 -- Which scripts are accepted, and why the others are not.
 use Rattle.std.specs.Prelude.{◌≡◌, ◌≢◌, nat_lt, if◌then◌else◌, List, Option, Some, None, Result, Ok, Err}
 use Rattle.qs_script.specs.declared.tree.Item.{Item}
-use Rattle.qs_check.specs.Limits.{most_requests, most_steps}
+use Rattle.qs_program.specs.Limits.{most_requests, most_steps}
 use Rattle.qs_check.specs.declared.fault.CheckFault.{CheckFault}
 use Rattle.qs_check.specs.declared.fault.CheckFault.TheVariants as f
 use Rattle.qs_check.specs.declared.checker.Resolved.{Resolved}
 use Rattle.qs_check.specs.Places.{Met, met, start, script_places}
-use Rattle.qs_check.specs.Program.{ProgramShape, whole_load, whole_weight}
+use Rattle.qs_program.specs.Program.{ProgramShape, whole_load, whole_weight}
 use Rattle.qs_check.specs.Resolve.{resolved}
 
 -- what is wrong with a program whose text is right

@@ -1,14 +1,3 @@
-pub mod Statements
-pub mod StatementsCode
-pub mod Views
-pub mod SizeDecreases
-pub mod Values
-pub mod Loads
-pub mod Limits
-pub mod Numbering
-pub mod Program
-pub mod Shapes
-pub mod Sound
 pub mod Operators
 pub mod Places
 pub mod Resolve

@@ -4,7 +4,7 @@ use Rattle.qs_objects.specs.declared.Op.{Op}
 use Rattle.qs_objects.specs.declared.Op.TheVariants.{Deposit, Withdraw, Balance, Refused, Put, DropFirst, TakeFirst, First, Size, SetCell, AddCell, Fill, GetCell, RowSum}
 use Rattle.qs_objects.specs.declared.object.Kind.{Kind}
 use Rattle.qs_objects.specs.declared.object.Kind.TheVariants.{Account, Buffer, Grid}
-use Rattle.qs_check.specs.Numbering.{Name, same_name}
+use Rattle.qs_program.specs.Numbering.{Name, same_name}
 
 -- the operation of a word, or else another one
 abbrev pub means : Name → Name → Op → Option Op → Option Op

@@ -12,17 +12,17 @@ use Rattle.qs_script.specs.declared.tree.Block as text_block
 use Rattle.qs_script.specs.declared.tree.ClientItem.{ClientItem}
 use Rattle.qs_script.specs.declared.tree.Item.{Item}
 use Rattle.qs_script.specs.declared.tree.Item.TheVariants as items
-use Rattle.qs_check.specs.declared.code.Atom.{Atom}
-use Rattle.qs_check.specs.declared.code.Atom.TheVariants.{Variable, Number}
-use Rattle.qs_check.specs.declared.code.Expr.{Expr}
-use Rattle.qs_check.specs.declared.code.Expr.TheVariants.{Plain, Binary}
-use Rattle.qs_check.specs.declared.code.Test.{Test}
-use Rattle.qs_check.specs.declared.code.Call.{Call}
-use Rattle.qs_check.specs.declared.program.Declared.{Declared}
-use Rattle.qs_check.specs.Numbering.{Name, named, found_at}
+use Rattle.qs_program.specs.declared.code.Atom.{Atom}
+use Rattle.qs_program.specs.declared.code.Atom.TheVariants.{Variable, Number}
+use Rattle.qs_program.specs.declared.code.Expr.{Expr}
+use Rattle.qs_program.specs.declared.code.Expr.TheVariants.{Plain, Binary}
+use Rattle.qs_program.specs.declared.code.Test.{Test}
+use Rattle.qs_program.specs.declared.code.Call.{Call}
+use Rattle.qs_program.specs.declared.program.Declared.{Declared}
+use Rattle.qs_program.specs.Numbering.{Name, named, found_at}
 use Rattle.qs_check.specs.Operators.{op_or_refused}
-use Rattle.qs_check.specs.Statements.{Statements, end, command, query, assign, choose, again, leave}
-use Rattle.qs_check.specs.Program.{BlockShape, ClientShape, ProgramShape}
+use Rattle.qs_program.specs.Statements.{Statements, end, command, query, assign, choose, again, leave}
+use Rattle.qs_program.specs.Program.{BlockShape, ClientShape, ProgramShape}
 use Rattle.qs_check.specs.Places.{Place, object, number, client, separate, listed, target, operation, arguments, variable, leaves, op_at, kind_of, blocks_places}
 
 -- variables by the list of the client's

@@ -3,7 +3,7 @@ use Rattle.std.specs.Prelude.{ℕ, ◌+◌, ◌*◌, max, if◌then◌else◌, L
 use Rattle.qs_script.specs.declared.tree.Block.{Block}
 use Rattle.qs_script.specs.declared.tree.ClientItem.{ClientItem}
 use Rattle.qs_script.specs.Tree.{Stmts, end, command, query, assign, choose, choose_else, again, leave}
-use Rattle.qs_check.specs.Numbering.{Name, same_name}
+use Rattle.qs_program.specs.Numbering.{Name, same_name}
 
 -- the most requests on an object
 abbrev pub requests_on : Name → Stmts → ℕ

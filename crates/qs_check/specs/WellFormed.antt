@@ -19,14 +19,14 @@ use Rattle.qs_script.specs.declared.tree.Item.{Item}
 use Rattle.qs_script.specs.declared.tree.Item.TheVariants.{Object, Client}
 use Rattle.qs_script.specs.Tree.{Stmts, end, command, query, assign, choose, choose_else, again, leave}
 use Rattle.qs_script.specs.Form.{levels_of, HasForm}
-use Rattle.qs_check.specs.Limits.{greatest_balance, most_blocks, most_clients, most_levels, most_lines, most_objects, most_requests, most_steps, most_turns, most_values, most_variables}
+use Rattle.qs_program.specs.Limits.{greatest_balance, most_blocks, most_clients, most_levels, most_lines, most_objects, most_requests, most_steps, most_turns, most_values, most_variables}
 use Rattle.qs_check.specs.declared.fault.CheckFault.{CheckFault}
 use Rattle.qs_check.specs.declared.fault.CheckFault.TheVariants as f
-use Rattle.qs_check.specs.declared.program.Declared.{Declared}
-use Rattle.qs_check.specs.Numbering.{Name, same_name}
+use Rattle.qs_program.specs.declared.program.Declared.{Declared}
+use Rattle.qs_program.specs.Numbering.{Name, same_name}
 use Rattle.qs_check.specs.Operators.{op_of}
 use Rattle.qs_check.specs.Places.{kind_of}
-use Rattle.qs_check.specs.Program.{ProgramShape}
+use Rattle.qs_program.specs.Program.{ProgramShape}
 use Rattle.qs_check.specs.Resolve.{objects_of, names_of}
 use Rattle.qs_check.specs.TextLoads.{text_load, text_weight}
 use Rattle.qs_check.specs.Checked.{fault_of}

@@ -3,21 +3,19 @@
 ghost use Rattle.std.specs.List.{AllByRecursion};
 ghost use Rattle.std.specs.Prelude.{◌≡◌, ◌≢◌, ◌≤◌, [], ◌∷◌, ◌++◌, length, IfOk, OnOk, MatchResult};
 ghost use Rattle.qs_script.specs.Form.{HasForm};
-ghost use Rattle.qs_check.specs.Limits.{most_objects, most_requests, most_steps, most_variables};
+ghost use Rattle.qs_program.specs.Limits.{most_objects, most_requests, most_steps, most_variables};
 ghost use Rattle.qs_check.specs.Checked.{IsCheckOf, text_fault, excess_of, shape_of};
 ghost use Rattle.qs_check.specs.Places.{Meets, met, over, start, without_variables, script_places};
 ghost use Rattle.qs_check.specs.Resolve.{resolved as resolved_of, clients_of, lists_of, objects_of};
-ghost use Rattle.qs_check.specs.Program.{whole_load, whole_weight};
-ghost use Rattle.qs_check.specs.Sound.{IsSound};
+ghost use Rattle.qs_program.specs.Program.{whole_load, whole_weight};
+ghost use Rattle.qs_program.specs.Sound.{IsSound};
 ghost use Rattle.qs_check.specs.WellFormed.{AcceptsWellFormed};
 
 use crate::fault::CheckFault;
-use crate::names::Names;
-use crate::program::{Client, Declared, Program};
 use crate::resolve::{resolve_clients, resolve_objects};
 use crate::scope::Scope;
-use crate::totals::{all_load, all_weight};
 use crate::walk::{check_client, check_object};
+use qs_program::{Client, Declared, Names, Program, all_load, all_weight};
 use qs_script::{Item, Script};
 use std::alloc::{AllocError, Global};
 use std::collections::VecDeque;
@@ -53,6 +51,7 @@ fn check_formed(alloc: Global, items: &[Item]) -> Result<Program, CheckFault>
 
 // Checks the text of a script and replaces its names.
 fn resolve(alloc: Global, items: &[Item]) -> Result<Resolved, CheckFault>
+    requires form { HasForm items.now }
     ensures text { MatchResult result
         (λ r. (text_fault items.now ≡ None) × (shape_of r ≡ resolved_of items.now))
         (λ fault. fault ≢ CheckFault.Memory → text_fault items.now ≡ Some fault) }
@@ -72,6 +71,7 @@ fn resolve_from(
     variables: &mut VecDeque<Names>,
     items: &[Item],
 ) -> Result<Resolved, CheckFault>
+    requires form { HasForm items.now }
     requires start { scope.old ≡ start }
     requires none { variables.old.items ≡ [] }
     ensures text { MatchResult result
@@ -89,6 +89,7 @@ fn numbered(
     variables: &mut VecDeque<Names>,
     items: &[Item],
 ) -> Result<Resolved, AllocError>
+    requires form { HasForm items.now }
     requires objects { length scope.now.objects ≤ most_objects }
     requires variables { variables.old.items ≡ lists_of items.now }
     requires limit { AllByRecursion (λ v. length v ≤ most_variables) variables.old.items }
@@ -120,12 +121,7 @@ fn sized(resolved: Resolved) -> Result<Program, CheckFault>
     if weight > 1_000_000 {
         return Err(CheckFault::Weight);
     }
-    Ok(Program {
-        objects: resolved.objects,
-        clients: resolved.clients,
-        load,
-        weight,
-    })
+    Ok(Program::new(resolved.objects, resolved.clients, load, weight))
 }
 
 // Checks the items of a script, and gathers each client's variables.

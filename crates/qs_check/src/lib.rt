@@ -1,22 +1,16 @@
-//! Checked programs: names by number, limits, loads, and what a program means.
+//! The check of a script: its names become numbers, and what a program may not have is refused.
 #![tactic(auto)]
 
 mod checker;
-mod code;
 mod fault;
 pub mod laws;
-mod names;
 mod operators;
-mod program;
 mod resolve;
 mod scope;
-mod totals;
-mod values;
 mod walk;
 
 pub use checker::check;
-pub use code::{Atom, Atoms, Body, Call, Expr, Stmt, Test};
 pub use fault::CheckFault;
-pub use names::Names;
-pub use program::{Block, Client, Declared, Program};
-pub use values::Locals;
+pub use qs_program::{
+    Atom, Atoms, Block, Body, Call, Client, Declared, Expr, Locals, Names, Program, Stmt, Test,
+};

@@ -2,19 +2,18 @@
 
 ghost use Rattle.std.specs.Prelude.{◌≡◌, ◌≤◌, ◌<◌, IfOk, length, map};
 ghost use Rattle.std.specs.List.{AllByRecursion};
+ghost use Rattle.qs_script.specs.Form.{levels_of, IsFormed, HasForm};
 ghost use Rattle.qs_script.specs.Views.{single as single_text};
-ghost use Rattle.qs_check.specs.Limits.{most_objects, most_variables};
-ghost use Rattle.qs_check.specs.Numbering.{found_at};
+ghost use Rattle.qs_program.specs.Limits.{most_levels, most_objects, most_variables};
+ghost use Rattle.qs_program.specs.Numbering.{found_at};
 ghost use Rattle.qs_check.specs.Resolve.{atom_of, expr_of, test_of, call_of, body_of, block_of, client_of, clients_of, objects_of, lists_of};
-ghost use Rattle.qs_check.specs.Views.{single};
+ghost use Rattle.qs_program.specs.Views.{single};
 
-use crate::code::{Atom, Atoms, Body, Call, Expr, Stmt, Test};
-use crate::names::Names;
 use crate::operators::find_op;
-use crate::program::{Block, Client, Declared};
 use crate::scope::kind_at;
 use crate::walk::kind_value;
 use qs_objects::{Kind, Op};
+use qs_program::{Atom, Atoms, Block, Body, Call, Client, Declared, Expr, Names, Stmt, Test};
 use qs_script::{ClientItem, Item, Name};
 use std::alloc::{AllocError, Global};
 use std::collections::VecDeque;
@@ -43,6 +42,7 @@ pub(crate) fn resolve_clients(
     variables: &mut VecDeque<Names>,
     items: &[Item],
 ) -> Result<Vec<Client>, AllocError>
+    requires form { HasForm items.now }
     requires objects { length objects.now ≤ most_objects }
     requires variables { variables.old.items ≡ lists_of items.now }
     requires limit { AllByRecursion (λ v. length v ≤ most_variables) variables.old.items }
@@ -67,6 +67,7 @@ fn resolve_client(
     variables: Names,
     item: &ClientItem,
 ) -> Result<Client, AllocError>
+    requires formed { AllByRecursion IsFormed item.now.blocks }
     requires objects { length objects.now ≤ most_objects }
     requires variables { length variables ≤ most_variables }
     ensures name { IfOk result (λ c. c.name ≡ item.now.name) }
@@ -74,11 +75,7 @@ fn resolve_client(
     ensures blocks { IfOk result (λ c. c.blocks ≡ map (block_of objects.now kinds.now variables) item.now.blocks) }
 {
     match resolve_blocks(alloc, objects, kinds, &variables, item.blocks.as_slice()) {
-        Ok(blocks) => Ok(Client {
-            name: item.name.copied(),
-            variables,
-            blocks,
-        }),
+        Ok(blocks) => Ok(Client::new(item.name.copied(), variables, blocks)),
         Err(fault) => {
             drop(variables);
             Err(fault)
@@ -93,6 +90,7 @@ fn resolve_blocks(
     variables: &Names,
     blocks: &[qs_script::Block],
 ) -> Result<Vec<Block>, AllocError>
+    requires formed { AllByRecursion IsFormed blocks.now }
     requires objects { length objects.now ≤ most_objects }
     requires variables { length variables.now ≤ most_variables }
     ensures blocks { IfOk result (λ v. v.items ≡ map (block_of objects.now kinds.now variables.now) blocks.now) }
@@ -111,13 +109,14 @@ fn resolve_block(
     variables: &Names,
     block: &qs_script::Block,
 ) -> Result<Block, AllocError>
+    requires levels { levels_of block.now.body ≤ most_levels }
     requires objects { length objects.now ≤ most_objects }
     requires variables { length variables.now ≤ most_variables }
     ensures block { IfOk result (λ b. b ≡ block_of objects.now kinds.now variables.now block.now) }
 {
     let reserved = resolve_list(alloc, objects, block.reserved.as_slice())?;
     let body = resolve_body(alloc, objects, kinds, variables, &block.body)?;
-    Ok(Block { reserved, body })
+    Ok(Block::new(reserved, body))
 }
 
 fn resolve_list(alloc: Global, objects: &Names, names: &[Name]) -> Result<Vec<u8>, AllocError>
@@ -140,6 +139,7 @@ fn resolve_body(
     variables: &Names,
     body: &qs_script::Body,
 ) -> Result<Body, AllocError>
+    requires levels { levels_of body.now ≤ most_levels }
     requires objects { length objects.now ≤ most_objects }
     requires variables { length variables.now ≤ most_variables }
     ensures body { IfOk result (λ code. code ≡ body_of objects.now kinds.now variables.now body.now) }
@@ -159,6 +159,7 @@ fn resolve_stmt(
     variables: &Names,
     stmt: &qs_script::Stmt,
 ) -> Result<Stmt, AllocError>
+    requires levels { levels_of (single_text stmt.now) ≤ most_levels }
     requires objects { length objects.now ≤ most_objects }
     requires variables { length variables.now ≤ most_variables }
     ensures stmt { IfOk result (λ code. single code ≡ body_of objects.now kinds.now variables.now (single_text stmt.now)) }

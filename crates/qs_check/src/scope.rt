@@ -1,14 +1,14 @@
 //! What is known at a place of a script, and the faults of each place.
 
 ghost use Rattle.std.specs.Prelude.{◌≡◌, [], ◌∷◌, ◌++◌, OnOk, slice_index_or, pos};
-ghost use Rattle.qs_check.specs.Numbering.{found_at};
+ghost use Rattle.qs_program.specs.Numbering.{found_at};
 ghost use Rattle.qs_check.specs.Operators.{op_or_refused};
 ghost use Rattle.qs_check.specs.Places.{Scope as Known, Meets, met, step, start, op_at, object, number, client, separate, listed, request_places, variable, without_variables};
 
 use crate::fault::CheckFault;
-use crate::names::Names;
 use crate::operators::find_op;
 use qs_objects::{Kind, Op};
+use qs_program::Names;
 use qs_script::{Name, Number};
 use std::alloc::{AllocError, Global};
 use std::marker::Model;

@@ -6,10 +6,10 @@ use Rattle.std.proofs.Math.ListN.{get_or-eq_default}
 use Rattle.qs_objects.specs.declared.held.Ticket.{Ticket}
 use Rattle.qs_objects.specs.declared.Request.{Request}
 use Rattle.qs_objects.proofs.Choices.{eqb_self, apart_eqb, num_cases}
-use Rattle.qs_check.specs.Loads.{load_of}
-use Rattle.qs_check.specs.Program.{block_at, blocks_of}
-use Rattle.qs_check.specs.Sound.{is_in}
-use Rattle.qs_check.specs.Values.{Locals}
+use Rattle.qs_program.specs.Loads.{load_of}
+use Rattle.qs_program.specs.Program.{block_at, blocks_of}
+use Rattle.qs_program.specs.Sound.{is_in}
+use Rattle.qs_program.specs.Values.{Locals}
 use Rattle.qs_meaning.specs.Interaction.{Interaction}
 use Rattle.qs_meaning.specs.Paths.{counts}
 use Rattle.qs_meaning.specs.Solo.{put}

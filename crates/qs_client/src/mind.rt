@@ -3,16 +3,16 @@
 ghost use Rattle.std.specs.Prelude.{◌≡◌, ◌<◌, ℕ, [], IfOk, IsErr, length, option_copied, slice_index_or};
 ghost use Rattle.qs_chunk.specs.Batch.{batch};
 ghost use Rattle.qs_client.specs.Mind.{Asks, lists_of, tallied, booked_mind, chunk_mind, done, ended_by, fresh_mind, got_mind, is_between, next_act, next_mind};
-ghost use Rattle.qs_syncset.specs.SyncRows.{AreFew, all_counts, counts_state, fresh_rows};
+ghost use Rattle.qs_syncset.specs.SyncRows.{AreFew, all_counts, counts_state, fresh_rows, greatest_count};
 ghost use Rattle.qs_client_run.specs.Acting.{IsQuiet};
 ghost use Rattle.qs_client.specs.MindState.{IsMind, mind_of};
 ghost use Rattle.qs_objects.specs.Rows.{joined};
 ghost use Rattle.qs_objects.specs.Traces.{events_of};
 
-use qs_check::Locals;
 use qs_chunk::{Chunk, ChunkSize};
 use qs_client_run::{Act, Handed, Run, Stage};
 use qs_objects::{Event, Held, Request, Ticket, Traces};
+use qs_program::Locals;
 use qs_syncset::{Code, SyncCounts};
 use std::alloc::{AllocError, Global};
 use std::marker::Model;
@@ -81,7 +81,7 @@ fn fresh_counts(alloc: Global, code: &Code) -> Result<SyncCounts, AllocError>
 // A Sync that was sent is counted.
 fn tally(counts: &mut SyncCounts, handed: Handed, block: usize)
     requires block { block < length counts.old.rows }
-    requires few { AreFew 4294967295 (slice_index_or counts.old.rows block []) }
+    requires few { AreFew greatest_count (slice_index_or counts.old.rows block []) }
     ensures counted { counts.new ≡ counts_state (tallied handed block counts.old.rows) counts.old.room }
 {
     if let Handed::Sync(handler) = handed {

@@ -4,9 +4,9 @@ use Rattle.std.proofs.lemmas.Bool.{cases_lt}
 use Rattle.std.proofs.lemmas.List.{get_or_past}
 use Rattle.std.specs.List.{AllByRecursion}
 use Rattle.qs_objects.proofs.Choices.{num_cases}
-use Rattle.qs_check.specs.Program.{ProgramShape, block_at, blocks_of, client_at, no_client}
-use Rattle.qs_check.specs.Sound.{IsSound, IsSoundBlock, IsSoundClient, is_in}
-use Rattle.qs_check.proofs.Bounds.{AllByRecursion-get_or, sound_block}
+use Rattle.qs_program.specs.Program.{ProgramShape, block_at, blocks_of, client_at, no_client}
+use Rattle.qs_program.specs.Sound.{IsSound, IsSoundBlock, IsSoundClient, is_in}
+use Rattle.qs_program.proofs.Bounds.{AllByRecursion-get_or, sound_block}
 use Rattle.qs_syncset.proofs.ShortLists.{few_reserved}
 use Rattle.qs_syncset.specs.Codes.{ClientCode, IsCode, code_at}
 

@@ -4,8 +4,8 @@ use Rattle.std.proofs.lemmas.Bool.{ltb-true}
 use Rattle.qs_objects.specs.Journals.{HeldState}
 use Rattle.qs_objects.specs.declared.held.Ticket.{Ticket}
 use Rattle.qs_objects.specs.declared.Request.{Request}
-use Rattle.qs_check.specs.Values.{request_of}
-use Rattle.qs_check.specs.declared.code.Call as calls
+use Rattle.qs_program.specs.Values.{request_of}
+use Rattle.qs_program.specs.declared.code.Call as calls
 use Rattle.qs_meaning.specs.Solo.{put}
 use Rattle.qs_graph.specs.Steps.{limit}
 use Rattle.qs_graph.specs.Synced.{Synced}

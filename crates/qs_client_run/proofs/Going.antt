@@ -7,7 +7,7 @@ use Rattle.qs_objects.specs.declared.held.Event.{Event}
 use Rattle.qs_objects.specs.declared.Request.{Request}
 use Rattle.qs_objects.specs.declared.held.Ticket.{Ticket}
 use Rattle.qs_objects.proofs.Choices.{eqb_self, apart_eqb, and_cases, num_cases}
-use Rattle.qs_check.proofs.Bounds.{AllByRecursion-get_or}
+use Rattle.qs_program.proofs.Bounds.{AllByRecursion-get_or}
 use Rattle.qs_meaning.specs.Solo.{put, event, value_of}
 use Rattle.qs_graph.specs.declared.node.Node.{Node}
 use Rattle.qs_graph.specs.declared.node.Action.TheVariants.{Assign, SetCount, Nothing}

@@ -1,7 +1,7 @@
 //! A client within a block: what it does to its own values.
 
 ghost use Rattle.std.specs.Prelude.{◌≡◌, ◌<◌, ◌≤◌, ℕ, IsSome, length};
-ghost use Rattle.qs_check.specs.Values.{request_of};
+ghost use Rattle.qs_program.specs.Values.{request_of};
 ghost use Rattle.qs_graph.specs.Walk.{at_node, with_value};
 ghost use Rattle.qs_client_run.specs.Hand.{chunk_at, held_at};
 ghost use Rattle.qs_client_run.specs.Running.{IsOpen, IsRunning, asked, called, ended, moved, synced};
@@ -13,9 +13,9 @@ ghost use Rattle.qs_client_run.specs.declared.stage.Stage.TheVariants as stages;
 use crate::hands::Hands;
 use crate::stage::Stage;
 use crate::way::Way;
-use qs_check::Call;
 use qs_graph::{Graph, Node};
 use qs_objects::{Event, Ticket, Traces};
+use qs_program::Call;
 
 /// A client's place in its block's graph, its objects and open chunks, its traces, and where it stands.
 #[derive(Drop)]

@@ -1,13 +1,13 @@
 //! Where a client stands in the graph of a block.
 
 ghost use Rattle.std.specs.Prelude.{◌≡◌, ◌<◌, ◌≤◌, length};
-ghost use Rattle.qs_check.specs.Values.{request_of};
+ghost use Rattle.qs_program.specs.Values.{request_of};
 ghost use Rattle.qs_graph.specs.Walk.{acted, at_node, chosen, with_value};
 ghost use Rattle.qs_client_run.specs.Restart.{restarted};
 
-use qs_check::{Call, Locals};
 use qs_graph::{Action, Choice};
 use qs_objects::Request;
+use qs_program::{Call, Locals};
 use std::marker::Model;
 
 /// A node, the client's variables, and for each node the count of the repeat whose branch it is.

@@ -2,8 +2,8 @@
 -- block sent and got; and off how it stands to each lane.
 use Rattle.std.proofs.Common.{◌≡◌, ◌<◌, arith, ℕ, true, false, List, [], length, replicate, refl, subst, Some}
 use Rattle.std.proofs.lemmas.List.{length-replicate}
-use Rattle.qs_check.specs.Program.{ProgramShape, blocks_of}
-use Rattle.qs_check.specs.Values.{Locals}
+use Rattle.qs_program.specs.Program.{ProgramShape, blocks_of}
+use Rattle.qs_program.specs.Values.{Locals}
 use Rattle.qs_meaning.specs.Following.{reserves, block_tree}
 use Rattle.qs_meaning.proofs.SoundTrees.{blocks_ask_only}
 use Rattle.qs_graph.specs.Synced.{erased}

@@ -1,8 +1,8 @@
 -- What a client asks for in the midst of its run can be had: its acts are on objects alone that a block of it reserves, what it sends may follow
 -- what it sent before, and it reserves no more blocks than it has.
 use Rattle.std.specs.Prelude.{◌≡◌, ◌<◌, ℕ, true, false, List, Option, Some, None}
-use Rattle.qs_check.specs.Program.{ProgramShape, blocks_of}
-use Rattle.qs_check.specs.Sound.{IsSound}
+use Rattle.qs_program.specs.Program.{ProgramShape, blocks_of}
+use Rattle.qs_program.specs.Sound.{IsSound}
 use Rattle.qs_chunk.specs.Lanes.{MayFollow, is_asked}
 use Rattle.qs_chunk.specs.declared.parcel.Parcel.{Parcel}
 use Rattle.qs_client.specs.ClientRuns.{Deed, DeedsLead, reservations, sent_to}

@@ -1,8 +1,8 @@
 //! A client's whole run.
 
 ghost use Rattle.std.specs.Prelude.{◌≡◌, ◌<◌, ℕ, List, IsSome, true};
-ghost use Rattle.qs_check.specs.Program.{blocks_of};
-ghost use Rattle.qs_check.specs.Sound.{IsSound};
+ghost use Rattle.qs_program.specs.Program.{blocks_of};
+ghost use Rattle.qs_program.specs.Sound.{IsSound};
 ghost use Rattle.qs_client.specs.ClientRuns.{Deed, RunsTo};
 ghost use Rattle.qs_client.specs.Mind.{fresh_mind};
 ghost use Rattle.qs_client.specs.MindState.{mind_of};

@@ -6,7 +6,7 @@ use Rattle.qs_objects.specs.declared.held.Event.{Event}
 use Rattle.qs_objects.specs.declared.held.Ticket.{Ticket}
 use Rattle.qs_objects.specs.declared.Request.{Request}
 use Rattle.qs_meaning.specs.Solo.{put}
-use Rattle.qs_check.specs.Values.{Locals}
+use Rattle.qs_program.specs.Values.{Locals}
 use Rattle.qs_syncset.specs.Codes.{ClientCode, code_at}
 use Rattle.qs_syncset.specs.SyncRows.{with_sync}
 use Rattle.qs_syncset.specs.declared.sync_counts.SyncCount.{SyncCount}

@@ -8,11 +8,11 @@ use Rattle.qs_objects.specs.Journals.{HeldState}
 use Rattle.qs_objects.specs.declared.held.Ticket.{Ticket}
 use Rattle.qs_objects.specs.declared.Request.{Request}
 use Rattle.qs_objects.specs.declared.held.Next.TheVariants as nexts
-use Rattle.qs_check.specs.Program.{block_at, blocks_of}
+use Rattle.qs_program.specs.Program.{block_at, blocks_of}
 use Rattle.qs_meaning.specs.Solo.{put}
-use Rattle.qs_check.specs.Sound.{IsSound, IsSoundBlock, is_in}
-use Rattle.qs_check.specs.Values.{Locals}
-use Rattle.qs_check.proofs.Bounds.{sound_block}
+use Rattle.qs_program.specs.Sound.{IsSound, IsSoundBlock, is_in}
+use Rattle.qs_program.specs.Values.{Locals}
+use Rattle.qs_program.proofs.Bounds.{sound_block}
 use Rattle.qs_graph.specs.Synced.{Done, Call, Sync, Query}
 use Rattle.qs_syncset.specs.Codes.{ClientCode, IsCodeOf, code_at}
 use Rattle.qs_chunk.specs.declared.parcel.Parcel.TheVariants as parcels

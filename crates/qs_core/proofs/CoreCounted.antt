@@ -1,8 +1,8 @@
 -- Wherever the optimised machine has come, what it has shown is counted.
 use Rattle.std.proofs.Common.{◌≡◌, ℕ, Bool, true, false, List, refl, sym, subst}
 use Rattle.std.specs.Bool.{OnTrue}
-use Rattle.qs_check.specs.Program.{ProgramShape}
-use Rattle.qs_check.specs.Sound.{IsSound}
+use Rattle.qs_program.specs.Program.{ProgramShape}
+use Rattle.qs_program.specs.Sound.{IsSound}
 use Rattle.qs_syncset.specs.declared.mode.Mode.{Mode}
 use Rattle.qs_played.specs.Schedule.{schedule}
 use Rattle.qs_played.specs.SyncSums.{AreSyncsCounted}

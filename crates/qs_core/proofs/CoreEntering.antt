@@ -4,9 +4,9 @@ use Rattle.std.specs.List.{AllByRecursion, IsDistinct, range_with_len}
 use Rattle.std.proofs.lemmas.List.{length-set, get_or-set_other}
 use Rattle.std.proofs.lemmas.Map.Keys.{IsDistinct-head, IsDistinct-tail}
 use Rattle.qs_objects.specs.declared.held.Ticket.{Ticket}
-use Rattle.qs_check.specs.Program.{ProgramShape}
+use Rattle.qs_program.specs.Program.{ProgramShape}
 use Rattle.qs_meaning.specs.Solo.{put}
-use Rattle.qs_check.specs.Sound.{is_in}
+use Rattle.qs_program.specs.Sound.{is_in}
 use Rattle.qs_client_run.proofs.Hold.{put_same}
 use Rattle.qs_played.proofs.Lists.{sum_by-range_more}
 use Rattle.qs_core_parts.specs.CoreHandlers.{CanEnterAll, CoreHandlerState, entered, entered_all, entered_at, handler_of, no_seat, seat_at}

@@ -4,8 +4,8 @@ use Rattle.std.specs.Bool.{OnTrue}
 use Rattle.std.proofs.Math.ListN.{set}
 use Rattle.std.proofs.lemmas.List.{set-get_or}
 use Rattle.qs_objects.specs.declared.held.Ticket.{Ticket}
-use Rattle.qs_check.specs.Program.{block_at, blocks_of}
-use Rattle.qs_check.specs.Sound.{IsSound}
+use Rattle.qs_program.specs.Program.{block_at, blocks_of}
+use Rattle.qs_program.specs.Sound.{IsSound}
 use Rattle.qs_client_run.specs.Client.{act_of as client_act}
 use Rattle.qs_client.specs.Mind.{asked_of, booked_mind}
 use Rattle.qs_client.specs.MindState.{IsMind, mind_of}

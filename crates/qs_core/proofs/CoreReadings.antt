@@ -3,7 +3,7 @@ use Rattle.std.proofs.Common.{◌≡◌, ◌<◌, ℕ, zero, suc, ◌+◌, Bool,
 use Rattle.std.specs.List.{range_with_len}
 use Rattle.qs_objects.specs.Journals.{HeldState}
 use Rattle.qs_objects.specs.declared.Request.{Request}
-use Rattle.qs_check.specs.Sound.{IsSound}
+use Rattle.qs_program.specs.Sound.{IsSound}
 use Rattle.qs_chunk.specs.Batch.{Batch}
 use Rattle.qs_handler.specs.Handler.{Handler, free, serves, spares, gives, away, closed, act_of, is_free}
 use Rattle.qs_handler.specs.declared.mind.Act.{Act}

@@ -11,11 +11,11 @@ ghost use Rattle.qs_client_run.specs.declared.act.Act.TheVariants as wants;
 ghost use Rattle.qs_played.specs.declared.actor.Actor.TheVariants as actors;
 
 use crate::core_showing;
-use qs_check::Program;
 use qs_chunk::ChunkSize;
 use qs_core_parts::{CoreClient, CoreHandler};
 use qs_objects::Ticket;
 use qs_played::{Actor, Played, declared_held};
+use qs_program::Program;
 use qs_syncset::{Mode, compile};
 use std::alloc::{AllocError, Global};
 use std::marker::Model;

@@ -6,9 +6,9 @@ ghost use Rattle.qs_core.specs.CoreState.{IsShownIsolated};
 ghost use Rattle.qs_played.specs.SyncSums.{AreSyncsCounted};
 
 use crate::optimised::Core;
-use qs_check::Program;
 use qs_chunk::ChunkSize;
 use qs_played::{Actor, PlayFault, Played, are_named};
+use qs_program::Program;
 use qs_syncset::Mode;
 use std::alloc::{AllocError, Global};
 

@@ -1,7 +1,7 @@
 //! The optimised machine, from its beginning on.
 
 ghost use Rattle.std.specs.Prelude.{◌≡◌, ◌++◌, ℕ, List, None, false, IfOk};
-ghost use Rattle.qs_check.specs.Program.{ProgramShape};
+ghost use Rattle.qs_program.specs.Program.{ProgramShape};
 ghost use Rattle.qs_syncset.specs.declared.mode.Mode.{Mode as ModeShape};
 ghost use Rattle.qs_core_laws.specs.CoreSchedule.{core_played};
 ghost use Rattle.qs_played.specs.Schedule.{actors_of};
@@ -12,9 +12,9 @@ ghost use Rattle.qs_core.specs.CoreState.{CoreIsCounted};
 ghost use Rattle.qs_core.specs.CoreState.{CoreIsIsolated, CoreSteps, IsFreshCore, IsPlayedOn, codes_of, core_of};
 
 use crate::core_machine::CoreMachine;
-use qs_check::Program;
 use qs_chunk::ChunkSize;
 use qs_played::{Actor, Played};
+use qs_program::Program;
 use qs_syncset::Mode;
 use std::alloc::{AllocError, Global};
 use std::marker::Model;

@@ -1,9 +1,9 @@
 -- The codes of a client whose one block has a graph of its mode.
 use Rattle.std.proofs.Common.{◌≡◌, ◌<◌, ◌≤◌, ℕ, zero, suc, arith, List, [], refl}
 use Rattle.std.proofs.lemmas.List.FromFn.{get_or-map-range_with_len}
-use Rattle.qs_check.specs.Loads.{load_of}
-use Rattle.qs_check.specs.Program.{block_at}
-use Rattle.qs_check.specs.Statements.{Statements}
+use Rattle.qs_program.specs.Loads.{load_of}
+use Rattle.qs_program.specs.Program.{block_at}
+use Rattle.qs_program.specs.Statements.{Statements}
 use Rattle.qs_graph.specs.Nodes.{Place}
 use Rattle.qs_syncset.specs.declared.mode.Mode.{Mode}
 use Rattle.qs_syncset.specs.Codes.{IsBlockCode, IsCodeOf, IsGraphOf, code_at}

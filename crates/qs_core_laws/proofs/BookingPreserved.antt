@@ -11,9 +11,9 @@ use Rattle.qs_meaning.specs.Solo.{put}
 use Rattle.qs_meaning.proofs.Each.{each_map, each_both, each_snoc, each_front, each_kept}
 use Rattle.qs_meaning.proofs.TreeWalks.{put_here, put_there}
 use Rattle.qs_meaning.specs.Following.{reserves, block_tree, AsksOnly}
-use Rattle.qs_check.specs.Program.{ProgramShape, blocks_of}
+use Rattle.qs_program.specs.Program.{ProgramShape, blocks_of}
 use Rattle.qs_meaning.specs.Serial.{zeros}
-use Rattle.qs_check.specs.Values.{Locals}
+use Rattle.qs_program.specs.Values.{Locals}
 use Rattle.qs_meaning.proofs.Histories.{Page, Begins}
 use Rattle.qs_graph.specs.Synced.{Synced, erased}
 use Rattle.qs_syncset.specs.SoundSynced.{IsSoundSynced, IsOnReserved}

@@ -2,8 +2,8 @@
 use Rattle.std.proofs.Common.{◌≡◌, Bool, false, map, refl, sym, ap, subst, arith}
 use Rattle.std.proofs.lemmas.List.{get_or-map, get_or_past, length-map}
 use Rattle.std.proofs.lemmas.List.FromFn.{get_or-map-range_with_len}
-use Rattle.qs_check.specs.Loads.{load_of}
-use Rattle.qs_check.specs.Program.{BlockShape, ProgramShape, block_at, client_at, no_block, no_client}
+use Rattle.qs_program.specs.Loads.{load_of}
+use Rattle.qs_program.specs.Program.{BlockShape, ProgramShape, block_at, client_at, no_block, no_client}
 use Rattle.qs_syncset.specs.declared.mode.Mode.{Mode}
 use Rattle.qs_syncset.specs.Codes.{IsBlockCode, no_code}
 use Rattle.qs_syncset.specs.Modes.{is_dynamic, is_static}

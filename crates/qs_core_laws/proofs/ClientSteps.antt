@@ -10,7 +10,7 @@ use Rattle.qs_objects.proofs.Choices.{ticket_cases}
 use Rattle.qs_meaning.specs.Solo.{put}
 use Rattle.qs_meaning.proofs.Each.{each_map, each_both}
 use Rattle.qs_meaning.specs.Following.{reserves}
-use Rattle.qs_check.specs.Program.{ProgramShape}
+use Rattle.qs_program.specs.Program.{ProgramShape}
 use Rattle.qs_meaning.specs.Serial.{zeros}
 use Rattle.qs_meaning.proofs.Histories.{Page, IsDone}
 use Rattle.qs_chunk.specs.LaneViews.{Standing, asks, gone, ClientLane}

@@ -8,8 +8,8 @@ use Rattle.qs_objects.specs.declared.held.Ticket.{Ticket}
 use Rattle.qs_objects.specs.declared.Request.{Request}
 use Rattle.qs_objects.proofs.Choices.{apart_eqb, eqb_self, eqb_true, num_cases, not_same}
 use Rattle.qs_meaning.specs.Following.{reserves, block_tree}
-use Rattle.qs_check.specs.Program.{ProgramShape}
-use Rattle.qs_check.specs.Sound.{IsSound, is_in}
+use Rattle.qs_program.specs.Program.{ProgramShape}
+use Rattle.qs_program.specs.Sound.{IsSound, is_in}
 use Rattle.qs_meaning.proofs.Each.{each_map, each_both, each_join, each_front, each_back, each_kept, each_passes}
 use Rattle.qs_meaning.proofs.Histories.{Among, Apart, parts_of}
 use Rattle.qs_meaning.proofs.SerialRuns.{legal_apart}

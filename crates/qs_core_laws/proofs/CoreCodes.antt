@@ -6,10 +6,10 @@ use Rattle.std.specs.List.{AllByRecursion, IsDistinct}
 use Rattle.qs_objects.specs.declared.held.Ticket.{Ticket}
 use Rattle.qs_objects.proofs.Choices.{eqb_apart, apart_eqb, eqb_self}
 use Rattle.qs_meaning.specs.Following.{reserves, block_tree}
-use Rattle.qs_check.specs.Program.{BlockShape, ProgramShape, blocks_of, no_block, text_of}
-use Rattle.qs_check.specs.Sound.{IsSound, is_in}
-use Rattle.qs_check.specs.Values.{Locals}
-use Rattle.qs_check.proofs.Bounds.{sound_block}
+use Rattle.qs_program.specs.Program.{BlockShape, ProgramShape, blocks_of, no_block, text_of}
+use Rattle.qs_program.specs.Sound.{IsSound, is_in}
+use Rattle.qs_program.specs.Values.{Locals}
+use Rattle.qs_program.proofs.Bounds.{sound_block}
 use Rattle.qs_meaning.proofs.Each.{each_map}
 use Rattle.qs_graph.specs.Synced.{erased}
 use Rattle.qs_syncset.specs.declared.mode.Mode.{Mode}

@@ -8,9 +8,9 @@ use Rattle.qs_objects.specs.Parts.{HasEntry}
 use Rattle.qs_objects.specs.declared.held.Ticket.{Ticket}
 use Rattle.qs_objects.proofs.Choices.{and_cases}
 use Rattle.qs_meaning.specs.Following.{reserves}
-use Rattle.qs_check.specs.Program.{ProgramShape, blocks_of}
+use Rattle.qs_program.specs.Program.{ProgramShape, blocks_of}
 use Rattle.qs_meaning.specs.Serial.{declared, no_state}
-use Rattle.qs_check.specs.Sound.{IsSound}
+use Rattle.qs_program.specs.Sound.{IsSound}
 use Rattle.qs_meaning.proofs.Each.{each_map}
 use Rattle.qs_meaning.proofs.Histories.{Among, Flow, IsDone, Line, done_of, parts_of}
 use Rattle.qs_meaning.proofs.SerialRuns.{line}

@@ -7,9 +7,9 @@ use Rattle.std.proofs.lemmas.List.Sums.{sum_by-cons}
 use Rattle.qs_objects.specs.declared.held.Event.{Event}
 use Rattle.qs_objects.specs.declared.held.Ticket.{Ticket}
 use Rattle.qs_meaning.specs.Following.{Leads, block_tree}
-use Rattle.qs_check.specs.Program.{ProgramShape, blocks_of, text_of}
-use Rattle.qs_check.specs.Sound.{IsSound}
-use Rattle.qs_check.proofs.Bounds.{AllByRecursion-get_or}
+use Rattle.qs_program.specs.Program.{ProgramShape, blocks_of, text_of}
+use Rattle.qs_program.specs.Sound.{IsSound}
+use Rattle.qs_program.proofs.Bounds.{AllByRecursion-get_or}
 use Rattle.qs_syncset.specs.declared.mode.Mode.{Mode}
 use Rattle.qs_syncset.specs.Codes.{ClientCode, code_at}
 use Rattle.qs_syncset.specs.Modes.{is_dynamic}

@@ -9,7 +9,7 @@ use Rattle.qs_meaning.specs.Solo.{put}
 use Rattle.qs_meaning.proofs.Each.{each_map, each_back, each_kept, each_passes}
 use Rattle.qs_meaning.proofs.TreeWalks.{put_here, put_there}
 use Rattle.qs_meaning.specs.Following.{reserves}
-use Rattle.qs_check.specs.Program.{ProgramShape}
+use Rattle.qs_program.specs.Program.{ProgramShape}
 use Rattle.qs_chunk.specs.Runs.{ran_all}
 use Rattle.qs_chunk.specs.declared.parcel.Parcel.{Parcel}
 use Rattle.qs_chunk.specs.LaneViews as views

@@ -15,8 +15,8 @@ use Rattle.qs_objects.specs.declared.held.Ticket.{Ticket}
 use Rattle.qs_objects.specs.declared.Request.{Request}
 use Rattle.qs_objects.proofs.Replays.{replay-append, IsHonest-append}
 use Rattle.qs_meaning.specs.Following.{reserves, block_tree}
-use Rattle.qs_check.specs.Program.{ProgramShape, text_of}
-use Rattle.qs_check.specs.Sound.{IsSound}
+use Rattle.qs_program.specs.Program.{ProgramShape, text_of}
+use Rattle.qs_program.specs.Sound.{IsSound}
 use Rattle.qs_meaning.proofs.Each.{each_map, each_both, each_unfiltered}
 use Rattle.qs_meaning.proofs.Histories.{Among, Flow, Line, NoQuery, OnlyCommands, done_of, parts_of, unstamp_all}
 use Rattle.qs_meaning.proofs.RequestPaths.{requests_within}

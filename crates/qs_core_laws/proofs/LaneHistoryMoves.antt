@@ -4,8 +4,8 @@ use Rattle.qs_objects.specs.Journals.{HeldState}
 use Rattle.qs_objects.specs.Parts.{part, same}
 use Rattle.qs_objects.specs.declared.held.Ticket.{Ticket}
 use Rattle.qs_objects.proofs.Choices.{ticket_cases}
-use Rattle.qs_check.specs.Program.{ProgramShape}
-use Rattle.qs_check.specs.Values.{Locals}
+use Rattle.qs_program.specs.Program.{ProgramShape}
+use Rattle.qs_program.specs.Values.{Locals}
 use Rattle.qs_meaning.proofs.Histories.{Page, Begins, IsDone}
 use Rattle.qs_meaning.specs.Interaction as tree
 use Rattle.qs_chunk.specs.LaneViews.{Standing, gone, ClientLane}

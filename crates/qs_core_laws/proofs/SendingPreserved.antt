@@ -13,7 +13,7 @@ use Rattle.qs_meaning.proofs.Each.{each_map, each_front, each_kept}
 use Rattle.qs_meaning.proofs.Histories.{Among, Page}
 use Rattle.qs_meaning.proofs.TreeWalks.{put_here, put_there}
 use Rattle.qs_meaning.specs.Following.{reserves}
-use Rattle.qs_check.specs.Program.{ProgramShape}
+use Rattle.qs_program.specs.Program.{ProgramShape}
 use Rattle.qs_chunk.specs.LaneViews.{Standing, asks, gone, ClientLane}
 use Rattle.qs_chunk.specs.declared.parcel.Parcel.{Parcel}
 use Rattle.qs_handler.specs.Handler.{serving}

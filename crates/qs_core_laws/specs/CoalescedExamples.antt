@@ -1,10 +1,10 @@
 -- A client with one block, in each mode, computed by the definitions.
 use Rattle.std.specs.Prelude.{◌≡◌, ℕ, zero, suc, Bool, true, List, [], ◌∷◌, map, Option, None, ℤ}
 use Rattle.std.specs.List.{range_with_len}
-use Rattle.qs_check.specs.Loads.{load_of}
+use Rattle.qs_program.specs.Loads.{load_of}
 use Rattle.qs_meaning.specs.MeaningExamples.{hundred, on_one, some}
-use Rattle.qs_check.specs.Program.{ProgramShape}
-use Rattle.qs_check.specs.Statements.{Statements}
+use Rattle.qs_program.specs.Program.{ProgramShape}
+use Rattle.qs_program.specs.Statements.{Statements}
 use Rattle.qs_graph.specs.GraphExamples.{leave_first, query_in_repeat}
 use Rattle.qs_graph.specs.Graphs.{block_graph}
 use Rattle.qs_graph.specs.Nodes.{Place}

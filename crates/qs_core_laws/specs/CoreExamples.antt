@@ -5,10 +5,10 @@ use Rattle.qs_objects.specs.Act.{State, account, buffer}
 use Rattle.qs_objects.specs.declared.Op.TheVariants.{Deposit}
 use Rattle.qs_objects.specs.declared.held.Ticket.{Ticket}
 use Rattle.qs_objects.specs.declared.Request.{Request}
-use Rattle.qs_check.specs.Loads.{load_of}
+use Rattle.qs_program.specs.Loads.{load_of}
 use Rattle.qs_meaning.specs.MeaningExamples.{block, call, client, deposit_of_5, full_buffer, hundred, left_at_once, left_with, n, only, program, some, ticket, transfer, withdrawals}
-use Rattle.qs_check.specs.Program.{BlockShape, ProgramShape, client_at}
-use Rattle.qs_check.specs.Statements.{end, command}
+use Rattle.qs_program.specs.Program.{BlockShape, ProgramShape, client_at}
+use Rattle.qs_program.specs.Statements.{end, command}
 use Rattle.qs_graph.specs.Graphs.{block_graph}
 use Rattle.qs_syncset.specs.Codes.{BlockCode, ClientCode}
 use Rattle.qs_syncset.specs.declared.sync_counts.SyncCount.{SyncCount}

@@ -1,7 +1,7 @@
 -- The counts of synchronisations in the optimised machine, as a law of all its runs.
 use Rattle.std.specs.Prelude.{ℕ, List}
-use Rattle.qs_check.specs.Program.{ProgramShape}
-use Rattle.qs_check.specs.Sound.{IsSound}
+use Rattle.qs_program.specs.Program.{ProgramShape}
+use Rattle.qs_program.specs.Sound.{IsSound}
 use Rattle.qs_syncset.specs.declared.mode.Mode.{Mode}
 use Rattle.qs_syncset.specs.Codes.{ClientCode}
 use Rattle.qs_played.specs.declared.actor.Actor.{Actor}

@@ -2,11 +2,12 @@
 use Rattle.std.proofs.Common.{◌≡◌, ℕ, zero, suc, ◌+◌, ◌<◌, ◌≤◌, ◌==◌, Bool, true, false, List, [], ◌∷◌, ◌++◌, cond, length, slice_index_or, refl, ap, ◌∙◌, arith}
 use Rattle.std.specs.List.{AllByRecursion}
 use Rattle.qs_objects.specs.declared.held.Ticket.{Ticket}
-use Rattle.qs_check.specs.Program.{ClientShape, ProgramShape, no_client, blocks_of}
+use Rattle.qs_program.specs.Program.{ClientShape, ProgramShape, no_client, blocks_of}
 use Rattle.qs_meaning.specs.Serial.{LegalFrom, IsLegal}
 use Rattle.qs_meaning.specs.Solo.{put}
-use Rattle.qs_check.specs.Sound.{IsSound, IsSoundClient}
-use Rattle.qs_check.specs.declared.program.Declared.{Declared}
+use Rattle.qs_program.specs.Sound.{IsSound, IsSoundClient}
+use Rattle.qs_program.specs.declared.program.Declared.{Declared}
+use Rattle.qs_desk.specs.Limits.{all_bookings}
 use Rattle.qs_desk.specs.Tickets.{of_client}
 
 eqb_true : (m n : ℕ) → (m == n) ≡ true → m ≡ n
@@ -82,7 +83,7 @@ shared_out p b (u ∷ ts) eight legal =
     let o = exactly_one u.client (omega (arith, l, eight)) in
     omega (arith, o, shared_out p (put b u.client (suc u.index)) ts eight legal.2, of_one 0 u ts, of_one 1 u ts, of_one 2 u ts, of_one 3 u ts, of_one 4 u ts, of_one 5 u ts, of_one 6 u ts, of_one 7 u ts)
 
-pub short : (p : ProgramShape) (ts : List Ticket) → IsSound p → IsLegal p ts → length ts ≤ 512
+pub short : (p : ProgramShape) (ts : List Ticket) → IsSound p → IsLegal p ts → length ts ≤ all_bookings
 short p ts sound legal = omega (arith, shared_out p (λ _. 0) ts sound.clients legal, at 0, at 1, at 2, at 3, at 4, at 5, at 6, at 7)
   where
     at : (c : ℕ) → length (of_client c ts) ≤ 64

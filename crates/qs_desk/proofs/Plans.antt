@@ -1,7 +1,7 @@
 -- The lists of a program's blocks.
 use Rattle.std.proofs.Common.{◌≡◌, ℕ, zero, suc, List, [], ◌∷◌, map, length, slice_index_or, refl, ap, ◌∙◌}
 use Rattle.qs_objects.specs.declared.held.Ticket.{Ticket}
-use Rattle.qs_check.specs.Program.{ProgramShape, no_block, no_client, client_at, blocks_of, text_of}
+use Rattle.qs_program.specs.Program.{ProgramShape, no_block, no_client, client_at, blocks_of, text_of}
 use Rattle.qs_desk.specs.Plans.{list_of, lists_of_client, lists_of}
 
 pub index_map : {X Y : Type 0} (f : X → Y) (xs : List X) (i : ℕ) (d : X) → slice_index_or (map f xs) i (f d) ≡ f (slice_index_or xs i d)

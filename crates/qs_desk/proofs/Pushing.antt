@@ -7,7 +7,8 @@ use Rattle.qs_objects.specs.declared.held.Ticket as held
 use Rattle.qs_objects.specs.declared.held.Next.{Next}
 use Rattle.qs_objects.specs.declared.held.Next.TheVariants.{Ticket, Closed}
 use Rattle.qs_meaning.specs.Following.{reserves}
-use Rattle.qs_check.specs.Program.{ProgramShape}
+use Rattle.qs_program.specs.Program.{ProgramShape}
+use Rattle.qs_desk.specs.Limits.{all_bookings}
 use Rattle.qs_desk.specs.Lines.{LineView, IsLineOf, grown, closed_line, MayGrow, MayClose}
 use Rattle.qs_desk.specs.Tickets.{of_handler, pushed_to, IsFor, AreFor, for_front}
 
@@ -61,13 +62,13 @@ module _ (p : ProgramShape) (names : List TableId) (history : List held.Ticket) 
   sent : l.sent ≡ map Ticket (of_handler p h history)
   sent = is.3 ∙ open_is p h history
 
-  roomy : length history ≤ 512 → length l.sent < l.room
+  roomy : length history ≤ all_bookings → length l.sent < l.room
   roomy short = omega (arith, short, ap length sent, fewer p h history, is.1)
 
-  pub may_grow : (t : held.Ticket) → length history ≤ 512 → MayGrow p t h l
+  pub may_grow : (t : held.Ticket) → length history ≤ all_bookings → MayGrow p t h l
   may_grow t short = (roomy short, is.2, λ r. subst (λ xs. AreFor p h (xs ++ Ticket t ∷ [])) (sym sent) (for_more p h history (Ticket t) r))
 
-  pub may_close : length history ≤ 512 → MayClose l
+  pub may_close : length history ≤ all_bookings → MayClose l
   may_close short =
       (roomy short, subst (λ w. AreFor w.program w.handler (l.sent ++ Closed ∷ [])) (sym is.2) (subst (λ xs. AreFor p h (xs ++ Closed ∷ [])) (sym sent) (for_more p h history Closed tt)))
 

@@ -1,7 +1,7 @@
 -- The queues of a new desk, one more at a time.
 use Rattle.std.proofs.Common.{◌≡◌, ℕ, zero, suc, ◌<◌, Some, List, [], ◌∷◌, ◌++◌, map, length, set, refl, ap, arith}
 use Rattle.atomic_table.specs.Seated.{TableId}
-use Rattle.qs_check.specs.Program.{ProgramShape}
+use Rattle.qs_program.specs.Program.{ProgramShape}
 use Rattle.qs_desk.specs.Lines.{LineView, line_at, line_name, new_end, end_at}
 use Rattle.qs_desk.specs.Places.{places}
 

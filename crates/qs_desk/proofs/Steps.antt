@@ -6,10 +6,11 @@ use Rattle.std.proofs.lemmas.List.Elements.{filter-append}
 use Rattle.std.specs.Prelude.{slice_index, slice_set, nat_eq}
 use Rattle.atomic_table.specs.Seated.{TableId}
 use Rattle.qs_objects.specs.declared.held.Ticket.{Ticket}
-use Rattle.qs_check.specs.Program.{ProgramShape, blocks_of}
+use Rattle.qs_program.specs.Program.{ProgramShape, blocks_of}
 use Rattle.qs_meaning.specs.Serial.{IsLegal}
-use Rattle.qs_check.specs.Sound.{IsSound}
+use Rattle.qs_program.specs.Sound.{IsSound}
 use Rattle.qs_desk.specs.Desks.{IsDesk}
+use Rattle.qs_desk.specs.Limits.{all_bookings}
 use Rattle.qs_desk.specs.Lines.{LineView, line_at, line_name, IsLineOf, IsNewLine, grown, closed_line, MayGrow, MayClose}
 use Rattle.qs_desk.specs.Tickets.{ticket, of_client}
 use Rattle.qs_desk.proofs.Orders.{legal_more, short}
@@ -38,7 +39,7 @@ starts p names lines sound are all new = record {
 }
 
 module _ (p : ProgramShape) (names : List TableId) (history : List Ticket) (lines : List LineView) (books : List ℕ) (is : IsDesk p names history false lines books) where
-  pub few_tickets : length history ≤ 512
+  pub few_tickets : length history ≤ all_bookings
   few_tickets = short p history is.sound is.legal
 
   pub all_may_grow : (t : Ticket) (h : ℕ) → h < length lines → MayGrow p t h (line_at lines h)
@@ -54,7 +55,7 @@ module _ (p : ProgramShape) (names : List TableId) (history : List Ticket) (line
     legal : IsLegal p (history ++ t ∷ [])
     legal = legal_more p (λ _. 0) history t is.legal (omega (arith, was, is.counted c place)) some
 
-    pub room_left : length history < 512
+    pub room_left : length history < all_bookings
     room_left = omega (arith, short p (history ++ t ∷ []) is.sound legal, length-append history (t ∷ []))
 
     more : (k : ℕ) → length (of_client k (history ++ t ∷ [])) ≡ length (of_client k history) + cond (c == k) 1 0

@@ -2,9 +2,9 @@
 use Rattle.std.specs.Prelude.{◌≡◌, ℕ, ◌<◌, Bool, List, length, slice_index}
 use Rattle.atomic_table.specs.Seated.{TableId}
 use Rattle.qs_objects.specs.declared.held.Ticket.{Ticket}
-use Rattle.qs_check.specs.Program.{ProgramShape}
+use Rattle.qs_program.specs.Program.{ProgramShape}
 use Rattle.qs_meaning.specs.Serial.{IsLegal}
-use Rattle.qs_check.specs.Sound.{IsSound}
+use Rattle.qs_program.specs.Sound.{IsSound}
 use Rattle.qs_desk.specs.Lines.{LineView, line_at, IsLineOf}
 use Rattle.qs_desk.specs.Tickets.{of_client}
 

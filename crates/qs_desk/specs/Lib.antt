@@ -1,3 +1,4 @@
+pub mod Limits
 pub mod Views
 pub mod Tickets
 pub mod Places

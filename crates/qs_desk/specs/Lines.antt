@@ -5,9 +5,10 @@ use Rattle.qs_objects.specs.declared.held.Ticket as held
 use Rattle.qs_objects.specs.declared.held.Next.{Next}
 use Rattle.qs_objects.specs.declared.held.Next.TheVariants.{Ticket, Closed}
 use Rattle.qs_meaning.specs.Following.{reserves}
-use Rattle.qs_check.specs.Program.{ProgramShape}
+use Rattle.qs_program.specs.Program.{ProgramShape}
 use Rattle.qs_queue.specs.Views.{SenderView, TakerView}
 use Rattle.qs_desk.specs.declared.queue.Whose.{Whose}
+use Rattle.qs_desk.specs.Limits.{line_room}
 use Rattle.qs_desk.specs.Tickets.{pushed_to, AreFor}
 use Rattle.qs_desk.specs.Views.{TicketsView}
 
@@ -25,7 +26,7 @@ EndView = TakerView Next Whose
 
 -- the two ends of a new queue of this name
 abbrev pub new_line : ProgramShape → TableId → ℕ → LineView
-new_line p name h = record { name = name; room = 513; key = whose p h; sent = [] }
+new_line p name h = record { name = name; room = line_room; key = whose p h; sent = [] }
 
 abbrev pub new_end : ProgramShape → TableId → ℕ → EndView
 new_end p name h = record { name = name; key = whose p h; received = [] }
@@ -52,7 +53,7 @@ IsEndOf p names h end = (slice_get names h ≡ Some end.name) × (end.key ≡ wh
 -- the desk's end of a handler's queue holds what was pushed to the handler
 abbrev pub IsLineOf : ProgramShape → List TableId → List held.Ticket → Bool → ℕ → LineView → Type 0
 IsLineOf p names history closed h l =
-    (slice_get names h ≡ Some l.name) × (l.room ≡ 513) × (l.key ≡ whose p h) × (l.sent ≡ pushed_to p h history closed)
+    (slice_get names h ≡ Some l.name) × (l.room ≡ line_room) × (l.key ≡ whose p h) × (l.sent ≡ pushed_to p h history closed)
 
 -- with a ticket more, if its block reserves the handler
 abbrev pub grown : ProgramShape → held.Ticket → ℕ → LineView → LineView

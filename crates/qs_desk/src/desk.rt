@@ -1,9 +1,11 @@
 //! The desk.
 
 ghost use Rattle.std.specs.Prelude.{◌≡◌, ℕ, ◌+◌, ◌<◌, ◌≤◌, false, true, List, [], ◌∷◌, ◌++◌, length, vec_len, vec_capacity, map, replicate};
-ghost use Rattle.qs_check.specs.Program.{blocks_of};
+ghost use Rattle.qs_program.specs.Limits.{most_clients};
+ghost use Rattle.qs_program.specs.Program.{blocks_of};
 ghost use Rattle.qs_meaning.specs.Serial.{IsLegal};
-ghost use Rattle.qs_check.specs.Sound.{IsSound};
+ghost use Rattle.qs_program.specs.Sound.{IsSound};
+ghost use Rattle.qs_desk.specs.Limits.{all_bookings};
 ghost use Rattle.qs_desk.specs.Lines.{line_at, grown, closed_line, line_name, IsNewLine, MayGrow, MayClose};
 ghost use Rattle.qs_desk.specs.Plans.{lists_of};
 ghost use Rattle.qs_desk.specs.Tickets.{ticket, of_client, pushed_to};
@@ -30,6 +32,7 @@ pub struct Desk<D: DeskName> {
 impl<D: DeskName> Model for Desk<D> {
     ghost use Rattle.std.specs.Prelude.{◌≡◌, ◌≤◌, vec_capacity};
     ghost use Rattle.qs_desk.specs.Desks.{IsDesk};
+    ghost use Rattle.qs_desk.specs.Limits.{all_bookings};
     ghost use Rattle.qs_desk.specs.Plans.{lists_of};
     ghost use Rattle.qs_desk.specs.Views.{DeskView};
 
@@ -40,7 +43,7 @@ impl<D: DeskName> Model for Desk<D> {
     ghost invariant = { λ d.
         IsDesk D.program D.queues d.history.items d.closed d.lines.items d.books
         × (d.plan ≡ lists_of D.program)
-        × (512 ≤ vec_capacity d.history) };
+        × (all_bookings ≤ vec_capacity d.history) };
 }
 
 impl<D: DeskName> Desk<D> {
@@ -51,10 +54,10 @@ impl<D: DeskName> Desk<D> {
         books: Books<D>,
     ) -> Desk<D>
         requires program { IsSound D.program × (plan ≡ lists_of D.program) }
-        requires history { (history.items ≡ []) × (512 ≤ vec_capacity history) }
+        requires history { (history.items ≡ []) × (all_bookings ≤ vec_capacity history) }
         requires names { (map line_name lines.items ≡ D.queues) × (length lines.items ≡ length D.program.objects) }
         requires lines { (h : ℕ) → h < length lines.items → IsNewLine D.program h (line_at lines.items h) }
-        requires books { books ≡ replicate 8 0 }
+        requires books { books ≡ replicate most_clients 0 }
         ensures desk { result ≡ record { history = []; closed = false } }
     {
         Desk {

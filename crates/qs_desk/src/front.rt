@@ -1,7 +1,7 @@
 //! The desk under its lock.
 
 ghost use Rattle.std.specs.Prelude.{◌≡◌, ◌+◌, ◌<◌, false, true};
-ghost use Rattle.qs_check.specs.Program.{blocks_of};
+ghost use Rattle.qs_program.specs.Program.{blocks_of};
 ghost use Rattle.qs_desk.specs.Tickets.{ticket};
 
 use crate::desk::Desk;

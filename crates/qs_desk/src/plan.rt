@@ -2,12 +2,12 @@
 
 ghost use Rattle.std.specs.Prelude.{◌≡◌, ◌<◌, length, map, IfOk, slice_index_or, []};
 ghost use Rattle.qs_meaning.specs.Following.{reserves};
-ghost use Rattle.qs_check.specs.Program.{ProgramShape, blocks_of, client_at, block_at};
-ghost use Rattle.qs_check.specs.Sound.{is_in};
+ghost use Rattle.qs_program.specs.Program.{ProgramShape, blocks_of, client_at, block_at};
+ghost use Rattle.qs_program.specs.Sound.{is_in};
 ghost use Rattle.qs_desk.specs.Plans.{list_of, lists_of_client, lists_of};
 
-use qs_check::Program;
 use qs_objects::Ticket;
+use qs_program::Program;
 use std::alloc::{AllocError, Global};
 use std::marker::Model;
 

@@ -5,8 +5,8 @@ ghost use Rattle.qs_desk.specs.Tickets.{IsFor};
 ghost use Rattle.qs_desk.specs.Lines.{whose, new_line, new_end, IsEndOf};
 
 use crate::name::DeskName;
-use qs_check::Program;
 use qs_objects::Next;
+use qs_program::Program;
 use qs_queue::{Key, Protocol, Sender, Taker, make_ends};
 use std::alloc::{AllocError, Global};
 use std::marker::{Brand, Model, PhantomData};
@@ -43,7 +43,7 @@ pub type LineEnd = Taker<Next, Whose, Reserving>;
 /// A program and a handler that are known only as the queue is made.
 trait Chosen {
     ghost use Rattle.std.specs.Prelude.{ℕ};
-    ghost use Rattle.qs_check.specs.Program.{ProgramShape};
+    ghost use Rattle.qs_program.specs.Program.{ProgramShape};
 
     ghost program: { ProgramShape };
 

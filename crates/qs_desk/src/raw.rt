@@ -1,7 +1,7 @@
 //! A desk that has no name yet.
 
 ghost use Rattle.std.specs.Prelude.{◌≡◌, ℕ, ◌<◌, ◌≤◌, length, vec_len, vec_capacity, map, false, [], ◌∷◌, IfOk, None, slice_index_or};
-ghost use Rattle.qs_check.specs.Sound.{IsSound};
+ghost use Rattle.qs_program.specs.Sound.{IsSound};
 ghost use Rattle.qs_desk.specs.Lines.{line_at, line_name, IsNewLine, end_at, tickets_at};
 ghost use Rattle.qs_desk.specs.Places.{places, share_at};
 ghost use Rattle.qs_desk.specs.Plans.{lists_of};
@@ -11,8 +11,8 @@ use crate::name::DeskName;
 use crate::plan::Plan;
 use crate::queue::{Line, LineEnd, Tickets, make_line};
 use crate::share::{Blanks, Share};
-use qs_check::Program;
 use qs_objects::Ticket;
+use qs_program::Program;
 use std::alloc::{AllocError, Global};
 use std::marker::Model;
 use std::snapshot::Snapshot;
@@ -30,7 +30,8 @@ pub struct RawDesk {
 
 impl Model for RawDesk {
     ghost use Rattle.std.specs.Prelude.{◌≡◌, ℕ, ◌≤◌, ◌<◌, map, length, [], vec_capacity};
-    ghost use Rattle.qs_check.specs.Sound.{IsSound};
+    ghost use Rattle.qs_program.specs.Sound.{IsSound};
+    ghost use Rattle.qs_desk.specs.Limits.{all_bookings};
     ghost use Rattle.qs_desk.specs.Lines.{line_at, line_name, IsNewLine, end_at};
     ghost use Rattle.qs_desk.specs.Places.{places};
     ghost use Rattle.qs_desk.specs.Plans.{lists_of};
@@ -45,7 +46,7 @@ impl Model for RawDesk {
     ghost invariant = { λ r.
         IsSound r.program.value
         × (r.plan ≡ lists_of r.program.value)
-        × (r.history.items ≡ []) × (512 ≤ vec_capacity r.history)
+        × (r.history.items ≡ []) × (all_bookings ≤ vec_capacity r.history)
         × (length r.lines.items ≡ length r.program.value.objects)
         × ((h : ℕ) → h < length r.lines.items → IsNewLine r.program.value h (line_at r.lines.items h))
         × (r.ends ≡ map (end_at r.program.value (map line_name r.lines.items)) places) };

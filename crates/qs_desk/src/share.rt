@@ -1,7 +1,8 @@
 //! What a client has booked, as it knows and as the desk knows.
 
 ghost use Rattle.std.specs.Prelude.{◌≡◌, ◌+◌, ◌<◌, ◌∷◌, [], slice_index, slice_set, replicate, nat_lt, length, map};
-ghost use Rattle.qs_check.specs.Program.{blocks_of};
+ghost use Rattle.qs_program.specs.Limits.{most_blocks, most_clients};
+ghost use Rattle.qs_program.specs.Program.{blocks_of};
 ghost use Rattle.qs_desk.specs.Places.{client_of, parts_of, amount_of, share_at, places};
 ghost use Rattle.qs_desk.specs.Plans.{lists_of};
 ghost use Rattle.qs_desk.specs.Tickets.{ticket};
@@ -49,7 +50,7 @@ pub struct Share<D: DeskName> {
 
 impl<D: DeskName> Model for Share<D> {
     ghost use Rattle.std.specs.Prelude.{◌≡◌};
-    ghost use Rattle.qs_check.specs.Program.{blocks_of};
+    ghost use Rattle.qs_program.specs.Program.{blocks_of};
     ghost use Rattle.qs_desk.specs.Places.{client_of, parts_of, amount_of};
     ghost use Rattle.qs_desk.specs.Views.{ShareView};
 
@@ -177,7 +178,7 @@ impl Blanks {
     pub(crate) fn open<D: DeskName>(self, plan: &Plan) -> (Books<D>, [Option<Share<D>>; 8])
         requires ledgers { D.ledgers ≡ self }
         requires plan { plan.now ≡ lists_of D.program }
-        ensures books { result.0 ≡ replicate 8 0 }
+        ensures books { result.0 ≡ replicate most_clients 0 }
         ensures shares { result.1 ≡ map (share_at D.program) places }
     {
         let (first, a) = self.first.open::<Place<D, 0>>();
@@ -228,7 +229,7 @@ impl<D: DeskName> Books<D> {
     pub(crate) fn check(&mut self, share: &mut Share<D>)
         ensures same { (self.new ≡ self.old) × (share.new ≡ share.old) }
         ensures count { slice_index self.old share.old.client ≡ share.old.count }
-        ensures place { share.old.client < 8 }
+        ensures place { share.old.client < most_clients }
     {
         let books = self;
         match &mut share.mark {
@@ -245,9 +246,9 @@ impl<D: DeskName> Books<D> {
 
     /// Counts one more block of the share's client, which has one left.
     pub(crate) fn count(&mut self, share: &mut Share<D>)
-        requires left { share.old.count < 64 }
+        requires left { share.old.count < most_blocks }
         ensures before { slice_index self.old share.old.client ≡ share.old.count }
-        ensures place { share.old.client < 8 }
+        ensures place { share.old.client < most_clients }
         ensures books { self.new ≡ slice_set self.old share.old.client (share.old.count + 1) }
         ensures share { share.new ≡ record share.old { count = share.old.count + 1 } }
     {

@@ -2,8 +2,8 @@
 use Rattle.std.proofs.Common.{◌≡◌, ℕ, zero, suc, Bool, true, false, if◌then◌else◌, List, slice_set, refl, sym, ap, ◌∙◌, None}
 use Rattle.std.proofs.Math.Path.{fun_ext}
 use Rattle.qs_objects.specs.Journals.{answer}
-use Rattle.qs_check.specs.Statements.{Statements, end, command, query, assign, choose, again, leave}
-use Rattle.qs_check.specs.Values.{Locals, test_value, request_of}
+use Rattle.qs_program.specs.Statements.{Statements, end, command, query, assign, choose, again, leave}
+use Rattle.qs_program.specs.Values.{Locals, test_value, request_of}
 use Rattle.qs_meaning.specs.Solo.{States, Outcome, changed, value_of, event, solo}
 use Rattle.qs_meaning.specs.Interaction.{Interaction, noted, run, tree_of}
 use Rattle.qs_meaning.specs.Interaction as tree

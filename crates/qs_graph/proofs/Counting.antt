@@ -2,11 +2,11 @@
 use Rattle.std.proofs.Common.{◌≡◌, ℕ, zero, suc, ◌+◌, ◌<◌, ◌≤◌, List, [], ◌∷◌, ◌++◌, length, get_or, drop, refl, sym, ap, ◌∙◌, arith, add-one, append_assoc, length-append, length-drop}
 use Rattle.std.proofs.lemmas.List.{append-nil}
 use Rattle.std.proofs.Math.Seq.{drop-cons}
-use Rattle.qs_check.specs.declared.code.Test.{Test}
-use Rattle.qs_check.specs.declared.code.Stmt.{Stmt}
-use Rattle.qs_check.specs.declared.code.Stmt.TheVariants.{Command, Query, Assign, If, Repeat, Leave}
-use Rattle.qs_check.specs.Statements.{Statements, end, choose, again}
-use Rattle.qs_check.specs.Views.{statements_of, single}
+use Rattle.qs_program.specs.declared.code.Test.{Test}
+use Rattle.qs_program.specs.declared.code.Stmt.{Stmt}
+use Rattle.qs_program.specs.declared.code.Stmt.TheVariants.{Command, Query, Assign, If, Repeat, Leave}
+use Rattle.qs_program.specs.Statements.{Statements, end, choose, again}
+use Rattle.qs_program.specs.Views.{statements_of, single}
 use Rattle.std.specs.Prelude.{Bool}
 use Rattle.qs_graph.specs.declared.node.Node.TheVariants.{Local, Branch}
 use Rattle.qs_graph.specs.declared.node.Action.TheVariants.{SetCount}

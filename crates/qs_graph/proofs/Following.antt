@@ -2,8 +2,8 @@
 use Rattle.std.proofs.Common.{◌≡◌, ℕ, zero, suc, ◌+◌, ◌*◌, ◌<◌, ◌≤◌, max, ℤ, Bool, true, false, if◌then◌else◌, List, [], ◌∷◌, ◌++◌, length, slice_index_or, slice_set, refl, ap, ◌∙◌, arith, subst, length-append}
 use Rattle.std.proofs.Math.ListN.{length-set}
 use Rattle.std.proofs.lemmas.List.{get_or-set_same, get_or-set_other}
-use Rattle.qs_check.specs.Statements.{Statements, end, assign, command, query, choose, again, leave}
-use Rattle.qs_check.specs.Values.{Locals, expr_value, test_value, request_of}
+use Rattle.qs_program.specs.Statements.{Statements, end, assign, command, query, choose, again, leave}
+use Rattle.qs_program.specs.Values.{Locals, expr_value, test_value, request_of}
 use Rattle.qs_graph.specs.declared.node.Node.TheVariants as node
 use Rattle.qs_graph.specs.declared.node.Choice.TheVariants.{Repeat}
 use Rattle.qs_graph.specs.Nodes.{Place, to, to_either, exit, place_at}

@@ -1,10 +1,10 @@
 -- Walks within their steps and within the limit.
 use Rattle.std.proofs.Common.{◌≡◌, ℕ, zero, suc, ◌+◌, ◌*◌, ◌≤◌, List, [], ◌∷◌, get_or, arith, sum_by, refl}
 use Rattle.std.proofs.lemmas.List.Sums.{sum_by-cons}
-use Rattle.qs_check.specs.Statements.{Statements}
-use Rattle.qs_check.specs.Values.{Locals}
-use Rattle.qs_check.specs.Loads.{weight_of}
-use Rattle.qs_check.specs.Program.{BlockShape, ClientShape, ProgramShape, no_block, no_client, client_at, block_at, whole_weight}
+use Rattle.qs_program.specs.Statements.{Statements}
+use Rattle.qs_program.specs.Values.{Locals}
+use Rattle.qs_program.specs.Loads.{weight_of}
+use Rattle.qs_program.specs.Program.{BlockShape, ClientShape, ProgramShape, no_block, no_client, client_at, block_at, whole_weight}
 use Rattle.qs_graph.specs.Graphs.{block_graph}
 use Rattle.qs_graph.specs.Synced.{synced_of}
 use Rattle.qs_graph.specs.Walk.{entry}

@@ -1,7 +1,7 @@
 -- Walks and weights.
 use Rattle.std.proofs.Common.{◌≡◌, ℕ, zero, suc, ◌+◌, ◌*◌, ◌≤◌, max, arith}
-use Rattle.qs_check.specs.Statements.{Statements, end, command, query, assign, choose, again, leave}
-use Rattle.qs_check.specs.Loads.{weight_of}
+use Rattle.qs_program.specs.Statements.{Statements, end, command, query, assign, choose, again, leave}
+use Rattle.qs_program.specs.Loads.{weight_of}
 use Rattle.qs_graph.specs.Steps.{steps}
 use Rattle.qs_graph.specs.WalkLaws.{StepsWithinWeight}
 

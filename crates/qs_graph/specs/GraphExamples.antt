@@ -2,12 +2,12 @@
 use Rattle.std.specs.Prelude.{◌≡◌, [], ◌∷◌, pos, true, false}
 use Rattle.qs_objects.specs.declared.Op.TheVariants.{Balance, Deposit}
 use Rattle.qs_script.specs.declared.tree.Relation.TheVariants.{Less}
-use Rattle.qs_check.specs.declared.code.Call as calls
-use Rattle.qs_check.specs.declared.code.Test as tests
-use Rattle.qs_check.specs.declared.code.Expr.{Expr}
-use Rattle.qs_check.specs.declared.code.Expr.TheVariants.{Plain}
-use Rattle.qs_check.specs.declared.code.Atom.TheVariants.{Variable, Number}
-use Rattle.qs_check.specs.Statements.{Statements, end, command, query, assign, choose, again, leave}
+use Rattle.qs_program.specs.declared.code.Call as calls
+use Rattle.qs_program.specs.declared.code.Test as tests
+use Rattle.qs_program.specs.declared.code.Expr.{Expr}
+use Rattle.qs_program.specs.declared.code.Expr.TheVariants.{Plain}
+use Rattle.qs_program.specs.declared.code.Atom.TheVariants.{Variable, Number}
+use Rattle.qs_program.specs.Statements.{Statements, end, command, query, assign, choose, again, leave}
 use Rattle.qs_graph.specs.declared.node.Node.TheVariants.{Entry, Local, Branch, Sync, Query, Call}
 use Rattle.qs_graph.specs.declared.node.Action.TheVariants.{Assign, SetCount, Nothing}
 use Rattle.qs_graph.specs.declared.node.Choice.TheVariants.{If, Repeat}

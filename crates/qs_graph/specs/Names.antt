@@ -1,6 +1,6 @@
 -- The names of a block's list. A client's own block names an object by the object's number.
 use Rattle.std.specs.Prelude.{ℕ, List, map}
-use Rattle.qs_check.specs.Program.{BlockShape, ProgramShape, object_at}
+use Rattle.qs_program.specs.Program.{BlockShape, ProgramShape, object_at}
 use Rattle.qs_graph.specs.declared.node.Named.{Named}
 
 abbrev pub named : ProgramShape → ℕ → Named

@@ -1,8 +1,8 @@
 -- Nodes by the objects of a program and the list of a block.
 use Rattle.std.specs.Prelude.{◌≡◌, ◌<◌, ℕ, true, false, List}
 use Rattle.std.specs.List.{AllByRecursion}
-use Rattle.qs_check.specs.declared.program.Declared.{Declared}
-use Rattle.qs_check.specs.Sound.{IsSoundExpr, IsSoundTest, IsSoundCall, is_in}
+use Rattle.qs_program.specs.declared.program.Declared.{Declared}
+use Rattle.qs_program.specs.Sound.{IsSoundExpr, IsSoundTest, IsSoundCall, is_in}
 use Rattle.qs_graph.specs.declared.node.Node.{Node}
 use Rattle.qs_graph.specs.declared.node.Node.TheVariants.{Local, Branch, Sync, Query, Call}
 use Rattle.qs_graph.specs.declared.node.Action.{Action}

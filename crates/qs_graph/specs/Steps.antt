@@ -1,6 +1,6 @@
 -- How many nodes a walk takes.
 use Rattle.std.specs.Prelude.{ℕ, ◌+◌, ◌*◌, max}
-use Rattle.qs_check.specs.Statements.{Statements, end, command, query, assign, choose, again, leave}
+use Rattle.qs_program.specs.Statements.{Statements, end, command, query, assign, choose, again, leave}
 
 -- no walk through statements takes more nodes than this
 abbrev pub steps : Statements → ℕ

@@ -1,8 +1,8 @@
 -- A block as an interaction tree with its synchronisations: one with the handler before each query.
 use Rattle.std.specs.Prelude.{ℕ, zero, suc, ℤ, if◌then◌else◌, slice_set}
 use Rattle.qs_objects.specs.declared.Request.{Request}
-use Rattle.qs_check.specs.Statements.{Statements, end, command, query, assign, choose, again, leave}
-use Rattle.qs_check.specs.Values.{Locals, expr_value, test_value, request_of}
+use Rattle.qs_program.specs.Statements.{Statements, end, command, query, assign, choose, again, leave}
+use Rattle.qs_program.specs.Values.{Locals, expr_value, test_value, request_of}
 use Rattle.qs_meaning.specs.Interaction.{Interaction}
 use Rattle.qs_meaning.specs.Interaction as tree
 

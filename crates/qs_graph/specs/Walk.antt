@@ -1,7 +1,7 @@
 -- Walks through a graph: from node to node, each branch by the variables and the counts.
 use Rattle.std.specs.Prelude.{◌<◌, ℕ, zero, suc, ℤ, if◌then◌else◌, List, length, slice_index_or, slice_set}
 use Rattle.qs_objects.specs.declared.Request.{Request}
-use Rattle.qs_check.specs.Values.{Locals, expr_value, test_value, request_of}
+use Rattle.qs_program.specs.Values.{Locals, expr_value, test_value, request_of}
 use Rattle.qs_graph.specs.declared.node.Node.{Node}
 use Rattle.qs_graph.specs.declared.node.Node.TheVariants as node
 use Rattle.qs_graph.specs.declared.node.Action.{Action}
@@ -10,7 +10,7 @@ use Rattle.qs_graph.specs.declared.node.Choice.{Choice}
 use Rattle.qs_graph.specs.declared.node.Choice.TheVariants.{If, Repeat}
 use Rattle.qs_graph.specs.Nodes.{Place, place_at, first_target, second_target}
 use Rattle.qs_graph.specs.Synced.{Synced, Done, Call, Sync, Query}
-use Rattle.qs_check.specs.declared.code.Call as calls
+use Rattle.qs_program.specs.declared.code.Call as calls
 
 -- where a walk stands: its node, the client's variables, and for each node the count of the repeat whose branch it is
 pub record Spot : Type 0 where

@@ -1,7 +1,7 @@
 -- A walk by itself: each request is done at once.
 use Rattle.std.specs.Prelude.{ℕ, zero, suc, List, [], None}
 use Rattle.qs_objects.specs.Journals.{answer}
-use Rattle.qs_check.specs.Values.{Locals}
+use Rattle.qs_program.specs.Values.{Locals}
 use Rattle.qs_meaning.specs.Solo.{States, Outcome, changed, value_of, event}
 use Rattle.qs_meaning.specs.Interaction.{noted}
 use Rattle.qs_graph.specs.Nodes.{Place}

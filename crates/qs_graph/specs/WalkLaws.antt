@@ -1,12 +1,12 @@
 -- What walks through the graph of a block do.
 use Rattle.std.specs.Prelude.{◌≡◌, ◌<◌, ◌≤◌, ℕ, ◌*◌, List, ◌∷◌, length}
-use Rattle.qs_check.specs.Statements.{Statements}
-use Rattle.qs_check.specs.Values.{Locals}
+use Rattle.qs_program.specs.Statements.{Statements}
+use Rattle.qs_program.specs.Values.{Locals}
 use Rattle.qs_meaning.specs.Solo.{States, solo}
 use Rattle.qs_meaning.specs.Interaction.{tree_of}
-use Rattle.qs_check.specs.Loads.{weight_of}
-use Rattle.qs_check.specs.Program.{ProgramShape, block_at}
-use Rattle.qs_check.specs.Sound.{IsSound}
+use Rattle.qs_program.specs.Loads.{weight_of}
+use Rattle.qs_program.specs.Program.{ProgramShape, block_at}
+use Rattle.qs_program.specs.Sound.{IsSound}
 use Rattle.qs_graph.specs.Nodes.{Place}
 use Rattle.qs_graph.specs.Graphs.{block_graph}
 use Rattle.qs_graph.specs.Paths.{IsPath}

@@ -1,8 +1,8 @@
 //! The graph of a block, made in one pass: where a statement leads is known from how many nodes there are before it.
 
 ghost use Rattle.std.specs.Prelude.{◌≡◌, ◌<◌, ◌≤◌, ◌+◌, ◌++◌, ◌∷◌, [], length, vec_capacity, IfOk, OnOk};
-ghost use Rattle.qs_check.specs.Program.{block_at, blocks_of};
-ghost use Rattle.qs_check.specs.Views.{single};
+ghost use Rattle.qs_program.specs.Program.{block_at, blocks_of};
+ghost use Rattle.qs_program.specs.Views.{single};
 ghost use Rattle.qs_graph.specs.declared.node.Node.TheVariants.{Branch, Call, Query, Sync};
 ghost use Rattle.qs_graph.specs.Names.{names_of};
 ghost use Rattle.qs_graph.specs.Nodes.{to, to_either};
@@ -14,7 +14,7 @@ use crate::copies::copied;
 use crate::counts::{nodes_of, nodes_of_stmt};
 use crate::graphs::{Graph, Place};
 use crate::node::{Action, Choice, Named, Node};
-use qs_check::{Body, Call as Request, Program, Stmt};
+use qs_program::{Body, Call as Request, Program, Stmt};
 use std::alloc::{AllocError, Global};
 
 /// The control-flow graph of a block.

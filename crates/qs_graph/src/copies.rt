@@ -2,7 +2,7 @@
 
 ghost use Rattle.std.specs.Prelude.{◌≡◌, IfOk};
 
-use qs_check::{Atoms, Call};
+use qs_program::{Atoms, Call};
 use std::alloc::{AllocError, Global};
 
 /// The same call once more.

@@ -2,9 +2,9 @@
 
 ghost use Rattle.std.specs.Prelude.{◌≡◌, min, ◌^◌, ◌-◌};
 ghost use Rattle.qs_graph.specs.Graphs.{node_count};
-ghost use Rattle.qs_check.specs.Views.{single};
+ghost use Rattle.qs_program.specs.Views.{single};
 
-use qs_check::{Body, Stmt};
+use qs_program::{Body, Stmt};
 
 /// How many nodes a list of statements has, or the greatest number where it has more.
 #[cycle(count)]

@@ -1,7 +1,7 @@
 //! What the nodes of a graph do, with the expressions of their statements.
 
-use qs_check::{Call, Expr, Test};
 use qs_objects::Kind;
+use qs_program::{Call, Expr, Test};
 
 /// What a local node does.
 #[derive(Clone, Copy, Debug)]

@@ -1,7 +1,7 @@
 //! The room that a run's outcome takes.
 
 ghost use Rattle.std.specs.Prelude.{◌≡◌, ◌≤◌, ◌*◌, vec_len, vec_capacity};
-ghost use Rattle.qs_check.specs.Limits.{most_blocks, most_clients, most_objects};
+ghost use Rattle.qs_program.specs.Limits.{most_blocks, most_clients, most_objects};
 
 use qs_objects::{Journal, Object};
 use qs_played::ClientRows;

@@ -1,8 +1,8 @@
 -- Ends of lanes in their places, as clients and handlers are gone through.
 use Rattle.std.proofs.Common.{◌≡◌, ℕ, ◌+◌, ◌<◌, ◌≤◌, Bool, false, List, Option, None, length, sym, subst, ◌∙◌, inl, inr, below_more, arith}
 use Rattle.std.proofs.lemmas.Bool.{cases_lt}
-use Rattle.qs_check.specs.Program.{ProgramShape}
-use Rattle.qs_check.specs.Sound.{IsSound}
+use Rattle.qs_program.specs.Program.{ProgramShape}
+use Rattle.qs_program.specs.Sound.{IsSound}
 use Rattle.qs_lane.specs.Views.{InView, OutView}
 use Rattle.qs_making.specs.Ends.{AreEnds, ever_reserves, in_at, out_at}
 use Rattle.qs_making.proofs.Reserving.{past_clients, past_handlers}

@@ -1,7 +1,7 @@
 -- What the desk has for each client and each handler of a program.
 use Rattle.std.proofs.Common.{◌≡◌, ℕ, zero, suc, ◌<◌, ◌≤◌, true, nat_lt, if◌then◌else◌, [], map, length, get_or, Some, None, refl, ap, ◌∙◌, arith, rules, tests}
 use Rattle.std.proofs.lemmas.List.{get_or-map}
-use Rattle.qs_check.specs.Program.{ProgramShape}
+use Rattle.qs_program.specs.Program.{ProgramShape}
 use Rattle.qs_desk.specs.Lines.{tickets_at}
 use Rattle.qs_desk.specs.Places.{places, share_at}
 

@@ -1,8 +1,8 @@
 -- The ends of lanes, and between whom there is a lane.
 use Rattle.std.specs.Prelude.{◌≡◌, ℕ, Bool, List, [], Option, None, is_some, slice_index_or}
 use Rattle.std.specs.List.{list_any}
-use Rattle.qs_check.specs.Program.{BlockShape, ProgramShape, client_at}
-use Rattle.qs_check.specs.Sound.{is_in}
+use Rattle.qs_program.specs.Program.{BlockShape, ProgramShape, client_at}
+use Rattle.qs_program.specs.Sound.{is_in}
 use Rattle.qs_client_thread.specs.ClientThreads as running
 use Rattle.qs_handler_thread.specs.HandlerThreads as handling
 use Rattle.qs_lane.specs.Views.{InView, OutView}

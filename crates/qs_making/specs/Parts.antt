@@ -1,7 +1,7 @@
 -- What a run of a program on threads begins with, beside the desk.
 use Rattle.std.specs.Prelude.{◌≡◌, ℕ, Some, length, slice_get}
 use Rattle.qs_objects.specs.Journals.{HeldState}
-use Rattle.qs_check.specs.Program.{ProgramShape}
+use Rattle.qs_program.specs.Program.{ProgramShape}
 use Rattle.qs_syncset.specs.Codes.{IsCodeOf}
 use Rattle.qs_syncset.specs.declared.mode.Mode.{Mode}
 use Rattle.qs_client.specs.Mind.{fresh_mind}

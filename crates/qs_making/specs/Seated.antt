@@ -1,6 +1,6 @@
 -- Workers in their seats, with the ends of lanes that were made for them.
 use Rattle.std.specs.Prelude.{◌≡◌, ℕ, List, [], Option, Some, length, slice_get, slice_index_or}
-use Rattle.qs_check.specs.Program.{ProgramShape}
+use Rattle.qs_program.specs.Program.{ProgramShape}
 use Rattle.qs_syncset.specs.declared.mode.Mode.{Mode}
 use Rattle.qs_lane.specs.Views.{InView, OutView}
 use Rattle.qs_seats.specs.Runs.{IsReadyClient, IsReadyHandler}

@@ -8,7 +8,7 @@ ghost use Rattle.qs_played.specs.JournalRooms.{fresh_held};
 
 use crate::lanes::all_lanes;
 use crate::part::Parts;
-use qs_check::Program;
+use qs_program::Program;
 use qs_chunk::ChunkSize;
 use qs_client::Mind;
 use qs_objects::Held;

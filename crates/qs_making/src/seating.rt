@@ -1,7 +1,7 @@
 //! Seating the workers of a run.
 
 ghost use Rattle.std.specs.Prelude.{◌≡◌, ℕ, ◌≤◌, Some, [], length, map, slice_get, vec_capacity, IfOk};
-ghost use Rattle.qs_check.specs.Sound.{IsSound};
+ghost use Rattle.qs_program.specs.Sound.{IsSound};
 ghost use Rattle.qs_client.specs.MindState.{MindState};
 ghost use Rattle.qs_desk.specs.Lines.{tickets_at};
 ghost use Rattle.qs_desk.specs.Places.{places, share_at};

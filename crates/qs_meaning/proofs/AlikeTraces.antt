@@ -15,12 +15,12 @@ use Rattle.qs_objects.specs.declared.Request.{Request}
 use Rattle.qs_objects.specs.declared.held.Event.{Event}
 use Rattle.qs_objects.specs.declared.held.Ticket.{Ticket}
 use Rattle.qs_objects.proofs.Choices.{eqb_self, eqb_apart, apart_eqb, num_cases}
-use Rattle.qs_check.specs.Numbering.{Name, same_name}
-use Rattle.qs_check.specs.declared.program.Declared.{Declared}
-use Rattle.qs_check.specs.Program.{BlockShape, ClientShape, ProgramShape, client_at, text_of, no_block, no_client, no_object}
-use Rattle.qs_check.specs.Sound.{AreVariablesBelow, IsFormedBlock, IsFormedClient, IsFormedProgram, IsSound, IsSoundBlock, IsSoundClient, is_in}
-use Rattle.qs_check.specs.Statements.{Statements, end, command, query, assign, choose, again, leave}
-use Rattle.qs_check.specs.Values.{Locals, expr_value, test_value}
+use Rattle.qs_program.specs.Numbering.{Name, same_name}
+use Rattle.qs_program.specs.declared.program.Declared.{Declared}
+use Rattle.qs_program.specs.Program.{BlockShape, ClientShape, ProgramShape, client_at, text_of, no_block, no_client, no_object}
+use Rattle.qs_program.specs.Sound.{AreVariablesBelow, IsFormedBlock, IsFormedClient, IsFormedProgram, IsSound, IsSoundBlock, IsSoundClient, is_in}
+use Rattle.qs_program.specs.Statements.{Statements, end, command, query, assign, choose, again, leave}
+use Rattle.qs_program.specs.Values.{Locals, expr_value, test_value}
 use Rattle.qs_meaning.specs.Alike.{SameStatements, SameText, SameValues, SameObject, SameRequest, SameEvent, SameTrace, StartAlike, AskAlike, AlikeFrom}
 use Rattle.qs_meaning.specs.Alike.{HasValues, BlocksAlike, PlacesAlike, ValuesByName, object_name, variable_name, value_at}
 use Rattle.qs_meaning.specs.Following.{AsksOnly, reserves}

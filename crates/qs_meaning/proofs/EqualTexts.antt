@@ -6,16 +6,16 @@ use Rattle.std.specs.List.{AllByRecursion, AllZip}
 use Rattle.std.proofs.lemmas.List.{length-set, get_or-set_same, get_or-set_other}
 use Rattle.qs_objects.specs.Act.{clamped}
 use Rattle.qs_objects.proofs.Choices.{num_cases, apart_eqb}
-use Rattle.qs_check.specs.declared.code.Atom.{Atom}
-use Rattle.qs_check.specs.declared.code.Atom.TheVariants.{Variable, Number}
-use Rattle.qs_check.specs.declared.code.Expr.{Expr}
-use Rattle.qs_check.specs.declared.code.Expr.TheVariants.{Plain, Binary}
-use Rattle.qs_check.specs.declared.code.Test.{Test}
-use Rattle.qs_check.specs.declared.code.Call.{Call as TextCall}
-use Rattle.qs_check.specs.Program.{ProgramShape}
-use Rattle.qs_check.specs.Sound.{IsAtomBelow, IsExprBelow, AreVariablesBelow}
-use Rattle.qs_check.specs.Statements.{Statements, end, command, query, assign, choose, again, leave}
-use Rattle.qs_check.specs.Values.{Locals, atom_value, exact, expr_value, relates, test_value, request_of}
+use Rattle.qs_program.specs.declared.code.Atom.{Atom}
+use Rattle.qs_program.specs.declared.code.Atom.TheVariants.{Variable, Number}
+use Rattle.qs_program.specs.declared.code.Expr.{Expr}
+use Rattle.qs_program.specs.declared.code.Expr.TheVariants.{Plain, Binary}
+use Rattle.qs_program.specs.declared.code.Test.{Test}
+use Rattle.qs_program.specs.declared.code.Call.{Call as TextCall}
+use Rattle.qs_program.specs.Program.{ProgramShape}
+use Rattle.qs_program.specs.Sound.{IsAtomBelow, IsExprBelow, AreVariablesBelow}
+use Rattle.qs_program.specs.Statements.{Statements, end, command, query, assign, choose, again, leave}
+use Rattle.qs_program.specs.Values.{Locals, atom_value, exact, expr_value, relates, test_value, request_of}
 use Rattle.qs_meaning.specs.Alike.{SameAtom, SameExpr, SameTest, SameCall, SameStatements, SameRequest, object_name, value_at}
 use Rattle.qs_meaning.specs.Interaction.{Interaction, Done, Call, Query, Next, turns, meaning, tree_of}
 

@@ -6,10 +6,10 @@ use Rattle.qs_objects.proofs.Choices.{eqb_self, num_cases}
 use Rattle.qs_objects.specs.Operations.{fits}
 use Rattle.qs_objects.specs.declared.Op.{Op}
 use Rattle.qs_objects.specs.declared.Op.TheVariants.{Deposit, Balance}
-use Rattle.qs_check.specs.declared.program.Declared.{Declared}
-use Rattle.qs_check.specs.Numbering.{Name, same_name}
-use Rattle.qs_check.specs.Program.{no_object, whole_load, whole_weight}
-use Rattle.qs_check.specs.Sound.{IsFormedClient, IsFormedProgram, IsSound, IsSoundClient, is_in}
+use Rattle.qs_program.specs.declared.program.Declared.{Declared}
+use Rattle.qs_program.specs.Numbering.{Name, same_name}
+use Rattle.qs_program.specs.Program.{no_object, whole_load, whole_weight}
+use Rattle.qs_program.specs.Sound.{IsFormedClient, IsFormedProgram, IsSound, IsSoundClient, is_in}
 use Rattle.qs_meaning.specs.Alike.{SameTrace, StartAlike, object_name}
 use Rattle.qs_meaning.specs.AlikeExamples.{AlikeExamples, Match, depositor, first, second, ann, bob, carol}
 

@@ -14,9 +14,9 @@ use Rattle.qs_objects.proofs.Choices.{same_self, not_same}
 use Rattle.qs_objects.proofs.ObjectLaws.{never_answers}
 use Rattle.qs_meaning.specs.Following.{Leads, block_tree}
 use Rattle.qs_meaning.specs.Interaction.{Interaction, Done, Call, Query}
-use Rattle.qs_check.specs.Program.{ProgramShape}
+use Rattle.qs_program.specs.Program.{ProgramShape}
 use Rattle.qs_meaning.specs.Serial.{zeros}
-use Rattle.qs_check.specs.Values.{Locals}
+use Rattle.qs_program.specs.Values.{Locals}
 use Rattle.qs_meaning.proofs.Each.{each_map, each_join, flat_map_same, flat_map_none}
 
 -- what is known of a reservation: the variables at entry, the trace so far, and what is left of the block

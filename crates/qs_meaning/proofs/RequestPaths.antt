@@ -1,9 +1,9 @@
 -- No path makes more requests on an object than the load says.
 use Rattle.std.proofs.Common.{ℕ, zero, suc, ◌+◌, ◌*◌, ◌-◌, ◌≤◌, max, Bool, true, false, if◌then◌else◌, slice_set, arith}
-use Rattle.qs_check.specs.Statements.{Statements, end, command, query, assign, choose, again, leave}
-use Rattle.qs_check.specs.Values.{Locals, expr_value, test_value, request_of}
+use Rattle.qs_program.specs.Statements.{Statements, end, command, query, assign, choose, again, leave}
+use Rattle.qs_program.specs.Values.{Locals, expr_value, test_value, request_of}
 use Rattle.qs_meaning.specs.Interaction.{Interaction, Done, Call, Query, Next, turns, meaning, tree_of}
-use Rattle.qs_check.specs.Loads.{load_of}
+use Rattle.qs_program.specs.Loads.{load_of}
 use Rattle.qs_meaning.specs.Paths.{counts, Within, RequestsWithinLoad}
 
 more : (h : ℕ) (t : Interaction) (n m : ℕ) → Within h t n → n ≤ m → Within h t m

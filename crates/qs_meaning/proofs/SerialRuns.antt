@@ -13,11 +13,11 @@ use Rattle.qs_objects.proofs.Choices.{num_cases, not_same, same_self}
 use Rattle.qs_objects.proofs.Replays.{replay-append, IsHonest-append}
 use Rattle.qs_meaning.specs.Following.{AsksOnly, reserves, block_tree, changed_all, noted_all}
 use Rattle.qs_meaning.specs.Interaction.{Interaction, Done, Call, Query, run}
-use Rattle.qs_check.specs.Program.{ProgramShape, text_of}
+use Rattle.qs_program.specs.Program.{ProgramShape, text_of}
 use Rattle.qs_meaning.specs.Serial.{LegalFrom, Place, serial_from, declared, zeros}
 use Rattle.qs_meaning.specs.Solo.{States, Outcome, put, solo}
-use Rattle.qs_check.specs.Sound.{IsSound}
-use Rattle.qs_check.specs.Values.{Locals}
+use Rattle.qs_program.specs.Sound.{IsSound}
+use Rattle.qs_program.specs.Values.{Locals}
 use Rattle.qs_meaning.proofs.Each.{each_map, each_both, each_join}
 use Rattle.qs_meaning.proofs.Histories.{Page, IsPage, IsDone, Begins, parts_of, done_of, Apart, OnlyCommands, Piece, Line, Flow, ClearOf, clear_stamped, clear_later, commands_honest, has_append, has_clear, unstamp_all}
 use Rattle.qs_meaning.proofs.SoundTrees.{blocks_ask_only}

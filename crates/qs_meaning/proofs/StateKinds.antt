@@ -15,11 +15,11 @@ use Rattle.qs_objects.specs.declared.object.Kind.{Kind}
 use Rattle.qs_objects.specs.declared.object.Kind.TheVariants as kinds
 use Rattle.qs_objects.proofs.Choices.{num_cases}
 use Rattle.qs_objects.proofs.ObjectLaws.{same_shape}
-use Rattle.qs_check.specs.declared.program.Declared.{Declared}
-use Rattle.qs_check.specs.Program.{ProgramShape, object_at, text_of, no_object}
-use Rattle.qs_check.specs.Sound.{IsSound}
-use Rattle.qs_check.specs.Statements.{Statements}
-use Rattle.qs_check.specs.Values.{Locals}
+use Rattle.qs_program.specs.declared.program.Declared.{Declared}
+use Rattle.qs_program.specs.Program.{ProgramShape, object_at, text_of, no_object}
+use Rattle.qs_program.specs.Sound.{IsSound}
+use Rattle.qs_program.specs.Statements.{Statements}
+use Rattle.qs_program.specs.Values.{Locals}
 use Rattle.qs_meaning.specs.Interaction.{Interaction, Done, Call, Query, run, tree_of}
 use Rattle.qs_meaning.specs.Serial.{Place, serial_from, declared, state_or_none, zeros}
 use Rattle.qs_meaning.specs.Solo as alone

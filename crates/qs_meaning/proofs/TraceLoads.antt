@@ -5,9 +5,9 @@ use Rattle.qs_objects.specs.Journals.{answer}
 use Rattle.qs_objects.specs.Parts.{part}
 use Rattle.qs_objects.specs.declared.held.Event.{Event}
 use Rattle.qs_objects.specs.declared.held.Ticket.{Ticket}
-use Rattle.qs_check.specs.Loads.{load_of}
-use Rattle.qs_check.specs.Program.{ProgramShape, text_of}
-use Rattle.qs_check.specs.Values.{Locals}
+use Rattle.qs_program.specs.Loads.{load_of}
+use Rattle.qs_program.specs.Program.{ProgramShape, text_of}
+use Rattle.qs_program.specs.Values.{Locals}
 use Rattle.qs_meaning.specs.Interaction.{Interaction, Done, Call, Query, run, tree_of}
 use Rattle.qs_meaning.specs.Paths.{counts, Within}
 use Rattle.qs_meaning.specs.Serial.{Place, serial_from, declared, zeros}

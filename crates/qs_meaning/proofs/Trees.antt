@@ -3,8 +3,8 @@ use Rattle.std.proofs.Common.{◌≡◌, ℕ, zero, suc, Bool, true, false, if�
 use Rattle.std.proofs.lemmas.List.{append-nil}
 use Rattle.qs_objects.specs.declared.held.Event.{Event}
 use Rattle.qs_objects.specs.Journals.{answer}
-use Rattle.qs_check.specs.Statements.{Statements, end, command, query, assign, choose, again, leave}
-use Rattle.qs_check.specs.Values.{Locals, test_value, request_of}
+use Rattle.qs_program.specs.Statements.{Statements, end, command, query, assign, choose, again, leave}
+use Rattle.qs_program.specs.Values.{Locals, test_value, request_of}
 use Rattle.qs_meaning.specs.Solo.{States, Outcome, Ending, Runs, changed, event, with_trace, then_run, left_none, turns_run, exec}
 use Rattle.qs_meaning.specs.Interaction.{Next, Done, turns, meaning, noted, run, TreesAgree}
 

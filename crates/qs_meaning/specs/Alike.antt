@@ -7,17 +7,17 @@ use Rattle.qs_objects.specs.Parts.{IsFront, part}
 use Rattle.qs_objects.specs.declared.Request.{Request}
 use Rattle.qs_objects.specs.declared.held.Event.{Event}
 use Rattle.qs_objects.specs.declared.held.Ticket.{Ticket}
-use Rattle.qs_check.specs.declared.code.Atom.{Atom}
-use Rattle.qs_check.specs.declared.code.Atom.TheVariants.{Variable, Number}
-use Rattle.qs_check.specs.declared.code.Expr.{Expr}
-use Rattle.qs_check.specs.declared.code.Expr.TheVariants.{Plain, Binary}
-use Rattle.qs_check.specs.declared.code.Test.{Test}
-use Rattle.qs_check.specs.declared.code.Call.{Call}
-use Rattle.qs_check.specs.Numbering.{Name}
-use Rattle.qs_check.specs.Program.{ProgramShape, object_at, client_at, text_of}
-use Rattle.qs_check.specs.Sound.{IsSound}
-use Rattle.qs_check.specs.Statements.{Statements, end, command, query, assign, choose, again, leave}
-use Rattle.qs_check.specs.Values.{Locals}
+use Rattle.qs_program.specs.declared.code.Atom.{Atom}
+use Rattle.qs_program.specs.declared.code.Atom.TheVariants.{Variable, Number}
+use Rattle.qs_program.specs.declared.code.Expr.{Expr}
+use Rattle.qs_program.specs.declared.code.Expr.TheVariants.{Plain, Binary}
+use Rattle.qs_program.specs.declared.code.Test.{Test}
+use Rattle.qs_program.specs.declared.code.Call.{Call}
+use Rattle.qs_program.specs.Numbering.{Name}
+use Rattle.qs_program.specs.Program.{ProgramShape, object_at, client_at, text_of}
+use Rattle.qs_program.specs.Sound.{IsSound}
+use Rattle.qs_program.specs.Statements.{Statements, end, command, query, assign, choose, again, leave}
+use Rattle.qs_program.specs.Values.{Locals}
 use Rattle.qs_meaning.specs.Following.{reserves}
 use Rattle.qs_meaning.specs.Serial.{Place, serial}
 use Rattle.qs_meaning.specs.Solo.{States, solo}

@@ -5,12 +5,12 @@ use Rattle.qs_objects.specs.Act.{account}
 use Rattle.qs_objects.specs.declared.Op.TheVariants.{Deposit}
 use Rattle.qs_objects.specs.declared.held.Event.{Event}
 use Rattle.qs_objects.specs.declared.object.Kind.TheVariants as kinds
-use Rattle.qs_check.specs.declared.code.Atom.TheVariants.{Variable}
-use Rattle.qs_check.specs.declared.program.Declared.{Declared}
-use Rattle.qs_check.specs.Numbering.{Name}
-use Rattle.qs_check.specs.Program.{ClientShape, ProgramShape}
-use Rattle.qs_check.specs.Sound.{IsSound}
-use Rattle.qs_check.specs.Statements.{end, command, query}
+use Rattle.qs_program.specs.declared.code.Atom.TheVariants.{Variable}
+use Rattle.qs_program.specs.declared.program.Declared.{Declared}
+use Rattle.qs_program.specs.Numbering.{Name}
+use Rattle.qs_program.specs.Program.{ClientShape, ProgramShape}
+use Rattle.qs_program.specs.Sound.{IsSound}
+use Rattle.qs_program.specs.Statements.{end, command, query}
 use Rattle.qs_meaning.specs.Alike.{SameText, SameValues, SameTrace, StartAlike, AskAlike}
 use Rattle.qs_meaning.specs.MeaningExamples.{n, call, balance, block, left_with, replies, some, ticket}
 use Rattle.qs_meaning.specs.Serial.{Place, serial, no_state, zeros}

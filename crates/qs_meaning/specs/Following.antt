@@ -6,10 +6,10 @@ use Rattle.qs_objects.specs.Parts.{logged, part}
 use Rattle.qs_objects.specs.declared.held.Event.{Event}
 use Rattle.qs_objects.specs.declared.held.Ticket.{Ticket}
 use Rattle.qs_meaning.specs.Interaction.{Interaction, Done, Call, Query, tree_of, run}
-use Rattle.qs_check.specs.Program.{ProgramShape, text_of}
+use Rattle.qs_program.specs.Program.{ProgramShape, text_of}
 use Rattle.qs_meaning.specs.Solo.{States, Outcome, changed, value_of}
-use Rattle.qs_check.specs.Sound.{IsSound, is_in}
-use Rattle.qs_check.specs.Values.{Locals}
+use Rattle.qs_program.specs.Sound.{IsSound, is_in}
+use Rattle.qs_program.specs.Values.{Locals}
 
 -- these requests with their replies lead from a tree to the rest of it
 abbrev pub Leads : Interaction → List Event → Interaction → Type 0

@@ -8,13 +8,13 @@ use Rattle.qs_objects.specs.declared.object.Kind.TheVariants as kinds
 use Rattle.qs_objects.specs.declared.held.Ticket.{Ticket}
 use Rattle.qs_script.specs.declared.tree.Operator.TheVariants.{Times}
 use Rattle.qs_script.specs.declared.tree.Relation.TheVariants.{Unequal}
-use Rattle.qs_check.specs.declared.code.Atom.{Atom}
-use Rattle.qs_check.specs.declared.code.Atom.TheVariants.{Variable, Number}
-use Rattle.qs_check.specs.declared.code.Expr.TheVariants.{Binary}
-use Rattle.qs_check.specs.declared.code.Call.{Call}
-use Rattle.qs_check.specs.declared.program.Declared.{Declared}
-use Rattle.qs_check.specs.Statements.{Statements, end, command, query, assign, choose, again, leave}
-use Rattle.qs_check.specs.Program.{BlockShape, ClientShape, ProgramShape}
+use Rattle.qs_program.specs.declared.code.Atom.{Atom}
+use Rattle.qs_program.specs.declared.code.Atom.TheVariants.{Variable, Number}
+use Rattle.qs_program.specs.declared.code.Expr.TheVariants.{Binary}
+use Rattle.qs_program.specs.declared.code.Call.{Call}
+use Rattle.qs_program.specs.declared.program.Declared.{Declared}
+use Rattle.qs_program.specs.Statements.{Statements, end, command, query, assign, choose, again, leave}
+use Rattle.qs_program.specs.Program.{BlockShape, ClientShape, ProgramShape}
 use Rattle.qs_meaning.specs.Serial.{Serial, serial}
 
 abbrev pub n : ℕ → Atom

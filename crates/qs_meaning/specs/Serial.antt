@@ -4,9 +4,9 @@ use Rattle.qs_objects.specs.Act.{State, account}
 use Rattle.qs_objects.specs.Objects.{starts}
 use Rattle.qs_objects.specs.declared.held.Event.{Event}
 use Rattle.qs_objects.specs.declared.held.Ticket.{Ticket}
-use Rattle.qs_check.specs.Values.{Locals}
+use Rattle.qs_program.specs.Values.{Locals}
 use Rattle.qs_meaning.specs.Solo.{States, put, solo}
-use Rattle.qs_check.specs.Program.{ProgramShape, object_at, text_of, blocks_of}
+use Rattle.qs_program.specs.Program.{ProgramShape, object_at, text_of, blocks_of}
 
 -- the tickets of each client come as 0, 1, 2, .. and each names a block of the program; from these counts of begun blocks on
 abbrev pub LegalFrom : ProgramShape → (ℕ → ℕ) → List Ticket → Type 0

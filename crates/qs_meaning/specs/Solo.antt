@@ -4,8 +4,8 @@ use Rattle.qs_objects.specs.Act.{State}
 use Rattle.qs_objects.specs.Journals.{after, answer}
 use Rattle.qs_objects.specs.declared.Request.{Request}
 use Rattle.qs_objects.specs.declared.held.Event.{Event}
-use Rattle.qs_check.specs.Statements.{Statements, end, command, query, assign, choose, again, leave}
-use Rattle.qs_check.specs.Values.{Locals, expr_value, test_value, request_of}
+use Rattle.qs_program.specs.Statements.{Statements, end, command, query, assign, choose, again, leave}
+use Rattle.qs_program.specs.Values.{Locals, expr_value, test_value, request_of}
 
 -- the objects' states, by their numbers
 abbrev pub States : Type 0

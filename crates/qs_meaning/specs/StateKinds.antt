@@ -7,8 +7,8 @@ use Rattle.qs_objects.specs.Operations.{fits}
 use Rattle.qs_objects.specs.declared.Op.{Op}
 use Rattle.qs_objects.specs.declared.held.Ticket.{Ticket}
 use Rattle.qs_objects.specs.declared.object.Kind.{Kind}
-use Rattle.qs_check.specs.Program.{ProgramShape, object_at}
-use Rattle.qs_check.specs.Sound.{IsSound}
+use Rattle.qs_program.specs.Program.{ProgramShape, object_at}
+use Rattle.qs_program.specs.Sound.{IsSound}
 use Rattle.qs_meaning.specs.Serial.{Place, serial}
 use Rattle.qs_meaning.specs.Solo.{States}
 

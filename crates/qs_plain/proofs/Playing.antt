@@ -2,7 +2,7 @@
 use Rattle.std.proofs.Common.{◌≡◌, ℕ, ◌+◌, Bool, true, false, List, [], ◌∷◌, ◌++◌, map, None, refl, ap, sym, ◌∙◌, add-one, zero-add, append_assoc}
 use Rattle.std.specs.Bool.{OnTrue}
 use Rattle.std.specs.List.{range_with_len}
-use Rattle.qs_check.specs.Program.{ProgramShape}
+use Rattle.qs_program.specs.Program.{ProgramShape}
 use Rattle.qs_played.specs.Schedule.{actors_of, repeated, schedule}
 use Rattle.qs_played.specs.declared.actor.Actor.{Actor}
 use Rattle.qs_played.proofs.Lists.{range_more}

@@ -1,8 +1,8 @@
 -- Wherever the plain rules have come, what they have shown is isolated and counted.
 use Rattle.std.proofs.Common.{sym, subst, ◌≡◌, Bool, true, false, List, [], ◌∷◌, ◌++◌, refl, ap, ◌∙◌}
 use Rattle.std.specs.Bool.{OnTrue}
-use Rattle.qs_check.specs.Sound.{IsSound}
-use Rattle.qs_check.specs.Program.{ProgramShape}
+use Rattle.qs_program.specs.Sound.{IsSound}
+use Rattle.qs_program.specs.Program.{ProgramShape}
 use Rattle.qs_played.specs.Isolation.{IsIsolated}
 use Rattle.qs_played.specs.declared.actor.Actor.{Actor}
 use Rattle.qs_plain_laws.specs.PlainSchedule.{played_of, or_stay, plays}

@@ -6,10 +6,10 @@ use Rattle.std.proofs.lemmas.List.{length-append, length-map, map-append, map-se
 use Rattle.std.proofs.lemmas.List.Sums.{sum_by-set}
 use Rattle.qs_objects.specs.declared.held.Ticket.{Ticket}
 use Rattle.qs_objects.specs.Parts.{same}
-use Rattle.qs_check.specs.Loads.{load_of}
-use Rattle.qs_check.specs.Program.{BlockShape, block_at, blocks_of}
-use Rattle.qs_check.specs.Sound.{IsSound, IsSoundBlock}
-use Rattle.qs_check.proofs.Bounds.{sound_block}
+use Rattle.qs_program.specs.Loads.{load_of}
+use Rattle.qs_program.specs.Program.{BlockShape, block_at, blocks_of}
+use Rattle.qs_program.specs.Sound.{IsSound, IsSoundBlock}
+use Rattle.qs_program.proofs.Bounds.{sound_block}
 use Rattle.qs_meaning.specs.Interaction.{tree_of}
 use Rattle.qs_played.specs.Played.{ticket}
 use Rattle.qs_played.specs.declared.actor.Actor.TheVariants as actor

@@ -8,10 +8,10 @@ use Rattle.qs_objects.specs.declared.held.Event.{Event}
 use Rattle.qs_objects.specs.declared.held.Ticket.{Ticket}
 use Rattle.qs_objects.specs.declared.Request.{Request}
 use Rattle.qs_meaning.specs.Interaction.{Interaction, Done, Call, Query}
-use Rattle.qs_check.specs.Program.{BlockShape, block_at, blocks_of}
+use Rattle.qs_program.specs.Program.{BlockShape, block_at, blocks_of}
 use Rattle.qs_meaning.specs.Solo.{event}
-use Rattle.qs_check.specs.Sound.{IsSound, IsSoundBlock, is_in}
-use Rattle.qs_check.proofs.Bounds.{sound_block, AllByRecursion-get_or}
+use Rattle.qs_program.specs.Sound.{IsSound, IsSoundBlock, is_in}
+use Rattle.qs_program.proofs.Bounds.{sound_block, AllByRecursion-get_or}
 use Rattle.qs_played.specs.Played.{ticket}
 use Rattle.qs_played.specs.declared.actor.Actor.TheVariants as actor
 use Rattle.qs_plain_laws.specs.Plain.{Client, step, client_step, goes_on}

@@ -1,6 +1,6 @@
 -- Handlers before the first step.
 use Rattle.std.specs.Prelude.{◌≡◌, ◌<◌, ℕ, List, [], length}
-use Rattle.qs_check.specs.Program.{ProgramShape}
+use Rattle.qs_program.specs.Program.{ProgramShape}
 use Rattle.qs_plain_laws.specs.Plain.{fresh_handler}
 use Rattle.qs_plain.specs.Handlers.{handler_at}
 use Rattle.qs_plain.specs.Served.{HandlerState}

@@ -4,8 +4,8 @@ use Rattle.std.specs.List.{AllByRecursion}
 use Rattle.std.specs.Coded.{Coded, codes, code_by, coded×, coded_list}
 use Rattle.qs_objects.specs.declared.held.Ticket.{Ticket}
 use Rattle.qs_objects.specs.Parts.{same}
-use Rattle.qs_check.specs.Program.{ProgramShape}
-use Rattle.qs_check.specs.Shapes.{program_code}
+use Rattle.qs_program.specs.Program.{ProgramShape}
+use Rattle.qs_program.specs.Shapes.{program_code}
 use Rattle.qs_played.specs.Isolation.{IsIsolated}
 use Rattle.qs_played.specs.Played.{ticket}
 use Rattle.qs_played.specs.declared.actor.Actor.{Actor}

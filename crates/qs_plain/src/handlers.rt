@@ -8,11 +8,11 @@ ghost use Rattle.qs_plain.specs.Handlers.{CanEnterAll, CanLog, CanLogAll, entere
 ghost use Rattle.qs_plain_client.specs.Queues.{QueueState};
 
 use crate::handler::HandlerState;
-use qs_check::Program;
 use qs_objects::Ticket;
 use qs_plain_client::PrivateQueue;
 use qs_plain_laws::QueueItem;
 use qs_played::declared_held;
+use qs_program::Program;
 use std::alloc::{AllocError, Global};
 use std::collections::VecDeque;
 

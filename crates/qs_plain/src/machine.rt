@@ -9,11 +9,11 @@ ghost use Rattle.qs_plain_client.specs.declared.stage.Stage.TheVariants as stage
 use crate::handler::{HandlerState, Served};
 use crate::handlers::{enter_all, fresh_handlers, log_all, log_once};
 use crate::showing;
-use qs_check::Program;
 use qs_objects::Ticket;
 use qs_plain_client::{Asked, ClientState, Stage, answer, fresh_clients};
 use qs_plain_laws::QueueItem;
 use qs_played::{Actor, Endings, Played, Row};
+use qs_program::Program;
 use std::alloc::{AllocError, Global};
 use std::marker::Model;
 

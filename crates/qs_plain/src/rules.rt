@@ -7,8 +7,8 @@ ghost use Rattle.qs_plain.specs.Rules.{AreIsolated, Steps, plain_of};
 ghost use Rattle.qs_plain.specs.Rules.{AreRulesCounted};
 
 use crate::machine::Machine;
-use qs_check::Program;
 use qs_played::Actor;
+use qs_program::Program;
 use std::alloc::{AllocError, Global};
 use std::marker::Model;
 

@@ -9,8 +9,8 @@ ghost use Rattle.qs_played.specs.Schedule.{actors_of, all_named, names_actor, re
 ghost use Rattle.qs_plain_laws.specs.PlainSchedule.{IsPlayed, played_of, plays, scheduled};
 
 use crate::machine::Machine;
-use qs_check::Program;
 use qs_played::{Actor, PlayFault, Played, are_named};
+use qs_program::Program;
 use std::alloc::{AllocError, Global};
 
 /// What a program shows under the plain rules after a schedule: first the picks, one step each, then so many rounds, each of them one

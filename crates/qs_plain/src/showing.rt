@@ -2,7 +2,7 @@
 
 ghost use Rattle.std.specs.Prelude.{◌≡◌, ◌≤◌, ◌∷◌, IfOk, length, map, sum_by};
 ghost use Rattle.qs_objects.specs.declared.held.Ticket.{Ticket as TicketShape};
-ghost use Rattle.qs_check.specs.Program.{ProgramShape};
+ghost use Rattle.qs_program.specs.Program.{ProgramShape};
 ghost use Rattle.qs_plain_client.specs.Clients.{ClientState as State, client_of};
 ghost use Rattle.qs_plain_client.specs.Clients.{client_at};
 ghost use Rattle.qs_plain_laws.specs.PlainSchedule.{all_done, all_idle, has_ended, syncs_of};

@@ -8,10 +8,10 @@ use Rattle.qs_objects.specs.Operations.{arity}
 use Rattle.qs_objects.specs.declared.Op.{Op}
 use Rattle.qs_objects.specs.declared.Op.TheVariants.{Deposit, Withdraw, Balance, Refused, Put, DropFirst, TakeFirst, First, Size, SetCell, AddCell, Fill, GetCell, RowSum}
 use Rattle.qs_objects.specs.declared.held.Event.{Event}
-use Rattle.qs_check.specs.Program.{BlockShape, blocks_of, block_load}
-use Rattle.qs_check.specs.Sound.{IsSound, IsSoundBody, is_in}
-use Rattle.qs_check.specs.Loads.{load_of}
-use Rattle.qs_check.proofs.Bounds.{sound_block}
+use Rattle.qs_program.specs.Program.{BlockShape, blocks_of, block_load}
+use Rattle.qs_program.specs.Sound.{IsSound, IsSoundBody, is_in}
+use Rattle.qs_program.specs.Loads.{load_of}
+use Rattle.qs_program.proofs.Bounds.{sound_block}
 use Rattle.qs_plain_client.specs.Asking.{AreSound}
 use Rattle.qs_plain_client.specs.Clients.{ClientState, IsClient, IsStaged, IsWithin, IsReady, current_block, current_counts, current_trace, block_of}
 use Rattle.qs_plain_client.specs.PreparedBlock.{PreparedState}

@@ -2,11 +2,11 @@
 use Rattle.std.proofs.Common.{◌≡◌, ◌≤◌, ℕ, zero, suc, ◌+◌, ◌-◌, ◌≢◌, ◌⊎◌, ⊎_elim, Bool, subst, List, [], ◌∷◌, ◌++◌, refl, ap, sym, ◌∙◌, arith, sub-one}
 use Rattle.std.specs.List.{AllByRecursion}
 use Rattle.std.proofs.lemmas.List.Sums.{fold-append, sum_by_push}
-use Rattle.qs_check.specs.Statements.{Statements, again, leave, choose}
-use Rattle.qs_check.specs.Sound.{IsSoundBody}
-use Rattle.qs_check.specs.declared.code.Test.{Test}
-use Rattle.qs_check.specs.declared.program.Declared.{Declared}
-use Rattle.qs_check.specs.Values.{Locals}
+use Rattle.qs_program.specs.Statements.{Statements, again, leave, choose}
+use Rattle.qs_program.specs.Sound.{IsSoundBody}
+use Rattle.qs_program.specs.declared.code.Test.{Test}
+use Rattle.qs_program.specs.declared.program.Declared.{Declared}
+use Rattle.qs_program.specs.Values.{Locals}
 use Rattle.qs_plain_client.specs.Asking.{AreSound, IsSoundFrame}
 use Rattle.qs_plain_client.specs.Frames.{Frame, rest, turning, Ahead, inside, ahead_of, next_of, work, frame_work, load_left, frame_load}
 

@@ -10,9 +10,9 @@ use Rattle.qs_objects.specs.declared.held.Event.{Event}
 use Rattle.qs_objects.proofs.Choices.{apart_eqb, num_cases}
 use Rattle.qs_syncset.specs.SyncRows.{fresh_rows, no_syncs, with_sync}
 use Rattle.qs_syncset.specs.declared.sync_counts.SyncCount.{SyncCount}
-use Rattle.qs_check.specs.Program.{BlockShape, ProgramShape, block_at, block_load, blocks_of, client_at, no_block}
-use Rattle.qs_check.specs.Sound.{IsSound}
-use Rattle.qs_check.proofs.Bounds.{block_load-whole}
+use Rattle.qs_program.specs.Program.{BlockShape, ProgramShape, block_at, block_load, blocks_of, client_at, no_block}
+use Rattle.qs_program.specs.Sound.{IsSound}
+use Rattle.qs_program.proofs.Bounds.{block_load-whole}
 use Rattle.qs_plain_client.specs.Clients.{AreRowsOf, AreStored, IsClient, IsReady, client_from, client_of}
 use Rattle.qs_plain_client.specs.ClientMoves.{begun_with, moved}
 use Rattle.qs_plain_client.specs.Frames.{Frame, places_of, rest}

@@ -3,7 +3,7 @@ use Rattle.std.specs.Prelude.{◌≡◌, ℕ, ◌==◌, if◌then◌else◌, tru
 use Rattle.qs_objects.specs.declared.Request.{Request}
 use Rattle.qs_meaning.specs.Interaction.{Done, Call, Query}
 use Rattle.qs_meaning.specs.Solo.{event, value_of}
-use Rattle.qs_check.specs.Sound.{is_in}
+use Rattle.qs_program.specs.Sound.{is_in}
 use Rattle.qs_syncset.specs.declared.sync_counts.SyncCount.{SyncCount}
 use Rattle.qs_plain_client.specs.Clients.{ClientState, block_of}
 use Rattle.qs_plain_client.specs.PreparedBlock.{PreparedState}

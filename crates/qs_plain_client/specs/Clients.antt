@@ -1,9 +1,9 @@
 -- A client of the code: its stage, what is left of its block, what it has shown, and what is prepared for its later blocks.
 use Rattle.std.specs.Prelude.{◌≡◌, ◌<◌, ◌≤◌, ℕ, suc, ◌+◌, ◌-◌, List, [], drop, length, slice_index_or, slice_set, take, ℤ, sum_by, refl}
 use Rattle.std.specs.Coded.{Coded, codes, code_by, coded×, coded_list, coded_ℕ, coded_ℤ}
-use Rattle.qs_check.specs.Program.{ProgramShape, BlockShape, block_at, blocks_of}
+use Rattle.qs_program.specs.Program.{ProgramShape, BlockShape, block_at, blocks_of}
 use Rattle.qs_meaning.specs.Serial.{zeros}
-use Rattle.qs_check.specs.Shapes.{program_code}
+use Rattle.qs_program.specs.Shapes.{program_code}
 use Rattle.qs_plain_laws.specs.Plain.{Client, out, within, waiting}
 use Rattle.qs_plain_laws.specs.Plain as plain
 use Rattle.qs_plain_client.specs.Asking.{AreSound}

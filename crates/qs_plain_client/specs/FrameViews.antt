@@ -2,9 +2,9 @@
 use Rattle.std.specs.Prelude.{◌≡◌, ◌<◌, ◌≤◌, ◌⊎◌, ℕ, ◌+◌, List, length, slice_index_or, refl}
 use Rattle.std.specs.Coded.{Coded, code_by, coded×, coded⊎, coded_list, coded_ℕ}
 use Rattle.std.proofs.Common.{inl, inr}
-use Rattle.qs_check.specs.Statements.{Statements, end}
-use Rattle.qs_check.specs.StatementsCode.{statements_code}
-use Rattle.qs_check.specs.Views.{statements_of}
+use Rattle.qs_program.specs.Statements.{Statements, end}
+use Rattle.qs_program.specs.StatementsCode.{statements_code}
+use Rattle.qs_program.specs.Views.{statements_of}
 use Rattle.qs_plain_client.specs.Frames.{Frame, rest, turning, places_of}
 use Rattle.qs_plain_client.specs.declared.frames.Frame as code
 use Rattle.qs_plain_client.specs.declared.frames.Frame.TheVariants as c

@@ -1,6 +1,6 @@
 -- Clients before the first step.
 use Rattle.std.specs.Prelude.{◌≡◌, ◌<◌, ℕ, List, length}
-use Rattle.qs_check.specs.Program.{ProgramShape}
+use Rattle.qs_program.specs.Program.{ProgramShape}
 use Rattle.qs_plain_client.specs.Clients.{ClientState, IsFresh, client_at}
 
 pub record AreFresh (p : ProgramShape) (cs : List ClientState) : Type 0 where

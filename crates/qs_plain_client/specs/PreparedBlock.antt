@@ -1,8 +1,8 @@
 -- What is prepared for a block to come.
 use Rattle.std.specs.Prelude.{◌≡◌, ◌≤◌, ℕ, ◌+◌, List, [], ◌∷◌, map}
 use Rattle.std.specs.List.{AllByRecursion}
-use Rattle.qs_check.specs.Loads.{load_of}
-use Rattle.qs_check.specs.Program.{BlockShape, ProgramShape, block_load, client_at}
+use Rattle.qs_program.specs.Loads.{load_of}
+use Rattle.qs_program.specs.Program.{BlockShape, ProgramShape, block_load, client_at}
 use Rattle.qs_played.specs.Played.{ticket}
 use Rattle.qs_syncset.specs.SyncRows.{no_syncs}
 use Rattle.qs_syncset.specs.declared.sync_counts.SyncCount.{SyncCount}

@@ -1,6 +1,7 @@
 //! Clients under the plain rules.
 
-ghost use Rattle.qs_check.specs.Program.{block_at, block_load, blocks_of};
+ghost use Rattle.qs_program.specs.Limits.{most_blocks, most_requests};
+ghost use Rattle.qs_program.specs.Program.{block_at, block_load, blocks_of};
 ghost use Rattle.qs_plain_client.specs.PreparedBlock.{AreQueues, lists_of, rooms_of};
 ghost use Rattle.qs_objects.specs.Traces.{empty_trace};
 ghost use Rattle.qs_syncset.specs.SyncRows.{fresh_rows};
@@ -14,9 +15,9 @@ ghost use Rattle.qs_plain_client.specs.declared.stage.Stage.TheVariants as stage
 use crate::frames::{Ask, Frames, grow};
 use crate::private_queue::PrivateQueue;
 use crate::stage::Stage;
-use qs_check::{Locals, Program};
 use qs_objects::{Event, Request, Ticket, Traces};
 use qs_played::ClientRows;
+use qs_program::{Locals, Program};
 use qs_syncset::SyncCounts;
 use std::alloc::{AllocError, Global};
 use std::collections::VecDeque;
@@ -119,7 +120,7 @@ impl<'p> ClientState<'p> {
     /// How many of its blocks were begun.
     pub fn begun(&self) -> usize
         ensures value { result ≡ length self.now.entries }
-        ensures limit { result ≤ 64 }
+        ensures limit { result ≤ most_blocks }
         ensures kept { IsClient self.now }
     {
         self.program.is_sound();
@@ -314,7 +315,7 @@ fn room_of(program: &Program, number: u8, index: u8) -> usize
     requires client { number < length program.now.clients }
     requires block { index < blocks_of program.now number }
     ensures value { result ≡ block_load (block_at program.now number index) }
-    ensures few { result ≤ 100000 }
+    ensures few { result ≤ most_requests }
 {
     program.is_sound();
     let mut room = 0;
@@ -364,9 +365,9 @@ fn fresh_counts(alloc: Global, program: &Program, number: u8) -> Result<SyncCoun
 
 // How many of these events are queries.
 fn queries(events: &[Event]) -> u64
-    requires few { length events.now ≤ 100000 }
+    requires few { length events.now ≤ most_requests }
     ensures value { result ≡ queries_in events.now }
-    ensures limit { result ≤ 100000 }
+    ensures limit { result ≤ most_requests }
 {
     let mut queries = 0;
     for event in events {

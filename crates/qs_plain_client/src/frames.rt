@@ -1,14 +1,14 @@
 //! What is left of a block on its way, and a client's quiet moves.
 
 ghost use Rattle.std.specs.Prelude.{◌≡◌, ◌<◌, ◌≤◌, ℕ, ◌+◌, [], ◌∷◌, ◌++◌, length, List, IfNone, OnOk, MatchOption, slice_set, vec_capacity};
-ghost use Rattle.qs_check.specs.Values.{expr_value};
-ghost use Rattle.qs_check.specs.Views.{single, statements_of};
+ghost use Rattle.qs_program.specs.Values.{expr_value};
+ghost use Rattle.qs_program.specs.Views.{single, statements_of};
 ghost use Rattle.qs_plain_client.specs.Frames.{rest as the_rest, above, ahead_of, next_of, places_of, work, load_left};
 ghost use Rattle.qs_plain_client.specs.Growing.{Grows};
 ghost use Rattle.qs_plain_client.specs.Asking.{Asks, Moves, asked_by, asked_of, AreSound, IsSoundAsk, IsSoundMove};
-ghost use Rattle.qs_check.specs.declared.program.Declared.{Declared};
+ghost use Rattle.qs_program.specs.declared.program.Declared.{Declared};
 
-use qs_check::{Body, Call, Expr, Locals, Stmt};
+use qs_program::{Body, Call, Expr, Locals, Stmt};
 use std::alloc::{AllocError, Global};
 use std::marker::Model;
 

@@ -9,10 +9,10 @@ use Rattle.qs_objects.specs.declared.Request.{Request}
 use Rattle.qs_objects.proofs.Choices.{and_cases, not_same}
 use Rattle.qs_meaning.specs.Following.{reserves, block_tree}
 use Rattle.qs_meaning.specs.Interaction.{Done}
-use Rattle.qs_check.specs.Program.{ProgramShape, blocks_of}
+use Rattle.qs_program.specs.Program.{ProgramShape, blocks_of}
 use Rattle.qs_meaning.specs.Serial.{IsLegal, LegalFrom, declared}
 use Rattle.qs_meaning.specs.Solo.{put}
-use Rattle.qs_check.specs.Sound.{IsSound}
+use Rattle.qs_program.specs.Sound.{IsSound}
 use Rattle.qs_meaning.proofs.Each.{each_map, each_both, each_join}
 use Rattle.qs_meaning.proofs.Histories.{Among, Begins, Apart, Flow, IsDone, IsPage, Line, NoQuery, done_of, parts_of}
 use Rattle.qs_meaning.proofs.SerialRuns.{legal_apart, line}

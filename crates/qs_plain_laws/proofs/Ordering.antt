@@ -9,7 +9,7 @@ use Rattle.qs_objects.specs.declared.held.Ticket.{Ticket}
 use Rattle.qs_objects.specs.Journals.{ran}
 use Rattle.qs_objects.specs.declared.Request.{Request}
 use Rattle.qs_meaning.specs.Interaction.{Interaction, Done, Call, Query}
-use Rattle.qs_check.specs.Program.{ProgramShape, blocks_of}
+use Rattle.qs_program.specs.Program.{ProgramShape, blocks_of}
 use Rattle.qs_meaning.specs.Serial.{LegalFrom, IsLegal}
 use Rattle.qs_meaning.specs.Solo.{put}
 use Rattle.qs_played.specs.Played.{ticket}

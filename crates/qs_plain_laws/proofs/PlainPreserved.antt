@@ -18,13 +18,13 @@ use Rattle.qs_objects.specs.declared.Request.{Request}
 use Rattle.qs_objects.proofs.Choices.{num_cases, ticket_cases, ticket_path, same_self}
 use Rattle.qs_meaning.specs.Following.{reserves, block_tree}
 use Rattle.qs_meaning.specs.Interaction.{Interaction, Done, Call, Query}
-use Rattle.qs_check.specs.Program.{ProgramShape, BlockShape, text_of, blocks_of, client_at as shape_at, no_block, no_client as no_shape, no_object}
-use Rattle.qs_check.specs.declared.program.Declared.{Declared}
+use Rattle.qs_program.specs.Program.{ProgramShape, BlockShape, text_of, blocks_of, client_at as shape_at, no_block, no_client as no_shape, no_object}
+use Rattle.qs_program.specs.declared.program.Declared.{Declared}
 use Rattle.qs_meaning.specs.Serial.{zeros, declared, state_or_none}
 use Rattle.qs_meaning.specs.Solo.{put, event, value_of}
-use Rattle.qs_check.specs.Sound.{IsSound, is_in}
-use Rattle.qs_check.specs.Values.{Locals}
-use Rattle.qs_check.proofs.Bounds.{sound_block}
+use Rattle.qs_program.specs.Sound.{IsSound, is_in}
+use Rattle.qs_program.specs.Values.{Locals}
+use Rattle.qs_program.proofs.Bounds.{sound_block}
 use Rattle.qs_meaning.proofs.Histories.{Begins}
 use Rattle.qs_meaning.proofs.TreeWalks.{put_here, put_there}
 use Rattle.qs_played.specs.Played.{ticket}

@@ -10,11 +10,11 @@ use Rattle.qs_objects.specs.declared.Request.{Request}
 use Rattle.qs_objects.proofs.Choices.{apart_eqb, eqb_apart, eqb_self}
 use Rattle.qs_meaning.specs.Following.{AsksOnly, Leads, block_tree, reserves}
 use Rattle.qs_meaning.specs.Interaction.{Interaction, Done, Call, Query}
-use Rattle.qs_check.specs.Program.{ProgramShape, blocks_of, text_of}
+use Rattle.qs_program.specs.Program.{ProgramShape, blocks_of, text_of}
 use Rattle.qs_meaning.specs.Serial.{IsLegal}
 use Rattle.qs_meaning.specs.Solo.{value_of}
-use Rattle.qs_check.specs.Sound.{IsSound}
-use Rattle.qs_check.proofs.Bounds.{AllByRecursion-get_or}
+use Rattle.qs_program.specs.Sound.{IsSound}
+use Rattle.qs_program.proofs.Bounds.{AllByRecursion-get_or}
 use Rattle.qs_meaning.proofs.Histories.{Among, IsPage}
 use Rattle.qs_meaning.proofs.Each.{each_map}
 use Rattle.qs_meaning.proofs.SoundTrees.{blocks_ask_only}

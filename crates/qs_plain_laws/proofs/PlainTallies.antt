@@ -10,9 +10,9 @@ use Rattle.qs_objects.specs.Parts.{part}
 use Rattle.qs_objects.specs.declared.held.Event.{Event}
 use Rattle.qs_objects.specs.declared.Request.{Request}
 use Rattle.qs_objects.proofs.Choices.{apart_eqb, eqb_apart, eqb_self, num_cases}
-use Rattle.qs_check.specs.Program.{ProgramShape, text_of}
-use Rattle.qs_check.specs.Sound.{is_in}
-use Rattle.qs_check.specs.Values.{Locals}
+use Rattle.qs_program.specs.Program.{ProgramShape, text_of}
+use Rattle.qs_program.specs.Sound.{is_in}
+use Rattle.qs_program.specs.Values.{Locals}
 use Rattle.qs_meaning.specs.Interaction.{Interaction}
 use Rattle.qs_meaning.specs.Solo.{event}
 use Rattle.qs_syncset.specs.SyncCounts.{asks, queries}

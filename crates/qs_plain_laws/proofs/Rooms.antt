@@ -8,7 +8,7 @@ use Rattle.qs_objects.specs.declared.held.Ticket.{Ticket}
 use Rattle.qs_objects.specs.declared.Request.{Request}
 use Rattle.qs_meaning.specs.Following.{Leads, reserves, block_tree}
 use Rattle.qs_meaning.specs.Interaction.{Interaction, Query}
-use Rattle.qs_check.specs.Program.{ProgramShape, text_of}
+use Rattle.qs_program.specs.Program.{ProgramShape, text_of}
 use Rattle.qs_meaning.specs.Solo.{event, value_of}
 use Rattle.qs_meaning.proofs.Each.{each_map, each_front, each_back, each_kept}
 use Rattle.qs_meaning.proofs.Histories.{IsPage, parts_of}

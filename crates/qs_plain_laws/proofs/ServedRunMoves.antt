@@ -9,11 +9,11 @@ use Rattle.qs_objects.specs.declared.Request.{Request}
 use Rattle.qs_objects.proofs.Choices.{num_cases, ticket_cases}
 use Rattle.qs_meaning.specs.Following.{Leads, AsksOnly, reserves, block_tree}
 use Rattle.qs_meaning.specs.Interaction.{Interaction, Done, Call, Query}
-use Rattle.qs_check.specs.Program.{ProgramShape, blocks_of}
+use Rattle.qs_program.specs.Program.{ProgramShape, blocks_of}
 use Rattle.qs_meaning.specs.Serial.{declared}
 use Rattle.qs_meaning.specs.Solo.{put, event, value_of}
-use Rattle.qs_check.specs.Sound.{IsSound}
-use Rattle.qs_check.specs.Values.{Locals}
+use Rattle.qs_program.specs.Sound.{IsSound}
+use Rattle.qs_program.specs.Values.{Locals}
 use Rattle.qs_meaning.proofs.Each.{each_map, each_both, each_snoc}
 use Rattle.qs_meaning.proofs.Histories.{Page, IsPage, IsDone, Begins, Among, parts_of, done_of, advance}
 use Rattle.qs_meaning.proofs.SoundTrees.{blocks_ask_only}

@@ -12,7 +12,7 @@ use Rattle.qs_objects.specs.declared.Request.{Request}
 use Rattle.qs_objects.proofs.Choices.{not_same, same_self}
 use Rattle.qs_objects.proofs.Replays.{replay-append, IsHonest-front, IsHonest-back}
 use Rattle.qs_meaning.specs.Following.{reserves}
-use Rattle.qs_check.specs.Program.{ProgramShape}
+use Rattle.qs_program.specs.Program.{ProgramShape}
 use Rattle.qs_meaning.proofs.Each.{each_map, each_both, each_unfiltered}
 use Rattle.qs_meaning.proofs.Histories.{Line, Flow, OnlyCommands, NoQuery, Apart, unstamp_all}
 use Rattle.qs_plain_laws.specs.PlainIsolation.{commands_in, commands_of}

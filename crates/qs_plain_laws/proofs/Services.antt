@@ -15,7 +15,7 @@ use Rattle.qs_objects.proofs.Choices.{ticket_cases, same_self}
 use Rattle.qs_objects.proofs.ObjectLaws.{never_answers}
 use Rattle.qs_objects.proofs.Replays.{replay-append, IsHonest-append}
 use Rattle.qs_meaning.specs.Following.{reserves}
-use Rattle.qs_check.specs.Program.{ProgramShape}
+use Rattle.qs_program.specs.Program.{ProgramShape}
 use Rattle.qs_meaning.specs.Solo.{event}
 use Rattle.qs_meaning.proofs.Each.{each_map, each_both, each_snoc, each_front, each_back, each_kept, flat_map_same}
 use Rattle.qs_meaning.proofs.Histories.{Apart, NoQuery}

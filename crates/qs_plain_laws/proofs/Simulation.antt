@@ -14,10 +14,10 @@ use Rattle.qs_objects.specs.declared.Request.{Request}
 use Rattle.qs_objects.proofs.Choices.{eqb_self, eqb_true, eqb_apart, apart_eqb, num_cases, ticket_cases, ticket_path, same_self}
 use Rattle.qs_meaning.specs.Following.{AsksOnly, reserves, block_tree}
 use Rattle.qs_meaning.specs.Interaction.{Interaction, Done, Call, Query}
-use Rattle.qs_check.specs.Program.{ProgramShape, blocks_of}
+use Rattle.qs_program.specs.Program.{ProgramShape, blocks_of}
 use Rattle.qs_meaning.specs.Solo.{put, event, value_of}
-use Rattle.qs_check.specs.Sound.{IsSound}
-use Rattle.qs_check.specs.Values.{Locals}
+use Rattle.qs_program.specs.Sound.{IsSound}
+use Rattle.qs_program.specs.Values.{Locals}
 use Rattle.qs_meaning.proofs.Each.{each_map, each_kept, each_back, each_passes, every, map_same}
 use Rattle.qs_meaning.proofs.Histories.{Page, IsPage, IsDone, Begins, Among, Apart, advance}
 use Rattle.qs_meaning.proofs.TreeWalks.{put_here, put_there}

@@ -6,10 +6,10 @@ use Rattle.qs_objects.specs.Parts.{same}
 use Rattle.qs_objects.specs.declared.held.Event.{Event}
 use Rattle.qs_objects.specs.declared.held.Ticket.{Ticket}
 use Rattle.qs_objects.specs.declared.Request.{Request}
-use Rattle.qs_check.specs.Program.{ProgramShape, blocks_of, text_of}
+use Rattle.qs_program.specs.Program.{ProgramShape, blocks_of, text_of}
 use Rattle.qs_meaning.specs.Serial.{declared, zeros, no_state}
 use Rattle.qs_meaning.specs.Solo.{value_of, event}
-use Rattle.qs_check.specs.Values.{Locals}
+use Rattle.qs_program.specs.Values.{Locals}
 use Rattle.qs_meaning.specs.Interaction.{Interaction, Done, Call, Query, tree_of}
 use Rattle.qs_syncset.specs.SyncRows.{no_syncs, with_sync}
 use Rattle.qs_syncset.specs.declared.sync_counts.SyncCount.{SyncCount}

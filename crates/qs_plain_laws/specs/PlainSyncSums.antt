@@ -1,8 +1,8 @@
 -- Synchronisations under the plain rules: one for each query that was answered, and one for each that is waited for.
 use Rattle.std.specs.Prelude.{◌≡◌, ◌<◌, ℕ, suc, ◌+◌, ◌==◌, if◌then◌else◌, List, length}
 use Rattle.qs_objects.specs.declared.held.Ticket.{Ticket}
-use Rattle.qs_check.specs.Program.{ProgramShape}
-use Rattle.qs_check.specs.Sound.{IsSound}
+use Rattle.qs_program.specs.Program.{ProgramShape}
+use Rattle.qs_program.specs.Sound.{IsSound}
 use Rattle.qs_syncset.specs.SyncCounts.{queries}
 use Rattle.qs_syncset.specs.SyncRows.{syncs_of}
 use Rattle.qs_played.specs.Isolation.{ended_of, ticket_at, trace_of}

@@ -9,9 +9,9 @@ use Rattle.qs_objects.specs.declared.held.Ticket.{Ticket}
 use Rattle.qs_objects.proofs.Choices.{num_cases, eqb_apart, apart_eqb}
 use Rattle.qs_meaning.specs.Following.{Leads}
 use Rattle.qs_meaning.specs.Interaction.{Interaction, Done, Call, Query}
-use Rattle.qs_check.specs.Loads.{load_of}
+use Rattle.qs_program.specs.Loads.{load_of}
 use Rattle.qs_meaning.specs.Paths.{counts, Within}
-use Rattle.qs_check.specs.Program.{ProgramShape, block_at, blocks_of, client_at, no_client, text_of}
+use Rattle.qs_program.specs.Program.{ProgramShape, block_at, blocks_of, client_at, no_client, text_of}
 use Rattle.qs_meaning.specs.Serial.{LegalFrom}
 use Rattle.qs_meaning.specs.Solo.{put, value_of}
 use Rattle.qs_meaning.proofs.TreeWalks.{put_here, put_there}

@@ -6,7 +6,7 @@ use Rattle.qs_objects.specs.Parts.{same}
 use Rattle.qs_objects.proofs.Choices.{not_same, same_self, apart_eqb, num_cases, ticket_path}
 use Rattle.qs_meaning.proofs.Histories.{Among, Apart, among_apart}
 use Rattle.qs_meaning.proofs.Each.{each_map, each_kept}
-use Rattle.qs_check.specs.Program.{ProgramShape, blocks_of}
+use Rattle.qs_program.specs.Program.{ProgramShape, blocks_of}
 use Rattle.qs_meaning.specs.Serial.{LegalFrom}
 use Rattle.qs_meaning.specs.Solo.{put}
 use Rattle.qs_meaning.proofs.TreeWalks.{put_here, put_there}

@@ -5,9 +5,9 @@ use Rattle.std.specs.List.{AllByRecursion, IsDistinct}
 use Rattle.qs_objects.specs.declared.held.Ticket.{Ticket}
 use Rattle.qs_objects.proofs.Choices.{num_cases}
 use Rattle.qs_meaning.specs.Following.{reserves}
-use Rattle.qs_check.specs.Program.{BlockShape, ProgramShape, blocks_of, client_at, no_block, no_client, text_of}
-use Rattle.qs_check.specs.Sound.{IsSound, is_in}
-use Rattle.qs_check.proofs.Bounds.{sound_block}
+use Rattle.qs_program.specs.Program.{BlockShape, ProgramShape, blocks_of, client_at, no_block, no_client, text_of}
+use Rattle.qs_program.specs.Sound.{IsSound, is_in}
+use Rattle.qs_program.proofs.Bounds.{sound_block}
 
 module _ (program : ProgramShape) (sound : IsSound program) where
   pub no_text : (t : Ticket) → blocks_of program t.client ≤ t.index → text_of program t ≡ no_block

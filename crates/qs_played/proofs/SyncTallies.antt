@@ -7,7 +7,7 @@ use Rattle.std.proofs.lemmas.Map.Keys.{IsDistinct-head, IsDistinct-tail}
 use Rattle.qs_objects.proofs.Choices.{eqb_self, num_cases}
 use Rattle.qs_meaning.specs.Solo.{put}
 use Rattle.qs_meaning.proofs.TreeWalks.{put_here, put_there}
-use Rattle.qs_check.specs.Sound.{is_in}
+use Rattle.qs_program.specs.Sound.{is_in}
 use Rattle.qs_syncset.specs.SyncRows.{no_syncs, object_of, sync_count, syncs_for, syncs_of, with_sync}
 use Rattle.qs_syncset.specs.declared.sync_counts.SyncCount.{SyncCount}
 use Rattle.qs_played.specs.SyncSums.{AreSent}

@@ -8,9 +8,9 @@ use Rattle.qs_objects.specs.declared.held.Entry.{Entry}
 use Rattle.qs_objects.specs.declared.held.Event.{Event}
 use Rattle.qs_objects.specs.declared.held.Ticket.{Ticket}
 use Rattle.qs_objects.specs.declared.Request.{Request}
-use Rattle.qs_check.specs.Program.{ProgramShape, blocks_of}
+use Rattle.qs_program.specs.Program.{ProgramShape, blocks_of}
 use Rattle.qs_meaning.specs.Serial.{IsLegal, Place, serial, declared, no_state}
-use Rattle.qs_check.specs.Values.{Locals}
+use Rattle.qs_program.specs.Values.{Locals}
 use Rattle.qs_played.specs.Played.{ticket}
 use Rattle.qs_played.specs.Played.{Played}
 

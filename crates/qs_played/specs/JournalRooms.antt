@@ -3,8 +3,8 @@ use Rattle.std.specs.Prelude.{[], ℕ, length, sum_by}
 use Rattle.std.specs.List.{range_with_len}
 use Rattle.qs_objects.specs.Journals.{HeldState}
 use Rattle.qs_meaning.specs.Serial.{declared}
-use Rattle.qs_check.specs.Loads.{load_of}
-use Rattle.qs_check.specs.Program.{ProgramShape, block_at, blocks_of}
+use Rattle.qs_program.specs.Loads.{load_of}
+use Rattle.qs_program.specs.Program.{ProgramShape, block_at, blocks_of}
 
 -- the room of an object's journal: the sum of the loads on it over all blocks
 abbrev pub room_in : ProgramShape → ℕ → ℕ → ℕ

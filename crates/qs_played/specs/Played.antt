@@ -4,7 +4,7 @@ use Rattle.qs_objects.specs.Act.{State}
 use Rattle.qs_objects.specs.declared.held.Entry.{Entry}
 use Rattle.qs_objects.specs.declared.held.Event.{Event}
 use Rattle.qs_objects.specs.declared.held.Ticket.{Ticket}
-use Rattle.qs_check.specs.Values.{Locals}
+use Rattle.qs_program.specs.Values.{Locals}
 use Rattle.qs_syncset.specs.declared.sync_counts.SyncCount.{SyncCount}
 
 abbrev pub ticket : ℕ → ℕ → Ticket

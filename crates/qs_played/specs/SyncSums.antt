@@ -1,7 +1,7 @@
 -- How many Syncs each reservation has sent for each object.
 use Rattle.std.specs.Prelude.{◌≡◌, ◌<◌, ◌≤◌, ◌⊎◌, ℕ, ◌+◌, Bool, true, false, ◌==◌, if◌then◌else◌, List, [], map, slice_index_or, sum_by, length}
-use Rattle.qs_check.specs.Program.{ProgramShape, text_of}
-use Rattle.qs_check.specs.Statements.{Statements}
+use Rattle.qs_program.specs.Program.{ProgramShape, text_of}
+use Rattle.qs_program.specs.Statements.{Statements}
 use Rattle.qs_graph.specs.Graphs.{block_graph}
 use Rattle.qs_syncset.specs.declared.mode.Mode.{Mode}
 use Rattle.qs_syncset.specs.declared.mode.Mode.TheVariants.{Plain, Static}

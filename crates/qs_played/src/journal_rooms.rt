@@ -3,8 +3,8 @@
 ghost use Rattle.std.specs.Prelude.{◌≡◌, ◌<◌, ◌≤◌, IfOk, length};
 ghost use Rattle.qs_played.specs.JournalRooms.{fresh_held, room_in, room_of};
 
-use qs_check::Program;
 use qs_objects::{Held, Object, ObjectFault};
+use qs_program::Program;
 use std::alloc::{AllocError, Global};
 
 /// An object as declared, by its number, with room in its journal for all requests that there can be on it: the sum of its loads over all

@@ -4,7 +4,7 @@ ghost use Rattle.std.specs.Prelude.{◌≡◌};
 ghost use Rattle.qs_played.specs.Schedule.{all_named, names_actor};
 
 use crate::actor::Actor;
-use qs_check::Program;
+use qs_program::Program;
 
 /// Whether each pick names an actor of the program: a client or an object by its number in text order.
 pub fn are_named(program: &Program, picks: &[Actor]) -> bool

@@ -6,8 +6,8 @@ ghost use Rattle.qs_syncset.specs.SyncRows.{count_of, object_of};
 ghost use Rattle.qs_played.specs.Played.{HaveRows, no_events, shown_with};
 
 use crate::row::Row;
-use qs_check::Locals;
 use qs_objects::{Event, Journal, Object, Ticket, Traces};
+use qs_program::Locals;
 use qs_syncset::SyncCounts;
 use std::marker::Model;
 

@@ -7,8 +7,8 @@ use Rattle.qs_objects.specs.Parts.{part}
 use Rattle.qs_objects.specs.declared.held.Event.{Event}
 use Rattle.qs_objects.specs.declared.held.Ticket.{Ticket}
 use Rattle.qs_objects.proofs.Choices.{apart_eqb, eqb_self, num_cases}
-use Rattle.qs_check.specs.Program.{ProgramShape}
-use Rattle.qs_check.specs.Values.{Locals}
+use Rattle.qs_program.specs.Program.{ProgramShape}
+use Rattle.qs_program.specs.Values.{Locals}
 use Rattle.qs_meaning.specs.Following.{AsksOnly, reserves, block_tree}
 use Rattle.qs_meaning.specs.Interaction as tree
 use Rattle.qs_meaning.specs.Serial.{zeros}

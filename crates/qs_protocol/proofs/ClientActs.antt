@@ -7,10 +7,10 @@ use Rattle.qs_objects.specs.declared.held.Ticket.{Ticket}
 use Rattle.qs_objects.specs.declared.Request.{Request}
 use Rattle.qs_objects.proofs.Choices.{eqb_self, num_cases}
 use Rattle.qs_meaning.specs.Following.{reserves}
-use Rattle.qs_check.specs.Program.{ProgramShape}
+use Rattle.qs_program.specs.Program.{ProgramShape}
 use Rattle.qs_meaning.specs.Solo.{put}
-use Rattle.qs_check.specs.Sound.{is_in}
-use Rattle.qs_check.specs.Values.{Locals}
+use Rattle.qs_program.specs.Sound.{is_in}
+use Rattle.qs_program.specs.Values.{Locals}
 use Rattle.qs_meaning.proofs.Histories.{Page}
 use Rattle.qs_graph.specs.Synced.{Synced, Call, Sync}
 use Rattle.qs_syncset.specs.SoundSynced.{IsSoundSynced}

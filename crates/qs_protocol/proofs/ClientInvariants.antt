@@ -5,10 +5,10 @@ use Rattle.qs_objects.specs.Parts.{part}
 use Rattle.qs_objects.specs.declared.held.Ticket.{Ticket}
 use Rattle.qs_objects.specs.declared.Request.{Request}
 use Rattle.qs_meaning.specs.Following.{AsksOnly, reserves}
-use Rattle.qs_check.specs.Program.{ProgramShape, text_of}
+use Rattle.qs_program.specs.Program.{ProgramShape, text_of}
 use Rattle.qs_meaning.specs.Solo.{put}
-use Rattle.qs_check.specs.Sound.{is_in}
-use Rattle.qs_check.specs.Values.{Locals}
+use Rattle.qs_program.specs.Sound.{is_in}
+use Rattle.qs_program.specs.Values.{Locals}
 use Rattle.qs_meaning.proofs.Histories.{Page, IsPage}
 use Rattle.qs_meaning.specs.Interaction as tree
 use Rattle.qs_graph.specs.Synced.{Synced, Done, Call, Sync, Query, erased}

@@ -1,7 +1,7 @@
 -- What each deed of a client makes of its mind, once nothing is left to be done for its act; and so what a whole run keeps.
 use Rattle.std.proofs.Common.{◌≡◌, ℕ, ◌+◌, List, [], ◌∷◌, ◌++◌, refl, sym, ap, ◌∙◌, subst, append_assoc, append-nil, add-zero}
 use Rattle.qs_objects.specs.Journals.{HeldState}
-use Rattle.qs_check.specs.Values.{Locals}
+use Rattle.qs_program.specs.Values.{Locals}
 use Rattle.qs_syncset.specs.Codes.{code_at}
 use Rattle.qs_syncset.specs.declared.sync_counts.SyncCount.{SyncCount}
 use Rattle.qs_chunk.specs.declared.parcel.Parcel.{Parcel}

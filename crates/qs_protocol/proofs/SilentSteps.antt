@@ -10,10 +10,10 @@ use Rattle.qs_objects.proofs.Choices.{and_cases, num_cases}
 use Rattle.qs_objects.proofs.ObjectLaws.{never_answers}
 use Rattle.qs_meaning.specs.Following.{AsksOnly, Leads, reserves, block_tree}
 use Rattle.qs_meaning.specs.Interaction.{Interaction}
-use Rattle.qs_check.specs.Program.{ProgramShape}
+use Rattle.qs_program.specs.Program.{ProgramShape}
 use Rattle.qs_meaning.specs.Solo.{event, put, value_of}
-use Rattle.qs_check.specs.Sound.{is_in}
-use Rattle.qs_check.specs.Values.{Locals}
+use Rattle.qs_program.specs.Sound.{is_in}
+use Rattle.qs_program.specs.Values.{Locals}
 use Rattle.qs_meaning.proofs.Histories.{Page, advance}
 use Rattle.qs_meaning.proofs.TreeWalks.{leads_call, leads_query, part_snoc_here, part_snoc_there, put_there}
 use Rattle.qs_graph.specs.Synced.{Synced, Done, Call, Sync, Query, erased}

@@ -1,6 +1,6 @@
 -- The texts of graphs, part by part.
 use Rattle.std.proofs.Common.{◌≡◌, ℕ, ◌+◌, ◌<◌, List, [], ◌∷◌, ◌++◌, codes, length, flat_map, refl, ap, subst, ◌∙◌, append_assoc, add-one, arith}
-use Rattle.qs_check.specs.Program.{ProgramShape, block_at}
+use Rattle.qs_program.specs.Program.{ProgramShape, block_at}
 use Rattle.qs_graph.specs.Graphs.{block_graph}
 use Rattle.qs_graph.specs.Nodes.{Place}
 use Rattle.qs_syncset.specs.Table.{AreSetsOf}

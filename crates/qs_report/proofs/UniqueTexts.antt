@@ -1,9 +1,9 @@
 -- A program has one text of its graphs.
 use Rattle.std.proofs.Common.{◌≡◌, ℕ, zero, suc, ◌<◌, Bool, true, false, if◌then◌else◌, List, [], ◌∷◌, ◌++◌, codes, decimal, length, refl, sym, ap, ap₂, ◌∙◌, arith}
 use Rattle.std.specs.List.{AllByRecursion, filter}
-use Rattle.qs_check.specs.Program.{ProgramShape, block_at, blocks_of}
-use Rattle.qs_check.specs.Sound.{IsSound}
-use Rattle.qs_check.proofs.Bounds.{AllByRecursion-get_or, sound_block}
+use Rattle.qs_program.specs.Program.{ProgramShape, block_at, blocks_of}
+use Rattle.qs_program.specs.Sound.{IsSound}
+use Rattle.qs_program.proofs.Bounds.{AllByRecursion-get_or, sound_block}
 use Rattle.qs_meaning.proofs.Each.{each_map}
 use Rattle.qs_graph.specs.declared.node.Node.{Node}
 use Rattle.qs_graph.specs.declared.node.Node.TheVariants.{Entry, Local, Branch, Sync, Query, Call, Exit}

@@ -1,8 +1,8 @@
 -- Worked texts of graphs, by what is held at each node.
 use Rattle.std.proofs.Common.{◌≡◌, ℕ, zero, suc, List, [], ◌∷◌, ◌++◌, Bool, true, false, Option, Some, None, refl}
 use Rattle.std.specs.Fmt.{digits}
-use Rattle.qs_check.specs.Program.{BlockShape, ProgramShape}
-use Rattle.qs_check.specs.Statements.{end}
+use Rattle.qs_program.specs.Program.{BlockShape, ProgramShape}
+use Rattle.qs_program.specs.Statements.{end}
 use Rattle.qs_graph.specs.GraphExamples.{query_in_repeat, empty_bodies, leave_first, two_bodies}
 use Rattle.qs_graph.specs.Graphs.{block_graph}
 use Rattle.qs_syncset.specs.Table.{AreSetsOf}

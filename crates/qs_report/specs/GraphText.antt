@@ -1,8 +1,8 @@
 -- The control-flow graphs of a program, as bytes.
 use Rattle.std.specs.Prelude.{◌≡◌, ℕ, zero, suc, List, [], ◌∷◌, ◌++◌, codes, decimal, length, flat_map, Bool, if◌then◌else◌}
 use Rattle.std.specs.List.{filter}
-use Rattle.qs_check.specs.Program.{ProgramShape, object_at, client_at, block_at, blocks_of}
-use Rattle.qs_check.specs.Sound.{IsSound}
+use Rattle.qs_program.specs.Program.{ProgramShape, object_at, client_at, block_at, blocks_of}
+use Rattle.qs_program.specs.Sound.{IsSound}
 use Rattle.qs_graph.specs.declared.node.Node.{Node}
 use Rattle.qs_graph.specs.declared.node.Node.TheVariants.{Entry, Local, Branch, Sync, Query, Call, Exit}
 use Rattle.qs_graph.specs.Graphs.{block_graph}

@@ -1,11 +1,11 @@
 -- Programs with the texts of their graphs, worked out by hand.
 use Rattle.std.specs.Prelude.{List, [], ◌∷◌, codes, pos}
 use Rattle.qs_objects.specs.declared.object.Kind.TheVariants.{Account}
-use Rattle.qs_check.specs.Program.{ProgramShape, BlockShape}
-use Rattle.qs_check.specs.Statements.{Statements, end, command, query}
+use Rattle.qs_program.specs.Program.{ProgramShape, BlockShape}
+use Rattle.qs_program.specs.Statements.{Statements, end, command, query}
 use Rattle.qs_graph.specs.GraphExamples.{balance, deposit, query_in_repeat, empty_bodies, leave_first, two_bodies}
 use Rattle.qs_objects.specs.declared.Op.TheVariants.{Balance}
-use Rattle.qs_check.specs.declared.code.Call as calls
+use Rattle.qs_program.specs.declared.code.Call as calls
 use Rattle.qs_report.specs.Examples.{declared, client}
 use Rattle.qs_report.specs.GraphText.{IsGraphText}
 

@@ -4,7 +4,7 @@ ghost use Rattle.std.specs.Prelude.{◌≡◌, IfOk};
 ghost use Rattle.qs_report.specs.Report.{counts_text};
 
 use crate::bytes::put_count;
-use qs_check::Program;
+use qs_program::Program;
 use std::alloc::{AllocError, Global};
 
 /// The text of a program's counts: a line each for its objects, clients, blocks, load and weight. An error says that an allocation

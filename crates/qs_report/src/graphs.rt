@@ -2,7 +2,7 @@
 
 ghost use Rattle.std.specs.Prelude.{◌≡◌, ◌<◌, ◌++◌, decimal, length, IfOk, OnOk};
 ghost use Rattle.std.specs.List.{AllByRecursion, filter};
-ghost use Rattle.qs_check.specs.Program.{block_at, blocks_of};
+ghost use Rattle.qs_program.specs.Program.{block_at, blocks_of};
 ghost use Rattle.qs_graph.specs.Nodes.{place_at};
 ghost use Rattle.qs_syncset.specs.Table.{has};
 ghost use Rattle.qs_report.specs.GraphText.{listed, name_of, removed_text, label_text, node_line, nodes_text, block_line, step_text};
@@ -11,8 +11,8 @@ ghost use Rattle.qs_report.specs.GraphText.{AreNodesText, IsBlockText, IsClientT
 use crate::bytes::{put, put_all};
 use crate::names::{client_name, object_name};
 use itoa::Buffer;
-use qs_check::Program;
 use qs_graph::{Graph, Node, graph};
+use qs_program::Program;
 use qs_syncset::{Sets, held_sets};
 use std::alloc::{AllocError, Global};
 

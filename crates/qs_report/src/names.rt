@@ -1,9 +1,9 @@
 // The names of a program by number; a number past the last has none.
 
 ghost use Rattle.std.specs.Prelude.{◌≡◌};
-ghost use Rattle.qs_check.specs.Program.{object_at, client_at};
+ghost use Rattle.qs_program.specs.Program.{object_at, client_at};
 
-use qs_check::Program;
+use qs_program::Program;
 
 pub(crate) fn object_name(program: &Program, object: usize) -> &[u8]
     ensures name { result.now ≡ (object_at program.now object).name }

@@ -6,8 +6,8 @@ ghost use Rattle.qs_report.specs.Report.{report_text, finished_text};
 use crate::bytes::{put, put_count};
 use crate::states::put_states;
 use crate::tickets::put_order;
-use qs_check::Program;
 use qs_played::Played;
+use qs_program::Program;
 use std::alloc::{AllocError, Global};
 
 fn finished_line(finished: bool) -> &'static [u8]

@@ -9,9 +9,9 @@ ghost use Rattle.qs_report.specs.Texts.{spaced};
 
 use crate::bytes::{put, put_number};
 use crate::names::object_name;
-use qs_check::Program;
 use qs_objects::{Kind, Object};
 use qs_played::Played;
+use qs_program::Program;
 use std::alloc::AllocError;
 
 // One value of an object, with a space before it unless it is the first.

@@ -7,9 +7,9 @@ ghost use Rattle.qs_report.specs.Report.{op_text, args_text, request_text, reply
 use crate::bytes::{put, put_all, put_count, put_number};
 use crate::names::{client_name, object_name};
 use itoa::Buffer;
-use qs_check::Program;
 use qs_objects::{Event, Op, Request, Ticket};
 use qs_played::Played;
+use qs_program::Program;
 use std::alloc::AllocError;
 
 // The script's word of an operation.

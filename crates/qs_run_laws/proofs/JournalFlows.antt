@@ -6,7 +6,7 @@ use Rattle.qs_objects.specs.Parts.{logged, stamp}
 use Rattle.qs_objects.specs.declared.held.Entry.{Entry}
 use Rattle.qs_objects.specs.declared.held.Event.{Event}
 use Rattle.qs_objects.specs.declared.held.Ticket.{Ticket}
-use Rattle.qs_check.specs.Program.{ProgramShape}
+use Rattle.qs_program.specs.Program.{ProgramShape}
 use Rattle.qs_meaning.specs.Following.{reserves}
 use Rattle.qs_meaning.proofs.Histories.{Flow, IsDone, Line, Page, done_of, parts_of}
 use Rattle.qs_chunk.specs.LaneViews.{ClientLane, Extends, gone, sends}

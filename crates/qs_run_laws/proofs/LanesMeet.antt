@@ -5,8 +5,8 @@ use Rattle.qs_objects.specs.Journals.{HeldState}
 use Rattle.qs_objects.specs.Parts.{IsFront, part}
 use Rattle.qs_objects.specs.declared.held.Ticket.{Ticket}
 use Rattle.qs_objects.proofs.Choices.{eqb_true}
-use Rattle.qs_check.specs.Program.{ProgramShape, blocks_of}
-use Rattle.qs_check.specs.Sound.{IsSound}
+use Rattle.qs_program.specs.Program.{ProgramShape, blocks_of}
+use Rattle.qs_program.specs.Sound.{IsSound}
 use Rattle.qs_meaning.specs.Following.{reserves}
 use Rattle.qs_meaning.proofs.Each.{each_both, each_kept, each_map, each_passes}
 use Rattle.qs_syncset.specs.Codes.{ClientCode}

@@ -4,9 +4,9 @@ use Rattle.std.specs.List.{IsDistinct}
 use Rattle.qs_objects.specs.Journals.{HeldState}
 use Rattle.qs_objects.specs.declared.held.Event.{Event}
 use Rattle.qs_objects.specs.declared.held.Ticket.{Ticket}
-use Rattle.qs_check.specs.Numbering.{same_name}
-use Rattle.qs_check.specs.Program.{blocks_of, client_at, whole_load, whole_weight}
-use Rattle.qs_check.specs.Sound.{AreNamesApart, IsFormedClient, IsFormedProgram, IsSound, IsSoundBody, IsSoundClient}
+use Rattle.qs_program.specs.Numbering.{same_name}
+use Rattle.qs_program.specs.Program.{blocks_of, client_at, whole_load, whole_weight}
+use Rattle.qs_program.specs.Sound.{AreNamesApart, IsFormedClient, IsFormedProgram, IsSound, IsSoundBody, IsSoundClient}
 use Rattle.qs_meaning.specs.Following.{reserves}
 use Rattle.qs_graph.specs.Steps.{limit}
 use Rattle.qs_graph.specs.Walk.{move}

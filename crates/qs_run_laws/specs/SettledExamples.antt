@@ -10,10 +10,10 @@ use Rattle.qs_objects.specs.declared.held.Entry.{Entry}
 use Rattle.qs_objects.specs.declared.held.Event.{Event}
 use Rattle.qs_objects.specs.declared.held.Next.TheVariants as nexts
 use Rattle.qs_objects.specs.declared.held.Ticket.{Ticket}
-use Rattle.qs_check.specs.Program.{BlockShape, ClientShape, ProgramShape}
-use Rattle.qs_check.specs.Sound.{IsSound}
-use Rattle.qs_check.specs.Statements.{end, command, query}
-use Rattle.qs_check.specs.declared.program.Declared.{Declared}
+use Rattle.qs_program.specs.Program.{BlockShape, ClientShape, ProgramShape}
+use Rattle.qs_program.specs.Sound.{IsSound}
+use Rattle.qs_program.specs.Statements.{end, command, query}
+use Rattle.qs_program.specs.declared.program.Declared.{Declared}
 use Rattle.qs_meaning.specs.MeaningExamples.{balance, block, call, hundred, left_with, n, some}
 use Rattle.qs_syncset.specs.declared.mode.Mode.TheVariants as modes
 use Rattle.qs_chunk.specs.Batch.{Batch, batch}

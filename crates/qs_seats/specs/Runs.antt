@@ -1,7 +1,7 @@
 -- All workers of a program's run: before it, and after it.
 use Rattle.std.specs.Prelude.{◌≡◌, ℕ, List, length, Option, Some, None, slice_get}
 use Rattle.std.specs.List.{AllZip}
-use Rattle.qs_check.specs.Program.{ProgramShape}
+use Rattle.qs_program.specs.Program.{ProgramShape}
 use Rattle.qs_syncset.specs.Codes.{IsCodeOf}
 use Rattle.qs_syncset.specs.declared.mode.Mode.{Mode}
 use Rattle.qs_client.specs.Mind.{fresh_mind}

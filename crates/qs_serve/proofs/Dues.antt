@@ -1,6 +1,6 @@
 -- What is due where memory runs out, and where the status is that of a failed read.
 use Rattle.std.proofs.Common.{◌≡◌, ◌⊎◌, ℕ, Bool, List, Option, Ok, true, false, refl, sym, subst, inl, inr}
-use Rattle.qs_check.specs.Program.{ProgramShape}
+use Rattle.qs_program.specs.Program.{ProgramShape}
 use Rattle.qs_core_laws.specs.CoreSchedule.{IsPlayedIn}
 use Rattle.qs_plain_laws.specs.PlainSchedule.{IsPlayed}
 use Rattle.qs_played.specs.declared.actor.Actor.{Actor}

@@ -15,7 +15,7 @@ use Rattle.qs_script.specs.Reads.{IsRefused, IsScriptText}
 use Rattle.qs_script.specs.declared.tree.Item.{Item}
 use Rattle.qs_check.specs.Checked.{fault_of}
 use Rattle.qs_check.specs.Resolve.{resolved}
-use Rattle.qs_check.specs.Program.{ProgramShape}
+use Rattle.qs_program.specs.Program.{ProgramShape}
 use Rattle.qs_core_laws.specs.CoreSchedule.{IsPlayedIn}
 use Rattle.qs_plain_laws.specs.PlainSchedule.{IsPlayed}
 use Rattle.qs_played.specs.declared.fault.PlayFault.{PlayFault}

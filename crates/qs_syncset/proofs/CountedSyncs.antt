@@ -9,11 +9,11 @@ use Rattle.std.proofs.lemmas.List.FromFn.{get_or-map-range_with_len, length-rang
 use Rattle.qs_objects.specs.declared.held.Event.{Event}
 use Rattle.qs_meaning.specs.Following.{AsksOnly, Leads, reserves}
 use Rattle.qs_meaning.specs.Interaction.{Interaction, tree_of}
-use Rattle.qs_check.specs.Program.{ProgramShape, block_at, blocks_of}
+use Rattle.qs_program.specs.Program.{ProgramShape, block_at, blocks_of}
 use Rattle.qs_meaning.specs.Solo.{value_of}
-use Rattle.qs_check.specs.Sound.{IsSound}
-use Rattle.qs_check.specs.Statements.{Statements}
-use Rattle.qs_check.specs.Values.{Locals, expr_value, test_value}
+use Rattle.qs_program.specs.Sound.{IsSound}
+use Rattle.qs_program.specs.Statements.{Statements}
+use Rattle.qs_program.specs.Values.{Locals, expr_value, test_value}
 use Rattle.qs_meaning.proofs.SoundTrees.{blocks_ask_only}
 use Rattle.qs_graph.specs.declared.node.Node.{Node}
 use Rattle.qs_graph.specs.declared.node.Node.TheVariants.{Entry, Local, Branch, Sync, Query, Call, Exit}

@@ -3,7 +3,7 @@ use Rattle.std.proofs.Common.{◌≡◌, ℕ, true, false, List, refl, ap}
 use Rattle.std.proofs.Math.Path.{fun_ext}
 use Rattle.qs_meaning.specs.Solo.{put}
 use Rattle.qs_meaning.specs.Interaction as tree
-use Rattle.qs_check.specs.Values.{Locals}
+use Rattle.qs_program.specs.Values.{Locals}
 use Rattle.qs_graph.specs.declared.node.Node.{Node}
 use Rattle.qs_graph.specs.declared.node.Node.TheVariants.{Entry, Local, Branch, Sync, Query, Call, Exit}
 use Rattle.qs_graph.specs.Nodes.{Place, place_at}

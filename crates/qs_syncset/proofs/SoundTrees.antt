@@ -1,9 +1,9 @@
 -- A block's tree with its synchronisations is sound, and a walk through sound nodes asks the block's list alone.
 use Rattle.std.proofs.Common.{ℕ, zero, suc, Bool, true, false, if◌then◌else◌, List, slice_set}
 use Rattle.qs_meaning.specs.Solo.{put}
-use Rattle.qs_check.specs.Statements.{Statements, end, command, query, assign, choose, again, leave}
-use Rattle.qs_check.specs.Values.{Locals, expr_value, test_value}
-use Rattle.qs_check.specs.declared.program.Declared.{Declared}
+use Rattle.qs_program.specs.Statements.{Statements, end, command, query, assign, choose, again, leave}
+use Rattle.qs_program.specs.Values.{Locals, expr_value, test_value}
+use Rattle.qs_program.specs.declared.program.Declared.{Declared}
 use Rattle.qs_graph.specs.declared.node.Node.{Node}
 use Rattle.qs_graph.specs.declared.node.Node.TheVariants.{Entry, Local, Branch, Sync, Query, Call, Exit}
 use Rattle.qs_graph.specs.Nodes.{Place, place_at, exit}

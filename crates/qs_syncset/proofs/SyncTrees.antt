@@ -7,8 +7,8 @@ use Rattle.qs_objects.specs.declared.held.Event.{Event}
 use Rattle.qs_meaning.specs.Following.{AsksOnly, Leads}
 use Rattle.qs_meaning.specs.Interaction.{Interaction}
 use Rattle.qs_meaning.specs.Solo.{put, value_of}
-use Rattle.qs_check.specs.Statements.{Statements, end, command, query, assign, choose, again, leave}
-use Rattle.qs_check.specs.Values.{Locals, expr_value, test_value}
+use Rattle.qs_program.specs.Statements.{Statements, end, command, query, assign, choose, again, leave}
+use Rattle.qs_program.specs.Values.{Locals, expr_value, test_value}
 use Rattle.qs_graph.specs.Synced.{Synced, Done, Call, Sync, Query, Next, turns, meaning, synced_of, erased}
 use Rattle.qs_syncset.specs.Flow.{Holding}
 use Rattle.qs_syncset.specs.SoundSynced.{IsSoundSynced}

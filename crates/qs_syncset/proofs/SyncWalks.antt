@@ -3,8 +3,8 @@ use Rattle.std.proofs.Common.{◌≡◌, inl, inr, ℕ, zero, suc, ◌+◌, ◌<
 use Rattle.std.specs.Prelude.{not}
 use Rattle.qs_objects.specs.declared.held.Event.{Event}
 use Rattle.qs_meaning.specs.Solo.{value_of}
-use Rattle.qs_check.specs.Values.{Locals}
-use Rattle.qs_check.proofs.Bounds.{AllByRecursion-get_or}
+use Rattle.qs_program.specs.Values.{Locals}
+use Rattle.qs_program.proofs.Bounds.{AllByRecursion-get_or}
 use Rattle.qs_graph.specs.declared.node.Node.{Node}
 use Rattle.qs_graph.specs.declared.node.Node.TheVariants.{Entry, Local, Branch, Sync, Query, Call, Exit}
 use Rattle.qs_graph.specs.declared.node.Action.TheVariants.{Nothing}

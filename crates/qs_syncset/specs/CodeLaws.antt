@@ -1,9 +1,9 @@
 -- What a client's walks through its code do.
 use Rattle.std.specs.Prelude.{◌≡◌, ◌<◌, ◌≤◌, ℕ, List, length}
 use Rattle.qs_meaning.specs.Interaction.{tree_of}
-use Rattle.qs_check.specs.Program.{BlockShape, ProgramShape, block_at, blocks_of}
-use Rattle.qs_check.specs.Sound.{IsSound}
-use Rattle.qs_check.specs.Values.{Locals}
+use Rattle.qs_program.specs.Program.{BlockShape, ProgramShape, block_at, blocks_of}
+use Rattle.qs_program.specs.Sound.{IsSound}
+use Rattle.qs_program.specs.Values.{Locals}
 use Rattle.qs_graph.specs.Nodes.{Place}
 use Rattle.qs_graph.specs.SoundNodes.{AreSoundNodes}
 use Rattle.qs_graph.specs.Steps.{limit}

@@ -1,9 +1,9 @@
 -- What a client runs: its blocks' lists, graphs and loads.
 use Rattle.std.specs.Prelude.{◌≡◌, ℕ, ◌<◌, Bool, true, false, List, [], length, slice_index_or}
-use Rattle.qs_check.specs.Loads.{load_of}
-use Rattle.qs_check.specs.Program.{BlockShape, ProgramShape, block_at, blocks_of}
-use Rattle.qs_check.specs.Sound.{IsSound}
-use Rattle.qs_check.specs.Statements.{Statements}
+use Rattle.qs_program.specs.Loads.{load_of}
+use Rattle.qs_program.specs.Program.{BlockShape, ProgramShape, block_at, blocks_of}
+use Rattle.qs_program.specs.Sound.{IsSound}
+use Rattle.qs_program.specs.Statements.{Statements}
 use Rattle.qs_graph.specs.Graphs.{block_graph}
 use Rattle.qs_graph.specs.Nodes.{Place}
 use Rattle.qs_syncset.specs.declared.mode.Mode.{Mode}

@@ -1,6 +1,6 @@
 -- Blocks, what is held at the nodes of their graphs, and the graphs without the synchronisations that are held.
 use Rattle.std.specs.Prelude.{◌≡◌, List, [], ◌∷◌, true, false}
-use Rattle.qs_check.specs.Statements.{Statements, end, command, query, again}
+use Rattle.qs_program.specs.Statements.{Statements, end, command, query, again}
 use Rattle.qs_graph.specs.declared.node.Node.TheVariants.{Entry, Local, Branch, Sync, Query, Call}
 use Rattle.qs_graph.specs.declared.node.Action.TheVariants.{SetCount, Nothing}
 use Rattle.qs_graph.specs.declared.node.Choice.TheVariants.{Repeat}

@@ -1,7 +1,7 @@
 -- What a client that goes along a tree with synchronisations may rely on.
 use Rattle.std.specs.Prelude.{◌≡◌, ℕ, ℤ, true, false, List}
 use Rattle.qs_meaning.specs.Solo.{put}
-use Rattle.qs_check.specs.Sound.{is_in}
+use Rattle.qs_program.specs.Sound.{is_in}
 use Rattle.qs_graph.specs.Synced.{Synced, Done, Call, Sync, Query}
 use Rattle.qs_syncset.specs.Flow.{Holding}
 

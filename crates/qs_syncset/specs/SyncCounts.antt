@@ -5,11 +5,11 @@ use Rattle.qs_objects.specs.Parts.{part}
 use Rattle.qs_objects.specs.declared.held.Event.{Event}
 use Rattle.qs_meaning.specs.Following.{Leads}
 use Rattle.qs_meaning.specs.Interaction.{Interaction, tree_of}
-use Rattle.qs_check.specs.Program.{ProgramShape, block_at, blocks_of}
+use Rattle.qs_program.specs.Program.{ProgramShape, block_at, blocks_of}
 use Rattle.qs_meaning.specs.Solo.{value_of}
-use Rattle.qs_check.specs.Sound.{IsSound}
-use Rattle.qs_check.specs.Statements.{Statements}
-use Rattle.qs_check.specs.Values.{Locals}
+use Rattle.qs_program.specs.Sound.{IsSound}
+use Rattle.qs_program.specs.Statements.{Statements}
+use Rattle.qs_program.specs.Values.{Locals}
 use Rattle.qs_graph.specs.Graphs.{block_graph}
 use Rattle.qs_graph.specs.Nodes.{Place, place_at}
 use Rattle.qs_graph.specs.Steps.{limit}

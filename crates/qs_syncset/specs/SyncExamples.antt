@@ -5,10 +5,10 @@ use Rattle.qs_objects.specs.Objects.{fresh}
 use Rattle.qs_objects.specs.declared.held.Event.{Event}
 use Rattle.qs_script.specs.declared.tree.Relation.TheVariants.{Unequal}
 use Rattle.qs_meaning.specs.Solo.{solo}
-use Rattle.qs_check.specs.Statements.{Statements, end, command, query, choose, again}
-use Rattle.qs_check.specs.Values.{Locals}
-use Rattle.qs_check.specs.declared.code.Atom.TheVariants.{Variable, Number}
-use Rattle.qs_check.specs.declared.code.Test as tests
+use Rattle.qs_program.specs.Statements.{Statements, end, command, query, choose, again}
+use Rattle.qs_program.specs.Values.{Locals}
+use Rattle.qs_program.specs.declared.code.Atom.TheVariants.{Variable, Number}
+use Rattle.qs_program.specs.declared.code.Test as tests
 use Rattle.qs_graph.specs.GraphExamples.{balance, deposit, leave_first, query_in_repeat}
 use Rattle.qs_graph.specs.Graphs.{block_graph}
 use Rattle.qs_graph.specs.Nodes.{Place, exit, to}

@@ -37,6 +37,10 @@ syncs_of xs = sum_by count_of xs
 abbrev pub all_counts : List (List SyncCount) → List (List ℕ)
 all_counts rows = map (map count_of) rows
 
+-- the greatest count that a row has room for
+abbrev pub greatest_count : ℕ
+greatest_count = 4294967295
+
 -- each count is below this
 abbrev pub AreFew : ℕ → List SyncCount → Type 0
 AreFew n xs = AllByRecursion (λ (x : SyncCount). x.count < n) xs

@@ -1,16 +1,17 @@
 //! What a client runs.
 
-ghost use Rattle.std.specs.Prelude.{◌≡◌, ◌<◌, ◌≤◌, ℕ, length, slice_index_or, IfOk};
-ghost use Rattle.qs_check.specs.Program.{block_at, blocks_of};
-ghost use Rattle.qs_check.specs.Loads.{load_of};
+ghost use Rattle.std.specs.Prelude.{◌≡◌, ◌<◌, ◌≤◌, ℕ, length, slice_index_or, IfOk, IsErr};
+ghost use Rattle.qs_program.specs.Limits.{most_requests};
+ghost use Rattle.qs_program.specs.Program.{block_at, blocks_of};
+ghost use Rattle.qs_program.specs.Loads.{load_of};
 ghost use Rattle.qs_syncset.specs.Codes.{IsCode, IsCodeOf, IsBlockCode, IsGraphOf, code_at, load_at};
 ghost use Rattle.qs_syncset.specs.Modes.{is_static};
 
 use crate::fixpoint::held_sets;
 use crate::mode::Mode;
 use crate::removal::coalesce;
-use qs_check::Program;
 use qs_graph::{Graph, graph};
+use qs_program::Program;
 use std::alloc::{AllocError, Global};
 use std::marker::Model;
 
@@ -24,6 +25,7 @@ pub(crate) struct BlockCode {
 
 impl Model for BlockCode {
     ghost use Rattle.std.specs.Prelude.{ℕ, ◌≤◌, slice_index_or};
+    ghost use Rattle.qs_program.specs.Limits.{most_requests};
     ghost use Rattle.qs_syncset.specs.Codes as codes;
     ghost use Rattle.qs_syncset.specs.Shapes.{coded_block};
 
@@ -33,7 +35,7 @@ impl Model for BlockCode {
 
     ghost view = { λ b. record { reserved = b.reserved.items; graph = b.graph.nodes; loads = b.loads } };
 
-    ghost invariant = { λ b. (h : ℕ) → slice_index_or b.loads h 0 ≤ 100000 };
+    ghost invariant = { λ b. (h : ℕ) → slice_index_or b.loads h 0 ≤ most_requests };
 }
 
 impl BlockCode {
@@ -52,7 +54,7 @@ impl BlockCode {
     fn load(&self, handler: u8) -> u64
         requires in_range { handler < 8 }
         ensures value { result ≡ load_at self.now handler }
-        ensures limit { result ≤ 100000 }
+        ensures limit { result ≤ most_requests }
     {
         self.loads[usize::from(handler)]
     }
@@ -129,7 +131,7 @@ impl Code {
         requires block { block < length self.now.blocks }
         requires handler { handler < 8 }
         ensures value { result ≡ load_at (code_at self.now block) handler }
-        ensures limit { result ≤ 100000 }
+        ensures limit { result ≤ most_requests }
     {
         self.block(block).load(handler)
     }
@@ -160,7 +162,7 @@ fn loads_of(program: &Program, client: u8, block: u8) -> [u64; 8]
     requires client { client < length program.now.clients }
     requires block { block < blocks_of program.now client }
     ensures value { (h : ℕ) → h < 8 → slice_index_or result h 0 ≡ load_of (block_at program.now client block).body h }
-    ensures limit { (h : ℕ) → slice_index_or result h 0 ≤ 100000 }
+    ensures limit { (h : ℕ) → slice_index_or result h 0 ≤ most_requests }
 {
     let mut loads = [0; 8];
     for handler in 0..8u8 {
@@ -196,10 +198,12 @@ fn block_code(
     })
 }
 
-/// The code of a client, coalesced in the static modes alone, and with the test of what is held in the dynamic modes alone.
+/// The code of a client, coalesced in the static modes alone, and with the test of what is held in the dynamic modes alone. An error
+/// says that memory was refused: it comes only where the client has a block.
 pub fn compile(alloc: Global, program: &Program, mode: Mode, client: u8) -> Result<Code, AllocError>
     requires client { client < length program.now.clients }
     ensures code { IfOk result (λ code. IsCodeOf program.now mode client code) }
+    ensures memory { IsErr result → 0 < blocks_of program.now client }
 {
     program.is_sound();
     let count = program.blocks_of(client);

@@ -2,7 +2,7 @@
 
 ghost use Rattle.std.specs.Prelude.{◌≡◌, ◌<◌, ◌≤◌, ◌+◌, ◌-◌, ◌==◌, suc, if◌then◌else◌, [], ◌∷◌, ◌++◌, IfOk, IsErr, length, map, replicate, slice_index_or, slice_set};
 ghost use Rattle.qs_objects.specs.Rows.{IsLast, joined};
-ghost use Rattle.qs_syncset.specs.SyncRows.{AreFew, all_counts, count_of, counts_state, no_syncs, object_of, one_more, sync_count, with_sync};
+ghost use Rattle.qs_syncset.specs.SyncRows.{AreFew, all_counts, count_of, counts_state, greatest_count, no_syncs, object_of, one_more, sync_count, with_sync};
 
 use qs_objects::Rows;
 use std::alloc::{AllocError, Global};
@@ -37,7 +37,7 @@ impl Model for SyncCounts {
 fn next_count(objects: &[u8], counts: &[u32], place: usize, object: u8) -> u32
     requires object { place < length objects.now }
     requires count { place < length counts.now }
-    requires few { slice_index_or counts.now place 0 < 4294967295 }
+    requires few { slice_index_or counts.now place 0 < greatest_count }
     ensures value { result ≡ (if slice_index_or objects.now place 0 == object then suc (slice_index_or counts.now place 0) else slice_index_or counts.now place 0) }
 {
     if objects[place] == object {
@@ -116,7 +116,7 @@ impl SyncCounts {
     fn add_at(&mut self, block: usize, place: usize, object: u8)
         requires block { block < length self.old.rows }
         requires place { place < length (slice_index_or self.old.rows block []) }
-        requires few { count_of (slice_index_or (slice_index_or self.old.rows block []) place (sync_count 0 0)) < 4294967295 }
+        requires few { count_of (slice_index_or (slice_index_or self.old.rows block []) place (sync_count 0 0)) < greatest_count }
         ensures added { self.new ≡ counts_state (slice_set self.old.rows block (slice_set (slice_index_or self.old.rows block []) place
             (one_more object (slice_index_or (slice_index_or self.old.rows block []) place (sync_count 0 0))))) self.old.room }
     {
@@ -127,7 +127,7 @@ impl SyncCounts {
     /// A Sync more for an object, in a block.
     pub fn add(&mut self, block: usize, object: u8)
         requires block { block < length self.old.rows }
-        requires few { AreFew 4294967295 (slice_index_or self.old.rows block []) }
+        requires few { AreFew greatest_count (slice_index_or self.old.rows block []) }
         ensures added { self.new ≡ counts_state (slice_set self.old.rows block (with_sync object (slice_index_or self.old.rows block []))) self.old.room }
     {
         for place in 0..self.objects.of(block).len() {

@@ -1,7 +1,7 @@
 use Rattle.std.proofs.Common.{◌≡◌, ◌∙◌, ◌++◌, ◌≤◌, List, length, ap, sym, subst, None}
 use Rattle.std.specs.List.{AllByRecursion}
 use Rattle.qs_objects.specs.declared.object.Kind.{Kind}
-use Rattle.qs_check.specs.Numbering.{Name}
+use Rattle.qs_program.specs.Numbering.{Name}
 use Rattle.qs_check.specs.Places.{met, start, script_places}
 use Rattle.qs_check.specs.Resolve.{clients_of, lists_of, names_of}
 use Rattle.qs_check.specs.Checked.{first_fault}

@@ -1,6 +1,6 @@
 use Rattle.std.proofs.Common.{◌≡◌, ◌+◌, ◌*◌, drop}
 use Rattle.qs_script.specs.Views as views
-use Rattle.qs_check.specs.Statements.{joined}
+use Rattle.qs_program.specs.Statements.{joined}
 use Rattle.qs_check.specs.Resolve.{body_of}
 use Rattle.qs_check.proofs.resolve.+resolve.Given as goal
 

@@ -1,5 +1,5 @@
 use Rattle.std.proofs.Common.{◌≡◌, OnOk, ap, subst, List}
-use Rattle.qs_check.specs.Numbering.{Name}
+use Rattle.qs_program.specs.Numbering.{Name}
 use Rattle.qs_check.specs.Places.{client, blocks_places}
 use Rattle.qs_check.specs.Resolve.{variables_at}
 use Rattle.qs_check.proofs.Steps.{variables_meet, stepped}

@@ -1,5 +1,5 @@
 use Rattle.std.proofs.Common.{◌≡◌, ◌+◌, ◌^◌, ◌<◌, [], ◌∷◌, ◌++◌, vec_len, length, length-append, drop, sym, ◌∙◌, ap, arith}
-use Rattle.qs_check.specs.Views.{statements_of, single}
+use Rattle.qs_program.specs.Views.{statements_of, single}
 use Rattle.qs_graph.specs.declared.node.Node.TheVariants.{Branch}
 use Rattle.qs_graph.specs.declared.node.Choice.TheVariants.{If}
 use Rattle.qs_graph.specs.Nodes.{to_either}

@@ -1,5 +1,5 @@
 use Rattle.std.proofs.Common.{◌≡◌, ◌+◌, ◌*◌, ◌++◌, length, drop, vec_capacity}
-use Rattle.qs_check.specs.Views.{statements_of, single}
+use Rattle.qs_program.specs.Views.{statements_of, single}
 use Rattle.qs_graph.specs.Graphs.{node_count, places_of}
 use Rattle.qs_graph.proofs.build.+add.Given as goal
 

@@ -1,5 +1,5 @@
 use Rattle.std.proofs.Common.{sym, subst, ◌∙◌, ap}
-use Rattle.qs_check.specs.Program.{BlockShape, block_at}
+use Rattle.qs_program.specs.Program.{BlockShape, block_at}
 use Rattle.qs_graph.specs.Drawn.{IsDrawing}
 use Rattle.qs_graph.specs.WellFormed.{IsGraph}
 use Rattle.qs_graph.specs.Graphs.{block_graph}

@@ -1,5 +1,5 @@
 use Rattle.std.proofs.Common.{arith, ap}
-use Rattle.qs_check.specs.Views.{single}
+use Rattle.qs_program.specs.Views.{single}
 use Rattle.qs_graph.specs.Graphs.{node_count}
 use Rattle.qs_graph.proofs.Counting.{count_at, count_past}
 use Rattle.qs_graph.proofs.counts.+count.Goals as goal

@@ -1,5 +1,5 @@
 use Rattle.std.proofs.Common.{◌≡◌, ◌+◌, ◌-◌, ◌*◌, ◌^◌, ◌≤◌, min, drop}
-use Rattle.qs_check.specs.Views.{statements_of, single}
+use Rattle.qs_program.specs.Views.{statements_of, single}
 use Rattle.qs_graph.specs.Graphs.{node_count}
 use Rattle.qs_graph.proofs.counts.+count.Given as goal
 

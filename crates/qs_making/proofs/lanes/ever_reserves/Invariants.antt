@@ -1,7 +1,7 @@
 use Rattle.std.proofs.Common.{◌≡◌, false, take}
 use Rattle.std.specs.List.{list_any}
-use Rattle.qs_check.specs.Program.{BlockShape, client_at}
-use Rattle.qs_check.specs.Sound.{is_in}
+use Rattle.qs_program.specs.Program.{BlockShape, client_at}
+use Rattle.qs_program.specs.Sound.{is_in}
 use Rattle.qs_making.proofs.lanes.ever_reserves.Given as goal
 
 abbrev pub invariant-loop-block : goal.invariant-loop-block

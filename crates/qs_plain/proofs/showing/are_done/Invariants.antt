@@ -1,5 +1,5 @@
 use Rattle.std.proofs.Common.{◌≡◌, ◌&&◌, map, drop}
-use Rattle.qs_check.specs.Program.{ProgramShape}
+use Rattle.qs_program.specs.Program.{ProgramShape}
 use Rattle.qs_plain_laws.specs.PlainSchedule.{all_done}
 use Rattle.qs_plain_client.specs.Clients.{client_of}
 use Rattle.qs_plain.specs.BegunBlocks.{AreOwn}

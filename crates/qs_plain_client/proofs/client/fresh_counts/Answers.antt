@@ -1,6 +1,6 @@
 use Rattle.std.proofs.Common.{◌≡◌, ◌<◌, ℕ, suc, ◌+◌, List, [], ◌++◌, length, get_or, set, replicate, sym, ap, ◌∙◌, arith}
 use Rattle.std.proofs.lemmas.List.{get_or-map, length-map}
-use Rattle.qs_check.specs.Program.{BlockShape, ProgramShape, block_at, blocks_of, client_at, no_block}
+use Rattle.qs_program.specs.Program.{BlockShape, ProgramShape, block_at, blocks_of, client_at, no_block}
 use Rattle.qs_syncset.specs.SyncRows.{CountsState, begun_rows, no_syncs}
 use Rattle.qs_syncset.specs.declared.sync_counts.SyncCount.{SyncCount}
 use Rattle.qs_syncset.proofs.CountRows.{begun_all, begun_beyond, begun_next, begun_none, length_begun, objects_end, objects_next}

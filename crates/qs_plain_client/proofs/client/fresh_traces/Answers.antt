@@ -1,7 +1,7 @@
 use Rattle.std.proofs.Common.{◌≡◌, ◌<◌, ◌+◌, ℕ, List, [], ◌∷◌, ◌++◌, get_or, length, sym, ap, ◌∙◌, arith}
 use Rattle.std.proofs.lemmas.List.{get_or-map, length-map, take_more}
 use Rattle.qs_objects.specs.Sums.{total}
-use Rattle.qs_check.specs.Program.{block_load, client_at, no_block}
+use Rattle.qs_program.specs.Program.{block_load, client_at, no_block}
 use Rattle.qs_plain_client.specs.PreparedBlock.{rooms_of}
 use Rattle.qs_plain_client.proofs.client.fresh_traces.Goals as goal
 

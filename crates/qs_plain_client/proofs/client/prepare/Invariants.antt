@@ -1,6 +1,6 @@
 use Rattle.std.proofs.Common.{◌≡◌, ℕ, map, take}
 use Rattle.std.specs.List.{AllByRecursion}
-use Rattle.qs_check.specs.Program.{block_at}
+use Rattle.qs_program.specs.Program.{block_at}
 use Rattle.qs_plain_client.specs.Queues.{QueueState}
 use Rattle.qs_plain_client.specs.PreparedBlock.{IsReadyQueue}
 use Rattle.qs_plain_client.proofs.client.prepare.Given as goal

@@ -1,7 +1,7 @@
 use Rattle.std.proofs.Common.{take_all, arith, ap, ◌∙◌, sum_by}
-use Rattle.qs_check.specs.Loads.{load_of}
-use Rattle.qs_check.specs.Program.{BlockShape, block_at}
-use Rattle.qs_check.proofs.Bounds.{sum_by-taken, block_load-whole}
+use Rattle.qs_program.specs.Loads.{load_of}
+use Rattle.qs_program.specs.Program.{BlockShape, block_at}
+use Rattle.qs_program.proofs.Bounds.{sum_by-taken, block_load-whole}
 use Rattle.qs_plain_client.proofs.client.room_of.Goals as goal
 
 pub overflow_add-room : goal.overflow_add-room

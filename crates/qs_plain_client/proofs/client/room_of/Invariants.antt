@@ -1,6 +1,6 @@
 use Rattle.std.proofs.Common.{◌≡◌, take, sum_by}
-use Rattle.qs_check.specs.Loads.{load_of}
-use Rattle.qs_check.specs.Program.{block_at}
+use Rattle.qs_program.specs.Loads.{load_of}
+use Rattle.qs_program.specs.Program.{block_at}
 use Rattle.qs_plain_client.proofs.client.room_of.Given as goal
 
 abbrev pub invariant-loop-object : goal.invariant-loop-object

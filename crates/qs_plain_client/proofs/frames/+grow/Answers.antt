@@ -1,6 +1,6 @@
 use Rattle.std.proofs.Common.{arith, ap}
-use Rattle.qs_check.specs.Views.{single, size_of}
-use Rattle.qs_check.proofs.StatementLists.{size_at}
+use Rattle.qs_program.specs.Views.{single, size_of}
+use Rattle.qs_program.proofs.StatementLists.{size_at}
 use Rattle.qs_plain_client.proofs.frames.+grow.Goals as goal
 
 pub grow-grow_stmt-requires : goal.grow-grow_stmt-requires

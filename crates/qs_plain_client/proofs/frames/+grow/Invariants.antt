@@ -1,5 +1,5 @@
 use Rattle.std.proofs.Common.{◌≡◌, ◌≤◌, ◌+◌, ◌-◌, ◌*◌, max, vec_len, vec_capacity, drop}
-use Rattle.qs_check.specs.Views.{single, size_of, statements_of}
+use Rattle.qs_program.specs.Views.{single, size_of, statements_of}
 use Rattle.qs_plain_client.specs.Frames.{above}
 use Rattle.qs_plain_client.proofs.frames.+grow.Given as goal
 

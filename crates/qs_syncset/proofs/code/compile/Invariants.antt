@@ -1,6 +1,6 @@
 use Rattle.std.proofs.Common.{◌≡◌, ℕ, ◌<◌, ◌≤◌, length, slice_index_or}
 use Rattle.std.specs.Prelude.{vec_capacity}
-use Rattle.qs_check.specs.Program.{block_at}
+use Rattle.qs_program.specs.Program.{block_at}
 use Rattle.qs_syncset.specs.Codes.{IsBlockCode, no_code}
 use Rattle.qs_syncset.specs.Modes.{is_static}
 use Rattle.qs_syncset.proofs.code.compile.Given as goal

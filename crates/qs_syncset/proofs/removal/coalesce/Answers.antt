@@ -5,7 +5,7 @@ use Rattle.qs_graph.specs.declared.node.Named.{Named}
 use Rattle.qs_graph.specs.Nodes.{ControlGraph, Place, place_at}
 use Rattle.qs_graph.specs.WellFormed.{IsInRange, IsPlace}
 use Rattle.qs_graph.specs.Nodes.{exit}
-use Rattle.qs_check.proofs.Bounds.{AllByRecursion-get_or}
+use Rattle.qs_program.proofs.Bounds.{AllByRecursion-get_or}
 use Rattle.qs_syncset.specs.Held.{IsHeld}
 use Rattle.qs_syncset.specs.Table.{has}
 use Rattle.qs_syncset.proofs.Removing.{IsDone, done_kept, done_set, removed, not_held, no_sync}

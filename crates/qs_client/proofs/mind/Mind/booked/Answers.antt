@@ -1,5 +1,5 @@
 use Rattle.std.proofs.Common.{◌≡◌, List, [], ◌∷◌, ◌++◌, refl, sym, ap, ◌∙◌, subst, length, arith}
-use Rattle.qs_check.specs.Values.{Locals}
+use Rattle.qs_program.specs.Values.{Locals}
 use Rattle.qs_graph.specs.Steps.{limit}
 use Rattle.qs_client_run.specs.Client.{between}
 use Rattle.qs_client_run.specs.declared.act.Act.TheVariants as acts

@@ -1,5 +1,5 @@
 use Rattle.std.proofs.Common.{◌≡◌, ℕ, refl, sym, ap, ◌∙◌, subst}
-use Rattle.qs_check.specs.declared.code.Call as calls
+use Rattle.qs_program.specs.declared.code.Call as calls
 use Rattle.qs_graph.specs.declared.node.Node.{Node}
 use Rattle.qs_graph.specs.Nodes.{place_at, first_target, second_target}
 use Rattle.qs_graph.specs.Walk.{Move, Spot, move_by}

@@ -2,7 +2,7 @@ use Rattle.std.proofs.Common.{◌≡◌, ◌==◌, sym, ap, ◌∙◌, ◌∷◌
 use Rattle.std.proofs.lemmas.Bool.{eq-eqb, ne_eqb}
 use Rattle.qs_objects.specs.declared.Request.{Request}
 use Rattle.qs_objects.specs.Parts.{logged}
-use Rattle.qs_check.specs.Values.{request_of}
+use Rattle.qs_program.specs.Values.{request_of}
 use Rattle.qs_graph.specs.Walk.{at_node}
 use Rattle.qs_chunk.specs.Batch.{batch}
 use Rattle.qs_client_run.specs.Hand.{HandsState, with_chunk}

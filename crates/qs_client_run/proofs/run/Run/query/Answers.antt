@@ -3,7 +3,7 @@ use Rattle.std.specs.Prelude.{unwrap_or}
 use Rattle.std.proofs.lemmas.Int.{to_z-of_z, ints}
 use Rattle.qs_objects.specs.declared.Request.{Request}
 use Rattle.qs_objects.specs.Journals.{ran}
-use Rattle.qs_check.specs.Values.{request_of}
+use Rattle.qs_program.specs.Values.{request_of}
 use Rattle.qs_meaning.specs.Solo.{event, value_of}
 use Rattle.qs_graph.specs.Walk.{Spot, at_node, with_value}
 use Rattle.qs_client_run.specs.Hand.{HandsState, with_held}

@@ -1,5 +1,5 @@
 use Rattle.std.proofs.Common.{refl, sym, ap, ◌∙◌, Bool}
-use Rattle.qs_check.specs.Values.{request_of}
+use Rattle.qs_program.specs.Values.{request_of}
 use Rattle.qs_graph.specs.Nodes.{place_at, second_target}
 use Rattle.qs_graph.specs.Walk.{at_node, with_value}
 use Rattle.qs_graph.specs.declared.node.Node.TheVariants as v

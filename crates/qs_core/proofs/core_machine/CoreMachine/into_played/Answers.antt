@@ -1,6 +1,6 @@
 use Rattle.std.proofs.Common.{◌≡◌, List, ap, sym, subst, ◌∙◌, IfOk}
 use Rattle.qs_objects.specs.declared.held.Ticket.{Ticket}
-use Rattle.qs_check.specs.Sound.{IsSound}
+use Rattle.qs_program.specs.Sound.{IsSound}
 use Rattle.qs_played.specs.Played.{Played}
 use Rattle.qs_core_parts.specs.CoreClients.{CoreClientState}
 use Rattle.qs_core_parts.specs.CoreHandlers.{CoreHandlerState}

@@ -1,6 +1,6 @@
 use Rattle.std.proofs.Common.{◌≡◌, ap, sym, subst, ◌∙◌, arith}
 use Rattle.qs_objects.specs.declared.held.Ticket.{Ticket}
-use Rattle.qs_check.specs.Program.{BlockShape, block_at}
+use Rattle.qs_program.specs.Program.{BlockShape, block_at}
 use Rattle.qs_played.specs.Played.{ticket}
 use Rattle.qs_core_parts.specs.CoreClients.{CoreClientState, whole_of}
 use Rattle.qs_core_parts.specs.CoreHandlers.{CanEnterAll}

@@ -1,5 +1,5 @@
 use Rattle.std.proofs.Common.{subst}
-use Rattle.qs_check.specs.Sound.{IsSound}
+use Rattle.qs_program.specs.Sound.{IsSound}
 use Rattle.qs_core.specs.CoreState.{CoreIsIsolated, CoreIsCounted}
 use Rattle.qs_core.proofs.CoreCounted.{core_is_counted}
 use Rattle.qs_core.proofs.CoreReaching.{core_is_isolated, core_keeps}

@@ -1,5 +1,5 @@
 use Rattle.std.proofs.Common.{subst}
-use Rattle.qs_check.specs.Sound.{IsSound}
+use Rattle.qs_program.specs.Sound.{IsSound}
 use Rattle.qs_core.specs.CoreState.{CoreIsIsolated}
 use Rattle.qs_core.proofs.CoreReaching.{core_is_isolated}
 use Rattle.qs_core.proofs.optimised.Core.is_isolated.Goals as goal

@@ -1,6 +1,6 @@
 use Rattle.std.proofs.Common.{◌≡◌, ◌++◌, ap, sym, subst, ◌∙◌, length, map, append_assoc, arith}
 use Rattle.std.specs.List.{range_with_len}
-use Rattle.qs_check.specs.Program.{ProgramShape}
+use Rattle.qs_program.specs.Program.{ProgramShape}
 use Rattle.qs_played.specs.declared.actor.Actor.TheVariants as actors
 use Rattle.qs_core.specs.CoreState.{CoreState, IsPlayedOn}
 use Rattle.qs_core.proofs.CorePlaying.{played_more, row_more}

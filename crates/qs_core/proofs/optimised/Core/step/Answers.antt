@@ -1,5 +1,5 @@
 use Rattle.std.proofs.Common.{subst}
-use Rattle.qs_check.specs.Sound.{IsSound}
+use Rattle.qs_program.specs.Sound.{IsSound}
 use Rattle.qs_core.proofs.CoreCounted.{core_next_counted}
 use Rattle.qs_core.proofs.CoreReaching.{core_goes_on, core_keeps, core_next, core_next_isolated}
 use Rattle.qs_core.proofs.optimised.Core.step.Goals as goal

@@ -1,8 +1,8 @@
 use Rattle.std.proofs.Common.{◌≡◌, ◌≤◌, ℕ, ◌+◌, ◌-◌, ◌==◌, if◌then◌else◌, [], true, length, ap, sym, subst, ◌∙◌, arith, refl}
 use Rattle.std.proofs.Math.ListN.{set}
 use Rattle.qs_objects.specs.declared.held.Ticket.{Ticket}
-use Rattle.qs_check.specs.Program.{BlockShape, block_at}
-use Rattle.qs_check.specs.Sound.{is_in}
+use Rattle.qs_program.specs.Program.{BlockShape, block_at}
+use Rattle.qs_program.specs.Sound.{is_in}
 use Rattle.qs_played.specs.Played.{ticket}
 use Rattle.qs_played.specs.declared.actor.Actor.TheVariants as actor
 use Rattle.qs_plain_laws.specs.declared.item.QueueItem.TheVariants as item

@@ -1,6 +1,6 @@
 use Rattle.std.proofs.Common.{◌≡◌, ◌∙◌, ap, sym, map, length, ℕ, ◌+◌, arith}
 use Rattle.std.specs.List.{range_with_len}
-use Rattle.qs_check.specs.Program.{ProgramShape}
+use Rattle.qs_program.specs.Program.{ProgramShape}
 use Rattle.qs_played.specs.declared.actor.Actor.{Actor}
 use Rattle.qs_played.specs.declared.actor.Actor.TheVariants as actors
 use Rattle.qs_plain_laws.specs.Plain.{Plain, step}

@@ -1,5 +1,5 @@
 use Rattle.std.proofs.Common.{ap, subst, ◌∙◌}
-use Rattle.qs_check.specs.Sound.{IsSound}
+use Rattle.qs_program.specs.Sound.{IsSound}
 use Rattle.qs_plain.specs.Rules.{IsReached, RulesState}
 use Rattle.qs_plain.proofs.Reaching.{reached_counted}
 use Rattle.qs_plain.proofs.rules.Rules.is_counted.Goals as goal

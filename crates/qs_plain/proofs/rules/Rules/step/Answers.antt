@@ -1,5 +1,5 @@
 use Rattle.std.proofs.Common.{subst}
-use Rattle.qs_check.specs.Sound.{IsSound}
+use Rattle.qs_program.specs.Sound.{IsSound}
 use Rattle.qs_plain.proofs.Reaching.{reached_counted, reached_isolated, reached_next}
 use Rattle.qs_plain.proofs.rules.Rules.step.Goals as goal
 

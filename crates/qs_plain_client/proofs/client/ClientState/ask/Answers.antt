@@ -2,7 +2,7 @@ use Rattle.std.proofs.Common.{◌≡◌, ◌<◌, ◌-◌, [], None, ap, get_or,
 use Rattle.qs_objects.specs.Traces.{TraceState, noted_at, trace_at}
 use Rattle.qs_objects.specs.declared.Request.{Request}
 use Rattle.qs_objects.specs.declared.held.Event.{Event}
-use Rattle.qs_check.specs.Sound.{is_in}
+use Rattle.qs_program.specs.Sound.{is_in}
 use Rattle.qs_syncset.specs.SyncRows.{AreFew, CountsState, with_sync}
 use Rattle.qs_syncset.proofs.CountRows.{few_in}
 use Rattle.qs_plain_client.specs.Clients.{AreStored, ClientState, IsClient, client_from, current_block}

@@ -1,10 +1,10 @@
 use Rattle.std.proofs.Common.{◌≡◌, [], ◌∷◌, ◌++◌, ◌≤◌, add-zero, length, ap, refl, sym, subst, ◌∙◌, arith}
 use Rattle.std.proofs.lemmas.List.{length-append}
-use Rattle.qs_check.specs.Program.{BlockShape, block_at}
+use Rattle.qs_program.specs.Program.{BlockShape, block_at}
 use Rattle.qs_plain_client.specs.Clients.{AreStored, ClientState, IsClient, IsStaged, client_from}
 use Rattle.qs_plain_client.specs.Frames.{places_of, rest}
 use Rattle.qs_plain_client.specs.FrameViews.{Stack}
-use Rattle.qs_check.specs.Statements.{Statements}
+use Rattle.qs_program.specs.Statements.{Statements}
 use Rattle.qs_plain_client.specs.ClientMoves.{Begins, begun_with}
 use Rattle.qs_plain_client.specs.declared.stage.Stage.TheVariants as stages
 use Rattle.qs_plain_client.proofs.ClientPreserved.{begun_kept}

@@ -1,5 +1,5 @@
 use Rattle.std.proofs.Common.{◌≡◌, sym, subst, length, nat_eq, arith}
-use Rattle.qs_check.specs.Program.{blocks_of}
+use Rattle.qs_program.specs.Program.{blocks_of}
 use Rattle.qs_plain_laws.specs.PlainSchedule.{is_done}
 use Rattle.qs_plain_client.specs.Clients.{ClientState, client_from, client_of}
 use Rattle.qs_plain_client.specs.declared.stage.Stage.TheVariants as stages

@@ -1,7 +1,7 @@
 use Rattle.std.proofs.Common.{◌≡◌, ◌<◌, ◌≤◌, ℕ, List, [], ap, drop, get_or, length, map, refl, sym, take, ◌∙◌, subst, arith, below_more, vec_capacity}
 use Rattle.std.proofs.lemmas.List.{length-append}
-use Rattle.qs_check.specs.Program.{BlockShape, block_at, blocks_of}
-use Rattle.qs_check.specs.Statements.{Statements}
+use Rattle.qs_program.specs.Program.{BlockShape, block_at, blocks_of}
+use Rattle.qs_program.specs.Statements.{Statements}
 use Rattle.qs_played.proofs.Lists.{each_more}
 use Rattle.qs_plain_client.specs.Frames.{rest, places_of}
 use Rattle.qs_plain_client.specs.PreparedBlock.{AreQueues, lists_of, prepared_of, rooms_of}

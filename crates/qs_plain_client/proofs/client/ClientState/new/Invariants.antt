@@ -1,5 +1,5 @@
 use Rattle.std.proofs.Common.{◌≡◌, ◌<◌, ◌≤◌, ℕ, List, [], length, get_or, vec_capacity}
-use Rattle.qs_check.specs.Program.{block_at}
+use Rattle.qs_program.specs.Program.{block_at}
 use Rattle.qs_plain_client.specs.Frames.{rest, places_of}
 use Rattle.qs_plain_client.specs.PreparedBlock.{AreQueues}
 use Rattle.qs_plain_client.specs.Queues.{QueueState}

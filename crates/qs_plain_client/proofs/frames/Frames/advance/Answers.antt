@@ -1,5 +1,5 @@
 use Rattle.std.proofs.Common.{◌-◌, ap, subst, ◌∙◌, ◌++◌, ◌∷◌, []}
-use Rattle.qs_check.specs.Views.{statements_of}
+use Rattle.qs_program.specs.Views.{statements_of}
 use Rattle.qs_plain_client.specs.Frames.{rest}
 use Rattle.qs_plain_client.specs.Asking.{AreSound}
 use Rattle.qs_plain_client.proofs.FrameMoves.{turns_again, turns_sound, popped_sound}

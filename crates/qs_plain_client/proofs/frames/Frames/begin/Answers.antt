@@ -1,6 +1,6 @@
 use Rattle.std.proofs.Common.{◌≡◌, ◌⊎◌, inl, inr, ap, arith}
-use Rattle.qs_check.specs.Views.{statements_of}
-use Rattle.qs_check.specs.Statements.{leave}
+use Rattle.qs_program.specs.Views.{statements_of}
+use Rattle.qs_program.specs.Statements.{leave}
 use Rattle.qs_plain_client.specs.Frames.{rest}
 use Rattle.qs_plain_client.proofs.FrameMoves.{repeats, load_left-push, repeats_sound, leaves_sound, chooses_sound}
 use Rattle.qs_plain_client.proofs.frames.Frames.begin.Goals.{then-is_met, else-is_met}

@@ -1,5 +1,5 @@
 use Rattle.std.proofs.Common.{◌≡◌, ◌≤◌, ℕ, List}
-use Rattle.qs_check.specs.declared.program.Declared.{Declared}
+use Rattle.qs_program.specs.declared.program.Declared.{Declared}
 use Rattle.qs_plain_client.specs.Asking.{AreSound}
 use Rattle.qs_plain_client.specs.Frames.{next_of, work, load_left}
 use Rattle.qs_plain_client.proofs.frames.Frames.settle.Given as goal

@@ -1,7 +1,7 @@
 use Rattle.std.proofs.Common.{◌≡◌, ◌<◌, ℕ, suc, ◌+◌, List, [], length, get_or, set, refl, sym, ap, ◌∙◌, subst, arith}
 use Rattle.std.proofs.lemmas.List.{get_or-set_same, length-set, set-get_or, set-set}
-use Rattle.qs_check.proofs.Bounds.{AllByRecursion-get_or}
-use Rattle.qs_syncset.specs.SyncRows.{CountsState, count_of, counts_state, one_more, sync_count}
+use Rattle.qs_program.proofs.Bounds.{AllByRecursion-get_or}
+use Rattle.qs_syncset.specs.SyncRows.{CountsState, count_of, counts_state, greatest_count, one_more, sync_count}
 use Rattle.qs_syncset.specs.declared.sync_counts.SyncCount.{SyncCount}
 use Rattle.qs_syncset.proofs.CountRows.{changed_front, front_all, front_at, front_length, front_set, have_at, length_paired, length_rows, row_at}
 use Rattle.qs_syncset.proofs.sync_counts.SyncCounts.add.Goals as goal
@@ -41,8 +41,8 @@ add_at-requires c =
     let front = front_length (one_more c.args.object) row k in
     let here : count_of (get_or (get_or c.loop-place.self.rows c.args.block []) k (sync_count 0 0)) ≡ count_of (get_or row k (sync_count 0 0)) =
     ap (λ (xs : List SyncCount). count_of (get_or xs k (sync_count 0 0))) now ∙ ap count_of (front_at (one_more c.args.object) row k (sync_count 0 0)) in
-    let few : count_of (get_or row k (sync_count 0 0)) < 4294967295 =
-    AllByRecursion-get_or (λ (x : SyncCount). x.count < 4294967295) row k (sync_count 0 0) c.requires.few inside in
+    let few : count_of (get_or row k (sync_count 0 0)) < greatest_count =
+    AllByRecursion-get_or (λ (x : SyncCount). x.count < greatest_count) row k (sync_count 0 0) c.requires.few inside in
     record {
       block = omega (arith, many, same, c.requires.block);
       place = omega (arith, inside, long, front);

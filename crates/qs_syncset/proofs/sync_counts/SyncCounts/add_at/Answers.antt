@@ -1,6 +1,6 @@
 use Rattle.std.proofs.Common.{◌≡◌, ◌<◌, ℕ, ◌==◌, suc, if◌then◌else◌, List, [], length, get_or, set, sym, ap, ◌∙◌, subst, arith}
 use Rattle.qs_objects.specs.Rows.{RowsState}
-use Rattle.qs_syncset.specs.SyncRows.{AreAlike, CountsState, count_of, counts_state, one_more, sync_count, with_counts}
+use Rattle.qs_syncset.specs.SyncRows.{AreAlike, CountsState, count_of, counts_state, greatest_count, one_more, sync_count, with_counts}
 use Rattle.qs_syncset.specs.declared.sync_counts.SyncCount.{SyncCount}
 use Rattle.qs_syncset.proofs.CountRows.{have_at, have_set, length_counts, length_paired, length_rows, paired_at, row_at, rows_set}
 use Rattle.qs_syncset.proofs.sync_counts.SyncCounts.add_at.Goals as goal
@@ -28,8 +28,8 @@ next_count-count-requires c =
     let place = subst (λ (s : CountsState). c.args.place < length (get_or s.rows c.args.block [])) (sym c.self.view_is) c.requires.place in
     let objects = ap (λ (xs : List ℕ). length xs) c.of.ensures.value in
     let counts = ap (λ (xs : List ℕ). length xs) c.of-2.ensures.value in
-    let few : count_of (get_or (get_or (with_counts c.self.inside.objects.rows c.self.inside.counts.rows) c.args.block []) c.args.place (sync_count 0 0)) < 4294967295 =
-    subst (λ (s : CountsState). count_of (get_or (get_or s.rows c.args.block []) c.args.place (sync_count 0 0)) < 4294967295) (sym c.self.view_is) c.requires.few in
+    let few : count_of (get_or (get_or (with_counts c.self.inside.objects.rows c.self.inside.counts.rows) c.args.block []) c.args.place (sync_count 0 0)) < greatest_count =
+    subst (λ (s : CountsState). count_of (get_or (get_or s.rows c.args.block []) c.args.place (sync_count 0 0)) < greatest_count) (sym c.self.view_is) c.requires.few in
     let pair = ap (λ (xs : List SyncCount). get_or xs c.args.place (sync_count 0 0)) row ∙ paired_at (get_or c.self.inside.objects.rows c.args.block []) (get_or c.self.inside.counts.rows c.args.block []) c.args.place same in
     let count = ap count_of pair in
     let read = ap (λ (xs : List ℕ). get_or xs c.args.place 0) c.of-2.ensures.value in

@@ -1,6 +1,0 @@
-use Rattle.std.proofs.Common.{◌≡◌, min, sum_by, take}
-use Rattle.qs_check.specs.Program.{block_load}
-use Rattle.qs_check.proofs.totals.blocks_load.Given as goal
-
-abbrev pub invariant-loop-block : goal.invariant-loop-block
-invariant-loop-block l = l.load ≡ min (sum_by (block_load) (take l.block-index l.blocks)) 100001

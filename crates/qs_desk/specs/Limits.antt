@@ -1,0 +1,11 @@
+-- How much a desk has room for.
+use Rattle.std.specs.Prelude.{ℕ, suc, ◌*◌}
+use Rattle.qs_program.specs.Limits.{most_blocks, most_clients}
+
+-- a booking for each block of each client
+abbrev pub all_bookings : ℕ
+all_bookings = most_clients * most_blocks
+
+-- of a handler's queue: all bookings and the closing mark
+abbrev pub line_room : ℕ
+line_room = suc all_bookings

@@ -1,0 +1,4 @@
+pub mod StatementLists
+pub mod Loads
+pub mod Found
+pub mod Bounds

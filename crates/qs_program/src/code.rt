@@ -1,0 +1,210 @@
+//! Statements with each name replaced by its number.
+
+ghost use Rattle.std.specs.Prelude.{◌≡◌, ◌≤◌, ◌+◌, [], ◌∷◌, ◌++◌, OnOk, OnErr, min};
+ghost use Rattle.qs_program.specs.Limits.{most_levels, most_requests, most_steps};
+ghost use Rattle.qs_program.specs.Loads.{load_of, weight_of};
+ghost use Rattle.qs_program.specs.Sound.{levels_of};
+ghost use Rattle.qs_program.specs.Statements.{end, joined};
+ghost use Rattle.qs_program.specs.Views.{single, statements_of};
+
+use qs_objects::Op;
+use qs_script::{Operator, Relation};
+use std::alloc::{AllocError, Global};
+use std::marker::Model;
+
+/// A value as it is written: a variable of the client by its number, or a number.
+#[derive(Clone, Copy, Debug)]
+pub enum Atom {
+    Variable(u8),
+    Number(i64),
+}
+
+/// An expression of one value, or of two and an operator.
+#[derive(Clone, Copy, Debug)]
+pub enum Expr {
+    Plain(Atom),
+    Binary(Atom, Operator, Atom),
+}
+
+/// The test of an `if`.
+#[derive(Clone, Copy, Debug)]
+pub struct Test {
+    pub left: Atom,
+    pub relation: Relation,
+    pub right: Atom,
+}
+
+/// The arguments of a request as they are written.
+#[derive(Drop)]
+pub struct Atoms {
+    atoms: Vec<Atom>,
+}
+
+impl Model for Atoms {
+    ghost use Rattle.std.specs.Prelude.{List};
+    ghost use Rattle.qs_program.specs.declared.code.Atom.{Atom};
+
+    ghost Value = { List Atom };
+
+    ghost view = { λ a. a.atoms.items };
+}
+
+impl Atoms {
+    /// No arguments; takes no memory.
+    pub fn new(alloc: Global) -> Atoms
+        ensures empty { result ≡ [] }
+    {
+        Atoms {
+            atoms: Vec::new(alloc),
+        }
+    }
+
+    /// Adds an argument at the end. An error means out of memory, and leaves the arguments as they were.
+    pub fn push(&mut self, atom: Atom) -> Result<(), AllocError>
+        ensures ok { OnOk result (self.new ≡ self.old ++ atom ∷ []) }
+        ensures kept { OnErr result (self.new ≡ self.old) }
+    {
+        self.atoms.push(atom)?;
+        Ok(())
+    }
+
+    /// The arguments in order.
+    pub fn as_slice(&self) -> &[Atom]
+        ensures value { result.now ≡ self.now }
+    {
+        self.atoms.as_slice()
+    }
+}
+
+/// A request as it is written: the object by its number in the program.
+#[derive(Drop)]
+pub struct Call {
+    pub object: u8,
+    pub op: Op,
+    pub args: Atoms,
+}
+
+/// A statement. An `If` without `else` has an empty second body and `has_else` false.
+#[cycle(code)]
+#[derive(Drop)]
+pub enum Stmt {
+    Command(Call),
+    Query(u8, Call),
+    Assign(u8, Expr),
+    If {
+        test: Test,
+        has_else: bool,
+        first: Body,
+        other: Body,
+    },
+    Repeat(u64, Body),
+    Leave,
+}
+
+/// A list of statements, in which a statement stands inside at most eight others: `push` adds no other, so that no call on it, nor its
+/// drop, goes deep.
+#[cycle(code)]
+#[derive(Drop)]
+pub struct Body {
+    stmts: Vec<Stmt>,
+}
+
+impl Model for Body {
+    ghost use Rattle.qs_program.specs.Statements.{Statements};
+    ghost use Rattle.qs_program.specs.StatementsCode.{statements_code};
+
+    ghost Value = { Statements };
+
+    ghost coded = { statements_code };
+
+    ghost use Rattle.qs_program.specs.Views.{statements_of, size_of};
+
+    ghost view = { λ b. statements_of b.stmts.items };
+
+    ghost size = { size_of };
+
+    ghost use Rattle.qs_program.specs.SizeDecreases.{inner_smaller};
+
+    ghost size_decreases = { λ b h. inner_smaller b.stmts.items };
+}
+
+impl Body {
+    /// No statements; takes no memory.
+    pub fn new(alloc: Global) -> Body
+        ensures empty { result ≡ end }
+    {
+        Body {
+            stmts: Vec::new(alloc),
+        }
+    }
+
+    /// The statements in order.
+    pub fn as_slice(&self) -> &[Stmt]
+        ensures value { self.now ≡ statements_of result.now }
+    {
+        self.stmts.as_slice()
+    }
+
+    /// Adds a statement at the end, which stands inside at most eight others. An error means out of memory, and leaves the list as it was.
+    pub fn push(&mut self, stmt: Stmt) -> Result<(), AllocError>
+        requires shallow { levels_of (single stmt) ≤ most_levels }
+        ensures ok { OnOk result (self.new ≡ joined self.old (single stmt)) }
+        ensures kept { OnErr result (self.new ≡ self.old) }
+    {
+        self.stmts.push(stmt)?;
+        Ok(())
+    }
+
+    /// The most requests that it can make on an object, or 100,001 where that is more.
+    #[cycle(load)]
+    pub fn load(&self, object: u8) -> u64
+        ensures capped { result ≡ min (load_of self.now object) (most_requests + 1) }
+    {
+        let mut load = 0;
+        for stmt in &self.stmts {
+            load = (load + stmt.load(object)).min(100_001);
+        }
+        load
+    }
+
+    /// The most steps that it can take, or 1,000,001 where that is more.
+    #[cycle(weight)]
+    pub fn weight(&self) -> u64
+        ensures capped { result ≡ min (weight_of self.now) (most_steps + 1) }
+    {
+        let mut weight = 0;
+        for stmt in &self.stmts {
+            weight = (weight + stmt.weight()).min(1_000_001);
+        }
+        weight
+    }
+}
+
+impl Stmt {
+    #[cycle(load)]
+    fn load(&self, object: u8) -> u64
+        ensures capped { result ≡ min (load_of (single self.now) object) (most_requests + 1) }
+    {
+        match self {
+            Stmt::Command(call) | Stmt::Query(_, call) => (call.object == object) as u64,
+            Stmt::If { first, other, .. } => first.load(object).max(other.load(object)),
+            Stmt::Repeat(count, body) => body.load(object).saturating_mul(*count).min(100_001),
+            Stmt::Assign(_, _) | Stmt::Leave => 0,
+        }
+    }
+
+    #[cycle(weight)]
+    fn weight(&self) -> u64
+        ensures capped { result ≡ min (weight_of (single self.now)) (most_steps + 1) }
+    {
+        match self {
+            Stmt::If { first, other, .. } => (first.weight().max(other.weight()) + 1).min(
+                1_000_001,
+            ),
+            Stmt::Repeat(count, body) => {
+                (body.weight().max(1).saturating_mul(*count).min(1_000_001) + 1).min(1_000_001)
+            }
+            Stmt::Command(_) | Stmt::Query(_, _) | Stmt::Assign(_, _) | Stmt::Leave => 1,
+        }
+    }
+}

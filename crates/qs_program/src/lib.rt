@@ -1,0 +1,14 @@
+//! Checked programs: statements with names by number, values, limits, loads and weights.
+#![tactic(auto)]
+
+mod code;
+mod names;
+mod program;
+mod totals;
+mod values;
+
+pub use code::{Atom, Atoms, Body, Call, Expr, Stmt, Test};
+pub use names::Names;
+pub use program::{Block, Client, Declared, Program};
+pub use totals::{all_load, all_weight};
+pub use values::Locals;

@@ -1,0 +1,266 @@
+//! Checked programs.
+
+ghost use Rattle.std.specs.Prelude.{◌≡◌, ◌<◌, ◌≤◌, length, slice_index_or, sum_by};
+ghost use Rattle.qs_program.specs.Limits.{most_requests, most_steps};
+ghost use Rattle.qs_program.specs.Loads.{load_of};
+ghost use Rattle.qs_program.specs.Program.{client_at, block_at, object_at, no_block, blocks_of, program_of, whole_load, whole_weight};
+ghost use Rattle.qs_program.specs.Sound.{IsSound};
+
+use crate::code::Body;
+use crate::names::Names;
+use qs_objects::Kind;
+use qs_script::Name;
+use std::marker::Model;
+
+/// An object as it is declared.
+#[derive(Drop)]
+pub struct Declared {
+    pub name: Name,
+    pub kind: Kind,
+}
+
+/// A separate block: the objects that it reserves, and its statements.
+#[derive(Drop)]
+pub struct Block {
+    reserved: Vec<u8>,
+    body: Body,
+}
+
+impl Model for Block {
+    ghost use Rattle.qs_program.specs.StatementsCode.{statements_code};
+    ghost use Rattle.qs_program.specs.Shapes.{block_code};
+    ghost use Rattle.qs_program.specs.Program.{BlockShape};
+
+    ghost Value = { BlockShape };
+
+    ghost coded = { block_code };
+
+    ghost view = { λ b. record { reserved = b.reserved.items; body = b.body } };
+}
+
+impl Block {
+    /// A block of a list of objects and of statements.
+    pub fn new(reserved: Vec<u8>, body: Body) -> Block
+        ensures value { result ≡ record { reserved = reserved.items; body = body } }
+    {
+        Block { reserved, body }
+    }
+
+    /// The objects that it reserves, in the order of its list.
+    pub fn reserved(&self) -> &[u8]
+        ensures value { result.now ≡ self.now.reserved }
+    {
+        self.reserved.as_slice()
+    }
+
+    /// Its statements.
+    pub fn body(&self) -> &Body
+        ensures value { result.now ≡ self.now.body }
+    {
+        &self.body
+    }
+}
+
+/// A client: its name, the names of its variables by number, and its blocks.
+#[derive(Drop)]
+pub struct Client {
+    name: Name,
+    variables: Names,
+    pub(crate) blocks: Vec<Block>,
+}
+
+impl Model for Client {
+    ghost use Rattle.qs_program.specs.Shapes.{client_code};
+    ghost use Rattle.qs_program.specs.Program.{ClientShape};
+
+    ghost Value = { ClientShape };
+
+    ghost coded = { client_code };
+
+    ghost view = { λ c. record { name = c.name; variables = c.variables; blocks = c.blocks.items } };
+}
+
+impl Client {
+    /// A client of a name, of its variables' names by number, and of blocks.
+    pub fn new(name: Name, variables: Names, blocks: Vec<Block>) -> Client
+        ensures value { result ≡ record { name = name; variables = variables; blocks = blocks.items } }
+    {
+        Client {
+            name,
+            variables,
+            blocks,
+        }
+    }
+
+    fn len(&self) -> usize
+        ensures value { result ≡ length self.now.blocks }
+    {
+        self.blocks.len()
+    }
+
+    fn block(&self, index: u8) -> &Block
+        requires { index < length self.now.blocks }
+        ensures value { result.now ≡ slice_index_or self.now.blocks index no_block }
+    {
+        &self.blocks[usize::from(index)]
+    }
+}
+
+/// A checked program.
+#[derive(Drop)]
+pub struct Program {
+    objects: Vec<Declared>,
+    clients: Vec<Client>,
+    load: u64,
+    weight: u64,
+}
+
+impl Model for Program {
+    ghost use Rattle.std.specs.Prelude.{◌≡◌};
+    ghost use Rattle.qs_program.specs.Shapes.{program_code};
+    ghost use Rattle.qs_program.specs.Program.{ProgramShape};
+
+    ghost Value = { ProgramShape };
+
+    ghost coded = { program_code };
+
+    ghost use Rattle.qs_program.specs.Program.{whole_load, whole_weight};
+    ghost use Rattle.qs_program.specs.Sound.{IsSound};
+
+    ghost view = { λ p. record { objects = p.objects.items; clients = p.clients.items } };
+
+    ghost invariant = { λ p.
+        IsSound (record { objects = p.objects.items; clients = p.clients.items })
+        × (p.load ≡ whole_load (record { objects = p.objects.items; clients = p.clients.items }))
+        × (p.weight ≡ whole_weight (record { objects = p.objects.items; clients = p.clients.items })) };
+}
+
+impl Program {
+    /// A program of objects and clients that are sound together, with their load and their weight.
+    pub fn new(objects: Vec<Declared>, clients: Vec<Client>, load: u64, weight: u64) -> Program
+        requires sound { IsSound (program_of objects.items clients.items) }
+        requires load { load ≡ whole_load (program_of objects.items clients.items) }
+        requires weight { weight ≡ whole_weight (program_of objects.items clients.items) }
+        ensures value { result ≡ program_of objects.items clients.items }
+    {
+        Program {
+            objects,
+            clients,
+            load,
+            weight,
+        }
+    }
+
+    /// Lets the program go. A crate that calls this has no proof of its own of how each part of a program is dropped.
+    pub fn discard(self) {}
+
+    /// What holds of every checked program; it does nothing.
+    pub fn is_sound(&self)
+        ensures sound { IsSound self.now }
+    {
+        let _ = &self.objects;
+    }
+
+    /// How many objects there are, at most 8.
+    pub fn objects(&self) -> usize
+        ensures value { result ≡ length self.now.objects }
+    {
+        self.objects.len()
+    }
+
+    /// How many clients there are, at most 8.
+    pub fn clients(&self) -> usize
+        ensures value { result ≡ length self.now.clients }
+    {
+        self.clients.len()
+    }
+
+    /// How many blocks there are in all, at most 512.
+    pub fn blocks(&self) -> usize
+        ensures value { result ≡ sum_by (λ c. length c.blocks) self.now.clients }
+    {
+        let mut count = 0;
+        for client in &self.clients {
+            count += client.len();
+        }
+        count
+    }
+
+    /// How many blocks a client has, at most 64.
+    pub fn blocks_of(&self, client: u8) -> usize
+        requires { client < length self.now.clients }
+        ensures value { result ≡ blocks_of self.now client }
+    {
+        self.clients[usize::from(client)].len()
+    }
+
+    /// The load: how many requests there can be at most, over all blocks and the objects that they reserve; at most 100,000.
+    pub fn load(&self) -> u64
+        ensures value { result ≡ whole_load self.now }
+        ensures limit { result ≤ most_requests }
+    {
+        self.load
+    }
+
+    /// How many requests a block can make on an object.
+    pub fn load_of(&self, client: u8, block: u8, object: u8) -> u64
+        requires client { client < length self.now.clients }
+        requires block { block < blocks_of self.now client }
+        ensures value { result ≡ load_of (block_at self.now client block).body object }
+        ensures limit { result ≤ most_requests }
+    {
+        let _ = &self.load;
+        self.block(client, block).body.load(object)
+    }
+
+    /// The weight: how many steps there can be at most, over all blocks; at most 1,000,000.
+    pub fn weight(&self) -> u64
+        ensures value { result ≡ whole_weight self.now }
+        ensures limit { result ≤ most_steps }
+    {
+        self.weight
+    }
+
+    /// An object's name.
+    pub fn object_name(&self, object: u8) -> &Name
+        requires { object < length self.now.objects }
+        ensures value { result.now ≡ (object_at self.now object).name }
+    {
+        &self.objects[usize::from(object)].name
+    }
+
+    /// An object's kind, as it is declared.
+    pub fn kind(&self, object: u8) -> Kind
+        requires { object < length self.now.objects }
+        ensures value { result ≡ (object_at self.now object).kind }
+    {
+        self.objects[usize::from(object)].kind
+    }
+
+    /// A client's name.
+    pub fn client_name(&self, client: u8) -> &Name
+        requires { client < length self.now.clients }
+        ensures value { result.now ≡ (client_at self.now client).name }
+    {
+        let client = &self.clients[usize::from(client)];
+        &client.name
+    }
+
+    /// The names of a client's variables, by number.
+    pub fn variables(&self, client: u8) -> &Names
+        requires { client < length self.now.clients }
+        ensures value { result.now ≡ (client_at self.now client).variables }
+    {
+        let client = &self.clients[usize::from(client)];
+        &client.variables
+    }
+
+    /// A client's block, by its number from 0.
+    pub fn block(&self, client: u8, block: u8) -> &Block
+        requires client { client < length self.now.clients }
+        requires block { block < blocks_of self.now client }
+        ensures value { result.now ≡ block_at self.now client block }
+    {
+        self.clients[usize::from(client)].block(block)
+    }
+}

@@ -1,0 +1,62 @@
+//! Loads and weights of whole programs, counted no further than one past their limits.
+
+ghost use Rattle.std.specs.Prelude.{◌≡◌, ◌+◌, min, sum_by};
+ghost use Rattle.qs_program.specs.Limits.{most_requests, most_steps};
+ghost use Rattle.qs_program.specs.Loads.{weight_of};
+ghost use Rattle.qs_program.specs.Program.{block_load as block_load_of};
+
+use crate::program::{Block, Client};
+
+/// The load of all blocks of all clients, or 100,001 where it is more.
+pub fn all_load(clients: &[Client]) -> u64
+    ensures capped { result ≡ min (sum_by (λ c. sum_by block_load_of c.blocks) clients.now) (most_requests + 1) }
+{
+    let mut load = 0;
+    for client in clients {
+        load = (load + blocks_load(client.blocks.as_slice())).min(100_001);
+    }
+    load
+}
+
+fn blocks_load(blocks: &[Block]) -> u64
+    ensures capped { result ≡ min (sum_by block_load_of blocks.now) (most_requests + 1) }
+{
+    let mut load = 0;
+    for block in blocks {
+        load = (load + block_load(block)).min(100_001);
+    }
+    load
+}
+
+// A block's load is counted for the objects of its list.
+fn block_load(block: &Block) -> u64
+    ensures capped { result ≡ min (block_load_of block.now) (most_requests + 1) }
+{
+    let body = block.body();
+    let mut load = 0;
+    for object in block.reserved() {
+        load = (load + body.load(*object)).min(100_001);
+    }
+    load
+}
+
+/// The weight of all blocks of all clients, or 1,000,001 where it is more.
+pub fn all_weight(clients: &[Client]) -> u64
+    ensures capped { result ≡ min (sum_by (λ c. sum_by (λ b. weight_of b.body) c.blocks) clients.now) (most_steps + 1) }
+{
+    let mut weight = 0;
+    for client in clients {
+        weight = (weight + blocks_weight(client.blocks.as_slice())).min(1_000_001);
+    }
+    weight
+}
+
+fn blocks_weight(blocks: &[Block]) -> u64
+    ensures capped { result ≡ min (sum_by (λ b. weight_of b.body) blocks.now) (most_steps + 1) }
+{
+    let mut weight = 0;
+    for block in blocks {
+        weight = (weight + block.body().weight()).min(1_000_001);
+    }
+    weight
+}
