@@ -43,6 +43,7 @@ fn main(rt: HostRuntime) -> ExitCode {
         return ExitCode::from(refuse(Fault::Memory, &mut out, &mut Watch::new()));
     };
     ExitCode::from(serve(
+        &rt,
         rt.alloc(),
         texts.as_slice(),
         &mut input,

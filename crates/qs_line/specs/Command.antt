@@ -23,13 +23,17 @@ rounds_rule = defaulted_rule (codes "rounds") (codes "1000000")
 abbrev pub rules_app : App
 rules_app = with_rule (with_rule (new_app (codes "rules")) rounds_rule) (option_rule (codes "pick"))
 
--- `play [--mode M] [--chunk N]`
-abbrev pub machine_app : App
-machine_app = with_rule (with_rule (new_app (codes "play")) (defaulted_rule (codes "mode") (codes "both"))) chunk_rule
+-- `WORD [--mode M] [--chunk N]`
+abbrev pub machine_app : Text → App
+machine_app word = with_rule (with_rule (new_app word) (defaulted_rule (codes "mode") (codes "both"))) chunk_rule
 
 -- `play [--mode M] [--chunk N] [--rounds N] [--pick LIST]`
 abbrev pub play_app : App
-play_app = with_rule (with_rule machine_app rounds_rule) (option_rule (codes "pick"))
+play_app = with_rule (with_rule (machine_app (codes "play")) rounds_rule) (option_rule (codes "pick"))
+
+-- `run [--mode M] [--chunk N]`
+abbrev pub run_app : App
+run_app = machine_app (codes "run")
 
 -- the program's name, with no word `help`
 abbrev pub named_app : App
@@ -41,4 +45,4 @@ texts_app = with_subcommand (with_subcommand named_app (new_app (codes "check"))
 
 -- the whole command
 abbrev pub qs_app : App
-qs_app = with_subcommand (with_subcommand texts_app rules_app.top) play_app.top
+qs_app = with_subcommand (with_subcommand (with_subcommand texts_app rules_app.top) play_app.top) run_app.top

@@ -18,19 +18,21 @@ use Rattle.qs_line.specs.declared.line.LineFault.TheVariants as fault
 use Rattle.qs_line.specs.declared.line.Settings.{Settings}
 use Rattle.qs_line.specs.declared.line.Settings.TheVariants as word
 
--- what is asked for: the counts; the graphs; a run by the plain rules, with so many rounds after its picks; or one in the optimised
--- machine, in a mode and by chunks of a size
+-- what is asked for: the counts; the graphs; a run by the plain rules, with so many rounds after its picks; one in the optimised
+-- machine, in a mode and by chunks of a size; or one on threads
 pub data Request : Type 0 where
   check : Request
   graph : Request
   rules : ℕ → List Actor → Request
   play : Mode → ℕ → ℕ → List Actor → Request
+  run : Mode → ℕ → Request
 
 abbrev pub request_of : Settings → Request
 request_of word.Check = check
 request_of word.Graph = graph
 request_of (word.Rules rounds picks) = rules rounds picks.items
 request_of (word.Play mode chunk rounds picks) = play mode chunk rounds picks.items
+request_of (word.Run mode chunk) = run mode chunk
 
 abbrev pub mode_in : Text → Option Mode
 mode_in text =
@@ -66,13 +68,17 @@ play_at rows =
     option_and_then (λ rounds. option_map (play mode chunk rounds) (picks_at rows))
     (rounds_at rows)) (chunk_at rows)) (mode_at rows)
 
+abbrev pub run_at : List Row → Option Request
+run_at rows = option_and_then (λ mode. option_map (run mode) (chunk_at rows)) (mode_at rows)
+
 -- what a word asks for, with the entries that clap finds after it
 abbrev pub request_at : Text → List Row → Option Request
 request_at name rows =
     if bytes_eq name (codes "check") then Some check
     else if bytes_eq name (codes "graph") then Some graph
     else if bytes_eq name (codes "rules") then rules_at rows
-    else if bytes_eq name (codes "play") then play_at rows else None
+    else if bytes_eq name (codes "play") then play_at rows
+    else if bytes_eq name (codes "run") then run_at rows else None
 
 -- what the word that clap meets asks for
 abbrev pub request_met : Option (Text × List Row) → Option Request

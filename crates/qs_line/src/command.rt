@@ -3,7 +3,7 @@
 ghost use Rattle.std.specs.Prelude.{◌≡◌, IfOk, codes, false};
 ghost use Rattle.clap.specs.Words.{app_of, rule_of, with_subcommand};
 ghost use Rattle.clap.specs.declared.Command.TheViews.{out-Command as fields_of};
-ghost use Rattle.qs_line.specs.Command.{chunk_rule, defaulted_rule, machine_app, option_rule, play_app, qs_app, rules_app, texts_app};
+ghost use Rattle.qs_line.specs.Command.{chunk_rule, defaulted_rule, machine_app, option_rule, play_app, qs_app, rules_app, run_app, texts_app};
 
 use clap::{Arg, ArgAction, Command, value_parser};
 use std::alloc::{AllocError, Global};
@@ -38,11 +38,11 @@ fn rules_command<'a>(alloc: Global) -> Result<Command<'a>, AllocError>
         .arg(option(alloc, "pick"))
 }
 
-fn machine_command<'a>(alloc: Global) -> Result<Command<'a>, AllocError>
-    ensures app { IfOk result (λ command. app_of command ≡ machine_app) }
+fn machine_command<'a>(alloc: Global, word: &'a str) -> Result<Command<'a>, AllocError>
+    ensures app { IfOk result (λ command. app_of command ≡ machine_app word.entry.now) }
     ensures local { IfOk result (λ command. (fields_of command).has_globals ≡ false) }
 {
-    Command::new(alloc, "play")
+    Command::new(alloc, word)
         .arg(defaulted(alloc, "mode", "both"))?
         .arg(chunk_option(alloc))
 }
@@ -51,7 +51,7 @@ fn play_command<'a>(alloc: Global) -> Result<Command<'a>, AllocError>
     ensures app { IfOk result (λ command. app_of command ≡ play_app) }
     ensures local { IfOk result (λ command. (fields_of command).has_globals ≡ false) }
 {
-    machine_command(alloc)?
+    machine_command(alloc, "play")?
         .arg(defaulted(alloc, "rounds", "1000000"))?
         .arg(option(alloc, "pick"))
 }
@@ -91,9 +91,23 @@ fn with_play<'a>(alloc: Global, command: Command<'a>) -> Result<Command<'a>, All
     }
 }
 
+// With the word `run`.
+fn with_run<'a>(alloc: Global, command: Command<'a>) -> Result<Command<'a>, AllocError>
+    ensures app { IfOk result (λ whole. app_of whole ≡ with_subcommand (app_of command.entry) run_app.top) }
+{
+    match machine_command(alloc, "run") {
+        Ok(run) => command.subcommand(run),
+        Err(error) => {
+            drop(command);
+            Err(error)
+        }
+    }
+}
+
 /// The whole command.
 pub fn command<'a>(alloc: Global) -> Result<Command<'a>, AllocError>
     ensures app { IfOk result (λ command. app_of command ≡ qs_app) }
 {
-    with_play(alloc, with_rules(alloc, texts_command(alloc)?)?)
+    let played = with_play(alloc, with_rules(alloc, texts_command(alloc)?)?)?;
+    with_run(alloc, played)
 }

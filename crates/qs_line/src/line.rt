@@ -4,7 +4,7 @@ ghost use Rattle.std.specs.Prelude.{◌≡◌, [], IfOk, IfErr, map, option_map}
 ghost use Rattle.clap.specs.Words.{found_of, first_of, kind_of, rows_of, subcommand_of, subcommand_rows_of};
 ghost use Rattle.clap.specs.Faults.{fault_of};
 ghost use Rattle.qs_line.specs.Command.{qs_app};
-ghost use Rattle.qs_line.specs.Line.{IsAnswer, IsFault, IsFaultAmong, chunk_at, line_in, mode_at, picks_at, play_at, request_at, request_met, request_of, rounds_at, rules_at};
+ghost use Rattle.qs_line.specs.Line.{IsAnswer, IsFault, IsFaultAmong, chunk_at, line_in, mode_at, picks_at, play_at, request_at, request_met, request_of, rounds_at, rules_at, run_at};
 
 use crate::Actor;
 use crate::command::command;
@@ -39,6 +39,13 @@ pub enum Settings {
         rounds: u32,
         /// Who steps before the rounds.
         picks: Vec<Actor>,
+    },
+    /// Check it, and run it on threads.
+    Run {
+        /// Which synchronisations are left out.
+        mode: Mode,
+        /// How many commands a chunk takes.
+        chunk: ChunkSize,
     },
 }
 
@@ -130,6 +137,14 @@ fn play_settings(alloc: Global, found: &ArgMatches<'_>) -> Result<Option<Setting
     }))
 }
 
+fn run_settings(found: &ArgMatches<'_>) -> Option<Settings>
+    ensures settings { option_map request_of result ≡ run_at (rows_of (found_of found.now)) }
+{
+    let mode = mode_of(found)?;
+    let chunk = chunk_of(found)?;
+    Some(Settings::Run { mode, chunk })
+}
+
 // What a word asks for, with what clap found after it.
 fn settings_of(
     alloc: Global,
@@ -143,6 +158,7 @@ fn settings_of(
         "graph" => Ok(Some(Settings::Graph)),
         "rules" => rules_settings(alloc, found),
         "play" => play_settings(alloc, found),
+        "run" => Ok(run_settings(found)),
         _ => Ok(None),
     }
 }

@@ -10,7 +10,7 @@ mod played;
 mod row;
 
 pub use actor::Actor;
-pub use fault::PlayFault;
+pub use fault::{PlayFault, RunFault};
 pub use journal_rooms::declared_held;
 pub use outcome::Outcome;
 pub use picks::are_named;

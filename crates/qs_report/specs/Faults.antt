@@ -6,8 +6,10 @@ use Rattle.qs_check.specs.declared.fault.CheckFault.{CheckFault}
 use Rattle.qs_check.specs.declared.fault.CheckFault.TheVariants as check
 use Rattle.qs_played.specs.declared.fault.PlayFault.{PlayFault}
 use Rattle.qs_played.specs.declared.fault.PlayFault.TheVariants as play
+use Rattle.qs_played.specs.declared.fault.RunFault.{RunFault}
+use Rattle.qs_played.specs.declared.fault.RunFault.TheVariants as run
 use Rattle.qs_report.specs.declared.faults.Fault.{Fault}
-use Rattle.qs_report.specs.declared.faults.Fault.TheVariants.{CommandLine, Input, Read, Check, Play, Memory}
+use Rattle.qs_report.specs.declared.faults.Fault.TheVariants.{CommandLine, Input, Read, Check, Play, Run, Memory}
 
 abbrev pub read_words : ReadFault → List ℕ
 read_words read.Size = codes "read 1 Size"
@@ -45,12 +47,17 @@ play_words play.Memory = codes "play 1 Memory"
 play_words play.Actor = codes "play 2 Actor"
 play_words play.Rounds = codes "play 3 Rounds"
 
+abbrev pub run_words : RunFault → List ℕ
+run_words run.Memory = codes "run 1 Memory"
+run_words run.Threads = codes "run 2 Threads"
+
 abbrev pub fault_words : Fault → List ℕ
 fault_words CommandLine = codes "command line"
 fault_words Input = codes "input"
 fault_words (Read fault) = read_words fault
 fault_words (Check fault) = check_words fault
 fault_words (Play fault) = play_words fault
+fault_words (Run fault) = run_words fault
 fault_words Memory = codes "memory"
 
 abbrev pub fault_place : Fault → Option ℕ
@@ -65,7 +72,7 @@ place_text (Some line) = codes " line " ++ decimal line
 abbrev pub fault_text : Fault → List ℕ
 fault_text fault = codes "refused: " ++ fault_words fault ++ place_text (fault_place fault) ++ codes "\n"
 
--- what is refused has 2, out of memory 3, the input 4
+-- what is refused has 2, out of memory or of threads 3, the input 4
 abbrev pub fault_status : Fault → ℕ
 fault_status CommandLine = 2
 fault_status Input = 4
@@ -75,4 +82,5 @@ fault_status (Check check.Memory) = 3
 fault_status (Check _) = 2
 fault_status (Play play.Memory) = 3
 fault_status (Play _) = 2
+fault_status (Run _) = 3
 fault_status Memory = 3

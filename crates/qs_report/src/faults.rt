@@ -3,12 +3,12 @@
 ghost use Rattle.std.specs.Prelude.{◌≡◌, ◌||◌, flat_map, IsTrue, not};
 ghost use Rattle.std.specs.Io.KnownBytes.{Appends};
 ghost use Rattle.qs_report.specs.Texts.{AppendsFront};
-ghost use Rattle.qs_report.specs.Faults.{fault_place, fault_status, fault_text, fault_words, read_words, read_place, check_words, play_words};
+ghost use Rattle.qs_report.specs.Faults.{fault_place, fault_status, fault_text, fault_words, read_words, read_place, check_words, play_words, run_words};
 
 use crate::watching::{Watch, write_text};
 use itoa::Buffer;
 use qs_check::CheckFault;
-use qs_played::PlayFault;
+use qs_played::{PlayFault, RunFault};
 use qs_script::ReadFault;
 use std::io::Write;
 
@@ -25,6 +25,8 @@ pub enum Fault {
     Check(CheckFault),
     /// The run was not played.
     Play(PlayFault),
+    /// The program was not run on threads.
+    Run(RunFault),
     /// An allocation failed elsewhere: for the input or for a report.
     Memory,
 }
@@ -84,6 +86,15 @@ fn words_of_play(fault: PlayFault) -> &'static [u8]
     }
 }
 
+fn words_of_run(fault: RunFault) -> &'static [u8]
+    ensures words { result.now ≡ run_words fault }
+{
+    match fault {
+        RunFault::Memory => b"run 1 Memory",
+        RunFault::Threads => b"run 2 Threads",
+    }
+}
+
 fn words_of(fault: &Fault) -> &'static [u8]
     ensures words { result.now ≡ fault_words fault.now }
 {
@@ -93,6 +104,7 @@ fn words_of(fault: &Fault) -> &'static [u8]
         Fault::Read(fault) => words_of_read(*fault),
         Fault::Check(fault) => words_of_check(*fault),
         Fault::Play(fault) => words_of_play(*fault),
+        Fault::Run(fault) => words_of_run(*fault),
         Fault::Memory => b"memory",
     }
 }
@@ -147,14 +159,15 @@ pub fn fault_line<W: Write>(fault: &Fault, out: &mut W) -> bool
     fault_line_watched(fault, out, &mut watch)
 }
 
-/// The status that a refused run ends with: 2 for a command line, a script or a number that is refused, 3 for out of memory, 4 for the
-/// input.
+/// The status that a refused run ends with: 2 for a command line, a script or a number that is refused, 3 for out of memory or of
+/// threads, 4 for the input.
 pub fn status(fault: &Fault) -> u8
     ensures status { result ≡ fault_status fault.now }
 {
     match fault {
         Fault::Input => 4,
         Fault::Memory
+        | Fault::Run(_)
         | Fault::Read(ReadFault::Memory)
         | Fault::Check(CheckFault::Memory)
         | Fault::Play(PlayFault::Memory) => 3,

@@ -6,7 +6,7 @@ ghost use Rattle.qs_report.specs.Report.{report_text, finished_text};
 use crate::bytes::{put, put_count};
 use crate::states::put_states;
 use crate::tickets::put_order;
-use qs_played::Played;
+use qs_played::{Outcome, Played};
 use qs_program::Program;
 use std::alloc::{AllocError, Global};
 
@@ -31,4 +31,12 @@ pub fn report(alloc: Global, program: &Program, played: &Played) -> Result<Vec<u
     put_count(&mut out, b"syncs", played.syncs())?;
     put(&mut out, finished_line(played.is_finished()))?;
     Ok(out)
+}
+
+/// The text of a run on threads: the same, where each ticket is done and the run is finished. An error says that an allocation failed, and
+/// nothing is left.
+pub fn report_run(alloc: Global, program: &Program, outcome: &Outcome) -> Result<Vec<u8>, AllocError>
+    ensures text { IfOk result (λ bytes. bytes.items ≡ report_text program.now outcome.now) }
+{
+    report(alloc, program, outcome.played())
 }

@@ -12,7 +12,8 @@ use Rattle.qs_report.specs.Faults.{fault_status}
 use Rattle.qs_script.specs.declared.fault.ReadFault.TheVariants as read
 use Rattle.qs_check.specs.declared.fault.CheckFault.TheVariants as check_fault
 use Rattle.qs_played.specs.declared.fault.PlayFault.TheVariants as play_fault
-use Rattle.qs_line.specs.Line.{Line, asks, help, play, refused, rules}
+use Rattle.qs_run_laws.specs.Outcomes.{IsOutcome}
+use Rattle.qs_line.specs.Line.{Line, asks, help, play, refused, rules, run}
 use Rattle.qs_serve.specs.Due.{IsDue, IsDueOfProgram, IsOutOfMemory, IsRefusedBy, IsReportOf, due_status}
 use Rattle.qs_serve.specs.declared.due.Due.{Due}
 use Rattle.qs_serve.specs.declared.due.Due.TheVariants.{Text, Refused}
@@ -35,6 +36,7 @@ status_of_input (fault.Check check_fault.Memory) e = absurd (cc e)
 status_of_input (fault.Check _) e = absurd (cc e)
 status_of_input (fault.Play play_fault.Memory) e = absurd (cc e)
 status_of_input (fault.Play _) e = absurd (cc e)
+status_of_input (fault.Run _) e = absurd (cc e)
 
 -- a status of 4 that is due says that a read has failed
 pub four_is_due : (line : Line) (known : Option (List ℕ)) (failed : Bool) (due : Due) → IsDue line known failed due → due_status due ≡ 4 → failed ≡ true
@@ -46,7 +48,7 @@ four_is_due help known failed (Refused f) (inr none) e = absurd none
 four_is_due (asks request) known true (Refused f) is e = refl
 four_is_due (asks request) known false (Refused f) is e = absurd (is.0 (status_of_input f e))
 
--- a report that is due by what was asked for, in the two ways of playing
+-- a report that is due by what was asked for, in the two ways of playing and on threads
 pub due_by_rules : (p : ProgramShape) (picks : List Actor) (rounds : ℕ) (played : Played) (due : Due) → IsPlayed p picks rounds (Ok played)
     → IsReportOf p played due → IsOutOfMemory due ⊎ IsDueOfProgram (rules rounds picks) p due
 due_by_rules p picks rounds played (Text bytes) shows is = inr (played, shows, is)
@@ -56,6 +58,11 @@ pub due_by_play : (p : ProgramShape) (mode : Mode) (size : ℕ) (picks : List Ac
     → IsPlayedIn p mode size picks rounds (Ok played) → IsReportOf p played due → IsOutOfMemory due ⊎ IsDueOfProgram (play mode size rounds picks) p due
 due_by_play p mode size picks rounds played (Text bytes) shows is = inr (played, shows, is)
 due_by_play p mode size picks rounds played (Refused f) shows is = inl (subst (λ g. IsOutOfMemory (Refused g)) (sym is) tt)
+
+pub due_by_run : (p : ProgramShape) (mode : Mode) (size : ℕ) (outcome : Played) (due : Due)
+    → IsOutcome p mode outcome → IsReportOf p outcome due → IsOutOfMemory due ⊎ IsDueOfProgram (run mode size) p due
+due_by_run p mode size outcome (Text bytes) shows is = inr (outcome, shows, is)
+due_by_run p mode size outcome (Refused f) shows is = inl (subst (λ g. IsOutOfMemory (Refused g)) (sym is) tt)
 
 pub report_is_no_input : (p : ProgramShape) (played : Played) (due : Due) → IsReportOf p played due → ¬ IsRefusedBy fault.Input due
 report_is_no_input p played (Text bytes) is = λ none. none

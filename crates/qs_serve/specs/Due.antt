@@ -20,7 +20,8 @@ use Rattle.qs_core_laws.specs.CoreSchedule.{IsPlayedIn}
 use Rattle.qs_plain_laws.specs.PlainSchedule.{IsPlayed}
 use Rattle.qs_played.specs.declared.fault.PlayFault.{PlayFault}
 use Rattle.qs_played.specs.Played.{Played}
-use Rattle.qs_line.specs.Line.{Line, Request, asks, check, graph, help, line_in, play, refused, rules}
+use Rattle.qs_run_laws.specs.Outcomes.{IsOutcome}
+use Rattle.qs_line.specs.Line.{Line, Request, asks, check, graph, help, line_in, play, refused, rules, run}
 use Rattle.qs_serve.specs.declared.due.Due.{Due}
 use Rattle.qs_serve.specs.declared.due.Due.TheVariants.{Text, Refused}
 
@@ -55,14 +56,15 @@ abbrev pub IsReportOf : ProgramShape → Played → Due → Type 0
 IsReportOf p played (Text bytes) = bytes.items ≡ report_text p played
 IsReportOf p played (Refused f) = f ≡ fault.Memory
 
--- what a request makes of a program: its counts; its graphs; or the report of its run by the plain rules or in the optimised machine,
--- with so many rounds after its picks
+-- what a request makes of a program: its counts; its graphs; the report of its run by the plain rules or in the optimised machine,
+-- with so many rounds after its picks; or that of an outcome which its run on threads may have
 abbrev pub IsTextBy : Request → ProgramShape → List ℕ → Type 0
 IsTextBy check p text = text ≡ counts_text p
 IsTextBy graph p text = IsGraphText p text
 IsTextBy (rules rounds picks) p text = (played : Played) × IsPlayed p picks rounds (Ok played) × (text ≡ report_text p played)
 IsTextBy (play mode size rounds picks) p text =
     (played : Played) × IsPlayedIn p mode size picks rounds (Ok played) × (text ≡ report_text p played)
+IsTextBy (run mode size) p text = (outcome : Played) × IsOutcome p mode outcome × (text ≡ report_text p outcome)
 
 -- why what a request asks for is not played
 abbrev pub IsUnplayedBy : Request → ProgramShape → PlayFault → Type 0
@@ -70,12 +72,18 @@ IsUnplayedBy (rules rounds picks) p f = IsPlayed p picks rounds (Err f)
 IsUnplayedBy (play mode size rounds picks) p f = IsPlayedIn p mode size picks rounds (Err f)
 IsUnplayedBy _ p f = ⊥
 
+-- a run on threads is asked for; it may want memory or threads on any program
+abbrev pub IsRun : Request → Type 0
+IsRun (run mode size) = Unit {0}
+IsRun _ = ⊥
+
 abbrev pub IsDueOfProgram : Request → ProgramShape → Due → Type 0
 IsDueOfProgram request p (Text bytes) = IsTextBy request p bytes.items
 IsDueOfProgram request p (Refused (fault.Play f)) = IsUnplayedBy request p f
+IsDueOfProgram request p (Refused (fault.Run f)) = IsRun request
 IsDueOfProgram request p (Refused _) = ⊥
 
--- what a request makes of a text: the result of its program, or the fault of the text, of its script or of its schedule
+-- what a request makes of a text: the result of its program, or the fault of the text, of its script, of its schedule or of its threads
 abbrev pub IsDueOfText : Request → List ℕ → Due → Type 0
 IsDueOfText request text (Text bytes) =
     (s : List Item) × IsScriptText text s × (fault_of s ≡ None) × IsTextBy request (resolved s) bytes.items
@@ -83,6 +91,7 @@ IsDueOfText request text (Refused (fault.Read f)) = IsRefused f text
 IsDueOfText request text (Refused (fault.Check f)) = (s : List Item) × IsScriptText text s × (fault_of s ≡ Some f)
 IsDueOfText request text (Refused (fault.Play f)) =
     (s : List Item) × IsScriptText text s × (fault_of s ≡ None) × IsUnplayedBy request (resolved s) f
+IsDueOfText request text (Refused (fault.Run f)) = (s : List Item) × IsScriptText text s × (fault_of s ≡ None) × IsRun request
 IsDueOfText request text (Refused _) = ⊥
 
 -- no more of the input than this is read

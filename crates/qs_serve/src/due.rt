@@ -2,7 +2,7 @@
 
 ghost use Rattle.std.specs.Prelude.{◌≡◌, ◌+◌, ◌≤◌, ◌⊎◌, false, None, Some, map, IfOk, IfSome};
 ghost use Rattle.qs_report.specs.declared.faults.Fault.TheVariants as fault;
-ghost use Rattle.qs_line.specs.Line.{asks, line_in, play, request_by, request_of, rules};
+ghost use Rattle.qs_line.specs.Line.{asks, line_in, play, request_by, request_of, rules, run};
 ghost use Rattle.qs_serve.specs.Due.{IsDue, IsDueOfProgram, IsDueOfText, IsRefusedBy, IsReportOf, IsTextOf, IsOutOfMemory, due_status, longest};
 
 use crate::input::{Counted, InputFault, gather};
@@ -10,12 +10,15 @@ use qs_check::{Program, check};
 use qs_chunk::ChunkSize;
 use qs_core::play_plain;
 use qs_line::{Actor, LineFault, Settings, read_line};
-use qs_played::Played;
-use qs_report::{Fault, check_text, graph_text, report, status};
+use qs_played::{Outcome, Played};
+use qs_report::{Fault, check_text, graph_text, report, report_run, status};
+use qs_run::{FreeGate, execute};
 use qs_script::read;
 use qs_syncset::Mode;
 use std::alloc::{AllocError, Global};
 use std::io::Read;
+use std::sync::Wait;
+use std::thread::Threads;
 
 /// What a run has to write: the text of its result, or the line of its fault.
 #[derive(Drop)]
@@ -88,8 +91,39 @@ fn due_of_play(
     }
 }
 
-// What settings make of a program: a run by the plain rules or in the optimised machine, the counts, or the graphs.
-fn due_of_program(alloc: Global, settings: &Settings, program: &Program) -> Due
+// The report of what ran on threads.
+fn due_of_outcome(alloc: Global, program: &Program, outcome: Outcome) -> Due
+    ensures due { IsReportOf program.now outcome result }
+{
+    let text = report_run(alloc, program, &outcome);
+    drop(outcome);
+    due_of_bytes(text)
+}
+
+// A run on threads.
+fn due_of_run<T: Threads + Wait + Sync>(
+    rt: &T,
+    alloc: Global,
+    program: &Program,
+    mode: Mode,
+    chunk: ChunkSize,
+) -> Due
+    ensures not_input { ¬ IsRefusedBy fault.Input result }
+    ensures due { IsOutOfMemory result ⊎ IsDueOfProgram (run mode chunk) program.now result }
+{
+    match execute(rt, alloc, program, mode, chunk, &FreeGate) {
+        Ok(outcome) => due_of_outcome(alloc, program, outcome),
+        Err(fault) => Due::Refused(Fault::Run(fault)),
+    }
+}
+
+// What settings make of a program: a run by the plain rules, in the optimised machine or on threads, the counts, or the graphs.
+fn due_of_program<T: Threads + Wait + Sync>(
+    rt: &T,
+    alloc: Global,
+    settings: &Settings,
+    program: &Program,
+) -> Due
     ensures not_input { ¬ IsRefusedBy fault.Input result }
     ensures due { IsOutOfMemory result ⊎ IsDueOfProgram (request_of settings.now) program.now result }
 {
@@ -103,13 +137,19 @@ fn due_of_program(alloc: Global, settings: &Settings, program: &Program) -> Due
             rounds,
             picks,
         } => due_of_play(alloc, program, *mode, *chunk, picks.as_slice(), *rounds),
+        Settings::Run { mode, chunk } => due_of_run(rt, alloc, program, *mode, *chunk),
         Settings::Check => due_of_bytes(check_text(alloc, program)),
         Settings::Graph => due_of_bytes(graph_text(alloc, program)),
     }
 }
 
 // What settings make of a text.
-fn due_of_script(alloc: Global, settings: &Settings, text: &[u8]) -> Due
+fn due_of_script<T: Threads + Wait + Sync>(
+    rt: &T,
+    alloc: Global,
+    settings: &Settings,
+    text: &[u8],
+) -> Due
     ensures not_input { ¬ IsRefusedBy fault.Input result }
     ensures due { IsOutOfMemory result ⊎ IsDueOfText (request_of settings.now) text.now result }
 {
@@ -121,7 +161,7 @@ fn due_of_script(alloc: Global, settings: &Settings, text: &[u8]) -> Due
         Ok(program) => program,
         Err(fault) => return Due::Refused(Fault::Check(fault)),
     };
-    let due = due_of_program(alloc, settings, &program);
+    let due = due_of_program(rt, alloc, settings, &program);
     program.discard();
     due
 }
@@ -129,13 +169,18 @@ fn due_of_script(alloc: Global, settings: &Settings, text: &[u8]) -> Due
 const LONGEST: usize = 65_537;
 
 // What the input's text gives by settings.
-fn due_of_input<R: Read>(alloc: Global, settings: &Settings, input: &mut Counted<R>) -> Due
+fn due_of_input<T: Threads + Wait + Sync, R: Read>(
+    rt: &T,
+    alloc: Global,
+    settings: &Settings,
+    input: &mut Counted<R>,
+) -> Due
     requires fine { input.old.has_failed ≡ false }
     ensures due { IsDue (asks (request_of settings.now)) input.old.remaining input.new.has_failed result }
     ensures reads { input.new.reads ≤ input.old.reads + longest }
 {
     match gather(alloc, input, LONGEST) {
-        Ok(text) => due_of_script(alloc, settings, text.as_slice()),
+        Ok(text) => due_of_script(rt, alloc, settings, text.as_slice()),
         Err(InputFault::Read) => Due::Refused(Fault::Input),
         Err(InputFault::Memory) => Due::Refused(Fault::Memory),
     }
@@ -143,7 +188,12 @@ fn due_of_input<R: Read>(alloc: Global, settings: &Settings, input: &mut Counted
 
 /// What is due by a command line and an input. The line comes first: where it is refused nothing is read. Else the input is read up to
 /// its end or 65,537 bytes, by at most 65,537 reads, and a read that fails is the input's fault.
-pub fn due_of<'a, R: Read>(alloc: Global, words: &'a [&'a str], input: &mut Counted<R>) -> Due
+pub fn due_of<'a, T: Threads + Wait + Sync, R: Read>(
+    rt: &T,
+    alloc: Global,
+    words: &'a [&'a str],
+    input: &mut Counted<R>,
+) -> Due
     requires fine { input.old.has_failed ≡ false }
     ensures due { IsDue (line_in (map (λ word. word.now) words.entry.now)) input.old.remaining input.new.has_failed result }
     ensures unread { request_by (line_in (map (λ word. word.now) words.entry.now)) ≡ None → input.new ≡ input.old }
@@ -151,7 +201,7 @@ pub fn due_of<'a, R: Read>(alloc: Global, words: &'a [&'a str], input: &mut Coun
 {
     match read_line(alloc, words) {
         Ok(settings) => {
-            let due = due_of_input(alloc, &settings, input);
+            let due = due_of_input(rt, alloc, &settings, input);
             drop(settings);
             due
         }

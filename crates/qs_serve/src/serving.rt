@@ -12,10 +12,14 @@ use crate::output::finish;
 use qs_report::{Fault, Watch};
 use std::alloc::Global;
 use std::io::{Read, Write};
+use std::sync::Wait;
+use std::thread::Threads;
 
 /// The whole program, over a reader whose reads are counted and a writer whose failures are watched; its status is the answer. The words
-/// are all the process's arguments, the program's name first. The status is 4 exactly where a read, a write or the flush fails.
-pub fn serve<'a, R: Read, W: Write>(
+/// are all the process's arguments, the program's name first. The status is 4 exactly where a read, a write or the flush fails. The word `run`
+/// takes threads, and waits for them.
+pub fn serve<'a, T: Threads + Wait + Sync, R: Read, W: Write>(
+    rt: &T,
     alloc: Global,
     words: &'a [&'a str],
     input: &mut Counted<R>,
@@ -32,7 +36,7 @@ pub fn serve<'a, R: Read, W: Write>(
     ensures reads { input.new.reads ≤ input.old.reads + longest }
     ensures flushed { watch.new.has_failed ≡ false → IsTrue watch.new.is_flushed }
 {
-    let due = due_of(alloc, words, input);
+    let due = due_of(rt, alloc, words, input);
     finish(out, watch, &due)
 }
 

@@ -6,8 +6,8 @@ pub returns : goal.returns
 unfolding clap_on_literals
 returns c = record {
   examples = record {
-    defaults = record { checks = refl; graphs = refl; rules_alone = refl; play_alone = refl };
-    settings = record { mode = refl; chunk = refl; most_rounds = refl; picks = refl; all = refl };
+    defaults = record { checks = refl; graphs = refl; rules_alone = refl; play_alone = refl; run_alone = refl };
+    settings = record { mode = refl; chunk = refl; most_rounds = refl; picks = refl; all = refl; runs = refl };
     others = record {
       no_word = refl;
       unknown_word = refl;
@@ -18,6 +18,7 @@ returns c = record {
       too_many_rounds = refl;
       empty_part = refl;
       two_digits = refl;
+      run_by_rounds = refl;
       no_picks = refl;
       asks_help = refl;
       asks_help_of_play = refl;
