@@ -1,0 +1,63 @@
+use Rattle.std.proofs.Common.{◌≡◌, ◌<◌, ◌≤◌, ◌+◌, ◌++◌, ◌∷◌, [], ℕ, Some, length, map, slice_get, refl, sym, ap, ◌∙◌, subst, arith, rules}
+use Rattle.std.proofs.lemmas.Iterator.Adapters.{YieldsList-from_vec}
+use Rattle.std.proofs.lemmas.Iterator.Consumers.{YieldsList-turn}
+use Rattle.std.proofs.lemmas.List.{length-map, length_push, map_push}
+use Rattle.std.proofs.lemmas.Option.{slice_get_read}
+use Rattle.qs_desk.specs.Views.{DeskView}
+use Rattle.qs_played.proofs.Lists.{empty_of}
+use Rattle.qs_seats.specs.declared.seat.ClientSeat.{ClientSeat}
+use Rattle.qs_joins.specs.Meetings.{IsBooked}
+use Rattle.qs_joins.specs.Seating.{LanesFit, LanesMet, cut, cut_first, rows_of}
+use Rattle.qs_joins.proofs.Cuts.{all_push, cut_more, cut_none, each_push, fit_cut, met_cut}
+use Rattle.qs_joins.proofs.leaving.clients_leave.Goals as goal
+
+pub loop-client-init : goal.loop-client-init
+loop-client-init g c = record {
+  number = refl;
+  desk = refl;
+  rows = empty_of c.args.rows.items (omega (arith, c.args.rows.ok.0, c.requires.room.0));
+  room = refl;
+  booked = tt;
+  met = λ n s e. absurd (cc);
+  cut = cut_none c.args.handlers.now;
+}
+
+pub leave-requires-clause-fit : goal.leave-requires-clause-fit
+leave-requires-clause-fit g c =
+    let n = c.loop-client.number in
+    let client = c.in-Some.client in
+    let inv = c.loop-client.invariant in
+    let all = c.args.clients.items in
+    let turn = YieldsList-turn (YieldsList-from_vec {s = c.into_iter-client-iterator.result} c.args.clients.items (search rules) (search rules))
+    c.loop-client.yielded c.loop-client.client-iterator c.loop-client.yielded_by c.next.result c.next.new.self client c.in-Some.is c.next.ensures.steps in
+    let at = slice_get_read c.args.clients.items (length c.args.clients.items) (length c.loop-client.yielded) client refl turn.0 turn.1 in
+    let here = subst (λ k. LanesFit client.lanes k c.args.handlers.now) (sym inv.number) (c.requires.fit (length c.loop-client.yielded) client at) in
+    subst (LanesFit client.lanes n) (sym inv.cut) (fit_cut client.lanes n c.args.handlers.now here)
+
+pub push_reserved-requires : goal.push_reserved-requires
+push_reserved-requires g c =
+    let client = c.in-Some.client in
+    let inv = c.loop-client.invariant in
+    let turn = YieldsList-turn (YieldsList-from_vec {s = c.into_iter-client-iterator.result} c.args.clients.items (search rules) (search rules))
+    c.loop-client.yielded c.loop-client.client-iterator c.loop-client.yielded_by c.next.result c.next.new.self client c.in-Some.is c.next.ensures.steps in
+    let less = turn.0 in
+    let rows : length c.loop-client.rows.items ≡ length c.loop-client.yielded = ap length inv.rows ∙ length-map c.loop-client.yielded rows_of in
+    omega (arith, less, rows, c.loop-client.rows.ok.0, c.args.clients.ok.0, inv.room, c.requires.room.1)
+
+pub loop-client-preserved : goal.loop-client-preserved
+loop-client-preserved g c =
+    let n = c.loop-client.number in
+    let client = c.in-Some.client in
+    let inv = c.loop-client.invariant in
+    let yielded = c.loop-client.yielded in
+    let met = met_cut client.lanes n c.args.handlers.now (subst (LanesMet client.lanes n) inv.cut c.leave.ensures.met) in
+    record {
+      number = (let more = length_push c.loop-client.yielded c.in-Some.client in omega (arith, more, inv.number));
+      desk = c.leave.ensures.desk ∙ inv.desk;
+      rows = c.push_reserved.ensures.items ∙ ((λ k. inv.rows k ++ c.leave.ensures.rows k ∷ []) ∙ sym (map_push rows_of yielded client));
+      room = c.push_reserved.ensures.capacity ∙ inv.room;
+      booked = all_push (IsBooked c.args.desk.now.history) yielded client inv.booked (subst (λ (d : DeskView). IsBooked d.history client) inv.desk c.leave.ensures.booked);
+      met = each_push (λ k (s : ClientSeat _). LanesMet s.lanes k c.args.handlers.now) yielded client inv.met
+          (subst (λ k. LanesMet client.lanes k c.args.handlers.now) inv.number met);
+      cut = c.leave.ensures.cut ∙ (ap (map (cut n)) inv.cut ∙ cut_more n c.args.handlers.now);
+    }

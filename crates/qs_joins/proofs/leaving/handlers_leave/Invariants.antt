@@ -1,0 +1,15 @@
+use Rattle.std.proofs.Common.{◌≡◌, map, vec_capacity}
+use Rattle.std.specs.List.{AllByRecursion}
+use Rattle.qs_joins.specs.Meetings.{HasFollowed}
+use Rattle.qs_joins.specs.Seating.{journal_of, state_of}
+use Rattle.qs_joins.proofs.leaving.handlers_leave.Given as goal
+
+abbrev pub invariant-loop-handler : goal.invariant-loop-handler
+invariant-loop-handler g l = record {
+  desk : l.desk ≡ l.initial.desk;
+  followed : AllByRecursion (HasFollowed g.D.DeskName.program l.initial.desk.history) l.yielded;
+  journals : l.journals.items ≡ map journal_of l.yielded;
+  states : l.states.items ≡ map state_of l.yielded;
+  journals_room : vec_capacity l.journals ≡ vec_capacity l.initial.journals;
+  states_room : vec_capacity l.states ≡ vec_capacity l.initial.states;
+}

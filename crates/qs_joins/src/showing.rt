@@ -1,0 +1,76 @@
+//! What is shown of a run that is over.
+
+ghost use Rattle.std.specs.Prelude.{◌≡◌, ◌≤◌, true, length, map, sum, sum_by, vec_len, vec_capacity};
+ghost use Rattle.std.specs.List.{AllByRecursion};
+ghost use Rattle.qs_syncset.specs.SyncRows.{syncs_of};
+ghost use Rattle.qs_played.specs.Played.{HaveRows};
+ghost use Rattle.qs_joins.specs.Seating.{AreShort, over_with};
+
+use qs_objects::{Journal, Object, Ticket};
+use qs_played::{ClientRows, Endings, Outcome, Played, Row};
+
+// For each ticket, that its block has ended.
+fn all_ended(order: &[Ticket], ended: Vec<bool>) -> Vec<bool>
+    requires room { (vec_len ended ≡ 0) × (length order.now ≤ vec_capacity ended) }
+    ensures ended { result.items ≡ map (λ t. true) order.now }
+{
+    let mut ended = ended;
+    for _ticket in order {
+        ended.push_reserved(true);
+    }
+    ended
+}
+
+// How many Syncs a block has sent, for all objects of its list.
+fn sum_of(counts: &[u32]) -> u64
+    requires few { length counts.now ≤ 8 }
+    ensures sum { result ≡ sum counts.now }
+    ensures limit { result ≤ 34359738360 }
+{
+    let mut total = 0u64;
+    for count in counts {
+        total += u64::from(*count);
+    }
+    total
+}
+
+// How many Syncs all blocks have sent.
+fn all_syncs(played: &Played) -> u64
+    requires few { length played.now.order ≤ 512 }
+    requires counts { length played.now.sync_counts ≡ length played.now.order }
+    requires short { AllByRecursion (λ row. length row ≤ 8) played.now.sync_counts }
+    ensures syncs { result ≡ sum_by syncs_of played.now.sync_counts }
+{
+    let mut syncs = 0;
+    for place in 0..played.order().len() {
+        syncs += sum_of(played.sync_counts(place));
+    }
+    syncs
+}
+
+/// What is shown of this order by these clients and objects, where each block has ended.
+pub(crate) fn shown(
+    order: Vec<Ticket>,
+    rows: Vec<ClientRows>,
+    journals: Vec<Journal>,
+    states: Vec<Object>,
+    ended: Vec<bool>,
+) -> Outcome
+    requires room { (vec_len ended ≡ 0) × (512 ≤ vec_capacity ended) }
+    requires few { vec_len order ≤ 512 }
+    requires rows { HaveRows rows.items order.items }
+    requires short { AreShort rows.items order.items }
+    ensures shown { result ≡ over_with order.items rows.items journals.items states.items }
+{
+    let ended = all_ended(order.as_slice(), ended);
+    let endings = Endings {
+        ended: Row::from_vec(ended),
+        journals: Row::from_vec(journals),
+        states: Row::from_vec(states),
+        syncs: 0,
+        finished: true,
+    };
+    let played = Played::new(Row::from_vec(order), rows, endings);
+    let syncs = all_syncs(&played);
+    Outcome::new(played.with_syncs(syncs))
+}
