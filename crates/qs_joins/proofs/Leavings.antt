@@ -5,8 +5,8 @@ use Rattle.qs_objects.specs.Journals.{HeldState}
 use Rattle.qs_objects.specs.declared.held.Next.{Next}
 use Rattle.qs_objects.specs.declared.held.Next.TheVariants.{Closed}
 use Rattle.qs_objects.specs.declared.held.Ticket.{Ticket}
-use Rattle.qs_check.specs.Program.{ProgramShape}
-use Rattle.qs_check.specs.Sound.{IsSound}
+use Rattle.qs_program.specs.Program.{ProgramShape}
+use Rattle.qs_program.specs.Sound.{IsSound}
 use Rattle.qs_meaning.specs.Serial.{IsLegal}
 use Rattle.qs_syncset.specs.declared.mode.Mode.{Mode}
 use Rattle.qs_handler.specs.HandlerRuns.{Task}

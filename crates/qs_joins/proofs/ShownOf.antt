@@ -7,9 +7,9 @@ use Rattle.std.specs.Prelude.{sum_by}
 use Rattle.qs_objects.specs.Act.{State}
 use Rattle.qs_objects.specs.Journals.{HeldState}
 use Rattle.qs_objects.specs.declared.held.Ticket.{Ticket}
-use Rattle.qs_check.specs.Program.{ProgramShape, blocks_of, text_of}
-use Rattle.qs_check.specs.Sound.{IsSound}
-use Rattle.qs_check.proofs.Bounds.{AllByRecursion-get_or}
+use Rattle.qs_program.specs.Program.{ProgramShape, blocks_of, text_of}
+use Rattle.qs_program.specs.Sound.{IsSound}
+use Rattle.qs_program.proofs.Bounds.{AllByRecursion-get_or}
 use Rattle.qs_meaning.specs.Serial.{no_state}
 use Rattle.qs_syncset.specs.SyncRows.{object_of, syncs_of}
 use Rattle.qs_syncset.specs.declared.mode.Mode.{Mode}

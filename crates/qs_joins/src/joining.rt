@@ -1,7 +1,7 @@
 //! The outcome of a run.
 
 ghost use Rattle.std.specs.Prelude.{◌≡◌, true};
-ghost use Rattle.qs_check.specs.Sound.{IsSound};
+ghost use Rattle.qs_program.specs.Sound.{IsSound};
 ghost use Rattle.qs_run_laws.specs.Outcomes.{IsOutcome};
 ghost use Rattle.qs_seats.specs.Runs.{HaveRun};
 
