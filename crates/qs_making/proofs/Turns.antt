@@ -75,18 +75,18 @@ module _ {D : Type 0} where
       client_of p mode size outs c s sound made (own c s.mind at) (same_Some s.share (record { client = c; count = 0 }) first)
       (sym (get_or_from_slice_get outs c s.lanes [] (at_front outs c s.lanes other_outs front_outs)))
 
-  pub one_handler_more : (p : ProgramShape) (ins : List (List (Option InView))) (n : ℕ) (seats more : List (HandlerSeat D)) (s : HandlerSeat D)
-      → AreHandlersOf p ins n seats → IsHandlerOf p ins n s → more ≡ seats ++ s ∷ [] → AreHandlersOf p ins (n + 1) more
-  one_handler_more p ins n seats more s before here is = record {
-    many = ap length is ∙ length_push seats s ∙ ap (λ k. k + 1) before.many;
+  pub one_handler_more : (p : ProgramShape) (ins : List (List (Option InView))) (n : ℕ) (seats more : List (HandlerSeat D)) (put s : HandlerSeat D)
+      → AreHandlersOf p ins n seats → IsHandlerOf p ins n s → put ≡ s → more ≡ seats ++ put ∷ [] → AreHandlersOf p ins (n + 1) more
+  one_handler_more p ins n seats more put s before here same is = record {
+    many = ap length is ∙ length_push seats put ∙ ap (λ k. k + 1) before.many;
     each = subst (λ (xs : List (HandlerSeat D)). (h : ℕ) (x : HandlerSeat D) → slice_get xs h ≡ Some x → IsHandlerOf p ins h x) (sym is)
-        (pushed (IsHandlerOf p ins) seats s before.each (subst (λ k. IsHandlerOf p ins k s) (sym before.many) here));
+        (pushed (IsHandlerOf p ins) seats put before.each (subst (λ k. IsHandlerOf p ins k put) (sym before.many) (subst (IsHandlerOf p ins n) (sym same) here)));
   }
 
-  pub one_client_more : (p : ProgramShape) (mode : Mode) (size : ℕ) (outs : List (List (Option OutView))) (n : ℕ) (seats more : List (ClientSeat D)) (s : ClientSeat D)
-      → AreClientsOf p mode size outs n seats → IsClientOf p mode size outs n s → more ≡ seats ++ s ∷ [] → AreClientsOf p mode size outs (n + 1) more
-  one_client_more p mode size outs n seats more s before here is = record {
-    many = ap length is ∙ length_push seats s ∙ ap (λ k. k + 1) before.many;
+  pub one_client_more : (p : ProgramShape) (mode : Mode) (size : ℕ) (outs : List (List (Option OutView))) (n : ℕ) (seats more : List (ClientSeat D)) (put s : ClientSeat D)
+      → AreClientsOf p mode size outs n seats → IsClientOf p mode size outs n s → put ≡ s → more ≡ seats ++ put ∷ [] → AreClientsOf p mode size outs (n + 1) more
+  one_client_more p mode size outs n seats more put s before here same is = record {
+    many = ap length is ∙ length_push seats put ∙ ap (λ k. k + 1) before.many;
     each = subst (λ (xs : List (ClientSeat D)). (c : ℕ) (x : ClientSeat D) → slice_get xs c ≡ Some x → IsClientOf p mode size outs c x) (sym is)
-        (pushed (IsClientOf p mode size outs) seats s before.each (subst (λ k. IsClientOf p mode size outs k s) (sym before.many) here));
+        (pushed (IsClientOf p mode size outs) seats put before.each (subst (λ k. IsClientOf p mode size outs k put) (sym before.many) (subst (IsClientOf p mode size outs n) (sym same) here)));
   }

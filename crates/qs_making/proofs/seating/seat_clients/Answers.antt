@@ -1,4 +1,4 @@
-use Rattle.std.proofs.Common.{◌≤◌, sym, subst, ◌∙◌, arith}
+use Rattle.std.proofs.Common.{sym, ◌∙◌, arith}
 use Rattle.std.specs.Vec.Iter.{into_iter_items}
 use Rattle.std.proofs.lemmas.Option.{none-some, slice_get_within}
 use Rattle.qs_seats.specs.declared.seat.ClientSeat.{ClientSeat}
@@ -44,10 +44,10 @@ loop-client-preserved g c =
     c.requires.sound c.requires.all.0 c.requires.minds c.requires.outs c.requires.shares front front_outs
     (l.invariant.shares l.client (omega arith)) (sym c.take.ensures.value ∙ c.in-Some-take.is) in
     record {
-      room = subst (λ n. c.len-count.result ≤ n) (sym c.push_reserved.ensures.capacity) l.invariant.room;
+      room = omega (arith, c.push_reserved.ensures.capacity, l.invariant.room);
       minds = left_behind c.args.minds.items l.client c.in-Some.mind (into_iter_items c.next.new.self) front;
       outs = left_behind outs l.client c.in-Some-next.lanes (into_iter_items c.next-in-loop-client.new.self) front_outs;
       shares = rest_after l.shares_left c.args.shares l.client _ l.invariant.shares;
-      seated = one_client_more p c.args.mode c.args.size outs l.client l.seats.items c.push_reserved.new.self.items c.new.result l.invariant.seated
-          (subst (IsClientOf p c.args.mode c.args.size outs l.client) (sym c.new.ensures.seat) here) c.push_reserved.ensures.items;
+      seated = one_client_more p c.args.mode c.args.size outs l.client l.seats.items c.push_reserved.new.self.items c.new.result seat l.invariant.seated
+          here c.new.ensures.seat c.push_reserved.ensures.items;
     }

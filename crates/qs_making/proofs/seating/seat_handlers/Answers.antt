@@ -1,4 +1,4 @@
-use Rattle.std.proofs.Common.{◌≤◌, sym, subst, ◌∙◌, arith}
+use Rattle.std.proofs.Common.{sym, ◌∙◌, arith}
 use Rattle.std.specs.Vec.Iter.{into_iter_items}
 use Rattle.qs_seats.specs.declared.seat.HandlerSeat.{HandlerSeat}
 use Rattle.qs_making.specs.Seated.{IsHandlerOf}
@@ -32,10 +32,10 @@ loop-handler-preserved g c =
     c.requires.sound c.requires.all.0 c.requires.helds c.requires.ins c.requires.tickets front front_ins
     (l.invariant.tickets l.handler (omega arith)) (sym c.take.ensures.value ∙ c.in-Some-take.is) in
     record {
-      room = subst (λ n. c.len-count.result ≤ n) (sym c.push_reserved.ensures.capacity) l.invariant.room;
+      room = omega (arith, c.push_reserved.ensures.capacity, l.invariant.room);
       helds = left_behind c.args.helds.items l.handler c.in-Some.held (into_iter_items c.next.new.self) front;
       ins = left_behind ins l.handler c.in-Some-next.lanes (into_iter_items c.next-in-loop-handler.new.self) front_ins;
       tickets = rest_after l.tickets_left c.args.tickets l.handler _ l.invariant.tickets;
-      seated = one_handler_more p ins l.handler l.seats.items c.push_reserved.new.self.items c.new.result l.invariant.seated
-          (subst (IsHandlerOf p ins l.handler) (sym c.new.ensures.seat) here) c.push_reserved.ensures.items;
+      seated = one_handler_more p ins l.handler l.seats.items c.push_reserved.new.self.items c.new.result seat l.invariant.seated
+          here c.new.ensures.seat c.push_reserved.ensures.items;
     }
