@@ -1,4 +1,4 @@
-use Rattle.std.proofs.Common.{◌≡◌, ◌<◌, ◌≤◌, ◌+◌, ◌++◌, ◌∷◌, [], ℕ, Some, length, map, slice_get, refl, sym, ap, ◌∙◌, subst, arith, rules}
+use Rattle.std.proofs.Common.{◌≡◌, ◌++◌, ◌∷◌, [], length, map, refl, sym, ap, ◌∙◌, subst, arith, rules}
 use Rattle.std.proofs.lemmas.Iterator.Adapters.{YieldsList-from_vec}
 use Rattle.std.proofs.lemmas.Iterator.Consumers.{YieldsList-turn}
 use Rattle.std.proofs.lemmas.List.{length-map, length_push, map_push}
@@ -7,7 +7,7 @@ use Rattle.qs_desk.specs.Views.{DeskView}
 use Rattle.qs_played.proofs.Lists.{empty_of}
 use Rattle.qs_seats.specs.declared.seat.ClientSeat.{ClientSeat}
 use Rattle.qs_joins.specs.Meetings.{IsBooked}
-use Rattle.qs_joins.specs.Seating.{LanesFit, LanesMet, cut, cut_first, rows_of}
+use Rattle.qs_joins.specs.Seating.{LanesFit, LanesMet, cut, rows_of}
 use Rattle.qs_joins.proofs.Cuts.{all_push, cut_more, cut_none, each_push, fit_cut, met_cut}
 use Rattle.qs_joins.proofs.leaving.clients_leave.Goals as goal
 
