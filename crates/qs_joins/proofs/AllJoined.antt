@@ -15,10 +15,11 @@ use Rattle.qs_run_laws.specs.Outcomes.{IsOutcome}
 use Rattle.qs_seats.specs.Runs.{HaveRun}
 use Rattle.qs_seats.specs.declared.seat.ClientSeat.{ClientSeat}
 use Rattle.qs_seats.specs.declared.seat.HandlerSeat.{HandlerSeat}
-use Rattle.qs_joins.specs.Meetings.{AllMet, HasFollowed, IsBooked}
+use Rattle.qs_joins.specs.Meetings.{HasFollowed, IsBooked}
 use Rattle.qs_joins.specs.Seating.{AllLanesMet, AreShort, cut_first, journal_of, over_with, rows_of, state_of}
 use Rattle.qs_joins.proofs.Leavings.{all_met, cut_journals, cut_states}
 use Rattle.qs_joins.proofs.ShownOf.{have_rows, outcome, short}
+use Rattle.qs_joins.proofs.ThreadsOf.{AllMet}
 
 -- what these lists show is an outcome, and can be shown
 pub record IsJoined (p : ProgramShape) (mode : Mode) (order : List Ticket) (rows : List ClientRows) (journals : List (List Entry)) (states : List State) : Type 0 where

@@ -3,7 +3,7 @@ use Rattle.std.proofs.Common.{◌≡◌, ◌≢◌, ◌<◌, ◌≤◌, ◌+◌,
 use Rattle.std.proofs.lemmas.List.{get_or-set_other}
 use Rattle.std.proofs.lemmas.Option.{slice_get_read}
 use Rattle.std.specs.List.{AllByRecursion}
-use Rattle.qs_lane.specs.Views.{InView, OutView}
+use Rattle.qs_lane.specs.Views.{OutView}
 use Rattle.qs_client_thread.specs.ClientThreads as running
 use Rattle.qs_handler_thread.specs.HandlerThreads as handling
 use Rattle.qs_seats.specs.Runs.{AreOneLane}
@@ -65,7 +65,7 @@ module _ {D : Type 0} where
   fit_cut lanes n hs fit h r e =
       let back = map_back (cut_first n) hs h r e in
       let same : handling.lane_at back.0.lanes n ≡ handling.lane_at r.lanes n =
-          sym (cut_lane n n back.0 (omega arith)) ∙ ap (λ (s : HandlerSeat D). handling.lane_at s.lanes n) back.2 in
+      sym (cut_lane n n back.0 (omega arith)) ∙ ap (λ (s : HandlerSeat D). handling.lane_at s.lanes n) back.2 in
       subst (AreOneLane (running.lane_at lanes h)) same (fit h back.0 back.1)
 
   pub met_cut : (lanes : List (Option OutView)) (n : ℕ) (hs : List (HandlerSeat D)) → LanesMet lanes n (map (cut_first n) hs) → LanesMet lanes n hs

@@ -1,6 +1,6 @@
 -- What is left of the seats once clients and handlers have left: the handlers' lanes alone were cut, and all have met.
-use Rattle.std.proofs.Common.{◌≡◌, ◌≤◌, ℕ, zero, suc, true, List, [], ◌∷◌, ◌++◌, Option, Some, None, length, map, slice_get, refl, sym, ap, ap₂, ◌∙◌, subst, arith}
-use Rattle.std.specs.List.{AllByRecursion, AllZip}
+use Rattle.std.proofs.Common.{◌≡◌, ◌≤◌, ℕ, zero, suc, true, List, [], ◌∷◌, ◌++◌, Option, Some, None, length, map, refl, sym, ap, ap₂, ◌∙◌, subst, arith}
+use Rattle.std.specs.List.{AllByRecursion}
 use Rattle.qs_objects.specs.Journals.{HeldState}
 use Rattle.qs_objects.specs.declared.held.Next.{Next}
 use Rattle.qs_objects.specs.declared.held.Next.TheVariants.{Closed}
@@ -20,9 +20,10 @@ use Rattle.qs_seats.specs.Runs.{AreOneLane, HaveRun}
 use Rattle.qs_seats.specs.Seats.{ClientRan, HandlerServed}
 use Rattle.qs_seats.specs.declared.seat.ClientSeat.{ClientSeat}
 use Rattle.qs_seats.specs.declared.seat.HandlerSeat.{HandlerSeat}
-use Rattle.qs_joins.specs.Meetings.{AllMet, HasFollowed, IsBooked}
+use Rattle.qs_joins.specs.Meetings.{HasFollowed, IsBooked}
 use Rattle.qs_joins.specs.Seating.{AllFit, AllLanesMet, cut_first, journal_of, state_of}
-use Rattle.qs_joins.proofs.Places.{same_length}
+use Rattle.qs_joins.proofs.Places.{first_of, same_length}
+use Rattle.qs_joins.proofs.ThreadsOf.{AllMet}
 
 -- what `HasFollowed` says, by the tickets alone
 abbrev Follows : ProgramShape → List Ticket → TicketsView → Type 0
@@ -41,29 +42,12 @@ one_lane_still h c deeds tasks (Some a) (Some b) (Some u) None done one served =
 one_lane_still h c deeds tasks (Some a) (Some b) (Some u) (Some v) done one served = done.0 ∙ (one ∙ sym served.0)
 
 module _ {D : Type 0} where
-  -- a place of the later list has one in the earlier
-  before_client : (xs ys : List (ClientSeat D)) → AllZip ClientRan xs ys → (c : ℕ) (y : ClientSeat D) → slice_get ys c ≡ Some y
-      → (x : ClientSeat D) × (slice_get xs c ≡ Some x) × ClientRan x y
-  before_client [] [] all c y e = cc
-  before_client [] (b ∷ ys) all c y e = absurd all
-  before_client (a ∷ xs) [] all c y e = absurd all
-  before_client (a ∷ xs) (b ∷ ys) all zero y e = let same : b ≡ y = cc in (a, refl, subst (ClientRan a) same all.0)
-  before_client (a ∷ xs) (b ∷ ys) all (suc c) y e = before_client xs ys all.1 c y e
-
-  before_handler : (p : ProgramShape) (xs ys : List (HandlerSeat D)) → AllZip (HandlerServed p) xs ys → (h : ℕ) (y : HandlerSeat D) → slice_get ys h ≡ Some y
-      → (x : HandlerSeat D) × (slice_get xs h ≡ Some x) × HandlerServed p x y
-  before_handler p [] [] all h y e = cc
-  before_handler p [] (b ∷ ys) all h y e = absurd all
-  before_handler p (a ∷ xs) [] all h y e = absurd all
-  before_handler p (a ∷ xs) (b ∷ ys) all zero y e = let same : b ≡ y = cc in (a, refl, subst (HandlerServed p a) same all.0)
-  before_handler p (a ∷ xs) (b ∷ ys) all (suc h) y e = before_handler p xs ys all.1 h y e
-
   module _ (p : ProgramShape) (mode : Mode) (size : ℕ) (handlers : List (HandlerSeat D)) (clients : List (ClientSeat D))
       (ran : HaveRun p mode size handlers clients) where
     pub all_fit : AllFit handlers clients
     all_fit c s es h r er =
-        let a = before_client ran.before_clients clients ran.ran c s es in
-        let b = before_handler p ran.before_handlers handlers ran.served h r er in
+        let a = first_of ClientRan ran.before_clients clients ran.ran c s es in
+        let b = first_of (HandlerServed p) ran.before_handlers handlers ran.served h r er in
         one_lane_still h c a.2.deeds b.2.tasks (running.lane_at a.0.lanes h) (running.lane_at s.lanes h) (handling.lane_at b.0.lanes c)
         (handling.lane_at r.lanes c) (a.2.done.ends h) (ran.ready.lanes c h a.0 b.0 a.1 b.1) (b.2.served.ends c)
 

@@ -36,3 +36,11 @@ module _ {X Y : Type 0} (R : X → Y → Type 0) where
   same_length [] (y ∷ ys) all = absurd all
   same_length (x ∷ xs) [] all = absurd all
   same_length (x ∷ xs) (y ∷ ys) all = ap suc (same_length xs ys all.1)
+
+  -- a place of the second list has one in the first
+  pub first_of : (xs : List X) (ys : List Y) → AllZip R xs ys → (i : ℕ) (y : Y) → slice_get ys i ≡ Some y → (x : X) × (slice_get xs i ≡ Some x) × R x y
+  first_of [] [] all i y e = cc
+  first_of [] (b ∷ ys) all i y e = absurd all
+  first_of (a ∷ xs) [] all i y e = absurd all
+  first_of (a ∷ xs) (b ∷ ys) all zero y e = let same : b ≡ y = cc in (a, refl, subst (R a) same all.0)
+  first_of (a ∷ xs) (b ∷ ys) all (suc i) y e = first_of xs ys all.1 i y e

@@ -1,13 +1,12 @@
 -- What is shown of a run, by the rows of its clients and the objects of its handlers, is what the law of running threads shows of it.
-use Rattle.std.proofs.Common.{◌≡◌, ◌<◌, ◌≤◌, ℕ, zero, suc, true, List, [], ◌∷◌, Option, length, map, get_or, slice_get, refl, sym, ap, ◌∙◌, subst, arith}
+use Rattle.std.proofs.Common.{◌≡◌, ◌<◌, ◌≤◌, ℕ, zero, suc, true, List, [], ◌∷◌, length, map, get_or, slice_get, refl, sym, ap, ◌∙◌, subst, arith}
 use Rattle.std.proofs.lemmas.List.{get_or-map, length-map}
 use Rattle.std.proofs.lemmas.List.FromFn.{fill_by_all}
 use Rattle.std.specs.List.{AllByRecursion, range_with_len}
 use Rattle.std.specs.Prelude.{sum_by}
-use Rattle.qs_objects.specs.Act.{State}
 use Rattle.qs_objects.specs.Journals.{HeldState}
 use Rattle.qs_objects.specs.declared.held.Ticket.{Ticket}
-use Rattle.qs_program.specs.Program.{ProgramShape, blocks_of, text_of}
+use Rattle.qs_program.specs.Program.{ProgramShape, blocks_of}
 use Rattle.qs_program.specs.Sound.{IsSound}
 use Rattle.qs_program.proofs.Bounds.{AllByRecursion-get_or}
 use Rattle.qs_meaning.specs.Serial.{no_state}
@@ -17,7 +16,7 @@ use Rattle.qs_syncset.proofs.ShortLists.{few_reserved}
 use Rattle.qs_client.specs.Mind.{Mind}
 use Rattle.qs_played.specs.Isolation.{ticket_at}
 use Rattle.qs_played.specs.JournalRooms.{fresh_held}
-use Rattle.qs_played.specs.Played.{ClientRows, HasRows, HaveRows, Played, counts_in, rows_at, ticket}
+use Rattle.qs_played.specs.Played.{ClientRows, HaveRows, counts_in, rows_at, ticket}
 use Rattle.qs_played.specs.SyncSums.{AreSyncsCounted, counts_at}
 use Rattle.qs_played.proofs.JournalRooms.{no_block_beyond}
 use Rattle.qs_played.proofs.SyncLists.{legal_blocks}
@@ -29,10 +28,9 @@ use Rattle.qs_seats.specs.Runs.{HaveRun}
 use Rattle.qs_seats.specs.Seats.{ClientRan, HandlerServed}
 use Rattle.qs_seats.specs.declared.seat.ClientSeat.{ClientSeat}
 use Rattle.qs_seats.specs.declared.seat.HandlerSeat.{HandlerSeat}
-use Rattle.qs_joins.specs.Meetings.{AllMet}
 use Rattle.qs_joins.specs.Seating.{AreShort, journal_of, over_with, rows_of, state_of}
 use Rattle.qs_joins.proofs.Places.{same_length}
-use Rattle.qs_joins.proofs.ThreadsOf.{code, codes, held_in, mind_in, threads, threads_run}
+use Rattle.qs_joins.proofs.ThreadsOf.{AllMet, code, codes, held_in, mind_in, threads, threads_run}
 
 abbrev pub mind_rows : Mind → ClientRows
 mind_rows m = record { traces = m.traces; entries = m.entries; counts = m.counts }
@@ -123,7 +121,7 @@ module _ {D : Type 0} (p : ProgramShape) (sound : IsSound p) (mode : Mode) (size
       let inside = AllByRecursion-get_or (λ (t : Ticket). t.index < blocks_of p t.client) order i (ticket 0 0) (legal_blocks p (λ _. 0) order met.legal) few in
       let client = no_block_beyond p t.client (omega (arith, inside)) in
       let same : counts_in rows t ≡ counts_at (shown_by p r) i =
-          ap (λ (w : ClientRows). get_or w.counts t.index []) (rows_are clients t.client) ∙ sym (get_or-map (counts_by r) order i (ticket 0 0) [] few) in
+      ap (λ (w : ClientRows). get_or w.counts t.index []) (rows_are clients t.client) ∙ sym (get_or-map (counts_by r) order i (ticket 0 0) [] few) in
       let listed = ap length ((law.counted.each i few).listed) in
       let objects = length-map (counts_at (shown_by p r) i) object_of in
       let here = ap length same in

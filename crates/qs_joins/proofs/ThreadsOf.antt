@@ -1,12 +1,14 @@
 -- What all workers gave back, once they have met, is a run of threads: each client's deeds and mind and each handler's tasks and object are
 -- looked up in the lists of what each did.
-use Rattle.std.proofs.Common.{◌≡◌, ◌<◌, ◌≤◌, ℕ, true, false, List, [], ◌∷◌, Option, Some, None, length, slice_get, refl, sym, ap, ◌∙◌, subst, arith, IsSome}
+use Rattle.std.proofs.Common.{◌≡◌, ◌<◌, ℕ, true, false, List, [], Option, Some, None, length, slice_get, sym, ap, ◌∙◌, subst, arith, IsSome}
 use Rattle.std.proofs.lemmas.Option.{slice_get_past}
+use Rattle.std.specs.List.{AllByRecursion}
 use Rattle.qs_objects.specs.Journals.{HeldState}
 use Rattle.qs_objects.specs.declared.held.Ticket.{Ticket}
 use Rattle.qs_program.specs.Program.{ProgramShape, blocks_of}
 use Rattle.qs_program.specs.Sound.{IsSound}
 use Rattle.qs_meaning.specs.Following.{reserves}
+use Rattle.qs_meaning.specs.Serial.{IsLegal}
 use Rattle.qs_syncset.specs.Codes.{ClientCode, IsCodeOf}
 use Rattle.qs_syncset.specs.declared.mode.Mode.{Mode}
 use Rattle.qs_chunk.specs.LaneRun.{IsLaneRun}
@@ -32,8 +34,17 @@ use Rattle.qs_seats.specs.Runs.{AreOneLane, HaveRun}
 use Rattle.qs_seats.specs.Seats.{ClientRan, HandlerServed}
 use Rattle.qs_seats.specs.declared.seat.ClientSeat.{ClientSeat}
 use Rattle.qs_seats.specs.declared.seat.HandlerSeat.{HandlerSeat}
-use Rattle.qs_joins.specs.Meetings.{AllMet, HasFollowed, HaveMet, IsBooked}
+use Rattle.qs_joins.specs.Meetings.{HasFollowed, HaveMet, IsBooked}
 use Rattle.qs_joins.proofs.Places.{IsBothAt, all_at, both_at, there}
+
+-- all that the workers know together once they have met
+module _ {D : Type 0} where
+  pub record AllMet (p : ProgramShape) (order : List Ticket) (handlers : List (HandlerSeat D)) (clients : List (ClientSeat D)) : Type 0 where
+    pub legal : IsLegal p order
+    pub booked : AllByRecursion (IsBooked order) clients
+    pub followed : AllByRecursion (HasFollowed p order) handlers
+    pub lanes : (c h : ℕ) (s : ClientSeat D) (r : HandlerSeat D) → slice_get clients c ≡ Some s → slice_get handlers h ≡ Some r
+        → HaveMet (running.lane_at s.lanes h) (handling.lane_at r.lanes c)
 
 abbrev pub no_code : ClientCode
 no_code = record { dynamic = false; blocks = [] }

@@ -1,16 +1,12 @@
 -- What the workers of a run know together once all have ended: each client's share with the desk, each handler's tickets with the desk, and
 -- the two ends of each lane.
-use Rattle.std.specs.Prelude.{◌≡◌, ℕ, true, List, [], ◌∷◌, ◌++◌, Option, Some, None, length, slice_get}
-use Rattle.std.specs.List.{AllByRecursion}
+use Rattle.std.specs.Prelude.{◌≡◌, true, List, [], ◌∷◌, ◌++◌, Option, Some, None, length}
 use Rattle.qs_objects.specs.declared.held.Next.{Next}
 use Rattle.qs_objects.specs.declared.held.Next.TheVariants.{Closed}
 use Rattle.qs_objects.specs.declared.held.Ticket.{Ticket}
 use Rattle.qs_program.specs.Program.{ProgramShape}
-use Rattle.qs_meaning.specs.Serial.{IsLegal}
 use Rattle.qs_chunk.specs.LaneRun.{IsLaneRun}
-use Rattle.qs_client_thread.specs.ClientThreads as running
 use Rattle.qs_desk.specs.Tickets.{of_client, pushed_to}
-use Rattle.qs_handler_thread.specs.HandlerThreads as handling
 use Rattle.qs_lane.specs.Views.{InView, OutView}
 use Rattle.qs_seats.specs.declared.seat.ClientSeat.{ClientSeat}
 use Rattle.qs_seats.specs.declared.seat.HandlerSeat.{HandlerSeat}
@@ -29,10 +25,3 @@ module _ {D : Type 0} where
   -- a handler that took the closing mark took all that was pushed to it
   abbrev pub HasFollowed : ProgramShape → List Ticket → HandlerSeat D → Type 0
   HasFollowed p order s = (before : List Next) → s.tickets.taken ≡ before ++ Closed ∷ [] → pushed_to p s.tickets.handler order true ≡ s.tickets.taken
-
-  pub record AllMet (p : ProgramShape) (order : List Ticket) (handlers : List (HandlerSeat D)) (clients : List (ClientSeat D)) : Type 0 where
-    pub legal : IsLegal p order
-    pub booked : AllByRecursion (IsBooked order) clients
-    pub followed : AllByRecursion (HasFollowed p order) handlers
-    pub lanes : (c h : ℕ) (s : ClientSeat D) (r : HandlerSeat D) → slice_get clients c ≡ Some s → slice_get handlers h ≡ Some r
-        → HaveMet (running.lane_at s.lanes h) (handling.lane_at r.lanes c)

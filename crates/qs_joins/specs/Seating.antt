@@ -1,6 +1,6 @@
 -- Seats after the run, as they are taken apart: lanes are cut where their ends have met, and a client's rows and a handler's object are
 -- moved out.
-use Rattle.std.specs.Prelude.{◌≡◌, ◌≤◌, ℕ, zero, suc, true, List, [], Option, Some, None, length, map, slice_get, slice_set, sum_by}
+use Rattle.std.specs.Prelude.{◌≡◌, ◌≤◌, ℕ, zero, suc, true, List, Option, Some, None, length, map, slice_get, slice_set, sum_by}
 use Rattle.std.specs.List.{AllByRecursion}
 use Rattle.qs_objects.specs.Act.{State}
 use Rattle.qs_objects.specs.declared.held.Entry.{Entry}
@@ -8,7 +8,7 @@ use Rattle.qs_objects.specs.declared.held.Ticket.{Ticket}
 use Rattle.qs_client.specs.MindState.{MindState, mind_of}
 use Rattle.qs_client_thread.specs.ClientThreads as running
 use Rattle.qs_handler_thread.specs.HandlerThreads as handling
-use Rattle.qs_lane.specs.Views.{InView, OutView}
+use Rattle.qs_lane.specs.Views.{OutView}
 use Rattle.qs_played.specs.Played.{ClientRows, Played, counts_in, shown_with}
 use Rattle.qs_seats.specs.Runs.{AreOneLane}
 use Rattle.qs_seats.specs.declared.seat.ClientSeat.{ClientSeat}

@@ -15,7 +15,8 @@ use qs_seats::{ClientSeat, HandlerSeat};
 use qs_syncset::Mode;
 
 /// The outcome of a run of a program in a mode and with chunks of a size, by what all its workers gave back and the closed desk: whatever
-/// the threads did at once, it is what the blocks do alone, one after another along the order of reservations. Takes no memory.
+/// the threads did at once, it is what the blocks do alone, one after another along the order of reservations. Takes no memory. The mode
+/// and the size are only named, as those of the run.
 pub fn joined<D: DeskName>(
     desk: Desk<D>,
     handlers: Vec<HandlerSeat<D>>,

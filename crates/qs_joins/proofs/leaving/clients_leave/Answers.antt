@@ -1,13 +1,14 @@
-use Rattle.std.proofs.Common.{◌≡◌, ◌<◌, ◌≤◌, ◌+◌, ◌++◌, ◌∷◌, [], ℕ, Some, length, map, slice_get, refl, sym, ap, ◌∙◌, subst, arith, rules}
+use Rattle.std.proofs.Common.{◌≡◌, ◌++◌, ◌∷◌, List, [], length, map, refl, sym, ap, ◌∙◌, subst, arith, rules}
 use Rattle.std.proofs.lemmas.Iterator.Adapters.{YieldsList-from_vec}
 use Rattle.std.proofs.lemmas.Iterator.Consumers.{YieldsList-turn}
 use Rattle.std.proofs.lemmas.List.{length-map, length_push, map_push}
 use Rattle.std.proofs.lemmas.Option.{slice_get_read}
 use Rattle.qs_desk.specs.Views.{DeskView}
+use Rattle.qs_played.specs.Played.{ClientRows}
 use Rattle.qs_played.proofs.Lists.{empty_of}
 use Rattle.qs_seats.specs.declared.seat.ClientSeat.{ClientSeat}
 use Rattle.qs_joins.specs.Meetings.{IsBooked}
-use Rattle.qs_joins.specs.Seating.{LanesFit, LanesMet, cut, cut_first, rows_of}
+use Rattle.qs_joins.specs.Seating.{LanesFit, LanesMet, cut, rows_of}
 use Rattle.qs_joins.proofs.Cuts.{all_push, cut_more, cut_none, each_push, fit_cut, met_cut}
 use Rattle.qs_joins.proofs.leaving.clients_leave.Goals as goal
 
@@ -54,7 +55,8 @@ loop-client-preserved g c =
     record {
       number = (let more = length_push c.loop-client.yielded c.in-Some.client in omega (arith, more, inv.number));
       desk = c.leave.ensures.desk ∙ inv.desk;
-      rows = c.push_reserved.ensures.items ∙ ((λ k. inv.rows k ++ c.leave.ensures.rows k ∷ []) ∙ sym (map_push rows_of yielded client));
+      rows = ◌∙◌ {A = List ClientRows} c.push_reserved.ensures.items
+          ((λ k. inv.rows k ++ c.leave.ensures.rows k ∷ []) ∙ sym (map_push rows_of yielded client));
       room = c.push_reserved.ensures.capacity ∙ inv.room;
       booked = all_push (IsBooked c.args.desk.now.history) yielded client inv.booked (subst (λ (d : DeskView). IsBooked d.history client) inv.desk c.leave.ensures.booked);
       met = each_push (λ k (s : ClientSeat _). LanesMet s.lanes k c.args.handlers.now) yielded client inv.met

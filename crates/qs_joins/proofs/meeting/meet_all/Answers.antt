@@ -1,4 +1,4 @@
-use Rattle.std.proofs.Common.{◌≡◌, ◌≢◌, ◌<◌, ◌≤◌, ◌+◌, ℕ, None, Some, length, slice_get, ap, ◌∙◌, arith, below_more}
+use Rattle.std.proofs.Common.{◌≡◌, ◌≢◌, ◌<◌, None, Some, length, slice_get, ap, ◌∙◌, arith, below_more}
 use Rattle.std.proofs.lemmas.List.{get_or-set_other}
 use Rattle.std.proofs.lemmas.Option.{slice_get_within}
 use Rattle.qs_client_thread.specs.ClientThreads as running
@@ -44,5 +44,5 @@ returns-clause-met g c = λ h r e.
 pub returns-clause-cut : goal.returns-clause-cut
 returns-clause-cut g c =
     let all : c.loop-handler.handler ≡ length c.args.handlers.now =
-        omega (arith, c.loop-handler-test.false, c.loop-handler.auto.handlers, c.loop-handler.auto.handler-end) in
+    omega (arith, c.loop-handler-test.false, c.loop-handler.auto.handlers, c.loop-handler.auto.handler-end) in
     c.loop-handler.invariant.handlers ∙ (ap (λ m. map_front (cut c.args.client) m c.args.handlers.now) all ∙ front_all (cut c.args.client) c.args.handlers.now)
