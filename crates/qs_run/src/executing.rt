@@ -1,6 +1,6 @@
 //! A program's run on threads.
 
-ghost use Rattle.std.specs.Prelude.{◌≡◌, IfOk};
+ghost use Rattle.std.specs.Prelude.{◌≡◌, false, IfOk};
 ghost use Rattle.qs_program.specs.Sound.{IsSound};
 ghost use Rattle.qs_making.specs.Parts.{AreParts};
 ghost use Rattle.qs_run_laws.specs.Outcomes.{IsOutcome};
