@@ -1,7 +1,7 @@
 -- The command as clap's data.
 use Rattle.std.specs.Prelude.{[], ◌∷◌, codes, Some, pos, true}
 use Rattle.clap.specs.Words.{App, Rule, Text, new_app, new_rule, with_rule, with_subcommand}
-use Rattle.clap.specs.declared.builder.ArgAction.TheVariants.{Set}
+use Rattle.clap.specs.declared.builder.ArgAction.TheVariants.{Set, SetTrue}
 use Rattle.clap.specs.declared.builder.ValueParser.TheVariants as parser
 
 -- `--NAME VALUE`
@@ -19,21 +19,25 @@ chunk_rule = record (defaulted_rule (codes "chunk") (codes "8")) { parser = Some
 abbrev pub rounds_rule : Rule
 rounds_rule = defaulted_rule (codes "rounds") (codes "1000000")
 
--- `rules [--rounds N] [--pick LIST]`
+-- `--counts`, without a value
+abbrev pub counts_rule : Rule
+counts_rule = record (new_rule (codes "counts")) { long = Some (codes "counts"); action = Some SetTrue }
+
+-- `rules [--rounds N] [--pick LIST] [--counts]`
 abbrev pub rules_app : App
-rules_app = with_rule (with_rule (new_app (codes "rules")) rounds_rule) (option_rule (codes "pick"))
+rules_app = with_rule (with_rule (with_rule (new_app (codes "rules")) rounds_rule) (option_rule (codes "pick"))) counts_rule
 
 -- `WORD [--mode M] [--chunk N]`
 abbrev pub machine_app : Text → App
 machine_app word = with_rule (with_rule (new_app word) (defaulted_rule (codes "mode") (codes "both"))) chunk_rule
 
--- `play [--mode M] [--chunk N] [--rounds N] [--pick LIST]`
+-- `play [--mode M] [--chunk N] [--rounds N] [--pick LIST] [--counts]`
 abbrev pub play_app : App
-play_app = with_rule (with_rule (machine_app (codes "play")) rounds_rule) (option_rule (codes "pick"))
+play_app = with_rule (with_rule (with_rule (machine_app (codes "play")) rounds_rule) (option_rule (codes "pick"))) counts_rule
 
--- `run [--mode M] [--chunk N]`
+-- `run [--mode M] [--chunk N] [--counts]`
 abbrev pub run_app : App
-run_app = machine_app (codes "run")
+run_app = with_rule (machine_app (codes "run")) counts_rule
 
 -- the program's name, with no word `help`
 abbrev pub named_app : App

@@ -1,5 +1,6 @@
 -- What a line asks for.
 use Rattle.std.specs.Prelude.{◌≡◌, ◌≢◌, ℕ, List, [], ◌∷◌, codes, Option, Some, None, Result, Ok, Err, ⊤, Bool, true, false, if◌then◌else◌, option_map, option_and_then, unwrap_or}
+use Rattle.std.specs.Option.{option_map_or}
 use Rattle.std.specs.Str.{bytes_eq}
 use Rattle.std.specs.Str.Parse.{digits_value, without_leading_plus}
 use Rattle.clap.specs.Faults.{fault_of}
@@ -19,20 +20,20 @@ use Rattle.qs_line.specs.declared.line.Settings.{Settings}
 use Rattle.qs_line.specs.declared.line.Settings.TheVariants as word
 
 -- what is asked for: the counts; the graphs; a run by the plain rules, with so many rounds after its picks; one in the optimised
--- machine, in a mode and by chunks of a size; or one on threads
+-- machine, in a mode and by chunks of a size; or one on threads. Of a run the counts of synchronisations may be asked for as well.
 pub data Request : Type 0 where
   check : Request
   graph : Request
-  rules : ℕ → List Actor → Request
-  play : Mode → ℕ → ℕ → List Actor → Request
-  run : Mode → ℕ → Request
+  rules : (counts : Bool) → ℕ → List Actor → Request
+  play : (counts : Bool) → Mode → ℕ → ℕ → List Actor → Request
+  run : (counts : Bool) → Mode → ℕ → Request
 
 abbrev pub request_of : Settings → Request
 request_of word.Check = check
 request_of word.Graph = graph
-request_of (word.Rules rounds picks) = rules rounds picks.items
-request_of (word.Play mode chunk rounds picks) = play mode chunk rounds picks.items
-request_of (word.Run mode chunk) = run mode chunk
+request_of (word.Rules counts rounds picks) = rules counts rounds picks.items
+request_of (word.Play counts mode chunk rounds picks) = play counts mode chunk rounds picks.items
+request_of (word.Run counts mode chunk) = run counts mode chunk
 
 abbrev pub mode_in : Text → Option Mode
 mode_in text =
@@ -45,6 +46,10 @@ mode_in text =
 abbrev pub number_in : ℕ → ℕ → Text → Option ℕ
 number_in low high text =
     if is_unsigned_in low high text then Some (digits_value 10 (without_leading_plus text)) else None
+
+-- clap says `true` of a flag that stands on the line, and `false` of another
+abbrev pub counts_at : List Row → Bool
+counts_at rows = option_map_or (λ text. bytes_eq text (codes "true")) (first_of (codes "counts") rows) false
 
 abbrev pub mode_at : List Row → Option Mode
 mode_at rows = option_and_then mode_in (first_of (codes "mode") rows)
@@ -60,16 +65,16 @@ abbrev pub picks_at : List Row → Option (List Actor)
 picks_at rows = unwrap_or (option_map picks_in (first_of (codes "pick") rows)) (Some [])
 
 abbrev pub rules_at : List Row → Option Request
-rules_at rows = option_and_then (λ rounds. option_map (rules rounds) (picks_at rows)) (rounds_at rows)
+rules_at rows = option_and_then (λ rounds. option_map (rules (counts_at rows) rounds) (picks_at rows)) (rounds_at rows)
 
 abbrev pub play_at : List Row → Option Request
 play_at rows =
     option_and_then (λ mode. option_and_then (λ chunk.
-    option_and_then (λ rounds. option_map (play mode chunk rounds) (picks_at rows))
+    option_and_then (λ rounds. option_map (play (counts_at rows) mode chunk rounds) (picks_at rows))
     (rounds_at rows)) (chunk_at rows)) (mode_at rows)
 
 abbrev pub run_at : List Row → Option Request
-run_at rows = option_and_then (λ mode. option_map (run mode) (chunk_at rows)) (mode_at rows)
+run_at rows = option_and_then (λ mode. option_map (run (counts_at rows) mode) (chunk_at rows)) (mode_at rows)
 
 -- what a word asks for, with the entries that clap finds after it
 abbrev pub request_at : Text → List Row → Option Request

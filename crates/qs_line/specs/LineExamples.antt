@@ -1,5 +1,5 @@
 -- Lines, and what they come to.
-use Rattle.std.specs.Prelude.{◌≡◌, List, [], ◌∷◌, codes}
+use Rattle.std.specs.Prelude.{◌≡◌, List, [], ◌∷◌, codes, true, false}
 use Rattle.clap.specs.Words.{Text}
 use Rattle.qs_played.specs.declared.actor.Actor.TheVariants.{Client, Handler}
 use Rattle.qs_syncset.specs.declared.mode.Mode.TheVariants.{Dynamic, Static, Both}
@@ -12,18 +12,37 @@ line words = line_in (codes "qs" ∷ words)
 pub record DefaultLines : Type 0 where
   pub checks : line (codes "check" ∷ []) ≡ asks check
   pub graphs : line (codes "graph" ∷ []) ≡ asks graph
-  pub rules_alone : line (codes "rules" ∷ []) ≡ asks (rules 1000000 [])
-  pub play_alone : line (codes "play" ∷ []) ≡ asks (play Both 8 1000000 [])
-  pub run_alone : line (codes "run" ∷ []) ≡ asks (run Both 8)
+  pub rules_alone : line (codes "rules" ∷ []) ≡ asks (rules false 1000000 [])
+  pub play_alone : line (codes "play" ∷ []) ≡ asks (play false Both 8 1000000 [])
+  pub run_alone : line (codes "run" ∷ []) ≡ asks (run false Both 8)
 
 pub record SetLines : Type 0 where
-  pub mode : line (codes "play" ∷ codes "--mode" ∷ codes "static" ∷ []) ≡ asks (play Static 8 1000000 [])
-  pub chunk : line (codes "play" ∷ codes "--chunk=32" ∷ []) ≡ asks (play Both 32 1000000 [])
-  pub most_rounds : line (codes "rules" ∷ codes "--rounds" ∷ codes "4294967295" ∷ []) ≡ asks (rules 4294967295 [])
-  pub picks : line (codes "rules" ∷ codes "--pick" ∷ codes "c0,h9,c0" ∷ []) ≡ asks (rules 1000000 (Client 0 ∷ Handler 9 ∷ Client 0 ∷ []))
+  pub mode : line (codes "play" ∷ codes "--mode" ∷ codes "static" ∷ []) ≡ asks (play false Static 8 1000000 [])
+  pub chunk : line (codes "play" ∷ codes "--chunk=32" ∷ []) ≡ asks (play false Both 32 1000000 [])
+  pub most_rounds : line (codes "rules" ∷ codes "--rounds" ∷ codes "4294967295" ∷ []) ≡ asks (rules false 4294967295 [])
+  pub picks : line (codes "rules" ∷ codes "--pick" ∷ codes "c0,h9,c0" ∷ []) ≡ asks (rules false 1000000 (Client 0 ∷ Handler 9 ∷ Client 0 ∷ []))
   pub all : line (codes "play" ∷ codes "--rounds" ∷ codes "0" ∷ codes "--pick=h1" ∷ codes "--chunk" ∷ codes "1" ∷ codes "--mode=dynamic" ∷ [])
-      ≡ asks (play Dynamic 1 0 (Handler 1 ∷ []))
-  pub runs : line (codes "run" ∷ codes "--chunk" ∷ codes "4" ∷ codes "--mode=static" ∷ []) ≡ asks (run Static 4)
+      ≡ asks (play false Dynamic 1 0 (Handler 1 ∷ []))
+  pub runs : line (codes "run" ∷ codes "--chunk" ∷ codes "4" ∷ codes "--mode=static" ∷ []) ≡ asks (run false Static 4)
+
+pub record CountedLines : Type 0 where
+  pub rules_alone : line (codes "rules" ∷ codes "--counts" ∷ []) ≡ asks (rules true 1000000 [])
+  pub play_alone : line (codes "play" ∷ codes "--counts" ∷ []) ≡ asks (play true Both 8 1000000 [])
+  pub run_alone : line (codes "run" ∷ codes "--counts" ∷ []) ≡ asks (run true Both 8)
+  pub before_others : line (codes "rules" ∷ codes "--counts" ∷ codes "--pick" ∷ codes "c0" ∷ codes "--rounds=4" ∷ [])
+      ≡ asks (rules true 4 (Client 0 ∷ []))
+  pub between_others : line (codes "play" ∷ codes "--mode=static" ∷ codes "--counts" ∷ codes "--rounds" ∷ codes "4" ∷ [])
+      ≡ asks (play true Static 8 4 [])
+  pub after_others : line (codes "run" ∷ codes "--chunk" ∷ codes "4" ∷ codes "--mode=static" ∷ codes "--counts" ∷ []) ≡ asks (run true Static 4)
+
+pub record UncountedLines : Type 0 where
+  pub twice : line (codes "rules" ∷ codes "--counts" ∷ codes "--counts" ∷ []) ≡ refused
+  pub by_value : line (codes "play" ∷ codes "--counts=1" ∷ []) ≡ refused
+  pub by_true : line (codes "run" ∷ codes "--counts=true" ∷ []) ≡ refused
+  pub by_word : line (codes "run" ∷ codes "--counts" ∷ codes "true" ∷ []) ≡ refused
+  pub before_word : line (codes "--counts" ∷ codes "play" ∷ []) ≡ refused
+  pub of_check : line (codes "check" ∷ codes "--counts" ∷ []) ≡ refused
+  pub of_graph : line (codes "graph" ∷ codes "--counts" ∷ []) ≡ refused
 
 pub record OtherLines : Type 0 where
   pub no_word : line [] ≡ refused
@@ -43,4 +62,6 @@ pub record OtherLines : Type 0 where
 pub record LineExamples : Type 0 where
   pub defaults : DefaultLines
   pub settings : SetLines
+  pub counted : CountedLines
+  pub uncounted : UncountedLines
   pub others : OtherLines

@@ -3,7 +3,7 @@
 ghost use Rattle.std.specs.Prelude.{◌≡◌, IfOk, codes, false};
 ghost use Rattle.clap.specs.Words.{app_of, rule_of, with_subcommand};
 ghost use Rattle.clap.specs.declared.Command.TheViews.{out-Command as fields_of};
-ghost use Rattle.qs_line.specs.Command.{chunk_rule, defaulted_rule, machine_app, option_rule, play_app, qs_app, rules_app, run_app, texts_app};
+ghost use Rattle.qs_line.specs.Command.{chunk_rule, counts_rule, defaulted_rule, machine_app, option_rule, play_app, qs_app, rules_app, run_app, texts_app};
 
 use clap::{Arg, ArgAction, Command, value_parser};
 use std::alloc::{AllocError, Global};
@@ -29,13 +29,23 @@ fn chunk_option<'a>(alloc: Global) -> Arg<'a>
     defaulted(alloc, "chunk", "8").value_parser(value_parser!(u8).range(1..=32))
 }
 
+fn counts_flag<'a>(alloc: Global) -> Arg<'a>
+    ensures rule { rule_of result ≡ counts_rule }
+    ensures local { result.global ≡ false }
+{
+    Arg::new(alloc, "counts")
+        .long("counts")
+        .action(ArgAction::SetTrue)
+}
+
 fn rules_command<'a>(alloc: Global) -> Result<Command<'a>, AllocError>
     ensures app { IfOk result (λ command. app_of command ≡ rules_app) }
     ensures local { IfOk result (λ command. (fields_of command).has_globals ≡ false) }
 {
     Command::new(alloc, "rules")
         .arg(defaulted(alloc, "rounds", "1000000"))?
-        .arg(option(alloc, "pick"))
+        .arg(option(alloc, "pick"))?
+        .arg(counts_flag(alloc))
 }
 
 fn machine_command<'a>(alloc: Global, word: &'a str) -> Result<Command<'a>, AllocError>
@@ -53,7 +63,15 @@ fn play_command<'a>(alloc: Global) -> Result<Command<'a>, AllocError>
 {
     machine_command(alloc, "play")?
         .arg(defaulted(alloc, "rounds", "1000000"))?
-        .arg(option(alloc, "pick"))
+        .arg(option(alloc, "pick"))?
+        .arg(counts_flag(alloc))
+}
+
+fn run_command<'a>(alloc: Global) -> Result<Command<'a>, AllocError>
+    ensures app { IfOk result (λ command. app_of command ≡ run_app) }
+    ensures local { IfOk result (λ command. (fields_of command).has_globals ≡ false) }
+{
+    machine_command(alloc, "run")?.arg(counts_flag(alloc))
 }
 
 fn texts_command<'a>(alloc: Global) -> Result<Command<'a>, AllocError>
@@ -95,7 +113,7 @@ fn with_play<'a>(alloc: Global, command: Command<'a>) -> Result<Command<'a>, All
 fn with_run<'a>(alloc: Global, command: Command<'a>) -> Result<Command<'a>, AllocError>
     ensures app { IfOk result (λ whole. app_of whole ≡ with_subcommand (app_of command.entry) run_app.top) }
 {
-    match machine_command(alloc, "run") {
+    match run_command(alloc) {
         Ok(run) => command.subcommand(run),
         Err(error) => {
             drop(command);

@@ -4,7 +4,7 @@ ghost use Rattle.std.specs.Prelude.{◌≡◌, [], IfOk, IfErr, map, option_map}
 ghost use Rattle.clap.specs.Words.{found_of, first_of, kind_of, rows_of, subcommand_of, subcommand_rows_of};
 ghost use Rattle.clap.specs.Faults.{fault_of};
 ghost use Rattle.qs_line.specs.Command.{qs_app};
-ghost use Rattle.qs_line.specs.Line.{IsAnswer, IsFault, IsFaultAmong, chunk_at, line_in, mode_at, picks_at, play_at, request_at, request_met, request_of, rounds_at, rules_at, run_at};
+ghost use Rattle.qs_line.specs.Line.{IsAnswer, IsFault, IsFaultAmong, chunk_at, counts_at, line_in, mode_at, picks_at, play_at, request_at, request_met, request_of, rounds_at, rules_at, run_at};
 
 use crate::Actor;
 use crate::command::command;
@@ -24,6 +24,8 @@ pub enum Settings {
     Graph,
     /// Check it, and play it by the plain rules.
     Rules {
+        /// Whether each block's synchronisations are shown.
+        counts: bool,
         /// How many rounds are played at most.
         rounds: u32,
         /// Who steps before the rounds.
@@ -31,6 +33,8 @@ pub enum Settings {
     },
     /// Check it, and play it in the optimised machine.
     Play {
+        /// Whether each block's synchronisations are shown.
+        counts: bool,
         /// Which synchronisations are left out.
         mode: Mode,
         /// How many commands a chunk takes.
@@ -42,6 +46,8 @@ pub enum Settings {
     },
     /// Check it, and run it on threads.
     Run {
+        /// Whether each block's synchronisations are shown.
+        counts: bool,
         /// Which synchronisations are left out.
         mode: Mode,
         /// How many commands a chunk takes.
@@ -75,6 +81,12 @@ fn text_at<'a>(found: &ArgMatches<'a>, name: &str) -> Option<&'a str>
     ensures text { option_map (λ text. text.now) result ≡ first_of name.now (rows_of (found_of found.now)) }
 {
     found.get_str(name)
+}
+
+fn counts_of(found: &ArgMatches<'_>) -> bool
+    ensures counts { result ≡ counts_at (rows_of (found_of found.now)) }
+{
+    matches!(text_at(found, "counts"), Some("true"))
 }
 
 fn mode_of(found: &ArgMatches<'_>) -> Option<Mode>
@@ -117,7 +129,11 @@ fn rules_settings(alloc: Global, found: &ArgMatches<'_>) -> Result<Option<Settin
     let (Some(rounds), Some(picks)) = (rounds_of(found), given_picks(alloc, found)?) else {
         return Ok(None);
     };
-    Ok(Some(Settings::Rules { rounds, picks }))
+    Ok(Some(Settings::Rules {
+        counts: counts_of(found),
+        rounds,
+        picks,
+    }))
 }
 
 fn play_settings(alloc: Global, found: &ArgMatches<'_>) -> Result<Option<Settings>, AllocError>
@@ -130,6 +146,7 @@ fn play_settings(alloc: Global, found: &ArgMatches<'_>) -> Result<Option<Setting
         return Ok(None);
     };
     Ok(Some(Settings::Play {
+        counts: counts_of(found),
         mode,
         chunk,
         rounds,
@@ -142,7 +159,11 @@ fn run_settings(found: &ArgMatches<'_>) -> Option<Settings>
 {
     let mode = mode_of(found)?;
     let chunk = chunk_of(found)?;
-    Some(Settings::Run { mode, chunk })
+    Some(Settings::Run {
+        counts: counts_of(found),
+        mode,
+        chunk,
+    })
 }
 
 // What a word asks for, with what clap found after it.

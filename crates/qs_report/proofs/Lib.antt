@@ -1,5 +1,6 @@
 pub mod Fronts
 pub mod Joined
+pub mod SyncLines
 pub mod Added
 pub mod UniqueTexts
 pub mod CheckedSets

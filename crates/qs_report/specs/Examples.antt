@@ -14,9 +14,10 @@ use Rattle.qs_program.specs.declared.program.Declared.{Declared}
 use Rattle.qs_program.specs.Program.{ProgramShape, ClientShape, BlockShape}
 use Rattle.qs_program.specs.Statements.{end}
 use Rattle.qs_played.specs.Played.{Played}
+use Rattle.qs_syncset.specs.SyncRows.{sync_count}
 use Rattle.qs_report.specs.declared.faults.Fault.{Fault}
 use Rattle.qs_report.specs.declared.faults.Fault.TheVariants.{CommandLine, Input, Read, Check, Play, Memory}
-use Rattle.qs_report.specs.Report.{report_text, counts_text, state_line}
+use Rattle.qs_report.specs.Report.{report_text, counted_report_text, counts_text, state_line}
 use Rattle.qs_report.specs.Faults.{fault_text, fault_status}
 
 -- an object that is declared
@@ -118,6 +119,32 @@ pub record RunExamples : Type 0 where
       report_text three played
       ≡ codes "order 3\nticket bob 0 done\ng.set(2,0,9)\ng.get(5,-1) = 0\nticket ann 0 done\nb.put(-7)\nb.drop()\nb.take() = -7\nb.front() = 0\nticket bob 1 open\nstates\nb buffer 1 [] refused 2\ng grid 2 3 [999999999999999999 999999999999999999 0 0 0 0] refused 1\nz_9 account 1000000000000000 refused 0\nsyncs 3\nunfinished\n"
 
+-- the first with a synchronisation for its query
+abbrev pub deposited_once : Played
+deposited_once = record deposited { sync_counts = (sync_count 0 1 ∷ []) ∷ [] }
+
+-- a block that reserves nothing, one that has sent none, and an open one on two objects in the order of its list
+abbrev pub counted : Played
+counted = record played {
+  traces = [] ∷ (query 0 First [] (pos 0) ∷ []) ∷ [] ∷ [];
+  sync_counts = [] ∷ (sync_count 0 0 ∷ []) ∷ (sync_count 2 12 ∷ sync_count 0 4294967295 ∷ []) ∷ [];
+  states = [];
+}
+
+pub record CountedRunExamples : Type 0 where
+  pub deposit :
+      counted_report_text deposits deposited_once
+      ≡ codes "order 1\nticket ann 0 done\na.deposit(5)\na.balance() = 105\nsync a 1\nstates\na account 105 refused 0\nsyncs 1\nfinished\n"
+  pub deposit_without :
+      report_text deposits deposited_once
+      ≡ codes "order 1\nticket ann 0 done\na.deposit(5)\na.balance() = 105\nstates\na account 105 refused 0\nsyncs 1\nfinished\n"
+  pub no_step :
+      counted_report_text deposits before
+      ≡ codes "order 0\nstates\na account 100 refused 0\nsyncs 0\nunfinished\n"
+  pub several :
+      counted_report_text three counted
+      ≡ codes "order 3\nticket bob 0 done\nticket ann 0 done\nb.front() = 0\nsync b 0\nticket bob 1 open\nsync z_9 12\nsync b 4294967295\nstates\nsyncs 3\nunfinished\n"
+
 pub record StateExamples : Type 0 where
   pub nothing : state_line (codes "b") (state (buffer 1 []) (pos 2)) ≡ codes "b buffer 1 [] refused 2\n"
   pub two :
@@ -162,6 +189,7 @@ pub record FaultExamples : Type 0 where
 
 pub record Examples : Type 0 where
   pub runs : RunExamples
+  pub counted_runs : CountedRunExamples
   pub states : StateExamples
   pub counts : CountExamples
   pub faults : FaultExamples

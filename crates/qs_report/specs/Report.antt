@@ -1,5 +1,5 @@
 -- The report of a run, and the counts of a program, as bytes.
-use Rattle.std.specs.Prelude.{ℕ, ℤ, pos, List, [], ◌++◌, codes, decimal, length, flat_map, sum_by, Option, Some, None, slice_index_or, Bool, false, if◌then◌else◌}
+use Rattle.std.specs.Prelude.{ℕ, ℤ, pos, List, [], ◌++◌, codes, decimal, length, flat_map, sum_by, Option, Some, None, slice_index_or, Bool, true, false, if◌then◌else◌}
 use Rattle.std.specs.Fmt.{signed_decimal}
 use Rattle.std.specs.List.{join_by}
 use Rattle.qs_objects.specs.Act.{State, account}
@@ -13,6 +13,7 @@ use Rattle.qs_objects.specs.declared.object.Kind.{Kind}
 use Rattle.qs_objects.specs.declared.object.Kind.TheVariants as kinds
 use Rattle.qs_program.specs.Program.{ProgramShape, object_at, client_at, whole_load, whole_weight}
 use Rattle.qs_played.specs.Played.{Played}
+use Rattle.qs_syncset.specs.declared.sync_counts.SyncCount.{SyncCount}
 use Rattle.qs_report.specs.Texts.{count_line, texts_up_to}
 
 -- the script's word of an operation
@@ -63,8 +64,20 @@ ticket_text p run i =
     ticket_line p (slice_index_or run.order i first_ticket) (slice_index_or run.ended i false)
     ++ flat_map (event_line p) (slice_index_or run.traces i [])
 
-abbrev pub order_text : ProgramShape → Played → List ℕ
-order_text p run = count_line (codes "order") (length run.order) ++ texts_up_to (length run.order) (ticket_text p run)
+-- how many synchronisations a block has sent for an object
+abbrev pub sync_line : ProgramShape → SyncCount → List ℕ
+sync_line p s = codes "sync " ++ count_line (object_at p s.object).name s.count
+
+-- those of the ticket at a place, a line for each object of its block's list
+abbrev pub sync_lines : ProgramShape → Played → ℕ → List ℕ
+sync_lines p run i = flat_map (sync_line p) (slice_index_or run.sync_counts i [])
+
+-- a ticket, with its synchronisations last where they are asked for
+abbrev pub shown_ticket : (counts : Bool) → ProgramShape → Played → ℕ → List ℕ
+shown_ticket counts p run i = if counts then ticket_text p run i ++ sync_lines p run i else ticket_text p run i
+
+abbrev pub order_text : (counts : Bool) → ProgramShape → Played → List ℕ
+order_text counts p run = count_line (codes "order") (length run.order) ++ texts_up_to (length run.order) (shown_ticket counts p run)
 
 -- values between brackets
 abbrev pub values_text : List ℤ → List ℕ
@@ -94,10 +107,19 @@ states_text p run = codes "states\n" ++ texts_up_to (length run.states) (object_
 abbrev pub finished_text : Bool → List ℕ
 finished_text finished = if finished then codes "finished\n" else codes "unfinished\n"
 
--- the order with its traces, the objects' states, the number of syncs, and whether the run is finished
+-- the order with its traces, and its counts where they are asked for; the objects' states, the number of syncs, and whether the run is
+-- finished
+abbrev pub run_text : (counts : Bool) → ProgramShape → Played → List ℕ
+run_text counts p run =
+    order_text counts p run ++ states_text p run ++ count_line (codes "syncs") run.syncs ++ finished_text run.finished
+
+-- without the counts
 abbrev pub report_text : ProgramShape → Played → List ℕ
-report_text p run =
-    order_text p run ++ states_text p run ++ count_line (codes "syncs") run.syncs ++ finished_text run.finished
+report_text p run = run_text false p run
+
+-- with them
+abbrev pub counted_report_text : ProgramShape → Played → List ℕ
+counted_report_text p run = run_text true p run
 
 -- five lines of counts
 abbrev pub counts_text : ProgramShape → List ℕ

@@ -15,5 +15,5 @@ mod watching;
 pub use counts::check_text;
 pub use faults::{Fault, fault_line, fault_line_watched, status};
 pub use graphs::graph_text;
-pub use runs::{report, report_run};
+pub use runs::{report, report_counts, report_run, report_run_counts};
 pub use watching::{Watch, write_text};

@@ -2,7 +2,8 @@
 
 ghost use Rattle.std.specs.Prelude.{◌≡◌, ◌<◌, ◌++◌, length, flat_map, OnOk, codes};
 ghost use Rattle.std.specs.Fmt.{signed_decimal};
-ghost use Rattle.qs_report.specs.Report.{op_text, args_text, request_text, reply_text, event_line, ended_text, ticket_line, ticket_text, order_text};
+ghost use Rattle.qs_syncset.specs.SyncRows.{sync_count};
+ghost use Rattle.qs_report.specs.Report.{op_text, args_text, request_text, reply_text, event_line, ended_text, ticket_line, ticket_text, sync_line, sync_lines, shown_ticket, order_text};
 
 use crate::bytes::{put, put_all, put_count, put_number};
 use crate::names::{client_name, object_name};
@@ -138,18 +139,68 @@ fn put_ticket(
     put_trace(out, program, played.trace(place))
 }
 
-// The number of tickets, and each ticket with its trace.
+// How many synchronisations a block has sent for an object.
+fn put_sync(out: &mut Vec<u8>, program: &Program, object: u8, count: u32) -> Result<(), AllocError>
+    ensures ok { OnOk result (out.new.items ≡ out.old.items ++ sync_line program.now (sync_count object count)) }
+{
+    put(out, b"sync ")?;
+    put_count(
+        out,
+        object_name(program, usize::from(object)),
+        u64::from(count),
+    )
+}
+
+// The synchronisations of the ticket at a place, for each object of its block's list.
+fn put_syncs(
+    out: &mut Vec<u8>,
+    program: &Program,
+    played: &Played,
+    place: usize,
+) -> Result<(), AllocError>
+    requires { place < length played.now.order }
+    ensures ok { OnOk result (out.new.items ≡ out.old.items ++ sync_lines program.now played.now place) }
+{
+    let objects = played.sync_objects(place);
+    let counts = played.sync_counts(place);
+    for (object, count) in objects.iter().zip(counts) {
+        put_sync(out, program, *object, *count)?;
+    }
+    Ok(())
+}
+
+// A ticket, with its synchronisations last where they are asked for.
+fn put_shown(
+    out: &mut Vec<u8>,
+    program: &Program,
+    played: &Played,
+    place: usize,
+    counts: bool,
+) -> Result<(), AllocError>
+    requires { place < length played.now.order }
+    ensures ok { OnOk result (out.new.items ≡ out.old.items ++ shown_ticket counts program.now played.now place) }
+{
+    put_ticket(out, program, played, place)?;
+    if counts {
+        put_syncs(out, program, played, place)
+    } else {
+        Ok(())
+    }
+}
+
+// The number of tickets, and each ticket with its trace, and with its synchronisations where they are asked for.
 pub(crate) fn put_order(
     out: &mut Vec<u8>,
     program: &Program,
     played: &Played,
+    counts: bool,
 ) -> Result<(), AllocError>
-    ensures ok { OnOk result (out.new.items ≡ out.old.items ++ order_text program.now played.now) }
+    ensures ok { OnOk result (out.new.items ≡ out.old.items ++ order_text counts program.now played.now) }
 {
     let count = played.order().len();
     put_count(out, b"order", count as u64)?;
     for place in 0..count {
-        put_ticket(out, program, played, place)?;
+        put_shown(out, program, played, place, counts)?;
     }
     Ok(())
 }

@@ -49,21 +49,23 @@ four_is_due (asks request) known true (Refused f) is e = refl
 four_is_due (asks request) known false (Refused f) is e = absurd (is.0 (status_of_input f e))
 
 -- a report that is due by what was asked for, in the two ways of playing and on threads
-pub due_by_rules : (p : ProgramShape) (picks : List Actor) (rounds : ℕ) (played : Played) (due : Due) → IsPlayed p picks rounds (Ok played)
-    → IsReportOf p played due → IsOutOfMemory due ⊎ IsDueOfProgram (rules rounds picks) p due
-due_by_rules p picks rounds played (Text bytes) shows is = inr (played, shows, is)
-due_by_rules p picks rounds played (Refused f) shows is = inl (subst (λ g. IsOutOfMemory (Refused g)) (sym is) tt)
+pub due_by_rules : (counts : Bool) (p : ProgramShape) (picks : List Actor) (rounds : ℕ) (played : Played) (due : Due)
+    → IsPlayed p picks rounds (Ok played) → IsReportOf counts p played due → IsOutOfMemory due ⊎ IsDueOfProgram (rules counts rounds picks) p due
+due_by_rules counts p picks rounds played (Text bytes) shows is = inr (played, shows, is)
+due_by_rules counts p picks rounds played (Refused f) shows is = inl (subst (λ g. IsOutOfMemory (Refused g)) (sym is) tt)
 
-pub due_by_play : (p : ProgramShape) (mode : Mode) (size : ℕ) (picks : List Actor) (rounds : ℕ) (played : Played) (due : Due)
-    → IsPlayedIn p mode size picks rounds (Ok played) → IsReportOf p played due → IsOutOfMemory due ⊎ IsDueOfProgram (play mode size rounds picks) p due
-due_by_play p mode size picks rounds played (Text bytes) shows is = inr (played, shows, is)
-due_by_play p mode size picks rounds played (Refused f) shows is = inl (subst (λ g. IsOutOfMemory (Refused g)) (sym is) tt)
+pub due_by_play : (counts : Bool) (p : ProgramShape) (mode : Mode) (size : ℕ) (picks : List Actor) (rounds : ℕ) (played : Played) (due : Due)
+    → IsPlayedIn p mode size picks rounds (Ok played) → IsReportOf counts p played due
+    → IsOutOfMemory due ⊎ IsDueOfProgram (play counts mode size rounds picks) p due
+due_by_play counts p mode size picks rounds played (Text bytes) shows is = inr (played, shows, is)
+due_by_play counts p mode size picks rounds played (Refused f) shows is = inl (subst (λ g. IsOutOfMemory (Refused g)) (sym is) tt)
 
-pub due_by_run : (p : ProgramShape) (mode : Mode) (size : ℕ) (outcome : Played) (due : Due)
-    → IsOutcome p mode outcome → IsReportOf p outcome due → IsOutOfMemory due ⊎ IsDueOfProgram (run mode size) p due
-due_by_run p mode size outcome (Text bytes) shows is = inr (outcome, shows, is)
-due_by_run p mode size outcome (Refused f) shows is = inl (subst (λ g. IsOutOfMemory (Refused g)) (sym is) tt)
+pub due_by_run : (counts : Bool) (p : ProgramShape) (mode : Mode) (size : ℕ) (outcome : Played) (due : Due)
+    → IsOutcome p mode outcome → IsReportOf counts p outcome due → IsOutOfMemory due ⊎ IsDueOfProgram (run counts mode size) p due
+due_by_run counts p mode size outcome (Text bytes) shows is = inr (outcome, shows, is)
+due_by_run counts p mode size outcome (Refused f) shows is = inl (subst (λ g. IsOutOfMemory (Refused g)) (sym is) tt)
 
-pub report_is_no_input : (p : ProgramShape) (played : Played) (due : Due) → IsReportOf p played due → ¬ IsRefusedBy fault.Input due
-report_is_no_input p played (Text bytes) is = λ none. none
-report_is_no_input p played (Refused f) is = λ e. absurd (cc (is, e))
+pub report_is_no_input : (counts : Bool) (p : ProgramShape) (played : Played) (due : Due) → IsReportOf counts p played due
+    → ¬ IsRefusedBy fault.Input due
+report_is_no_input counts p played (Text bytes) is = λ none. none
+report_is_no_input counts p played (Refused f) is = λ e. absurd (cc (is, e))

@@ -8,7 +8,7 @@ use Rattle.qs_played.specs.declared.fault.PlayFault.TheVariants as play_fault
 use Rattle.qs_report.specs.declared.faults.Fault.{Fault}
 use Rattle.qs_report.specs.declared.faults.Fault.TheVariants as fault
 use Rattle.qs_report.specs.Faults.{fault_text, fault_status}
-use Rattle.qs_report.specs.Report.{report_text, counts_text}
+use Rattle.qs_report.specs.Report.{run_text, counts_text}
 use Rattle.qs_report.specs.GraphText.{IsGraphText}
 use Rattle.qs_report.specs.Texts.{AppendsFront}
 use Rattle.qs_script.specs.Reads.{IsRefused, IsScriptText}
@@ -51,30 +51,32 @@ abbrev pub IsTextOf : {E : Type 0} → Result (Vec ℕ Global) E → Due → Typ
 IsTextOf (Ok bytes) due = due ≡ Text bytes
 IsTextOf (Err e) due = due ≡ Refused fault.Memory
 
--- the report of what was played, or that an allocation failed
-abbrev pub IsReportOf : ProgramShape → Played → Due → Type 0
-IsReportOf p played (Text bytes) = bytes.items ≡ report_text p played
-IsReportOf p played (Refused f) = f ≡ fault.Memory
+-- the report of what was played, with the counts of synchronisations where they are asked for; or that an allocation failed
+abbrev pub IsReportOf : (counts : Bool) → ProgramShape → Played → Due → Type 0
+IsReportOf counts p played (Text bytes) = bytes.items ≡ run_text counts p played
+IsReportOf counts p played (Refused f) = f ≡ fault.Memory
 
 -- what a request makes of a program: its counts; its graphs; the report of its run by the plain rules or in the optimised machine,
--- with so many rounds after its picks; or that of an outcome which its run on threads may have
+-- with so many rounds after its picks; or that of an outcome which its run on threads may have. A report has the counts of
+-- synchronisations where they are asked for.
 abbrev pub IsTextBy : Request → ProgramShape → List ℕ → Type 0
 IsTextBy check p text = text ≡ counts_text p
 IsTextBy graph p text = IsGraphText p text
-IsTextBy (rules rounds picks) p text = (played : Played) × IsPlayed p picks rounds (Ok played) × (text ≡ report_text p played)
-IsTextBy (play mode size rounds picks) p text =
-    (played : Played) × IsPlayedIn p mode size picks rounds (Ok played) × (text ≡ report_text p played)
-IsTextBy (run mode size) p text = (outcome : Played) × IsOutcome p mode outcome × (text ≡ report_text p outcome)
+IsTextBy (rules counts rounds picks) p text =
+    (played : Played) × IsPlayed p picks rounds (Ok played) × (text ≡ run_text counts p played)
+IsTextBy (play counts mode size rounds picks) p text =
+    (played : Played) × IsPlayedIn p mode size picks rounds (Ok played) × (text ≡ run_text counts p played)
+IsTextBy (run counts mode size) p text = (outcome : Played) × IsOutcome p mode outcome × (text ≡ run_text counts p outcome)
 
 -- why what a request asks for is not played
 abbrev pub IsUnplayedBy : Request → ProgramShape → PlayFault → Type 0
-IsUnplayedBy (rules rounds picks) p f = IsPlayed p picks rounds (Err f)
-IsUnplayedBy (play mode size rounds picks) p f = IsPlayedIn p mode size picks rounds (Err f)
+IsUnplayedBy (rules counts rounds picks) p f = IsPlayed p picks rounds (Err f)
+IsUnplayedBy (play counts mode size rounds picks) p f = IsPlayedIn p mode size picks rounds (Err f)
 IsUnplayedBy _ p f = ⊥
 
 -- a run on threads is asked for; it may want memory or threads on any program
 abbrev pub IsRun : Request → Type 0
-IsRun (run mode size) = Unit {0}
+IsRun (run counts mode size) = Unit {0}
 IsRun _ = ⊥
 
 abbrev pub IsDueOfProgram : Request → ProgramShape → Due → Type 0

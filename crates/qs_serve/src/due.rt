@@ -11,7 +11,9 @@ use qs_chunk::ChunkSize;
 use qs_core::play_plain;
 use qs_line::{Actor, LineFault, Settings, read_line};
 use qs_played::{Outcome, Played};
-use qs_report::{Fault, check_text, graph_text, report, report_run, status};
+use qs_report::{
+    Fault, check_text, graph_text, report, report_counts, report_run, report_run_counts, status,
+};
 use qs_run::{FreeGate, execute};
 use qs_script::read;
 use qs_syncset::Mode;
@@ -53,22 +55,26 @@ fn due_of_bytes(text: Result<Vec<u8>, AllocError>) -> Due
     }
 }
 
-// The report of what was played.
-fn due_of_played(alloc: Global, program: &Program, played: Played) -> Due
-    ensures due { IsReportOf program.now played result }
+// The report of what was played, with the counts of synchronisations where they are asked for.
+fn due_of_played(alloc: Global, program: &Program, counts: bool, played: Played) -> Due
+    ensures due { IsReportOf counts program.now played result }
 {
-    let text = report(alloc, program, &played);
+    let text = if counts {
+        report_counts(alloc, program, &played)
+    } else {
+        report(alloc, program, &played)
+    };
     drop(played);
     due_of_bytes(text)
 }
 
 // A run by the plain rules.
-fn due_of_rules(alloc: Global, program: &Program, picks: &[Actor], rounds: u32) -> Due
+fn due_of_rules(alloc: Global, program: &Program, counts: bool, picks: &[Actor], rounds: u32) -> Due
     ensures not_input { ¬ IsRefusedBy fault.Input result }
-    ensures due { IsOutOfMemory result ⊎ IsDueOfProgram (rules rounds picks.now) program.now result }
+    ensures due { IsOutOfMemory result ⊎ IsDueOfProgram (rules counts rounds picks.now) program.now result }
 {
     match play_plain(alloc, program, picks, rounds) {
-        Ok(played) => due_of_played(alloc, program, played),
+        Ok(played) => due_of_played(alloc, program, counts, played),
         Err(fault) => Due::Refused(Fault::Play(fault)),
     }
 }
@@ -77,25 +83,30 @@ fn due_of_rules(alloc: Global, program: &Program, picks: &[Actor], rounds: u32) 
 fn due_of_play(
     alloc: Global,
     program: &Program,
+    counts: bool,
     mode: Mode,
     chunk: ChunkSize,
     picks: &[Actor],
     rounds: u32,
 ) -> Due
     ensures not_input { ¬ IsRefusedBy fault.Input result }
-    ensures due { IsOutOfMemory result ⊎ IsDueOfProgram (play mode chunk rounds picks.now) program.now result }
+    ensures due { IsOutOfMemory result ⊎ IsDueOfProgram (play counts mode chunk rounds picks.now) program.now result }
 {
     match qs_core::play(alloc, program, mode, chunk, picks, rounds) {
-        Ok(played) => due_of_played(alloc, program, played),
+        Ok(played) => due_of_played(alloc, program, counts, played),
         Err(fault) => Due::Refused(Fault::Play(fault)),
     }
 }
 
-// The report of what ran on threads.
-fn due_of_outcome(alloc: Global, program: &Program, outcome: Outcome) -> Due
-    ensures due { IsReportOf program.now outcome result }
+// The report of what ran on threads, with the counts of synchronisations where they are asked for.
+fn due_of_outcome(alloc: Global, program: &Program, counts: bool, outcome: Outcome) -> Due
+    ensures due { IsReportOf counts program.now outcome result }
 {
-    let text = report_run(alloc, program, &outcome);
+    let text = if counts {
+        report_run_counts(alloc, program, &outcome)
+    } else {
+        report_run(alloc, program, &outcome)
+    };
     drop(outcome);
     due_of_bytes(text)
 }
@@ -105,14 +116,15 @@ fn due_of_run<T: Threads + Wait + Sync>(
     rt: &T,
     alloc: Global,
     program: &Program,
+    counts: bool,
     mode: Mode,
     chunk: ChunkSize,
 ) -> Due
     ensures not_input { ¬ IsRefusedBy fault.Input result }
-    ensures due { IsOutOfMemory result ⊎ IsDueOfProgram (run mode chunk) program.now result }
+    ensures due { IsOutOfMemory result ⊎ IsDueOfProgram (run counts mode chunk) program.now result }
 {
     match execute(rt, alloc, program, mode, chunk, &FreeGate) {
-        Ok(outcome) => due_of_outcome(alloc, program, outcome),
+        Ok(outcome) => due_of_outcome(alloc, program, counts, outcome),
         Err(fault) => Due::Refused(Fault::Run(fault)),
     }
 }
@@ -128,16 +140,31 @@ fn due_of_program<T: Threads + Wait + Sync>(
     ensures due { IsOutOfMemory result ⊎ IsDueOfProgram (request_of settings.now) program.now result }
 {
     match settings {
-        Settings::Rules { rounds, picks } => {
-            due_of_rules(alloc, program, picks.as_slice(), *rounds)
-        }
+        Settings::Rules {
+            counts,
+            rounds,
+            picks,
+        } => due_of_rules(alloc, program, *counts, picks.as_slice(), *rounds),
         Settings::Play {
+            counts,
             mode,
             chunk,
             rounds,
             picks,
-        } => due_of_play(alloc, program, *mode, *chunk, picks.as_slice(), *rounds),
-        Settings::Run { mode, chunk } => due_of_run(rt, alloc, program, *mode, *chunk),
+        } => due_of_play(
+            alloc,
+            program,
+            *counts,
+            *mode,
+            *chunk,
+            picks.as_slice(),
+            *rounds,
+        ),
+        Settings::Run {
+            counts,
+            mode,
+            chunk,
+        } => due_of_run(rt, alloc, program, *counts, *mode, *chunk),
         Settings::Check => due_of_bytes(check_text(alloc, program)),
         Settings::Graph => due_of_bytes(graph_text(alloc, program)),
     }

@@ -8,6 +8,8 @@ returns c = record {
   examples = record {
     defaults = record { checks = refl; graphs = refl; rules_alone = refl; play_alone = refl; run_alone = refl };
     settings = record { mode = refl; chunk = refl; most_rounds = refl; picks = refl; all = refl; runs = refl };
+    counted = record { rules_alone = refl; play_alone = refl; run_alone = refl; before_others = refl; between_others = refl; after_others = refl };
+    uncounted = record { twice = refl; by_value = refl; by_true = refl; by_word = refl; before_word = refl; of_check = refl; of_graph = refl };
     others = record {
       no_word = refl;
       unknown_word = refl;

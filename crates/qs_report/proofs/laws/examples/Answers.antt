@@ -8,6 +8,7 @@ unfolding digits
 returns c = record {
   examples = record {
     runs = record { deposit = refl; no_step = refl; one_step = refl; several = refl };
+    counted_runs = record { deposit = refl; deposit_without = refl; no_step = refl; several = refl };
     states = record { nothing = refl; two = refl; cells = refl };
     counts = record { one = refl; several = refl };
     faults = search rules;

@@ -1,7 +1,7 @@
 use Rattle.qs_report.proofs.Joined.{one_place_more}
-use Rattle.qs_report.specs.Report.{ticket_text}
+use Rattle.qs_report.specs.Report.{shown_ticket}
 use Rattle.qs_report.proofs.tickets.put_order.Goals as goal
 
 pub loop-place-preserved : goal.loop-place-preserved
 loop-place-preserved c =
-    one_place_more (ticket_text c.args.program.now c.args.played.now) c.loop-place.place _ _ _ c.loop-place.invariant c.in_ok-put_ticket.ensures.ok
+    one_place_more (shown_ticket c.args.counts c.args.program.now c.args.played.now) c.loop-place.place _ _ _ c.loop-place.invariant c.in_ok-put_shown.ensures.ok

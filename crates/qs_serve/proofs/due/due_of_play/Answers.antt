@@ -3,7 +3,7 @@ use Rattle.qs_serve.proofs.due.due_of_play.Goals as goal
 
 pub returns-in-Ok-clause-due : goal.returns-in-Ok-clause-due
 returns-in-Ok-clause-due c =
-    due_by_play _ c.args.mode c.args.chunk c.args.picks.now c.args.rounds c.in-Ok.played _ c.in-Ok.ensures.played c.due_of_played.ensures.due
+    due_by_play c.args.counts _ c.args.mode c.args.chunk c.args.picks.now c.args.rounds c.in-Ok.played _ c.in-Ok.ensures.played c.due_of_played.ensures.due
 
 pub returns-in-Ok-clause-not_input : goal.returns-in-Ok-clause-not_input
-returns-in-Ok-clause-not_input c = report_is_no_input _ c.in-Ok.played _ c.due_of_played.ensures.due
+returns-in-Ok-clause-not_input c = report_is_no_input c.args.counts _ c.in-Ok.played _ c.due_of_played.ensures.due
