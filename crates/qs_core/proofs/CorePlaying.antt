@@ -64,6 +64,17 @@ take_more xs i d less = ap (λ n. take n xs) (add-one i) ∙ take_next xs i d le
 pub round_more : (p : ProgramShape) (picks : List Actor) (n : ℕ) → schedule p picks (n + 1) ≡ schedule p picks n ++ actors_of p
 round_more p picks n = ap (schedule p picks) (add-one n) ∙ sym (append_assoc picks (repeated n (actors_of p)) (actors_of p))
 
+-- where a round leads to the state that it began with, so do all further ones
+pub still_rounds : (p : ProgramShape) (mode : Mode) (size : ℕ) (picks : List Actor) (n k : ℕ) (s : CoreState) → ((actors : List Actor) → IsPlayedOn p mode size actors s → IsPlayedOn p mode size (actors ++ actors_of p) s)
+    → IsPlayedOn p mode size (schedule p picks n) s → IsPlayedOn p mode size (schedule p picks (n + k)) s
+still_rounds p mode size picks n zero s still on =
+    let none : n ≡ n + 0 = omega (arith) in
+    subst (λ m. IsPlayedOn p mode size (schedule p picks m) s) none on
+still_rounds p mode size picks n (suc k) s still on =
+    let more : (n + k) + 1 ≡ n + suc k = omega (arith) in
+    subst (λ m. IsPlayedOn p mode size (schedule p picks m) s) more
+    (subst (λ xs. IsPlayedOn p mode size xs s) (sym (round_more p picks (n + k))) (still (schedule p picks (n + k)) (still_rounds p mode size picks n k s still on)))
+
 -- what is shown after the whole schedule
 pub schedule_shown : (p : ProgramShape) (mode : Mode) (size : ℕ) (picks : List Actor) (rounds : ℕ) (s : CoreState) (played : Played) → IsPlayedOn p mode size (schedule p picks rounds) s
     → played ≡ core_played s.program (core_of s) → IsShown p mode size picks rounds played

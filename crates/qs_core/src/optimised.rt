@@ -4,7 +4,7 @@ ghost use Rattle.std.specs.Prelude.{◌≡◌, ◌++◌, ℕ, List, None, false,
 ghost use Rattle.qs_program.specs.Program.{ProgramShape};
 ghost use Rattle.qs_syncset.specs.declared.mode.Mode.{Mode as ModeShape};
 ghost use Rattle.qs_core_laws.specs.CoreSchedule.{core_played};
-ghost use Rattle.qs_played.specs.Schedule.{actors_of};
+ghost use Rattle.qs_played.specs.Schedule.{actors_of, repeated};
 ghost use Rattle.qs_played.specs.declared.actor.Actor.{Actor as ActorShape};
 ghost use Rattle.std.specs.Bool.{OnTrue};
 ghost use Rattle.qs_core_laws.specs.Core.{core_step};
@@ -82,19 +82,34 @@ impl<'p> Core<'p> {
         self.machine.program().is_sound();
     }
 
-    /// One step of each client and then of each handler, in text order.
-    pub(crate) fn round(&mut self)
+    /// One step of each client and then of each handler, in text order: true where one of them has stepped, and else false, with
+    /// nothing changed.
+    fn round(&mut self) -> bool
         ensures round { (p : ProgramShape) (mode : ModeShape) (size : ℕ) (actors : List ActorShape) → IsPlayedOn p mode size actors self.old → IsPlayedOn p mode size (actors ++ actors_of p) self.new }
+        ensures unchanged { result ≡ false → self.new ≡ self.old }
     {
         let program = self.machine.program();
         program.is_sound();
         let clients = program.clients() as u8;
         let handlers = program.objects() as u8;
+        let mut stepped = false;
         for client in 0..clients {
-            let _stepped = self.step(Actor::Client(client));
+            stepped |= self.step(Actor::Client(client));
         }
         for handler in 0..handlers {
-            let _stepped = self.step(Actor::Handler(handler));
+            stepped |= self.step(Actor::Handler(handler));
+        }
+        stepped
+    }
+
+    /// So many rounds. It ends at the first one that steps nobody, as the further ones would change nothing either.
+    pub(crate) fn play_rounds(&mut self, rounds: u32)
+        ensures rounds { (p : ProgramShape) (mode : ModeShape) (size : ℕ) (actors : List ActorShape) → IsPlayedOn p mode size actors self.old → IsPlayedOn p mode size (actors ++ repeated rounds (actors_of p)) self.new }
+    {
+        for _round in 0..rounds {
+            if !self.round() {
+                return;
+            }
         }
     }
 

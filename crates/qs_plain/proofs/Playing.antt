@@ -1,13 +1,16 @@
 -- Schedules, a step at a time.
-use Rattle.std.proofs.Common.{◌≡◌, ℕ, ◌+◌, Bool, true, false, List, [], ◌∷◌, ◌++◌, map, None, refl, ap, sym, ◌∙◌, add-one, zero-add, append_assoc}
+use Rattle.std.proofs.Common.{◌≡◌, ℕ, zero, suc, ◌+◌, Bool, true, false, List, [], ◌∷◌, ◌++◌, map, None, refl, ap, sym, subst, ◌∙◌, ◌≤◌, length, drop, add-one, zero-add, append_assoc, arith}
+use Rattle.std.proofs.lemmas.List.{drop_all}
+use Rattle.std.specs.Prelude.{Result, IfOk}
 use Rattle.std.specs.Bool.{OnTrue}
 use Rattle.std.specs.List.{range_with_len}
 use Rattle.qs_program.specs.Program.{ProgramShape}
 use Rattle.qs_played.specs.Schedule.{actors_of, repeated, schedule}
+use Rattle.qs_played.specs.Played.{Played}
 use Rattle.qs_played.specs.declared.actor.Actor.{Actor}
 use Rattle.qs_played.proofs.Lists.{range_more}
 use Rattle.qs_plain_laws.specs.Plain.{Plain, step}
-use Rattle.qs_plain_laws.specs.PlainSchedule.{or_stay, plays}
+use Rattle.qs_plain_laws.specs.PlainSchedule.{or_stay, played_of, plays}
 use Rattle.qs_plain.specs.Rules.{RulesState, Steps, plain_of}
 
 pub plays-append : (p : ProgramShape) (xs ys : List Actor) (s : Plain) → plays p (xs ++ ys) s ≡ plays p ys (plays p xs s)
@@ -32,6 +35,20 @@ plays-round p picks n s =
     ∙ ap (λ xs. plays p xs s) (sym (append_assoc picks (repeated n (actors_of p)) (actors_of p)))
     ∙ plays-append p (schedule p picks n) (actors_of p) s
 
+-- all picks, and then the rounds
+pub plays-schedule : (p : ProgramShape) (picks : List Actor) (i rounds : ℕ) (old new : RulesState) (s : Plain) → length picks ≤ i → old.program ≡ p → plays p (drop i picks) (plain_of old) ≡ plays p picks s
+    → plain_of new ≡ plays old.program (repeated rounds (actors_of old.program)) (plain_of old) → plain_of new ≡ plays p (schedule p picks rounds) s
+plays-schedule p picks i rounds old new s end same before after =
+    let picked : plain_of old ≡ plays p picks s = sym (ap (λ xs. plays p xs (plain_of old)) (drop_all i picks end)) ∙ before in
+    after
+    ∙ (λ k. plays (same k) (repeated rounds (actors_of (same k))) (picked k))
+    ∙ sym (plays-append p picks (repeated rounds (actors_of p)) s)
+
+-- what is shown of it
+pub shown-as : {E : Type 0} (result : Result Played E) (p : ProgramShape) (t : Plain) (s : RulesState) → s.program ≡ p → plain_of s ≡ t → IfOk result (λ played. played ≡ played_of s.program (plain_of s))
+    → IfOk result (λ played. played ≡ played_of p t)
+shown-as result p t s same there = subst (λ shown. IfOk result (λ played. played ≡ shown)) (λ k. played_of (same k) (there k))
+
 -- a step of the code, or none
 pub stepped : (old : RulesState) (a : Actor) (b : Bool) (new : RulesState) → OnTrue b (Steps old a new)
     → (b ≡ false → step old.program (plain_of old) a ≡ None) → (b ≡ false → new ≡ old)
@@ -39,3 +56,16 @@ pub stepped : (old : RulesState) (a : Actor) (b : Bool) (new : RulesState) → O
 stepped old a true new steps none unchanged = (sym (ap (or_stay (plain_of old)) steps.0), steps.1)
 stepped old a false new steps none unchanged =
     (ap plain_of (unchanged refl) ∙ sym (ap (or_stay (plain_of old)) (none refl)), ap (λ (r : RulesState). r.program) (unchanged refl))
+
+-- where a round changes nothing, no further one does
+pub plays-still : (p : ProgramShape) (n k : ℕ) (s : Plain) → plays p (actors_of p) (plays p (repeated n (actors_of p)) s) ≡ plays p (repeated n (actors_of p)) s
+    → plays p (repeated (n + k) (actors_of p)) s ≡ plays p (repeated n (actors_of p)) s
+plays-still p n zero s same =
+    let none : n + 0 ≡ n = omega (arith) in
+    ap (λ m. plays p (repeated m (actors_of p)) s) none
+plays-still p n (suc k) s same =
+    let more : n + suc k ≡ (n + k) + 1 = omega (arith) in
+    ap (λ m. plays p (repeated m (actors_of p)) s) more
+    ∙ plays-round p [] (n + k) s
+    ∙ ap (plays p (actors_of p)) (plays-still p n k s same)
+    ∙ same

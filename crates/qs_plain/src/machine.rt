@@ -46,7 +46,7 @@ impl<'p> Model for Machine<'p> {
 impl<'p> Machine<'p> {
     ghost use Rattle.qs_plain_client.specs.Clients.{client_at};
     ghost use Rattle.qs_plain.specs.Rules.{Steps, plain_of};
-    ghost use Rattle.qs_played.specs.Schedule.{actors_of};
+    ghost use Rattle.qs_played.specs.Schedule.{actors_of, repeated};
     ghost use Rattle.qs_plain_laws.specs.PlainSchedule.{played_of, plays};
     ghost use Rattle.qs_plain.specs.BegunBlocks.{AreBegun};
 
@@ -192,17 +192,33 @@ impl<'p> Machine<'p> {
         }
     }
 
-    /// One step of each client and then of each handler, in text order.
-    pub(crate) fn round(&mut self)
+    /// One step of each client and then of each handler, in text order: true where one of them has stepped, and else false, with
+    /// nothing changed.
+    fn round(&mut self) -> bool
         ensures round { plain_of self.new ≡ plays self.old.program (actors_of self.old.program) (plain_of self.old) }
         ensures program { self.new.program ≡ self.old.program }
+        ensures unchanged { result ≡ false → self.new ≡ self.old }
     {
         self.program.is_sound();
+        let mut stepped = false;
         for client in 0..self.program.clients() as u8 {
-            let _stepped = self.step(Actor::Client(client));
+            stepped |= self.step(Actor::Client(client));
         }
         for handler in 0..self.program.objects() as u8 {
-            let _stepped = self.step(Actor::Handler(handler));
+            stepped |= self.step(Actor::Handler(handler));
+        }
+        stepped
+    }
+
+    /// So many rounds. It ends at the first one that steps nobody, as the further ones would change nothing either.
+    pub(crate) fn play_rounds(&mut self, rounds: u32)
+        ensures rounds { plain_of self.new ≡ plays self.old.program (repeated rounds (actors_of self.old.program)) (plain_of self.old) }
+        ensures program { self.new.program ≡ self.old.program }
+    {
+        for _round in 0..rounds {
+            if !self.round() {
+                return;
+            }
         }
     }
 

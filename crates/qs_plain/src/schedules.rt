@@ -14,9 +14,11 @@ use qs_program::Program;
 use std::alloc::{AllocError, Global};
 
 /// What a program shows under the plain rules after a schedule: first the picks, one step each, then so many rounds, each of them one
-/// step of every client and then of every handler in text order; an actor without a step changes nothing. `Rounds` comes for more
-/// than 1,000,000 rounds, `Actor` for a pick that names no actor of the program, both before any allocation; `Memory` where one fails. What is shown is isolated: each reservation has done what its block does alone, at its place in the
-/// order of reservations. Its synchronisations are counted, reservation by reservation and object by object.
+/// step of every client and then of every handler in text order; an actor without a step changes nothing. It ends early, at the first
+/// round that steps nobody: the rounds left would change nothing, so it shows the same as after all of them. `Rounds` comes for more
+/// than 1,000,000 rounds, `Actor` for a pick that names no actor of the program, both before any allocation; `Memory` where one
+/// fails. What is shown is isolated: each reservation has done what its block does alone, at its place in the order of reservations.
+/// Its synchronisations are counted, reservation by reservation and object by object.
 pub fn play_plain(
     alloc: Global,
     program: &Program,
@@ -40,7 +42,6 @@ pub fn play_plain(
     }
 }
 
-#[tactic(auto, unfolding(qs_plain_laws::specs::PlainSchedule::scheduled))]
 fn play(
     alloc: Global,
     program: &Program,
@@ -57,8 +58,6 @@ fn play(
     for pick in picks {
         let _stepped = rules.step(*pick);
     }
-    for _round in 0..rounds {
-        rules.round();
-    }
+    rules.play_rounds(rounds);
     rules.into_played(alloc)
 }

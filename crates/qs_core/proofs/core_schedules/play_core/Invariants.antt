@@ -1,10 +1,6 @@
 use Rattle.std.proofs.Common.{take}
-use Rattle.qs_played.specs.Schedule.{schedule}
 use Rattle.qs_core.specs.CoreState.{IsPlayedOn}
 use Rattle.qs_core.proofs.core_schedules.play_core.Given as goal
 
 abbrev pub invariant-loop-pick : goal.invariant-loop-pick
 invariant-loop-pick l = IsPlayedOn l.program l.fn.mode l.fn.size (take l.pick-index l.picks) l.core
-
-abbrev pub invariant-loop-round : goal.invariant-loop-round
-invariant-loop-round l = IsPlayedOn l.program l.fn.mode l.fn.size (schedule l.program l.picks l._round) l.core

@@ -1,5 +1,4 @@
 use Rattle.std.proofs.Common.{◌≡◌, drop}
-use Rattle.qs_played.specs.Schedule.{schedule}
 use Rattle.qs_plain_laws.specs.Plain.{begin}
 use Rattle.qs_plain_laws.specs.PlainSchedule.{plays}
 use Rattle.qs_plain.specs.Rules.{plain_of}
@@ -9,10 +8,4 @@ abbrev pub invariant-loop-pick : goal.invariant-loop-pick
 invariant-loop-pick l = record {
   program : l.rules.program ≡ l.program;
   value : plays l.program (drop l.pick-index l.picks) (plain_of l.rules) ≡ plays l.program l.picks (begin l.program);
-}
-
-abbrev pub invariant-loop-round : goal.invariant-loop-round
-invariant-loop-round l = record {
-  program : l.rules.program ≡ l.program;
-  value : plain_of l.rules ≡ plays l.program (schedule l.program l.picks l._round) (begin l.program);
 }

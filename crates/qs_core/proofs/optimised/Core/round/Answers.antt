@@ -1,35 +1,42 @@
 use Rattle.std.proofs.Common.{◌≡◌, ◌++◌, ap, sym, subst, ◌∙◌, length, map, append_assoc, arith}
 use Rattle.std.specs.List.{range_with_len}
 use Rattle.qs_program.specs.Program.{ProgramShape}
+use Rattle.qs_syncset.proofs.Transfer.{or_first, or_second}
 use Rattle.qs_played.specs.declared.actor.Actor.TheVariants as actors
 use Rattle.qs_core.specs.CoreState.{CoreState, IsPlayedOn}
 use Rattle.qs_core.proofs.CorePlaying.{played_more, row_more}
 use Rattle.qs_core.proofs.optimised.Core.round.Goals as goal
 
 pub loop-client-preserved : goal.loop-client-preserved
-loop-client-preserved c = λ p mode size done on.
+loop-client-preserved c =
     let it = c.step-stepped in
-    subst (λ xs. IsPlayedOn p mode size xs it.new.self) (sym (row_more done (λ n. actors.Client n) c.loop-client.client))
-    (played_more p mode size _ c.loop-client.self it.new.self (actors.Client c.loop-client.client) it.result (c.loop-client.invariant p mode size done on) it.ensures.steps it.ensures.none it.ensures.unchanged)
+    record {
+      played = λ p mode size done on.
+          subst (λ xs. IsPlayedOn p mode size xs it.new.self) (sym (row_more done (λ n. actors.Client n) c.loop-client.client))
+          (played_more p mode size _ c.loop-client.self it.new.self (actors.Client c.loop-client.client) it.result (c.loop-client.invariant.played p mode size done on) it.ensures.steps it.ensures.none it.ensures.unchanged);
+      still = λ none. it.ensures.unchanged (or_second c.loop-client.stepped it.result none) ∙ c.loop-client.invariant.still (or_first c.loop-client.stepped it.result none);
+    }
 
 pub loop-handler-preserved : goal.loop-handler-preserved
-loop-handler-preserved c = λ p mode size done on.
+loop-handler-preserved c =
     let it = c.step-stepped-in-loop-handler in
-    subst (λ xs. IsPlayedOn p mode size xs it.new.self) (sym (row_more done (λ n. actors.Handler n) c.loop-handler.handler))
-    (played_more p mode size _ c.loop-handler.self it.new.self (actors.Handler c.loop-handler.handler) it.result (c.loop-handler.invariant p mode size done on) it.ensures.steps it.ensures.none it.ensures.unchanged)
+    record {
+      played = λ p mode size done on.
+          subst (λ xs. IsPlayedOn p mode size xs it.new.self) (sym (row_more done (λ n. actors.Handler n) c.loop-handler.handler))
+          (played_more p mode size _ c.loop-handler.self it.new.self (actors.Handler c.loop-handler.handler) it.result (c.loop-handler.invariant.played p mode size done on) it.ensures.steps it.ensures.none it.ensures.unchanged);
+      still = λ none. it.ensures.unchanged (or_second c.loop-handler.stepped it.result none) ∙ c.loop-handler.invariant.still (or_first c.loop-handler.stepped it.result none);
+    }
 
-pub returns : goal.returns
-returns c = record {
-  round = λ p mode size done on.
-      let same : c.self.inside.machine.program ≡ p = ap (λ (s : CoreState). s.program) c.self.view_is ∙ on.program in
-      let clients : c.loop-client.client ≡ length p.clients =
-      omega (arith, c.loop-client.auto.client-end, c.loop-client-test.false, c.clients-clients.ensures.value, ap (λ (q : ProgramShape). length q.clients) c.program-program.ensures.value, ap (λ (q : ProgramShape). length q.clients) same) in
-      let handlers : c.loop-handler.handler ≡ length p.objects =
-      omega (arith, c.loop-handler.auto.handler-end, c.loop-handler-test.false, c.objects-handlers.ensures.value, ap (λ (q : ProgramShape). length q.objects) c.program-program.ensures.value, ap (λ (q : ProgramShape). length q.objects) same) in
-      let first = c.loop-client.invariant p mode size done on in
-      let both = c.loop-handler.invariant p mode size _ first in
-      subst (λ xs. IsPlayedOn p mode size xs c.loop-handler.self)
-      ((λ k. (done ++ map actors.Client (range_with_len 0 (clients k))) ++ map actors.Handler (range_with_len 0 (handlers k)))
-      ∙ (append_assoc done (map actors.Client (range_with_len 0 (length p.clients))) (map actors.Handler (range_with_len 0 (length p.objects)))))
-      both;
-}
+pub returns-clause-round : goal.returns-clause-round
+returns-clause-round c = λ p mode size done on.
+    let same : c.self.inside.machine.program ≡ p = ap (λ (s : CoreState). s.program) c.self.view_is ∙ on.program in
+    let clients : c.loop-client.client ≡ length p.clients =
+    omega (arith, c.loop-client.auto.client-end, c.loop-client-test.false, c.clients-clients.ensures.value, ap (λ (q : ProgramShape). length q.clients) c.program-program.ensures.value, ap (λ (q : ProgramShape). length q.clients) same) in
+    let handlers : c.loop-handler.handler ≡ length p.objects =
+    omega (arith, c.loop-handler.auto.handler-end, c.loop-handler-test.false, c.objects-handlers.ensures.value, ap (λ (q : ProgramShape). length q.objects) c.program-program.ensures.value, ap (λ (q : ProgramShape). length q.objects) same) in
+    let first = c.loop-client.invariant.played p mode size done on in
+    let both = c.loop-handler.invariant.played p mode size _ first in
+    subst (λ xs. IsPlayedOn p mode size xs c.loop-handler.self)
+    ((λ k. (done ++ map actors.Client (range_with_len 0 (clients k))) ++ map actors.Handler (range_with_len 0 (handlers k)))
+    ∙ (append_assoc done (map actors.Client (range_with_len 0 (length p.clients))) (map actors.Handler (range_with_len 0 (length p.objects)))))
+    both

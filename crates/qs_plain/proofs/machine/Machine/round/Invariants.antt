@@ -1,4 +1,4 @@
-use Rattle.std.proofs.Common.{◌≡◌, map}
+use Rattle.std.proofs.Common.{◌≡◌, false, map}
 use Rattle.std.specs.List.{range_with_len}
 use Rattle.qs_played.specs.declared.actor.Actor.TheVariants as actor
 use Rattle.qs_plain_laws.specs.PlainSchedule.{plays}
@@ -9,10 +9,12 @@ abbrev pub invariant-loop-client : goal.invariant-loop-client
 invariant-loop-client l = record {
   program : l.self.program ≡ l.initial.self.program;
   value : plain_of l.self ≡ plays l.initial.self.program (map actor.Client (range_with_len 0 l.client)) (plain_of l.initial.self);
+  still : l.stepped ≡ false → l.self ≡ l.initial.self;
 }
 
 abbrev pub invariant-loop-handler : goal.invariant-loop-handler
 invariant-loop-handler l = record {
   program : l.self.program ≡ l.initial.self.program;
   value : plain_of l.self ≡ plays l.initial.self.program (map actor.Handler (range_with_len 0 l.handler)) (plain_of l.initial.self);
+  still : l.stepped ≡ false → l.self ≡ l.fn.self;
 }
