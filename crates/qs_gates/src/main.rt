@@ -2,9 +2,9 @@
 //! at once, or whose answer is not the threads', prints something else.
 #![tactic(auto)]
 
-use qs_program::Program;
 use qs_chunk::ChunkSize;
 use qs_objects::Ticket;
+use qs_program::Program;
 use qs_run::{Gate, Outcome, execute};
 use qs_syncset::Mode;
 use std::alloc::Global;
@@ -136,9 +136,21 @@ fn main(rt: HostRuntime) -> ExitCode {
     let alloc = rt.alloc();
     let mut out = io::writer(&rt);
     for mode in [Mode::Plain, Mode::Dynamic, Mode::Static, Mode::Both] {
-        put(&mut out, b"two blocks at once: ", shown(&rt, alloc, APART, mode, [Some(1), Some(0), None]));
-        put(&mut out, b"a is held: ", shown(&rt, alloc, DECIDED, mode, [Some(2), None, None]));
-        put(&mut out, b"b is held: ", shown(&rt, alloc, DECIDED, mode, [None, Some(2), None]));
+        put(
+            &mut out,
+            b"two blocks at once: ",
+            shown(&rt, alloc, APART, mode, [Some(1), Some(0), None]),
+        );
+        put(
+            &mut out,
+            b"a is held: ",
+            shown(&rt, alloc, DECIDED, mode, [Some(2), None, None]),
+        );
+        put(
+            &mut out,
+            b"b is held: ",
+            shown(&rt, alloc, DECIDED, mode, [None, Some(2), None]),
+        );
     }
     let _ = out.flush();
     ExitCode::SUCCESS

@@ -3,11 +3,11 @@
 ghost use Rattle.std.specs.Prelude.{◌≡◌, ℕ, ◌<◌, None, length, IfOk};
 ghost use Rattle.qs_making.specs.Ends.{AreEnds, end_at, ever_reserves, in_at, out_at};
 
-use qs_program::Program;
 use qs_chunk::ChunkSize;
 use qs_client_thread::Lanes as ClientLanes;
 use qs_handler_thread::Lanes as HandlerLanes;
 use qs_lane::{LaneIn, LaneOut, lane};
+use qs_program::Program;
 use std::alloc::{AllocError, Global};
 use std::sync::Wait;
 

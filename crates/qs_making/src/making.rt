@@ -8,11 +8,11 @@ ghost use Rattle.qs_played.specs.JournalRooms.{fresh_held};
 
 use crate::lanes::all_lanes;
 use crate::part::Parts;
-use qs_program::Program;
 use qs_chunk::ChunkSize;
 use qs_client::Mind;
 use qs_objects::Held;
 use qs_played::declared_held;
+use qs_program::Program;
 use qs_syncset::{Mode, compile};
 use std::alloc::{AllocError, Global};
 use std::sync::Wait;

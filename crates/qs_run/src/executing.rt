@@ -6,13 +6,13 @@ ghost use Rattle.qs_making.specs.Parts.{AreParts};
 ghost use Rattle.qs_run_laws.specs.Outcomes.{IsOutcome};
 ghost use Rattle.qs_seats.specs.Runs.{AreReady};
 
-use qs_program::Program;
 use qs_chunk::ChunkSize;
 use qs_desk::{Desk, DeskName, DeskParts, Front, RawDesk};
 use qs_handler_thread::Gate;
 use qs_joins::{Rooms, joined};
 use qs_making::{Parts, parts, seats};
 use qs_played::{Outcome, RunFault};
+use qs_program::Program;
 use qs_seats::{ReadyClient, ReadyHandler};
 use qs_syncset::Mode;
 use qs_workers::{Gone, run_all};
@@ -41,7 +41,15 @@ fn run_seats<D: DeskName + Send + Sync, G: Gate, R: Threads + Wait + Sync>(
     let handlers_room = Vec::with_capacity(alloc, handlers.len())?;
     let clients_room = Vec::with_capacity(alloc, clients.len())?;
     let front = Front::new(desk);
-    match run_all(rt, gate, handlers, handlers_room, clients, clients_room, front) {
+    match run_all(
+        rt,
+        gate,
+        handlers,
+        handlers_room,
+        clients,
+        clients_room,
+        front,
+    ) {
         Some(gone) => {
             let Gone {
                 handlers,
