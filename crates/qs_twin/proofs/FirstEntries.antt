@@ -10,9 +10,9 @@ use Rattle.qs_objects.proofs.Choices.{not_same, same_apart, same_self, ticket_ca
 use Rattle.qs_program.specs.Program.{ClientShape, ProgramShape, blocks_of, client_at, no_client}
 use Rattle.qs_meaning.specs.Serial.{IsLegal, LegalFrom}
 use Rattle.qs_meaning.specs.Solo.{put}
-use Rattle.qs_played.specs.Isolation.{IsFitting, journal_of, ticket_at}
+use Rattle.qs_played.specs.Isolation.{IsFitting, ticket_at}
 use Rattle.qs_played.specs.Played.{Played, ticket}
-use Rattle.qs_twin.specs.Twins.{IsReserved, IsStart, StartsAlike}
+use Rattle.qs_twin.specs.Twins.{IsReserved, IsStart}
 
 less_or : (m n : ℕ) → (m < n) ⊎ (n ≤ m)
 less_or m n = by_test (nat_lt m n) refl
@@ -52,29 +52,6 @@ later_at s t j i x less is differ z ran found later =
 
 pub none_at : (s : State) (t : Ticket) (j : List Entry) (i : ℕ) → length j ≤ i → IsStart s t (drop i j) None
 none_at s t j i past = subst (λ l. IsStart s t l None) (sym (drop_all i j past)) (λ h. h)
-
--- past the last object there is no journal
-pub no_entry : (p : ProgramShape) (r : Played) (t : Ticket) (h : ℕ) → IsFitting p r → length p.objects ≤ h → HasEntry t (journal_of r h) → ⊥
-no_entry p r t h fits past has =
-    let none : journal_of r h ≡ [] = get_or_past r.journals h [] (omega (arith, past, fits.journals)) in
-    subst (λ j. HasEntry t j) none has
-
-module _ (p : ProgramShape) (r : Played) (i : ℕ) (q : ProgramShape) (s : Played) (j : ℕ) where
-  pub each_other : (h n : ℕ) → IsFitting q s → length q.objects ≤ n → ((g : ℕ) → g < n → StartsAlike p r i q s j h g)
-      → (g : ℕ) → StartsAlike p r i q s j h g
-  each_other h n fits whole all g =
-      ⊎_elim
-      (λ (less : g < n). all g less)
-      (λ (past : n ≤ g). λ name has has'. absurd (no_entry q s (ticket_at s j) g fits (omega (arith, past, whole)) has'))
-      (less_or g n)
-
-  pub each_object : (n : ℕ) → IsFitting p r → length p.objects ≤ n → ((h : ℕ) → h < n → (g : ℕ) → StartsAlike p r i q s j h g)
-      → (h g : ℕ) → StartsAlike p r i q s j h g
-  each_object n fits whole all h g =
-      ⊎_elim
-      (λ (less : h < n). all h less g)
-      (λ (past : n ≤ h). λ name has has'. absurd (no_entry p r (ticket_at r i) h fits (omega (arith, past, whole)) has))
-      (less_or h n)
 
 -- each ticket of a legal order names a block of the program
 legal_block : (p : ProgramShape) (begun : ℕ → ℕ) (ts : List Ticket) (i : ℕ) (d : Ticket) → LegalFrom p begun ts → i < length ts

@@ -1,16 +1,17 @@
 -- Two blocks of two runs, of one program or of two, that are to do the same.
-use Rattle.std.specs.Prelude.{◌≡◌, ◌<◌, ℕ, List, [], length, min, slice_index_or, Option, Some, None}
+use Rattle.std.specs.Prelude.{◌≡◌, ◌<◌, ℕ, List, [], length, min, slice_index_or, Option, Some, None, take}
 use Rattle.qs_objects.specs.Act.{State}
 use Rattle.qs_objects.specs.Journals.{replay, unstamped}
 use Rattle.qs_objects.specs.Parts.{HasEntry, before}
+use Rattle.qs_objects.specs.declared.Request.{Request}
 use Rattle.qs_objects.specs.declared.held.Entry.{Entry}
 use Rattle.qs_objects.specs.declared.held.Ticket.{Ticket}
 use Rattle.qs_program.specs.Numbering.{Name}
 use Rattle.qs_program.specs.Program.{ProgramShape, blocks_of}
 use Rattle.qs_program.specs.Values.{Locals}
-use Rattle.qs_meaning.specs.Alike.{SameText, SameValues, object_name, value_at}
+use Rattle.qs_meaning.specs.Alike.{SameText, SameTrace, SameValues, object_name, value_at}
 use Rattle.qs_meaning.specs.Serial.{declared}
-use Rattle.qs_played.specs.Isolation.{IsFitting, entry_of, journal_of, ticket_at, trace_of}
+use Rattle.qs_played.specs.Isolation.{IsFitting, IsIsolated, entry_of, journal_of, ticket_at, trace_of}
 use Rattle.qs_played.specs.Played.{Played}
 use Rattle.qs_twin.specs.declared.answer.Twin.{Twin}
 use Rattle.qs_twin.specs.declared.answer.Twin.TheVariants as answers
@@ -68,7 +69,13 @@ module _ (p : ProgramShape) (r : Played) (i : ℕ) (q : ProgramShape) (s : Playe
   abbrev pub shorter : ℕ
   shorter = min (length (trace_of r i)) (length (trace_of s j))
 
-  -- what an answer says: no agreement, or an agreement and the length of the shorter trace
+  -- the first events of both traces, as many, are equal, name by name, if both runs are isolated
+  abbrev pub AreFrontsEqual : ℕ → Type 0
+  AreFrontsEqual n =
+      (waits later : ℕ → Ticket → List Request) → IsIsolated p r waits → IsIsolated q s later
+      → SameTrace p q (take n (trace_of r i)) (take n (trace_of s j))
+
+  -- what an answer says: no agreement; or an agreement, and as many equal events as the shorter trace has
   abbrev pub Tells : Twin → Type 0
   Tells answers.Different = Agreement → ⊥
-  Tells (answers.Agree n) = Agreement × (n ≡ shorter)
+  Tells (answers.Agree n) = Agreement × (n ≡ shorter) × AreFrontsEqual n
