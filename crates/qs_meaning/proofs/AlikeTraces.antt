@@ -41,7 +41,7 @@ all_at P [] i d each past = past
 all_at P (x ∷ xs) zero d each past = each.0
 all_at P (x ∷ xs) (suc i) d each past = all_at P xs i d each.1 past
 
-within : {X : Type 0} (P : X → Type 0) (xs : List X) (i : ℕ) (d : X) → AllByRecursion P xs → i < length xs → P (get_or xs i d)
+pub within : {X : Type 0} (P : X → Type 0) (xs : List X) (i : ℕ) (d : X) → AllByRecursion P xs → i < length xs → P (get_or xs i d)
 within P [] i d each less = absurd (omega (arith, less))
 within P (x ∷ xs) zero d each less = each.0
 within P (x ∷ xs) (suc i) d each less = within P xs i d each.1 (omega (arith, less))
@@ -134,7 +134,7 @@ part_has h e es is i = by_case (e.request.object == h) (ap (λ n. n == h) is ∙
 
 -- a block of each of two sound programs, and the states from which they start
 module _ (p q : ProgramShape) (sound : IsSound p) (right : IsSound q) (t u : Ticket) (st tu : States) where
-  abbrev Same : ℕ → ℕ → Type 0
+  abbrev pub Same : ℕ → ℕ → Type 0
   Same h g = SameObject p q t u h g
 
   one_there : (h g f : ℕ) → Same h g → Same h f → g ≡ f
@@ -144,12 +144,13 @@ module _ (p q : ProgramShape) (sound : IsSound p) (right : IsSound q) (t u : Tic
   one_here h g f a b = one_object p sound h g (in_range p sound t h a.here) (in_range p sound t g b.here) (a.name ∙ sym b.name)
 
   -- the first replies that differ are of a query on an object that started in two states
-  record Differ (e d : Event) : Type 0 where
+  pub record Differ (e d : Event) : Type 0 where
     pub same : Same e.request.object d.request.object
+    pub request : SameRequest p q e.request d.request
     pub asks : is_query e.request.op ≡ true
     pub apart : st e.request.object ≢ tu d.request.object
 
-  abbrev Alike : List Event → List Event → Type 0
+  abbrev pub Alike : List Event → List Event → Type 0
   Alike [] [] = Unit {0}
   Alike (e ∷ es) (d ∷ ds) = (SameEvent p q e d × Alike es ds) ⊎ Differ e d
   Alike _ _ = ⊥
@@ -204,6 +205,7 @@ module _ (p q : ProgramShape) (sound : IsSound p) (right : IsSound q) (t u : Tic
       (λ (no : v ≢ v').
       inr (record {
         same = mine;
+        request = w.0;
         asks = f.0;
         apart = λ began. no (ap (λ (o : Outcome). o.1) (act_same (s r.object) (z r'.object) r r' (kept r.object r'.object mine began) w.0));
       }))
@@ -249,9 +251,9 @@ module _ (p q : ProgramShape) (sound : IsSound p) (right : IsSound q) (t u : Tic
     pub value : value_at l x ≡ value_at k y
     pub below : Below (length (client_at p t.client).variables) (length (client_at q u.client).variables) x y
 
-  solo_alike : SameText p q t u → (l k : Locals) → HasValues p t l → HasValues q u k → SameValues p q t u l k
-      → AlikeFrom p q t u st tu (solo (text_of p t).body l st).trace (solo (text_of q u).body k tu).trace
-  solo_alike text l k many much values =
+  pub solo_traces : SameText p q t u → (l k : Locals) → HasValues p t l → HasValues q u k → SameValues p q t u l k
+      → Alike (solo (text_of p t).body l st).trace (solo (text_of q u).body k tu).trace
+  solo_traces text l k many much values =
       let n : ℕ = length (client_at p t.client).variables in
       let m : ℕ = length (client_at q u.client).variables in
       let b : Statements = (text_of p t).body in
@@ -273,9 +275,13 @@ module _ (p q : ProgramShape) (sound : IsSound p) (right : IsSound q) (t u : Tic
       b c whole l k (record { many = many; much = much; same = λ x y (a : Named l k x y). a.value }) in
       let k_trees : Alike (run (tree_of b l) st).trace (run (tree_of c k) tu).trace =
       twin_alike (tree_of b l) (tree_of c k) (blocks_ask_only p sound t l) (blocks_ask_only q right u k) twin st tu (λ h g same began. began) in
-      alike_from (solo b l st).trace (solo c k tu).trace
-      (subst (λ es. Alike es (solo c k tu).trace) (sym (ap (λ (o : alone.Outcome). o.trace) (trees_agree b l st)))
-      (subst (λ ds. Alike (run (tree_of b l) st).trace ds) (sym (ap (λ (o : alone.Outcome). o.trace) (trees_agree c k tu))) k_trees))
+      subst (λ es. Alike es (solo c k tu).trace) (sym (ap (λ (o : alone.Outcome). o.trace) (trees_agree b l st)))
+      (subst (λ ds. Alike (run (tree_of b l) st).trace ds) (sym (ap (λ (o : alone.Outcome). o.trace) (trees_agree c k tu))) k_trees)
+
+  solo_alike : SameText p q t u → (l k : Locals) → HasValues p t l → HasValues q u k → SameValues p q t u l k
+      → AlikeFrom p q t u st tu (solo (text_of p t).body l st).trace (solo (text_of q u).body k tu).trace
+  solo_alike text l k many much values =
+      alike_from (solo (text_of p t).body l st).trace (solo (text_of q u).body k tu).trace (solo_traces text l k many much values)
 
 pub blocks_alike : BlocksAlike
 blocks_alike p q sound right t u text l k many much values st tu = solo_alike p q sound right t u st tu text l k many much values
@@ -347,10 +353,10 @@ few_variables p sound c =
     all_at (λ (c : ClientShape). length c.variables ≤ 16) p.clients c no_client
     (each_map (λ (c : ClientShape) (f : IsSoundClient p.objects c). f.variables) p.clients sound.each) (omega arith)
 
-abbrev IsPlaceOf : ProgramShape → Place → Type 0
+abbrev pub IsPlaceOf : ProgramShape → Place → Type 0
 IsPlaceOf p s = HasValues p s.ticket s.entry × (s.trace ≡ (solo (text_of p s.ticket).body s.entry s.starts).trace)
 
-places_of : (p : ProgramShape) → IsSound p → (order : List Ticket) → AllByRecursion (IsPlaceOf p) (serial p order).places
+pub places_of : (p : ProgramShape) → IsSound p → (order : List Ticket) → AllByRecursion (IsPlaceOf p) (serial p order).places
 places_of p sound order =
     each_map
     (λ (s : Place) (e : (length s.entry ≡ 16) × (s.trace ≡ (solo (text_of p s.ticket).body s.entry s.starts).trace)).

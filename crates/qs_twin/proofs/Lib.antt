@@ -1,0 +1,4 @@
+pub mod Zips
+pub mod FirstEntries
+pub mod TextParts
+pub mod AgreedFronts
