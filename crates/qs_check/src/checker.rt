@@ -35,9 +35,7 @@ pub fn check(alloc: Global, script: Script) -> Result<Program, CheckFault>
     ensures well_formed { AcceptsWellFormed script result }
 {
     script.is_formed();
-    let checked = check_formed(alloc, script.as_slice());
-    script.discard();
-    checked
+    check_formed(alloc, script.as_slice())
 }
 
 // The same, of items in the form of a script.

@@ -18,7 +18,6 @@ use std::alloc::{AllocError, Global};
 use std::marker::Model;
 
 /// A client's decisions. No call after the constructor takes memory or refuses.
-#[derive(Drop)]
 pub struct Mind {
     code: Code,
     size: ChunkSize,
@@ -28,6 +27,21 @@ pub struct Mind {
     syncs: u64,
     counts: SyncCounts,
     handed: Handed,
+}
+
+impl Drop for Mind {
+    fn drop(self) {
+        let Mind {
+            code: _,
+            size: _,
+            ticket: _,
+            run: _,
+            entries: _,
+            syncs: _,
+            counts: _,
+            handed: _,
+        } = self;
+    }
 }
 
 impl Model for Mind {

@@ -9,10 +9,15 @@ use std::marker::Model;
 use std::mem;
 
 /// For each of 8 handlers the object, where the client holds it, and the open chunk, where there is one.
-#[derive(Drop)]
 pub struct Hands {
     held: [Option<Held>; 8],
     chunks: [Option<Chunk<Request>>; 8],
+}
+
+impl Drop for Hands {
+    fn drop(self) {
+        let Hands { held: _, chunks: _ } = self;
+    }
 }
 
 impl Model for Hands {

@@ -18,12 +18,22 @@ use qs_objects::{Event, Ticket, Traces};
 use qs_program::Call;
 
 /// A client's place in its block's graph, its objects and open chunks, its traces, and where it stands.
-#[derive(Drop)]
 pub struct Run {
     pub way: Way,
     pub hands: Hands,
     pub traces: Traces,
     pub stage: Stage,
+}
+
+impl Drop for Run {
+    fn drop(self) {
+        let Run {
+            way: _,
+            hands: _,
+            traces: _,
+            stage: _,
+        } = self;
+    }
 }
 
 // No walk through a block of a checked program takes more nodes.

@@ -11,11 +11,20 @@ use qs_program::{Call, Locals};
 use std::marker::Model;
 
 /// A node, the client's variables, and for each node the count of the repeat whose branch it is.
-#[derive(Drop)]
 pub struct Way {
     node: usize,
     locals: Locals,
     counts: Vec<u64>,
+}
+
+impl Drop for Way {
+    fn drop(self) {
+        let Way {
+            node: _,
+            locals: _,
+            counts: _,
+        } = self;
+    }
 }
 
 impl Model for Way {

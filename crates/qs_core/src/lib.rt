@@ -1,4 +1,4 @@
-//! The optimised machine, and what is played on it; with it all that the plain rules and the laws of both offer.
+//! The optimised machine, and what is played on it; with it all that the plain rules, the laws of both, and comparisons offer.
 #![tactic(auto)]
 
 mod core_machine;
@@ -13,3 +13,4 @@ pub use qs_objects::Traces;
 pub use qs_plain::{Rules, play_plain};
 pub use qs_plain_laws::QueueItem;
 pub use qs_played::{Actor, PlayFault, Played, Row};
+pub use qs_twin::{Twin, twin};

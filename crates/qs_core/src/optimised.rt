@@ -21,9 +21,14 @@ use std::marker::Model;
 
 /// A program on its way in the optimised machine, from its beginning on: each client sends chunks of commands to the handlers, and
 /// runs its queries itself on the objects that come to it. It takes memory in `new` alone.
-#[derive(Drop)]
 pub struct Core<'p> {
     machine: CoreMachine<'p>,
+}
+
+impl Drop for Core<'_> {
+    fn drop(self) {
+        let Core { machine: _ } = self;
+    }
 }
 
 impl<'p> Model for Core<'p> {
@@ -119,8 +124,9 @@ impl<'p> Core<'p> {
         ensures isolated { CoreIsIsolated self.entry }
         ensures counted { CoreIsCounted self.entry }
     {
-        self.machine.program().is_sound();
-        self.machine.is_machine();
-        self.machine.into_played(alloc)
+        let Core { machine } = self;
+        machine.program().is_sound();
+        machine.is_machine();
+        machine.into_played(alloc)
     }
 }

@@ -24,11 +24,20 @@ use std::marker::Model;
 use std::mem;
 
 /// A client's mind with the act that it handed out last, and the client's lanes, one to each handler. It takes memory in `new` alone.
-#[derive(Drop)]
 pub struct CoreClient {
     mind: Mind,
     act: Act,
     lanes: Vec<Lane>,
+}
+
+impl Drop for CoreClient {
+    fn drop(self) {
+        let CoreClient {
+            mind: _,
+            act: _,
+            lanes: _,
+        } = self;
+    }
 }
 
 impl Model for CoreClient {

@@ -19,12 +19,22 @@ use std::marker::Model;
 use std::mem;
 
 /// A handler's mind with the act that it handed out last, and the handler's queue of tickets. It takes memory in `new` alone.
-#[derive(Drop)]
 pub struct CoreHandler {
     mind: Mind,
     act: Act,
     tickets: VecDeque<Ticket>,
     room: usize,
+}
+
+impl Drop for CoreHandler {
+    fn drop(self) {
+        let CoreHandler {
+            mind: _,
+            act: _,
+            tickets: _,
+            room: _,
+        } = self;
+    }
 }
 
 impl Model for CoreHandler {

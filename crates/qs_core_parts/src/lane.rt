@@ -17,11 +17,20 @@ const PARCELS: usize = 16;
 const CHUNKS: usize = 4;
 
 /// The lane from a client to a handler: parcels on their way, the object on its way up, and empty chunks. It takes memory in `new` alone.
-#[derive(Drop)]
 pub struct Lane {
     down: VecDeque<Parcel>,
     up: Option<Held>,
     spare: VecDeque<Chunk<Request>>,
+}
+
+impl Drop for Lane {
+    fn drop(self) {
+        let Lane {
+            down: _,
+            up: _,
+            spare: _,
+        } = self;
+    }
 }
 
 impl Model for Lane {

@@ -20,13 +20,24 @@ use std::marker::Model;
 use std::sync::Wait;
 
 /// The desk: the order of all reservations, and the desk's ends of the handlers' queues of tickets.
-#[derive(Drop)]
 pub struct Desk<D: DeskName> {
     plan: Plan,
     history: Vec<Ticket>,
     lines: Vec<Line>,
     books: Books<D>,
     closed: bool,
+}
+
+impl<D: DeskName> Drop for Desk<D> {
+    fn drop(self) {
+        let Desk {
+            plan: _,
+            history: _,
+            lines: _,
+            books: _,
+            closed: _,
+        } = self;
+    }
 }
 
 impl<D: DeskName> Model for Desk<D> {
@@ -99,8 +110,14 @@ impl<D: DeskName> Desk<D> {
         ensures order { result.items ≡ self.history }
         ensures legal { IsLegal D.program self.history }
     {
-        let Desk { history, .. } = self;
-        history
+        let Desk {
+            plan: _,
+            history: order,
+            lines: _,
+            books: _,
+            closed: _,
+        } = self;
+        order
     }
 
     /// The history has as many tickets of a client as its share says.

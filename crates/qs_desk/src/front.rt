@@ -28,9 +28,14 @@ impl<D: DeskName> Open<D> {
 }
 
 /// The desk under its lock, where clients reserve from their own threads. It is not closed before `close`.
-#[derive(Drop)]
 pub struct Front<D: DeskName> {
     lock: Mutex<Open<D>>,
+}
+
+impl<D: DeskName> Drop for Front<D> {
+    fn drop(self) {
+        let Front { lock: _ } = self;
+    }
 }
 
 impl<D: DeskName> Front<D> {
@@ -56,7 +61,8 @@ impl<D: DeskName> Front<D> {
     pub fn close<R: Wait>(self, rt: &R) -> Desk<D>
         ensures closed { result.closed ≡ true }
     {
-        let Open { mut desk } = self.lock.into_inner();
+        let Front { lock } = self;
+        let Open { mut desk } = lock.into_inner();
         desk.close(rt);
         desk
     }

@@ -12,9 +12,14 @@ use std::alloc::{AllocError, Global};
 use std::marker::Model;
 
 /// The handlers that a block reserves.
-#[derive(Drop)]
 pub struct Reserved {
     objects: Vec<u8>,
+}
+
+impl Drop for Reserved {
+    fn drop(self) {
+        let Reserved { objects: _ } = self;
+    }
 }
 
 impl Model for Reserved {
@@ -26,9 +31,14 @@ impl Model for Reserved {
 }
 
 /// The same for each block of a client.
-#[derive(Drop)]
 pub struct Blocks {
     blocks: Vec<Reserved>,
+}
+
+impl Drop for Blocks {
+    fn drop(self) {
+        let Blocks { blocks: _ } = self;
+    }
 }
 
 impl Model for Blocks {
@@ -40,9 +50,14 @@ impl Model for Blocks {
 }
 
 /// The same for each client.
-#[derive(Drop)]
 pub struct Plan {
     clients: Vec<Blocks>,
+}
+
+impl Drop for Plan {
+    fn drop(self) {
+        let Plan { clients: _ } = self;
+    }
 }
 
 impl Model for Plan {

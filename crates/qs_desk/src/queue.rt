@@ -95,11 +95,20 @@ pub(crate) fn make_line(
 }
 
 /// A handler's end of its queue of tickets at a desk.
-#[derive(Drop)]
 pub struct Tickets<D: DeskName> {
     handler: u8,
     end: LineEnd,
     of: PhantomData<D>,
+}
+
+impl<D: DeskName> Drop for Tickets<D> {
+    fn drop(self) {
+        let Tickets {
+            handler: _,
+            end: _,
+            of: _,
+        } = self;
+    }
 }
 
 impl<D: DeskName> Model for Tickets<D> {

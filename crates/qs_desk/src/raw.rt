@@ -18,7 +18,6 @@ use std::marker::Model;
 use std::snapshot::Snapshot;
 
 /// A desk that has no name yet, with all the memory that it and its handlers' queues will need.
-#[derive(Drop)]
 pub struct RawDesk {
     program: Snapshot<Program>,
     plan: Plan,
@@ -26,6 +25,19 @@ pub struct RawDesk {
     lines: Vec<Line>,
     ends: [Option<LineEnd>; 8],
     blanks: Blanks,
+}
+
+impl Drop for RawDesk {
+    fn drop(self) {
+        let RawDesk {
+            program: _,
+            plan: _,
+            history: _,
+            lines: _,
+            ends: _,
+            blanks: _,
+        } = self;
+    }
 }
 
 impl Model for RawDesk {

@@ -40,12 +40,22 @@ pub enum Mark<D: DeskName> {
 }
 
 /// A client's share of a desk: how many blocks the client has booked there. A desk has one for each client.
-#[derive(Drop)]
 pub struct Share<D: DeskName> {
     client: u8,
     count: u8,
     blocks: usize,
     mark: Mark<D>,
+}
+
+impl<D: DeskName> Drop for Share<D> {
+    fn drop(self) {
+        let Share {
+            client: _,
+            count: _,
+            blocks: _,
+            mark: _,
+        } = self;
+    }
 }
 
 impl<D: DeskName> Model for Share<D> {
@@ -113,7 +123,6 @@ fn first_share<D: DeskName>(plan: &Plan, client: u8, mark: Mark<D>) -> Option<Sh
 }
 
 /// How many blocks each client has booked, as the desk counts them.
-#[derive(Drop)]
 pub struct Books<D: DeskName> {
     first: Book<Place<D, 0>>,
     second: Book<Place<D, 1>>,
@@ -123,6 +132,21 @@ pub struct Books<D: DeskName> {
     sixth: Book<Place<D, 5>>,
     seventh: Book<Place<D, 6>>,
     eighth: Book<Place<D, 7>>,
+}
+
+impl<D: DeskName> Drop for Books<D> {
+    fn drop(self) {
+        let Books {
+            first: _,
+            second: _,
+            third: _,
+            fourth: _,
+            fifth: _,
+            sixth: _,
+            seventh: _,
+            eighth: _,
+        } = self;
+    }
 }
 
 impl<D: DeskName> Model for Books<D> {

@@ -115,7 +115,6 @@ fn shown<R: Threads + Wait + Sync>(
     let size = ChunkSize::new(8)?;
     let gate = Holding::new(until);
     let outcome = execute(rt, alloc, &program, mode, size, &gate);
-    program.discard();
     let replies = replies(&outcome.ok()?);
     if gate.is_late.load(SeqCst) {
         return None;

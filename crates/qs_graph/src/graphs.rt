@@ -77,10 +77,18 @@ impl Place {
 }
 
 /// The control-flow graph of a block: nodes by number, each with its edges in order, and the names of the block's list.
-#[derive(Drop)]
 pub struct Graph {
     places: Vec<Place>,
     names: Vec<Named>,
+}
+
+impl Drop for Graph {
+    fn drop(self) {
+        let Graph {
+            places: _,
+            names: _,
+        } = self;
+    }
 }
 
 impl Model for Graph {

@@ -34,9 +34,14 @@ enum Stage {
 }
 
 /// A handler's decisions. No call takes memory or refuses.
-#[derive(Drop)]
 pub struct Mind {
     stage: Stage,
+}
+
+impl Drop for Mind {
+    fn drop(self) {
+        let Mind { stage: _ } = self;
+    }
 }
 
 impl Model for Mind {

@@ -1,5 +1,5 @@
--- Of the kinds of error that clap lists for a line all are help, or none is: each step of its walk lists one kind, but for a stray
--- word, where both are refusals, and for the word `help`, which this command leaves out.
+-- All kinds of error that clap lists for a line come to the same, help or version or a refusal: each step of its walk lists one kind, but
+-- for a stray word, where both are refusals, and for the word `help`, which this command leaves out.
 use Rattle.std.proofs.Common.{◌≡◌, ℕ, Bool, zero, suc, List, [], ◌∷◌, Option, Some, None, true, false, refl, ap, inl, inr}
 use Rattle.std.specs.Prelude.{⊤, ◌&&◌, ◌||◌, ◌==◌, not, nat_lt, length, drop, find, is_some, encode_utf8, slice_get, codes, if◌then◌else◌}
 use Rattle.std.specs.Str.{bytes_eq, chars}
@@ -16,12 +16,12 @@ use Rattle.clap.specs.declared.builder.ValueParser.{ValueParser}
 use Rattle.clap.specs.declared.error.kind.ErrorKind.{ErrorKind}
 use Rattle.clap.specs.declared.error.kind.ErrorKind.TheVariants as kind
 use Rattle.qs_line.specs.Command.{qs_app}
-use Rattle.qs_line.specs.Line.{is_help}
+use Rattle.qs_line.specs.Line.{line_of_kind}
 
--- each kind says of help what the first says
+-- each kind comes to what the first comes to
 abbrev pub SayAlike : Kinds → Type 0
 SayAlike [] = ⊤
-SayAlike (k ∷ ks) = (other : ErrorKind) → IsAmong other ks → is_help other ≡ is_help k
+SayAlike (k ∷ ks) = (other : ErrorKind) → IsAmong other ks → line_of_kind other ≡ line_of_kind k
 
 -- the same, under a name of its own, by which search finds the kinds
 pub record Alike (kinds : Kinds) : Type 0 where
@@ -138,7 +138,7 @@ others : (s : Shape) (word : Text) (h : Held) → Alike (other_fault s None word
 others s word h = either (bytes_eq word (45 ∷ 45 ∷ [])) none (flag_words s.rules s.args_override_self (long_of word) word h)
 
 stray : Alike (kind.UnknownArgument ∷ kind.InvalidSubcommand ∷ [])
-stray = record { each = λ other among. elim among [ inl same ↦ ap is_help same | inr never ↦ absurd never ] }
+stray = record { each = λ other among. elim among [ inl same ↦ ap line_of_kind same | inr never ↦ absurd never ] }
 
 steps : (s : Shape) (position : ℕ) (h : Held) (step : Step) → Alike (step_fault s position h step)
 steps s position h (next waiting) = none

@@ -4,9 +4,9 @@ use Rattle.clap.specs.Words.{App, Rule, Text, new_app, new_rule, with_rule, with
 use Rattle.clap.specs.declared.builder.ArgAction.TheVariants.{Set, SetTrue}
 use Rattle.clap.specs.declared.builder.ValueParser.TheVariants as parser
 
--- `--NAME VALUE`
+-- `--NAME VALUE`, whose value has a name in the help
 abbrev pub option_rule : Text → Rule
-option_rule name = record (new_rule name) { long = Some name; action = Some Set }
+option_rule name = record (new_rule name) { long = Some name; action = Some Set; value_names = 1 }
 
 -- the same with a default
 abbrev pub defaulted_rule : Text → Text → Rule
@@ -39,9 +39,9 @@ play_app = with_rule (with_rule (with_rule (machine_app (codes "play")) rounds_r
 abbrev pub run_app : App
 run_app = with_rule (machine_app (codes "run")) counts_rule
 
--- the program's name, with no word `help`
+-- the program's name and its version, with no word `help`
 abbrev pub named_app : App
-named_app = record (new_app (codes "qs")) { top = record (new_app (codes "qs")).top { disable_help_subcommand = true } }
+named_app = record (new_app (codes "qs")) { top = record (new_app (codes "qs")).top { disable_help_subcommand = true; has_version = true } }
 
 -- `check` and `graph`
 abbrev pub texts_app : App

@@ -7,7 +7,7 @@ use Rattle.clap.specs.Faults.{fault_of}
 use Rattle.clap.specs.Kinds.{IsAmong, Kinds}
 use Rattle.clap.specs.ValueTests.{is_unsigned_in}
 use Rattle.clap.specs.Words.{Row, Text, first_of, subcommand_of}
-use Rattle.clap.specs.declared.error.kind.ErrorKind.TheVariants.{DisplayHelp, OutOfMemory}
+use Rattle.clap.specs.declared.error.kind.ErrorKind.TheVariants.{DisplayHelp, DisplayVersion, OutOfMemory}
 use Rattle.clap.specs.declared.error.kind.ErrorKind.{ErrorKind}
 use Rattle.qs_played.specs.declared.actor.Actor.{Actor}
 use Rattle.qs_syncset.specs.declared.mode.Mode.{Mode}
@@ -94,26 +94,30 @@ request_met (Some entry) = request_at entry.0 entry.1
 pub data Line : Type 0 where
   asks : Request → Line
   help : Line
+  version : Line
   refused : Line
 
 -- what it asks for
 abbrev pub request_by : Line → Option Request
 request_by (asks request) = Some request
 request_by help = None
+request_by version = None
 request_by refused = None
 
 abbrev pub line_met : Option Request → Line
 line_met (Some request) = asks request
 line_met None = refused
 
-abbrev pub is_help : ErrorKind → Bool
-is_help DisplayHelp = true
-is_help _ = false
+-- what a line comes to that clap answers by an error of this kind
+abbrev pub line_of_kind : ErrorKind → Line
+line_of_kind DisplayHelp = help
+line_of_kind DisplayVersion = version
+line_of_kind _ = refused
 
 -- by the kinds of error that clap may answer: none where it takes the words
 abbrev pub line_by : Kinds → Option Request → Line
 line_by [] request = line_met request
-line_by (kind ∷ kinds) request = if is_help kind then help else refused
+line_by (kind ∷ kinds) request = line_of_kind kind
 
 -- the line of these words, the program's name first
 abbrev pub line_in : List Text → Line
@@ -121,8 +125,9 @@ line_in words = line_by (fault_of qs_app words) (request_met (subcommand_of qs_a
 
 -- the fault of a line that clap refuses by an error of this kind
 abbrev pub IsFault : ErrorKind → LineFault → Type 0
-IsFault kind fault.Refused = (kind ≢ DisplayHelp) × (kind ≢ OutOfMemory)
+IsFault kind fault.Refused = (kind ≢ DisplayHelp) × (kind ≢ DisplayVersion) × (kind ≢ OutOfMemory)
 IsFault kind (fault.Help text) = kind ≡ DisplayHelp
+IsFault kind (fault.Version text) = kind ≡ DisplayVersion
 IsFault kind fault.Memory = ⊤
 
 -- the fault by one of some kinds
@@ -135,4 +140,5 @@ abbrev pub IsAnswer : Line → Result Settings LineFault → Type 0
 IsAnswer line (Ok settings) = line ≡ asks (request_of settings)
 IsAnswer line (Err fault.Refused) = line ≡ refused
 IsAnswer line (Err (fault.Help text)) = line ≡ help
+IsAnswer line (Err (fault.Version text)) = line ≡ version
 IsAnswer line (Err fault.Memory) = ⊤

@@ -3,7 +3,7 @@ use Rattle.std.specs.Prelude.{◌≡◌, List, [], ◌∷◌, codes, true, false
 use Rattle.clap.specs.Words.{Text}
 use Rattle.qs_played.specs.declared.actor.Actor.TheVariants.{Client, Handler}
 use Rattle.qs_syncset.specs.declared.mode.Mode.TheVariants.{Dynamic, Static, Both}
-use Rattle.qs_line.specs.Line.{Line, asks, check, graph, help, line_in, play, refused, rules, run}
+use Rattle.qs_line.specs.Line.{Line, asks, check, graph, help, line_in, play, refused, rules, run, version}
 
 -- the line of the words after the program's name
 abbrev pub line : List Text → Line
@@ -58,6 +58,9 @@ pub record OtherLines : Type 0 where
   pub no_picks : line (codes "play" ∷ codes "--pick" ∷ [] ∷ []) ≡ refused
   pub asks_help : line (codes "--help" ∷ []) ≡ help
   pub asks_help_of_play : line (codes "play" ∷ codes "-h" ∷ []) ≡ help
+  pub asks_version : line (codes "--version" ∷ []) ≡ version
+  pub asks_short_version : line (codes "-V" ∷ []) ≡ version
+  pub asks_version_of_play : line (codes "play" ∷ codes "--version" ∷ []) ≡ refused
 
 pub record LineExamples : Type 0 where
   pub defaults : DefaultLines

@@ -1,32 +1,48 @@
 // The command as `clap` has it.
 
 ghost use Rattle.std.specs.Prelude.{◌≡◌, IfOk, codes, false};
-ghost use Rattle.clap.specs.Words.{app_of, rule_of, with_subcommand};
+ghost use Rattle.clap.specs.Words.{app_of, new_app, rule_of, with_subcommand};
 ghost use Rattle.clap.specs.declared.Command.TheViews.{out-Command as fields_of};
-ghost use Rattle.qs_line.specs.Command.{chunk_rule, counts_rule, defaulted_rule, machine_app, option_rule, play_app, qs_app, rules_app, run_app, texts_app};
+ghost use Rattle.qs_line.specs.Command.{chunk_rule, counts_rule, defaulted_rule, machine_app, named_app, option_rule, play_app, qs_app, rounds_rule, rules_app, run_app, texts_app};
 
+use crate::help;
 use clap::{Arg, ArgAction, Command, value_parser};
 use std::alloc::{AllocError, Global};
 
-fn option<'a>(alloc: Global, name: &'a str) -> Arg<'a>
+const VERSION: &str = "0.9.0";
+
+fn option<'a>(alloc: Global, name: &'a str, value: &'a str, said: &'a str) -> Arg<'a>
     ensures rule { rule_of result ≡ option_rule name.entry.now }
     ensures local { result.global ≡ false }
 {
-    Arg::new(alloc, name).long(name).action(ArgAction::Set)
+    Arg::new(alloc, name)
+        .long(name)
+        .value_name(value)
+        .help(said)
+        .action(ArgAction::Set)
 }
 
-fn defaulted<'a>(alloc: Global, name: &'a str, value: &'a str) -> Arg<'a>
-    ensures rule { rule_of result ≡ defaulted_rule name.entry.now value.entry.now }
+fn mode_option<'a>(alloc: Global) -> Arg<'a>
+    ensures rule { rule_of result ≡ defaulted_rule (codes "mode") (codes "both") }
     ensures local { result.global ≡ false }
 {
-    option(alloc, name).default_value(value)
+    option(alloc, "mode", "M", help::MODE).default_value("both")
 }
 
 fn chunk_option<'a>(alloc: Global) -> Arg<'a>
     ensures rule { rule_of result ≡ chunk_rule }
     ensures local { result.global ≡ false }
 {
-    defaulted(alloc, "chunk", "8").value_parser(value_parser!(u8).range(1..=32))
+    option(alloc, "chunk", "N", help::CHUNK)
+        .default_value("8")
+        .value_parser(value_parser!(u8).range(1..=32))
+}
+
+fn rounds_option<'a>(alloc: Global) -> Arg<'a>
+    ensures rule { rule_of result ≡ rounds_rule }
+    ensures local { result.global ≡ false }
+{
+    option(alloc, "rounds", "N", help::ROUNDS).default_value("1000000")
 }
 
 fn counts_flag<'a>(alloc: Global) -> Arg<'a>
@@ -35,25 +51,39 @@ fn counts_flag<'a>(alloc: Global) -> Arg<'a>
 {
     Arg::new(alloc, "counts")
         .long("counts")
+        .help(help::COUNTS)
         .action(ArgAction::SetTrue)
+}
+
+// A word, with what the help says of it at its head and at its end.
+fn word<'a>(alloc: Global, name: &'a str, about: &'a str, example: &'a str) -> Command<'a>
+    ensures app { app_of result ≡ new_app name.entry.now }
+    ensures local { (fields_of result).has_globals ≡ false }
+{
+    Command::new(alloc, name).about(about).after_help(example)
 }
 
 fn rules_command<'a>(alloc: Global) -> Result<Command<'a>, AllocError>
     ensures app { IfOk result (λ command. app_of command ≡ rules_app) }
     ensures local { IfOk result (λ command. (fields_of command).has_globals ≡ false) }
 {
-    Command::new(alloc, "rules")
-        .arg(defaulted(alloc, "rounds", "1000000"))?
-        .arg(option(alloc, "pick"))?
+    word(alloc, "rules", help::RULES, help::RULES_EXAMPLE)
+        .arg(rounds_option(alloc))?
+        .arg(option(alloc, "pick", "LIST", help::PICK))?
         .arg(counts_flag(alloc))
 }
 
-fn machine_command<'a>(alloc: Global, word: &'a str) -> Result<Command<'a>, AllocError>
-    ensures app { IfOk result (λ command. app_of command ≡ machine_app word.entry.now) }
+fn machine_command<'a>(
+    alloc: Global,
+    name: &'a str,
+    about: &'a str,
+    example: &'a str,
+) -> Result<Command<'a>, AllocError>
+    ensures app { IfOk result (λ command. app_of command ≡ machine_app name.entry.now) }
     ensures local { IfOk result (λ command. (fields_of command).has_globals ≡ false) }
 {
-    Command::new(alloc, word)
-        .arg(defaulted(alloc, "mode", "both"))?
+    word(alloc, name, about, example)
+        .arg(mode_option(alloc))?
         .arg(chunk_option(alloc))
 }
 
@@ -61,9 +91,9 @@ fn play_command<'a>(alloc: Global) -> Result<Command<'a>, AllocError>
     ensures app { IfOk result (λ command. app_of command ≡ play_app) }
     ensures local { IfOk result (λ command. (fields_of command).has_globals ≡ false) }
 {
-    machine_command(alloc, "play")?
-        .arg(defaulted(alloc, "rounds", "1000000"))?
-        .arg(option(alloc, "pick"))?
+    machine_command(alloc, "play", help::PLAY, help::PLAY_EXAMPLE)?
+        .arg(rounds_option(alloc))?
+        .arg(option(alloc, "pick", "LIST", help::PICK))?
         .arg(counts_flag(alloc))
 }
 
@@ -71,16 +101,25 @@ fn run_command<'a>(alloc: Global) -> Result<Command<'a>, AllocError>
     ensures app { IfOk result (λ command. app_of command ≡ run_app) }
     ensures local { IfOk result (λ command. (fields_of command).has_globals ≡ false) }
 {
-    machine_command(alloc, "run")?.arg(counts_flag(alloc))
+    machine_command(alloc, "run", help::RUN, help::RUN_EXAMPLE)?.arg(counts_flag(alloc))
+}
+
+// The program, before its words.
+fn named_command<'a>(alloc: Global) -> Command<'a>
+    ensures app { app_of result ≡ named_app }
+    ensures local { (fields_of result).has_globals ≡ false }
+{
+    word(alloc, "qs", help::ABOUT, help::EXAMPLES)
+        .version(VERSION)
+        .disable_help_subcommand(true)
 }
 
 fn texts_command<'a>(alloc: Global) -> Result<Command<'a>, AllocError>
     ensures app { IfOk result (λ command. app_of command ≡ texts_app) }
 {
-    Command::new(alloc, "qs")
-        .disable_help_subcommand(true)
-        .subcommand(Command::new(alloc, "check"))?
-        .subcommand(Command::new(alloc, "graph"))
+    let check = word(alloc, "check", help::CHECK, help::CHECK_EXAMPLE);
+    let graph = word(alloc, "graph", help::GRAPH, help::GRAPH_EXAMPLE);
+    named_command(alloc).subcommand(check)?.subcommand(graph)
 }
 
 // With the word `rules`.

@@ -2,6 +2,7 @@
 #![tactic(auto)]
 
 mod command;
+mod help;
 pub mod laws;
 mod line;
 mod picks;

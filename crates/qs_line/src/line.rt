@@ -62,6 +62,8 @@ pub enum LineFault {
     Refused,
     /// It asks for help, which is this text.
     Help(String),
+    /// It asks for the version, which is this text.
+    Version(String),
     /// Out of memory.
     Memory,
 }
@@ -203,6 +205,10 @@ fn line_fault(alloc: Global, error: &Error) -> LineFault
             Ok(text) => LineFault::Help(text),
             Err(_) => LineFault::Memory,
         },
+        ErrorKind::DisplayVersion => match error.to_string(alloc) {
+            Ok(text) => LineFault::Version(text),
+            Err(_) => LineFault::Memory,
+        },
         _ => LineFault::Refused,
     }
 }
@@ -220,8 +226,8 @@ fn matches_of<'a>(alloc: Global, words: &'a [&'a str]) -> Result<ArgMatches<'a>,
 }
 
 /// The settings of a line, whose first word is the program's name: those that `clap` finds, and its defaults. `Refused` comes exactly where
-/// `clap` refuses the words by an error, or where a mode, a number or the list of picks does not read; `Help` exactly where it answers with
-/// help. `Memory` may come in place of each.
+/// `clap` refuses the words by an error, or where a mode, a number or the list of picks does not read; `Help` and
+/// `Version` come exactly where it answers with help or with the version. `Memory` may come in place of each.
 pub fn read_line<'a>(alloc: Global, words: &'a [&'a str]) -> Result<Settings, LineFault>
     ensures line { IsAnswer (line_in (map (λ word. word.now) words.entry.now)) result }
 {

@@ -7,9 +7,14 @@ use std::alloc::Global;
 use std::marker::Model;
 
 /// At most three numbers, kept in the value itself, so that no call takes memory.
-#[derive(Drop)]
 pub struct Args {
     numbers: SmallVec<i64, 3>,
+}
+
+impl Drop for Args {
+    fn drop(self) {
+        let Args { numbers: _ } = self;
+    }
 }
 
 impl Model for Args {

@@ -25,11 +25,20 @@ pub enum Next {
 }
 
 /// One request that an object served for a ticket, and its reply; a command has none.
-#[derive(Drop)]
 pub struct Entry {
     pub ticket: Ticket,
     pub request: Request,
     pub reply: Option<i64>,
+}
+
+impl Drop for Entry {
+    fn drop(self) {
+        let Entry {
+            ticket: _,
+            request: _,
+            reply: _,
+        } = self;
+    }
 }
 
 impl Entry {
@@ -51,10 +60,18 @@ impl Entry {
 }
 
 /// One request that a block made, and its reply; a command has none.
-#[derive(Drop)]
 pub struct Event {
     pub request: Request,
     pub reply: Option<i64>,
+}
+
+impl Drop for Event {
+    fn drop(self) {
+        let Event {
+            request: _,
+            reply: _,
+        } = self;
+    }
 }
 
 impl Event {
@@ -70,9 +87,14 @@ impl Event {
 }
 
 /// What an object served, in order.
-#[derive(Drop)]
 pub struct Journal {
     entries: Vec<Entry>,
+}
+
+impl Drop for Journal {
+    fn drop(self) {
+        let Journal { entries: _ } = self;
+    }
 }
 
 impl Model for Journal {
@@ -102,11 +124,20 @@ impl Journal {
 
 /// An object with its journal, which has room for a set number of entries from the start: no call
 /// after the constructor takes memory.
-#[derive(Drop)]
 pub struct Held {
     object: Object,
     entries: Vec<Entry>,
     room: usize,
+}
+
+impl Drop for Held {
+    fn drop(self) {
+        let Held {
+            object: _,
+            entries: _,
+            room: _,
+        } = self;
+    }
 }
 
 impl Model for Held {

@@ -44,11 +44,20 @@ pub enum Op {
 pub type Reply = i64;
 
 /// A request to an object, which it names by its number.
-#[derive(Drop)]
 pub struct Request {
     pub object: u8,
     pub op: Op,
     pub args: Args,
+}
+
+impl Drop for Request {
+    fn drop(self) {
+        let Request {
+            object: _,
+            op: _,
+            args: _,
+        } = self;
+    }
 }
 
 impl Request {

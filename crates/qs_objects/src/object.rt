@@ -82,10 +82,18 @@ impl Content {
 }
 
 /// An object: what it holds, and how many commands it refused.
-#[derive(Drop)]
 pub struct Object {
     content: Content,
     refused: i64,
+}
+
+impl Drop for Object {
+    fn drop(self) {
+        let Object {
+            content: _,
+            refused: _,
+        } = self;
+    }
 }
 
 impl Model for Object {

@@ -7,12 +7,22 @@ use std::alloc::{AllocError, Global};
 use std::marker::Model;
 
 /// Rows of values, which lie one row after another in one list. Memory is taken in `new` alone.
-#[derive(Drop)]
 pub struct Rows<T> {
     items: Vec<T>,
     starts: Vec<usize>,
     lengths: Vec<usize>,
     room: usize,
+}
+
+impl<T: Drop> Drop for Rows<T> {
+    fn drop(self) {
+        let Rows {
+            items: _,
+            starts: _,
+            lengths: _,
+            room: _,
+        } = self;
+    }
 }
 
 impl<T> Model for Rows<T> {

@@ -12,10 +12,15 @@ use std::marker::Model;
 
 /// For each block of a client its trace so far, and how many events more there may be. The events of all blocks lie in one row, since a
 /// client's blocks run one after another. Memory is taken in `new` alone.
-#[derive(Drop)]
 pub struct Traces {
     rows: Rows<Event>,
     rooms: Vec<usize>,
+}
+
+impl Drop for Traces {
+    fn drop(self) {
+        let Traces { rows: _, rooms: _ } = self;
+    }
 }
 
 impl Model for Traces {

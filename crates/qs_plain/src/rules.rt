@@ -14,9 +14,14 @@ use std::marker::Model;
 
 /// A program on its way under the plain rules, from its beginning on: each handler has a queue of queues, and each reservation a
 /// private queue of single requests. It takes memory in `new` alone.
-#[derive(Drop)]
 pub struct Rules<'p> {
     machine: Machine<'p>,
+}
+
+impl Drop for Rules<'_> {
+    fn drop(self) {
+        let Rules { machine: _ } = self;
+    }
 }
 
 impl<'p> Model for Rules<'p> {

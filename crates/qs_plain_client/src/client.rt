@@ -50,7 +50,6 @@ pub enum Asked {
 }
 
 /// A client, which takes memory in `new` alone.
-#[derive(Drop)]
 pub struct ClientState<'p> {
     program: &'p Program,
     number: u8,
@@ -61,6 +60,22 @@ pub struct ClientState<'p> {
     traces: Traces,
     counts: SyncCounts,
     prepared: VecDeque<Prepared>,
+}
+
+impl Drop for ClientState<'_> {
+    fn drop(self) {
+        let ClientState {
+            program: _,
+            number: _,
+            stage: _,
+            locals: _,
+            frames: _,
+            entries: _,
+            traces: _,
+            counts: _,
+            prepared: _,
+        } = self;
+    }
 }
 
 impl<'p> Model for ClientState<'p> {

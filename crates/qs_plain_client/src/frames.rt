@@ -28,10 +28,15 @@ pub enum Ask<'p> {
 }
 
 /// The frames of a block on its way, the innermost last; they take memory in `new` and `grow` alone.
-#[derive(Drop)]
 pub struct Frames<'p> {
     frames: Vec<Frame<'p>>,
     room: usize,
+}
+
+impl Drop for Frames<'_> {
+    fn drop(self) {
+        let Frames { frames: _, room: _ } = self;
+    }
 }
 
 impl<'p> Model for Frames<'p> {

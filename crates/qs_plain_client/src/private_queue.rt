@@ -13,11 +13,20 @@ use std::collections::VecDeque;
 use std::marker::Model;
 
 /// The private queue of a reservation, which takes memory in `new` alone.
-#[derive(Drop)]
 pub struct PrivateQueue {
     ticket: Ticket,
     items: VecDeque<QueueItem>,
     room: usize,
+}
+
+impl Drop for PrivateQueue {
+    fn drop(self) {
+        let PrivateQueue {
+            ticket: _,
+            items: _,
+            room: _,
+        } = self;
+    }
 }
 
 impl Model for PrivateQueue {

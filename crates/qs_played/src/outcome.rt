@@ -10,9 +10,14 @@ use qs_objects::{Event, Journal, Object, Ticket};
 use std::marker::Model;
 
 /// What a run of threads has shown: each of its blocks has ended, and the run is finished.
-#[derive(Drop)]
 pub struct Outcome {
     played: Played,
+}
+
+impl Drop for Outcome {
+    fn drop(self) {
+        let Outcome { played: _ } = self;
+    }
 }
 
 impl Model for Outcome {

@@ -13,11 +13,20 @@ use std::marker::Model;
 
 /// A client's blocks: for each of them its trace, its client's variables at entry, and how many Syncs it has sent for each object of its
 /// list.
-#[derive(Drop)]
 pub struct ClientRows {
     traces: Traces,
     entries: Vec<Locals>,
     counts: SyncCounts,
+}
+
+impl Drop for ClientRows {
+    fn drop(self) {
+        let ClientRows {
+            traces: _,
+            entries: _,
+            counts: _,
+        } = self;
+    }
 }
 
 impl Model for ClientRows {
@@ -46,7 +55,6 @@ impl ClientRows {
 /// at entry, its trace, and how many Syncs it has sent for each object of its list; for each object its journal and state; how many
 /// Syncs there were, and whether the run is finished. A ticket's trace is found by its client and number: the clients' rows are taken
 /// as they are, and no trace is copied.
-#[derive(Drop)]
 pub struct Played {
     order: Row<Ticket>,
     ended: Row<bool>,
@@ -55,6 +63,20 @@ pub struct Played {
     states: Row<Object>,
     syncs: u64,
     finished: bool,
+}
+
+impl Drop for Played {
+    fn drop(self) {
+        let Played {
+            order: _,
+            ended: _,
+            clients: _,
+            journals: _,
+            states: _,
+            syncs: _,
+            finished: _,
+        } = self;
+    }
 }
 
 impl Model for Played {

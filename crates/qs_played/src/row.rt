@@ -5,9 +5,14 @@ ghost use Rattle.std.specs.Prelude.{◌≡◌, length};
 use std::marker::Model;
 
 /// Values in order, which contracts see as a list.
-#[derive(Drop)]
 pub struct Row<T> {
     items: Vec<T>,
+}
+
+impl<T: Drop> Drop for Row<T> {
+    fn drop(self) {
+        let Row { items: _ } = self;
+    }
 }
 
 impl<T> Model for Row<T> {

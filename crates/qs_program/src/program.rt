@@ -13,17 +13,30 @@ use qs_script::Name;
 use std::marker::Model;
 
 /// An object as it is declared.
-#[derive(Drop)]
 pub struct Declared {
     pub name: Name,
     pub kind: Kind,
 }
 
+impl Drop for Declared {
+    fn drop(self) {
+        let Declared { name: _, kind: _ } = self;
+    }
+}
+
 /// A separate block: the objects that it reserves, and its statements.
-#[derive(Drop)]
 pub struct Block {
     reserved: Vec<u8>,
     body: Body,
+}
+
+impl Drop for Block {
+    fn drop(self) {
+        let Block {
+            reserved: _,
+            body: _,
+        } = self;
+    }
 }
 
 impl Model for Block {
@@ -62,11 +75,20 @@ impl Block {
 }
 
 /// A client: its name, the names of its variables by number, and its blocks.
-#[derive(Drop)]
 pub struct Client {
     name: Name,
     variables: Names,
     pub(crate) blocks: Vec<Block>,
+}
+
+impl Drop for Client {
+    fn drop(self) {
+        let Client {
+            name: _,
+            variables: _,
+            blocks: _,
+        } = self;
+    }
 }
 
 impl Model for Client {
@@ -107,12 +129,22 @@ impl Client {
 }
 
 /// A checked program.
-#[derive(Drop)]
 pub struct Program {
     objects: Vec<Declared>,
     clients: Vec<Client>,
     load: u64,
     weight: u64,
+}
+
+impl Drop for Program {
+    fn drop(self) {
+        let Program {
+            objects: _,
+            clients: _,
+            load: _,
+            weight: _,
+        } = self;
+    }
 }
 
 impl Model for Program {
@@ -150,9 +182,6 @@ impl Program {
             weight,
         }
     }
-
-    /// Lets the program go. A crate that calls this has no proof of its own of how each part of a program is dropped.
-    pub fn discard(self) {}
 
     /// What holds of every checked program; it does nothing.
     pub fn is_sound(&self)

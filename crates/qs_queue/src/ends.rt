@@ -12,10 +12,15 @@ use std::marker::Model;
 use std::sync::{Arc, Wait};
 
 /// The sending end of a queue.
-#[derive(Drop)]
 pub struct Sender<T, K, P: Protocol<T, K>> {
     queue: Arc<Queue<T, K, P>, Global>,
     pass: Pass<T, Known<T, K>>,
+}
+
+impl<T: Drop, K, P: Protocol<T, K>> Drop for Sender<T, K, P> {
+    fn drop(self) {
+        let Sender { queue: _, pass: _ } = self;
+    }
 }
 
 impl<T, K, P: Protocol<T, K>> Model for Sender<T, K, P> {

@@ -10,10 +10,15 @@ use std::hash::{Hash, Hasher};
 use std::marker::Model;
 
 /// A name: at most sixteen bytes, kept in place. Contracts see it as the list of its bytes.
-#[derive(Drop)]
 pub struct Name {
     bytes: [u8; 16],
     len: u8,
+}
+
+impl Drop for Name {
+    fn drop(self) {
+        let Name { bytes: _, len: _ } = self;
+    }
 }
 
 impl Model for Name {

@@ -238,9 +238,14 @@ pub enum Item {
 
 /// A script, which `read` alone makes. Contracts see it as the list of its items. Its type keeps that each block names an object and
 /// that a statement stands inside at most eight others, so that no call on it goes deep.
-#[derive(Drop)]
 pub struct Script {
     pub(crate) items: Vec<Item>,
+}
+
+impl Drop for Script {
+    fn drop(self) {
+        let Script { items: _ } = self;
+    }
 }
 
 impl Model for Script {
@@ -261,9 +266,6 @@ impl Model for Script {
 }
 
 impl Script {
-    /// Lets the script go. A crate that calls this has no proof of its own of how each part of a script is dropped.
-    pub fn discard(self) {}
-
     /// What holds of every script; it does nothing.
     pub fn is_formed(&self)
         ensures form { HasForm self.now }

@@ -27,9 +27,14 @@ pub struct ClientSeat<D: DeskName> {
 }
 
 /// A handler's seat before the run: nothing is taken and nothing has passed, and there is a lane from each client that may reserve it.
-#[derive(Drop)]
 pub struct ReadyHandler<D: DeskName> {
     seat: HandlerSeat<D>,
+}
+
+impl<D: DeskName> Drop for ReadyHandler<D> {
+    fn drop(self) {
+        let ReadyHandler { seat: _ } = self;
+    }
 }
 
 impl<D: DeskName> Model for ReadyHandler<D> {
@@ -63,9 +68,14 @@ impl<D: DeskName> ReadyHandler<D> {
 }
 
 /// A client's seat before the run: no block is booked and nothing has passed, and there is a lane to each handler that its blocks reserve.
-#[derive(Drop)]
 pub struct ReadyClient<D: DeskName> {
     seat: ClientSeat<D>,
+}
+
+impl<D: DeskName> Drop for ReadyClient<D> {
+    fn drop(self) {
+        let ReadyClient { seat: _ } = self;
+    }
 }
 
 impl<D: DeskName> Model for ReadyClient<D> {

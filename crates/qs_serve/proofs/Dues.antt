@@ -13,7 +13,7 @@ use Rattle.qs_script.specs.declared.fault.ReadFault.TheVariants as read
 use Rattle.qs_check.specs.declared.fault.CheckFault.TheVariants as check_fault
 use Rattle.qs_played.specs.declared.fault.PlayFault.TheVariants as play_fault
 use Rattle.qs_run_laws.specs.Outcomes.{IsOutcome}
-use Rattle.qs_line.specs.Line.{Line, asks, help, play, refused, rules, run}
+use Rattle.qs_line.specs.Line.{Line, asks, help, play, refused, rules, run, version}
 use Rattle.qs_serve.specs.Due.{IsDue, IsDueOfProgram, IsOutOfMemory, IsRefusedBy, IsReportOf, due_status}
 use Rattle.qs_serve.specs.declared.due.Due.{Due}
 use Rattle.qs_serve.specs.declared.due.Due.TheVariants.{Text, Refused}
@@ -22,6 +22,7 @@ use Rattle.qs_serve.specs.declared.due.Due.TheVariants.{Text, Refused}
 pub memory_is_due : (line : Line) (known : Option (List ℕ)) (failed : Bool) → failed ≡ false → IsDue line known failed (Refused fault.Memory)
 memory_is_due refused known failed fine = inl refl
 memory_is_due help known failed fine = inl refl
+memory_is_due version known failed fine = inl refl
 memory_is_due (asks request) known true fine = absurd (cc fine)
 memory_is_due (asks request) known false fine = (λ clash. absurd (cc clash), inl tt)
 
@@ -45,6 +46,8 @@ four_is_due refused known failed (Refused f) (inl memory) e = absurd (cc (memory
 four_is_due refused known failed (Refused f) (inr line) e = absurd (cc (line, e))
 four_is_due help known failed (Refused f) (inl memory) e = absurd (cc (memory, e))
 four_is_due help known failed (Refused f) (inr none) e = absurd none
+four_is_due version known failed (Refused f) (inl memory) e = absurd (cc (memory, e))
+four_is_due version known failed (Refused f) (inr none) e = absurd none
 four_is_due (asks request) known true (Refused f) is e = refl
 four_is_due (asks request) known false (Refused f) is e = absurd (is.0 (status_of_input f e))
 

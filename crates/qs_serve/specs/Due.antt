@@ -21,7 +21,7 @@ use Rattle.qs_plain_laws.specs.PlainSchedule.{IsPlayed}
 use Rattle.qs_played.specs.declared.fault.PlayFault.{PlayFault}
 use Rattle.qs_played.specs.Played.{Played}
 use Rattle.qs_run_laws.specs.Outcomes.{IsOutcome}
-use Rattle.qs_line.specs.Line.{Line, Request, asks, check, graph, help, line_in, play, refused, rules, run}
+use Rattle.qs_line.specs.Line.{Line, Request, asks, check, graph, help, line_in, play, refused, rules, run, version}
 use Rattle.qs_serve.specs.declared.due.Due.{Due}
 use Rattle.qs_serve.specs.declared.due.Due.TheVariants.{Text, Refused}
 
@@ -100,15 +100,16 @@ IsDueOfText request text (Refused _) = ⊥
 abbrev pub longest : ℕ
 longest = 65537
 
--- a text is due, such as that of help
+-- a text is due, such as that of help or of the version
 abbrev pub IsSomeText : Due → Type 0
 IsSomeText (Text bytes) = ⊤
 IsSomeText (Refused f) = ⊥
 
--- what is due, by the line, the input's bytes where they are known, and whether a read has failed; the text of help is clap's
+-- what is due, by the line, the input's bytes where they are known, and whether a read has failed; the texts of help and of the version are clap's
 abbrev pub IsDue : Line → Option (List ℕ) → Bool → Due → Type 0
 IsDue refused known failed due = IsRefusedBy fault.Memory due ⊎ IsRefusedBy fault.CommandLine due
 IsDue help known failed due = IsRefusedBy fault.Memory due ⊎ IsSomeText due
+IsDue version known failed due = IsRefusedBy fault.Memory due ⊎ IsSomeText due
 IsDue (asks request) known true due = IsRefusedBy fault.Input due
 IsDue (asks request) known false due =
     (¬ IsRefusedBy fault.Input due)

@@ -188,9 +188,7 @@ fn due_of_script<T: Threads + Wait + Sync>(
         Ok(program) => program,
         Err(fault) => return Due::Refused(Fault::Check(fault)),
     };
-    let due = due_of_program(rt, alloc, settings, &program);
-    program.discard();
-    due
+    due_of_program(rt, alloc, settings, &program)
 }
 
 const LONGEST: usize = 65_537;
@@ -234,6 +232,7 @@ pub fn due_of<'a, T: Threads + Wait + Sync, R: Read>(
         }
         Err(LineFault::Refused) => Due::Refused(Fault::CommandLine),
         Err(LineFault::Help(text)) => Due::Text(text.into_bytes()),
+        Err(LineFault::Version(text)) => Due::Text(text.into_bytes()),
         Err(LineFault::Memory) => Due::Refused(Fault::Memory),
     }
 }

@@ -24,6 +24,9 @@ returns c = record {
       no_picks = refl;
       asks_help = refl;
       asks_help_of_play = refl;
+      asks_version = refl;
+      asks_short_version = refl;
+      asks_version_of_play = refl;
     };
   };
 }

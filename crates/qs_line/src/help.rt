@@ -1,0 +1,74 @@
+// What `--help` says beside the names that `clap` knows: of the program, of each word and of each setting.
+
+pub const ABOUT: &str = "\
+Plays scripts of SCOOP separate blocks: objects, clients, and blocks that reserve objects. The script is read from standard input.";
+
+pub const EXAMPLES: &str = "\
+A script:
+  object a account 100
+  client ann { separate a { a.deposit(5); x = a.balance(); } }
+  client bob { separate a { a.withdraw(7); } }
+
+Examples, with the script in the file my.script:
+  qs check < my.script                   whether it is a script, and how large it is
+  qs play < my.script                    ann and bob take turns
+  qs play --pick c1,c1,h0 < my.script    bob (client 1) steps twice and a's handler once, before the turns
+  qs run --counts < my.script            on threads, with the synchronisations sent
+
+A report lists the blocks in the order of their reservations, each with its requests and replies, then the
+objects' last states and how many synchronisations were sent. `qs WORD --help` says more of a word.";
+
+pub const CHECK: &str =
+    "Checks the script and counts its objects, clients, blocks, load and weight";
+
+pub const CHECK_EXAMPLE: &str = "\
+Example:
+  qs check < my.script";
+
+pub const GRAPH: &str =
+    "Shows each block's control-flow graph, and which objects are held at its nodes";
+
+pub const GRAPH_EXAMPLE: &str = "\
+Example:
+  qs graph < my.script
+
+A line `5 sync a removed -> 6 held a` is node 5, a synchronisation with the handler of a, which static coalescing
+removes, since on every path to it a is held; node 6 comes next.";
+
+pub const RULES: &str = "Plays the script by the plain rules, one synchronisation for each query";
+
+pub const RULES_EXAMPLE: &str = "\
+Example:
+  qs rules --pick c1,h0 --rounds 3 < my.script
+
+First the actors of LIST step, one after another; then, N times, every client steps once and every handler once.";
+
+pub const PLAY: &str = "Plays the script on the optimised machine: lanes of chunks, and coalescing";
+
+pub const PLAY_EXAMPLE: &str = "\
+Example:
+  qs play --mode static --chunk 4 --pick c1,c1,h0 < my.script
+
+First the actors of LIST step, one after another; then, N times, every client steps once and every handler once.
+Neither the mode nor the size of chunks changes what a block sees: only how many synchronisations are sent, and when.";
+
+pub const RUN: &str = "Runs the script with each client and each handler on a thread of its own";
+
+pub const RUN_EXAMPLE: &str = "\
+Example:
+  qs run --mode none --counts < my.script
+
+The threads decide the order of reservations. Along it, each block shows what it does alone.";
+
+pub const MODE: &str =
+    "Which synchronisations are left out: by none, dynamic or static coalescing, or by both";
+
+pub const CHUNK: &str = "How many commands travel in one chunk: 1 to 32";
+
+pub const ROUNDS: &str = "How many rounds are played at most, after the picks: 0 to 1000000";
+
+pub const PICK: &str =
+    "Who steps first, joined by commas: c0 is the first client, h0 the first object's handler";
+
+pub const COUNTS: &str =
+    "Shows after each block how many synchronisations it has sent for each of its objects";

@@ -1,0 +1,1 @@
+use Rattle.qs_pairs.proofs.played.Goals as goal

@@ -1,0 +1,205 @@
+//! Blocks of two runs on the optimised machine, compared in every two modes. What is printed depends on nothing but the scripts below.
+#![tactic(auto)]
+
+ghost use Rattle.std.specs.Prelude.{◌<◌, length, IfSome};
+ghost use Rattle.qs_meaning.specs.Serial.{IsLegal};
+ghost use Rattle.qs_played.specs.Isolation.{IsFitting};
+
+use qs_chunk::ChunkSize;
+use qs_core::{Actor, Played, Twin, play, twin};
+use qs_program::Program;
+use qs_syncset::Mode;
+use std::alloc::Global;
+use std::io;
+use std::io::Write;
+use std::process::ExitCode;
+
+const ANN: u8 = 0;
+
+const BOB: u8 = 1;
+
+// Who comes first at the account decides which withdrawal is refused.
+const BOTH: &str = "object a account 100
+    client ann { separate a { a.withdraw(120); x = a.balance(); } }
+    client bob { separate a { a.withdraw(80); x = a.balance(); } }";
+
+const ALONE: &str = "object a account 100
+    client ann { separate a { a.deposit(5); x = a.balance(); } }";
+
+// The same block, beside another client and another object, with other names of numbers and in another order of objects.
+const BESIDE: &str = "object b account 7 object a account 100
+    client ann { separate a { a.deposit(5); x = a.balance(); } }
+    client bob { separate b { b.deposit(1); } }";
+
+const OTHER_NUMBER: &str = "object a account 100
+    client ann { separate a { a.deposit(6); x = a.balance(); } }";
+
+const OTHER_VARIABLE: &str = "object a account 100
+    client ann { separate a { a.deposit(5); y = a.balance(); } }";
+
+const OTHER_STATE: &str = "object a account 99
+    client ann { separate a { a.deposit(5); x = a.balance(); } }";
+
+// A program with the actors that step first, and how many rounds come then.
+struct Schedule<'a> {
+    text: &'a str,
+    picks: &'a [Actor],
+    rounds: u32,
+}
+
+fn checked(alloc: Global, text: &str) -> Option<Program> {
+    let script = qs_script::read(alloc, text.as_bytes()).ok()?;
+    qs_check::check(alloc, script).ok()
+}
+
+// A run, which fits its program.
+fn played(
+    alloc: Global,
+    program: &Program,
+    mode: Mode,
+    picks: &[Actor],
+    rounds: u32,
+) -> Option<Played>
+    ensures fits { IfSome result (IsFitting program.now) }
+    ensures legal { IfSome result (λ played. IsLegal program.now played.order) }
+{
+    let size = ChunkSize::new(8)?;
+    play(alloc, program, mode, size, picks, rounds).ok()
+}
+
+// Where a client's first block stands in the order.
+fn place_of(played: &Played, client: u8) -> Option<usize>
+    ensures place { IfSome result (λ place. place < length played.now.order) }
+{
+    for place in 0..played.order().len() {
+        if played.order()[place].client == client {
+            return Some(place);
+        }
+    }
+    None
+}
+
+// What a comparison of a client's first blocks in two runs says.
+fn told(
+    alloc: Global,
+    client: u8,
+    here: &Schedule<'_>,
+    mode: Mode,
+    there: &Schedule<'_>,
+    other_mode: Mode,
+) -> Option<Twin> {
+    let program = checked(alloc, here.text)?;
+    let other = checked(alloc, there.text)?;
+    let run = played(alloc, &program, mode, here.picks, here.rounds)?;
+    let other_run = played(alloc, &other, other_mode, there.picks, there.rounds)?;
+    let place = place_of(&run, client)?;
+    let other_place = place_of(&other_run, client)?;
+    twin(
+        alloc,
+        &program,
+        &run,
+        place,
+        &other,
+        &other_run,
+        other_place,
+    )
+    .ok()
+}
+
+// `=` and a digit for so many equal events, `/` where the blocks differ, `?` where there is nothing to compare.
+fn sign_of(told: Option<Twin>) -> [u8; 2] {
+    match told {
+        Some(Twin::Agree(count @ 0..=9)) => [b'=', b'0' + count as u8],
+        Some(Twin::Different) => [b'/', b' '],
+        _ => [b'?', b' '],
+    }
+}
+
+// A line with the signs of every two modes.
+fn put<W: Write>(
+    out: &mut W,
+    alloc: Global,
+    what: &[u8],
+    client: u8,
+    here: &Schedule<'_>,
+    there: &Schedule<'_>,
+) {
+    let modes = [Mode::Plain, Mode::Dynamic, Mode::Static, Mode::Both];
+    for mode in modes {
+        for other_mode in modes {
+            let told = told(alloc, client, here, mode, there, other_mode);
+            let _ = out.write_all(sign_of(told).as_slice());
+            let _ = out.write_all(b" ");
+        }
+    }
+    let _ = out.write_all(what);
+    let _ = out.write_all(b"\n");
+}
+
+fn whole<'a>(text: &'a str, picks: &'a [Actor]) -> Schedule<'a> {
+    Schedule {
+        text,
+        picks,
+        rounds: 1_000_000,
+    }
+}
+
+fn main(rt: HostRuntime) -> ExitCode {
+    let alloc = rt.alloc();
+    let mut out = io::writer(&rt);
+    let none = [];
+    let bob_first = [Actor::Client(1)];
+    let in_turn = whole(BOTH, &none);
+    let turned = whole(BOTH, &bob_first);
+    put(
+        &mut out,
+        alloc,
+        b"ann's, after bob or before him",
+        ANN,
+        &in_turn,
+        &turned,
+    );
+    put(
+        &mut out,
+        alloc,
+        b"bob's, after ann or before her",
+        BOB,
+        &in_turn,
+        &turned,
+    );
+    let alone = whole(ALONE, &none);
+    put(
+        &mut out,
+        alloc,
+        b"ann's, alone or beside bob",
+        ANN,
+        &alone,
+        &whole(BESIDE, &none),
+    );
+    put(
+        &mut out,
+        alloc,
+        b"ann's, with another number",
+        ANN,
+        &alone,
+        &whole(OTHER_NUMBER, &none),
+    );
+    put(
+        &mut out,
+        alloc,
+        b"ann's, with another variable",
+        ANN,
+        &alone,
+        &whole(OTHER_VARIABLE, &none),
+    );
+    put(
+        &mut out,
+        alloc,
+        b"ann's, from another state",
+        ANN,
+        &alone,
+        &whole(OTHER_STATE, &none),
+    );
+    let _ = out.flush();
+    ExitCode::SUCCESS
+}
