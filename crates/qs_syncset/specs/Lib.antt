@@ -1,7 +1,8 @@
 pub mod Held
 pub mod Flow
 pub mod Table
-pub mod RowsOf
+pub mod Cells
+pub mod Worklists
 pub mod Coalesced
 pub mod Modes
 pub mod Codes

@@ -2,15 +2,18 @@
 //! makes needless, and the code that a client runs.
 #![tactic(auto)]
 
+mod cells;
 mod code;
-mod fixpoint;
 pub mod laws;
 mod mode;
 mod removal;
+mod sets;
 mod sync_counts;
+mod worklist;
 
 pub use code::{Code, compile};
-pub use fixpoint::{Sets, held_sets};
 pub use mode::Mode;
 pub use removal::coalesce;
+pub use sets::{Sets, held_sets, held_sets_counted};
 pub use sync_counts::{SyncCount, SyncCounts};
+pub use worklist::Turns;
