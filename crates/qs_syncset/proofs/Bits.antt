@@ -3,9 +3,9 @@ use Rattle.std.proofs.Common.{◌≡◌, ◌≢◌, ℕ, zero, suc, ◌-◌, ◌
 use Rattle.std.specs.Prelude.{◌&&◌, ◌==◌}
 use Rattle.std.specs.Int.{bit_at}
 use Rattle.std.proofs.lemmas.Bool.{cases_eq, cases_lt}
-use Rattle.std.proofs.lemmas.Nat.Bits.{bit_at_and, bit_at-lt, bit_at_set_same, bit_at_set_other, bit_at_clear_same, bit_at_clear_other, same_from_bits_below}
+use Rattle.std.proofs.lemmas.Nat.Bits.{bit_at_and, bit_at-lt, bit_at_set_same, bit_at_set_other, bit_at_clear_same, bit_at_clear_other, bit_at-zero, same_from_bits_below}
 use Rattle.qs_meaning.specs.Solo.{put}
-use Rattle.qs_syncset.specs.Cells.{in_set, truths, total_below}
+use Rattle.qs_syncset.specs.Bytes.{in_set, size, total_below, truths}
 use Rattle.qs_syncset.proofs.Paths.{put_same, put_other}
 
 zero_or_one : (x : ℕ) → x < 2 → (x ≡ 0) ⊎ (x ≡ 1)
@@ -81,19 +81,18 @@ min_less x y = omega arith
 bit_less : (a b i : ℕ) → bit_at (bit_and a b) i ≤ bit_at a i
 bit_less a b i = rw (bit_at_and a b i) (min_less (bit_at a i) (bit_at b i))
 
-pub at_most_8 : (s : ℕ) → total_below 8 (bit_at s) ≤ 8
+pub at_most_8 : (s : ℕ) → size s ≤ 8
 at_most_8 s = total_most 8 (bit_at s) (bit_at-lt s)
 
-pub none_in : (s : ℕ) → ((i : ℕ) → bit_at s i ≡ 0) → total_below 8 (bit_at s) ≡ 0
-none_in s each = total_none 8 (bit_at s) each
+pub none_in_0 : size 0 ≡ 0
+none_in_0 = total_none 8 (bit_at 0) bit_at-zero
 
-pub both_less : (a b : ℕ) → total_below 8 (bit_at (bit_and a b)) ≤ total_below 8 (bit_at a)
+pub both_less : (a b : ℕ) → size (bit_and a b) ≤ size a
 both_less a b = total_less 8 (bit_at a) (bit_at (bit_and a b)) (bit_less a b)
 
 -- a set that shrinks has fewer
-pub shrunk_less : (a b : ℕ) → a < 2 ^ 8 → bit_and a b < 2 ^ 8 → bit_and a b ≢ a
-    → total_below 8 (bit_at (bit_and a b)) < total_below 8 (bit_at a)
-shrunk_less a b small both shrunk = elim (cases_lt (total_below 8 (bit_at (bit_and a b))) (total_below 8 (bit_at a))) [
+pub shrunk_less : (a b : ℕ) → a < 2 ^ 8 → bit_and a b < 2 ^ 8 → bit_and a b ≢ a → size (bit_and a b) < size a
+shrunk_less a b small both shrunk = elim (cases_lt (size (bit_and a b)) (size a)) [
   | inl fewer ↦ fewer
   | inr as_many ↦
       let each = total_same 8 (bit_at a) (bit_at (bit_and a b)) (bit_less a b) as_many in

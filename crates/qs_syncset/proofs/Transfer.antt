@@ -1,15 +1,15 @@
--- What passing on along an edge keeps of the cells.
+-- What passing on along an edge keeps of what is known of the nodes.
 use Rattle.std.proofs.Common.{◌≡◌, ◌≢◌, ℕ, ◌<◌, ◌/◌, ◌^◌, inl, inr, Bool, true, false, List, [], length, get_or, set, sym, ap, subst, ◌∙◌, arith, bit_and}
 use Rattle.std.specs.Prelude.{◌&&◌, ◌||◌, ◌==◌}
 use Rattle.std.proofs.lemmas.Bool.{and_cases, and_parts, cases_eq, cases_lt, or_parts}
-use Rattle.std.proofs.lemmas.List.{get_or-map, get_or-set_other, get_or-set_same, get_or_default, get_or_past, get_or_read, length-map, length-set}
+use Rattle.std.proofs.lemmas.List.{get_or-map, get_or-set_other, get_or-set_same, get_or_default, get_or_past, length-map}
 use Rattle.std.proofs.lemmas.Nat.Bits.{shr_and_one}
 use Rattle.qs_graph.specs.Nodes.{Place, place_at}
 use Rattle.qs_graph.specs.declared.node.Node.{Node}
 use Rattle.qs_graph.specs.Paths.{HasEdge}
-use Rattle.qs_syncset.specs.declared.cells.Cell.{Cell}
-use Rattle.qs_syncset.specs.Flow.{Holding, held_after, IsReached, IsMissed, HasArrived, IsPassedOn}
-use Rattle.qs_syncset.specs.Cells.{AreCellsOf, cell_at, held_in, in_set, met, no_cell, reached_in, sets_of, truths}
+use Rattle.qs_syncset.specs.Flow.{Holding, held_after, IsReached, IsMissed, AreWitnessed, HasArrived, IsAtEntry, IsPassedOn}
+use Rattle.qs_syncset.specs.Bytes.{in_set, truths, truths_of}
+use Rattle.qs_syncset.specs.Dataflow.{State, held_at, reached_at, set_at}
 use Rattle.qs_syncset.specs.Table.{AreSetsOf, has}
 use Rattle.qs_syncset.proofs.Bits.{in_both, truths_at}
 use Rattle.qs_syncset.proofs.Paths.{held_is, missed_past, reached_past}
@@ -26,149 +26,142 @@ pub record IsFair (g : List Place) (n out : ℕ) : Type 0 where
   pub reached : IsReached g n
   pub lacks : (h : ℕ) → h < 8 → in_set out h ≡ false → IsMissed g n h
 
--- the cell of n alone has met what comes in
-pub record IsMetAt (cells new : List Cell) (n out : ℕ) : Type 0 where
-  pub inside : n < length cells
-  pub change : new ≡ set cells n (met (cell_at cells n) out)
+-- what comes in has met the set of n, and nothing else has changed
+pub record IsMetAt (old new : State) (n out : ℕ) : Type 0 where
+  pub inside_reached : n < length old.reached
+  pub inside : n < length old.sets
+  pub reached : new.reached ≡ set old.reached n true
+  pub sets : new.sets ≡ set old.sets n (bit_and (set_at old n) out)
 
-module _ (cells new : List Cell) (n out : ℕ) (m : IsMetAt cells new n out) where
-  pub cell_there : cell_at new n ≡ met (cell_at cells n) out
-  cell_there = ap (λ cs. cell_at cs n) m.change ∙ get_or-set_same cells n (met (cell_at cells n) out) no_cell m.inside
+module _ (old new : State) (n out : ℕ) (m : IsMetAt old new n out) where
+  pub reached_there : reached_at new n ≡ true
+  reached_there = ap (λ r. get_or r n false) m.reached ∙ get_or-set_same old.reached n true false m.inside_reached
 
-  pub cell_elsewhere : (x : ℕ) → x ≢ n → cell_at new x ≡ cell_at cells x
-  cell_elsewhere x other = ap (λ cs. cell_at cs x) m.change ∙ get_or-set_other cells n x (met (cell_at cells n) out) no_cell other
+  reached_elsewhere : (x : ℕ) → x ≢ n → reached_at new x ≡ reached_at old x
+  reached_elsewhere x other = ap (λ r. get_or r x false) m.reached ∙ get_or-set_other old.reached n x true false other
 
-  pub reached_there : reached_in new n ≡ true
-  reached_there = ap (λ (c : Cell). c.reached) cell_there
+  set_there : set_at new n ≡ bit_and (set_at old n) out
+  set_there = ap (λ s. get_or s n 255) m.sets ∙ get_or-set_same old.sets n (bit_and (set_at old n) out) 255 m.inside
 
-  pub held_there : (h : ℕ) → held_in new n h ≡ held_in cells n h && in_set out h
-  held_there h = ap (λ (c : Cell). in_set c.set h) cell_there ∙ in_both (cell_at cells n).set out h
+  pub set_elsewhere : (x : ℕ) → x ≢ n → set_at new x ≡ set_at old x
+  set_elsewhere x other = ap (λ s. get_or s x 255) m.sets ∙ get_or-set_other old.sets n x (bit_and (set_at old n) out) 255 other
 
-  reached_elsewhere : (x : ℕ) → x ≢ n → reached_in new x ≡ reached_in cells x
-  reached_elsewhere x other = ap (λ (c : Cell). c.reached) (cell_elsewhere x other)
+  held_there : (h : ℕ) → held_at new n h ≡ held_at old n h && in_set out h
+  held_there h = ap (λ s. in_set s h) set_there ∙ in_both (set_at old n) out h
 
-  held_elsewhere : (x : ℕ) → x ≢ n → (h : ℕ) → held_in new x h ≡ held_in cells x h
-  held_elsewhere x other h = ap (λ (c : Cell). in_set c.set h) (cell_elsewhere x other)
+  held_elsewhere : (x : ℕ) → x ≢ n → (h : ℕ) → held_at new x h ≡ held_at old x h
+  held_elsewhere x other h = ap (λ s. in_set s h) (set_elsewhere x other)
 
-  pub same_count : length new ≡ length cells
-  same_count = ap length m.change ∙ length-set cells n (met (cell_at cells n) out)
+  pub reached_was : (x : ℕ) → x ≢ n → reached_at new x ≡ true → reached_at old x ≡ true
+  reached_was x other r = sym (reached_elsewhere x other) ∙ r
 
-  missed_there : (g : List Place) → AreCellsOf g cells → IsFair g n out → (h : ℕ) → h < 8 → held_in new n h ≡ false → IsMissed g n h
-  missed_there g a f h below e = elim (and_cases (held_in cells n h) (in_set out h) (sym (held_there h) ∙ e)) [
-    | inl before ↦ a.witnessed.miss n h below before
-    | inr lacking ↦ f.lacks h below lacking
-  ]
-
-  pub cells_met : (g : List Place) → AreCellsOf g cells → IsFair g n out → AreCellsOf g new
-  cells_met g a f = record {
-    count = same_count ∙ a.count;
-    witnessed = record {
-      reach = λ x r. elim (cases_eq x n) [
-        | inl same ↦ rw same f.reached
-        | inr other ↦ a.witnessed.reach x (sym (reached_elsewhere x other) ∙ r)
-      ];
-      miss = λ x h below r. elim (cases_eq x n) [
-        | inl same ↦ rw same (missed_there g a f h below (rw same at r))
-        | inr other ↦ a.witnessed.miss x h below (sym (held_elsewhere x other h) ∙ r)
-      ];
-    };
-    entry = record {
-      reach = elim (cases_eq 0 n) [
-        | inl same ↦ rw same reached_there
-        | inr other ↦ reached_elsewhere 0 other ∙ a.entry.reach
-      ];
-      none = λ h below. elim (cases_eq 0 n) [
-        | inl same ↦ rw same (held_there h ∙ ap (λ b. b && in_set out h) (rw same at (a.entry.none h below)))
-        | inr other ↦ held_elsewhere 0 other h ∙ a.entry.none h below
-      ];
-    };
-  }
-
-  -- what had come to a node is there still
-  pub arrived_still : (x : ℕ) (sent : Holding) → HasArrived (reached_in cells) (held_in cells) x sent
-      → HasArrived (reached_in new) (held_in new) x sent
-  arrived_still x sent a = elim (cases_eq x n) [
-    | inl same ↦ record {
-      reach = rw same reached_there;
-      below = λ h below t.
-          a.below h below (rw same (and_parts (held_in cells n h) (in_set out h) (sym (held_there h) ∙ (rw same at t))).0);
-    }
-    | inr other ↦ record {
-      reach = reached_elsewhere x other ∙ a.reach;
-      below = λ h below t. a.below h below (sym (held_elsewhere x other h) ∙ t);
-    }
-  ]
-
-  -- what comes in has come
-  pub arrived_there : HasArrived (reached_in new) (held_in new) n (in_set out)
-  arrived_there = record {
-    reach = reached_there;
-    below = λ h below t. (and_parts (held_in cells n h) (in_set out h) (sym (held_there h) ∙ t)).1;
-  }
-
-  pub reached_still : (x : ℕ) → reached_in cells x ≡ true → reached_in new x ≡ true
+  pub reached_still : (x : ℕ) → reached_at old x ≡ true → reached_at new x ≡ true
   reached_still x r = elim (cases_eq x n) [
     | inl same ↦ rw same reached_there
     | inr other ↦ reached_elsewhere x other ∙ r
   ]
 
+  missed_there : (g : List Place) → AreWitnessed g (reached_at old) (held_at old) → IsFair g n out
+      → (h : ℕ) → h < 8 → held_at new n h ≡ false → IsMissed g n h
+  missed_there g w f h below e = elim (and_cases (held_at old n h) (in_set out h) (sym (held_there h) ∙ e)) [
+    | inl before ↦ w.miss n h below before
+    | inr lacking ↦ f.lacks h below lacking
+  ]
+
+  pub witnessed_still : (g : List Place) → AreWitnessed g (reached_at old) (held_at old) → IsFair g n out
+      → AreWitnessed g (reached_at new) (held_at new)
+  witnessed_still g w f = record {
+    reach = λ x r. elim (cases_eq x n) [
+      | inl same ↦ rw same f.reached
+      | inr other ↦ w.reach x (reached_was x other r)
+    ];
+    miss = λ x h below e. elim (cases_eq x n) [
+      | inl same ↦ rw same (missed_there g w f h below (rw same at e))
+      | inr other ↦ w.miss x h below (sym (held_elsewhere x other h) ∙ e)
+    ];
+  }
+
+  pub entry_still : IsAtEntry (reached_at old) (held_at old) → IsAtEntry (reached_at new) (held_at new)
+  entry_still entry = record {
+    reach = reached_still 0 entry.reach;
+    none = λ h below. elim (cases_eq 0 n) [
+      | inl same ↦ rw same (held_there h ∙ ap (λ b. b && in_set out h) (rw same at (entry.none h below)))
+      | inr other ↦ held_elsewhere 0 other h ∙ entry.none h below
+    ];
+  }
+
+  -- what had come to a node is there still
+  pub arrived_still : (x : ℕ) (sent : Holding) → HasArrived (reached_at old) (held_at old) x sent
+      → HasArrived (reached_at new) (held_at new) x sent
+  arrived_still x sent a = record {
+    reach = reached_still x a.reach;
+    below = λ h below t. elim (cases_eq x n) [
+      | inl same ↦
+          a.below h below (rw same (and_parts (held_at old n h) (in_set out h) (sym (held_there h) ∙ (rw same at t))).0)
+      | inr other ↦ a.below h below (sym (held_elsewhere x other h) ∙ t)
+    ];
+  }
+
+  -- what comes in has come
+  pub arrived_there : HasArrived (reached_at new) (held_at new) n (in_set out)
+  arrived_there = record {
+    reach = reached_there;
+    below = λ h below t. (and_parts (held_at old n h) (in_set out h) (sym (held_there h) ∙ t)).1;
+  }
+
   -- another node has passed on what it has, as before
-  pub passed_still : (g : List Place) (x : ℕ) → x ≢ n → IsPassedOn g (reached_in cells) (held_in cells) x
-      → IsPassedOn g (reached_in new) (held_in new) x
+  pub passed_still : (g : List Place) (x : ℕ) → x ≢ n → IsPassedOn g (reached_at old) (held_at old) x
+      → IsPassedOn g (reached_at new) (held_at new) x
   passed_still g x other passed to edge =
-      let before : HasArrived (reached_in new) (held_in new) to (held_after (place_at g x).node (held_in cells x)) =
-      arrived_still to (held_after (place_at g x).node (held_in cells x)) (passed to edge) in
+      let sent = held_after (place_at g x).node (held_at old x) in
+      let before : HasArrived (reached_at new) (held_at new) to sent = arrived_still to sent (passed to edge) in
       record {
         reach = before.reach;
         below = λ h below t.
-            ap (λ (c : Cell). held_after (place_at g x).node (in_set c.set) h) (cell_elsewhere x other) ∙ before.below h below t;
+            ap (λ s. held_after (place_at g x).node (in_set s) h) (set_elsewhere x other) ∙ before.below h below t;
       }
 
 -- what goes along an edge of a node that is reached is fair
-pub fair_edge : (g : List Place) (cells : List Cell) (m n out : ℕ) → AreCellsOf g cells → HasEdge g m n → reached_in cells m ≡ true
-    → ((h : ℕ) → h < 8 → in_set out h ≡ held_after (place_at g m).node (held_in cells m) h) → IsFair g n out
-fair_edge g cells m n out a edge r is = record {
-  reached = reached_past g (reached_in cells) (held_in cells) a.witnessed m n edge r;
-  lacks = λ h below e.
-      missed_past g (reached_in cells) (held_in cells) a.witnessed m n h edge r below (sym (is h below) ∙ e);
+pub fair_edge : (g : List Place) (s : State) (m n out : ℕ) → AreWitnessed g (reached_at s) (held_at s) → HasEdge g m n
+    → reached_at s m ≡ true → ((h : ℕ) → h < 8 → in_set out h ≡ held_after (place_at g m).node (held_at s m) h) → IsFair g n out
+fair_edge g s m n out w edge r is = record {
+  reached = reached_past g (reached_at s) (held_at s) w m n edge r;
+  lacks = λ h below e. missed_past g (reached_at s) (held_at s) w m n h edge r below (sym (is h below) ∙ e);
 }
 
 -- a node that is reached is a node
-pub reached_inside : (cells : List Cell) (n : ℕ) → reached_in cells n ≡ true → n < length cells
-reached_inside cells n r = elim (cases_lt n (length cells)) [
+pub reached_inside : (s : State) (n : ℕ) → reached_at s n ≡ true → n < length s.reached
+reached_inside s n r = elim (cases_lt n (length s.reached)) [
   | inl inside ↦ inside
-  | inr past ↦
-      let none : cell_at cells n ≡ no_cell = get_or_past cells n no_cell past in
-      absurd (let never : false ≡ true = sym (ap (λ (c : Cell). c.reached) none) ∙ r in cc)
+  | inr past ↦ absurd (let never : false ≡ true = sym (get_or_past s.reached n false past) ∙ r in cc)
 ]
 
-pub has_held : (cells : List Cell) (n h : ℕ) → n < length cells → h < 8 → has (sets_of cells) n h ≡ held_in cells n h
-has_held cells n h inside below =
-    ap (λ r. get_or r h true) (get_or-map (λ c. truths c.set) cells n no_cell [] inside) ∙ truths_at (cell_at cells n).set h below
+-- what goes out of a node, by the byte that the code reads
+pub sent_from : (g : List Place) (v : Node) (out : ℕ) (s : State) (x d : ℕ) → v ≡ (place_at g x).node → x < length s.sets
+    → ((h : ℕ) → h < 8 → in_set out h ≡ held_after v (in_set (get_or s.sets x d)) h)
+    → (h : ℕ) → h < 8 → in_set out h ≡ held_after (place_at g x).node (held_at s x) h
+sent_from g v out s x d e inside is h below =
+    let read : get_or s.sets x d ≡ set_at s x = get_or_default s.sets x d 255 inside in
+    subst (λ (w : Node). in_set out h ≡ held_after w (held_at s x) h) e
+    (is h below ∙ ap (λ n. held_after v (in_set n) h) read)
 
--- what goes out of a node, by the cell that the code reads
-pub sent_from : (g : List Place) (v : Node) (out : ℕ) (cells : List Cell) (x : ℕ) (d : Cell) → v ≡ (place_at g x).node
-    → reached_in cells x ≡ true → ((h : ℕ) → h < 8 → in_set out h ≡ held_after v (in_set (get_or cells x d).set) h)
-    → (h : ℕ) → h < 8 → in_set out h ≡ held_after (place_at g x).node (held_in cells x) h
-sent_from g v out cells x d e r is h below =
-    let read : get_or cells x d ≡ cell_at cells x = get_or_default cells x d no_cell (reached_inside cells x r) in
-    subst (λ (w : Node). in_set out h ≡ held_after w (held_in cells x) h) e
-    (is h below ∙ ap (λ (c : Cell). held_after v (in_set c.set) h) read)
+has_byte : (sets : List ℕ) (n h d : ℕ) → n < length sets → h < 8 → has (truths_of sets) n h ≡ in_set (get_or sets n d) h
+has_byte sets n h d inside below =
+    ap (λ r. get_or r h true) (get_or-map truths sets n d [] inside) ∙ truths_at (get_or sets n d) h below
 
 -- the bit that the code reads
-pub has_bit : (cells : List Cell) (n h : ℕ) (c : Cell) → n < length (sets_of cells) → h < 8 → c ≡ get_or cells n c
-    → (bit_and (c.set / 2 ^ h) 1 == 1) ≡ has (sets_of cells) n h
-has_bit cells n h c inside below e =
-    let within : n < length cells = omega (arith, inside, length-map cells (λ c. truths c.set)) in
-    let read : c ≡ cell_at cells n = get_or_read cells n c within e no_cell in
-    ap (λ b. b == 1) (shr_and_one c.set h) ∙ ap (λ (c : Cell). in_set c.set h) read ∙ sym (has_held cells n h within below)
+pub has_bit : (sets : List ℕ) (n h set : ℕ) → n < length (truths_of sets) → h < 8 → set ≡ get_or sets n set
+    → (bit_and (set / 2 ^ h) 1 == 1) ≡ has (truths_of sets) n h
+has_bit sets n h set inside below read =
+    let within : n < length sets = omega (arith, inside, length-map sets truths) in
+    ap (λ b. b == 1) (shr_and_one set h) ∙ ap (λ s. in_set s h) read ∙ sym (has_byte sets n h set within below)
 
--- where everything is passed on, the cells are the held sets
-pub sets_of_cells : (g : List Place) (cells : List Cell) → AreCellsOf g cells
-    → ((m : ℕ) → reached_in cells m ≡ true → IsPassedOn g (reached_in cells) (held_in cells) m) → AreSetsOf g (sets_of cells)
-sets_of_cells g cells a closed = record {
-  nodes = length-map cells (λ c. truths c.set) ∙ a.count;
+-- where everything is passed on, the bytes are the held sets
+pub bytes_are_sets : (g : List Place) (s : State) → length s.sets ≡ length g → AreWitnessed g (reached_at s) (held_at s)
+    → IsAtEntry (reached_at s) (held_at s) → ((m : ℕ) → reached_at s m ≡ true → IsPassedOn g (reached_at s) (held_at s) m)
+    → AreSetsOf g (truths_of s.sets)
+bytes_are_sets g s each w entry closed = record {
+  nodes = length-map s.sets truths ∙ each;
   exact = λ n h inside below.
-      rw (has_held cells n h (omega (arith, a.count)) below)
-      (held_is g (reached_in cells) (held_in cells) a.witnessed a.entry closed n h below);
+      rw (has_byte s.sets n h 255 (omega (arith, each)) below) (held_is g (reached_at s) (held_at s) w entry closed n h below);
 }

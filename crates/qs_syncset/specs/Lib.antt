@@ -1,8 +1,8 @@
 pub mod Held
 pub mod Flow
 pub mod Table
-pub mod Cells
-pub mod Worklists
+pub mod Bytes
+pub mod Dataflow
 pub mod Coalesced
 pub mod Modes
 pub mod Codes

@@ -2,8 +2,8 @@
 //! makes needless, and the code that a client runs.
 #![tactic(auto)]
 
-mod cells;
 mod code;
+mod dataflow;
 pub mod laws;
 mod mode;
 mod removal;

@@ -1,5 +1,5 @@
 use Rattle.qs_syncset.proofs.Bits.{with_handler, without_handler}
-use Rattle.qs_syncset.proofs.cells.after.Goals as goal
+use Rattle.qs_syncset.proofs.dataflow.after.Goals as goal
 
 pub returns-in-Sync : goal.returns-in-Sync
 returns-in-Sync c = record {
