@@ -1,5 +1,7 @@
 pub mod Paths
+pub mod Bits
 pub mod Transfer
+pub mod Visits
 pub mod Removing
 pub mod Moves
 pub mod SoundTrees

@@ -1,140 +1,167 @@
--- What passing on along an edge keeps of the rows.
-use Rattle.std.proofs.Common.{◌≡◌, ◌≢◌, ℕ, zero, suc, ◌+◌, ◌<◌, ◌≤◌, ◌⊎◌, inl, inr, Bool, true, false, List, [], ◌∷◌, length, get_or, set, take, refl, sym, ap, subst, ◌∙◌, arith}
-use Rattle.std.specs.Prelude.{◌&&◌, ◌||◌, cond}
-use Rattle.std.proofs.lemmas.Bool.{cases_eq, cases_lt}
-use Rattle.std.proofs.lemmas.List.{length-map, get_or-map, get_or_past, length-set, get_or-set_other}
-use Rattle.qs_graph.specs.Nodes.{Place, place_at, exit}
-use Rattle.qs_graph.specs.Paths.{IsAmong, HasEdge}
-use Rattle.qs_syncset.specs.declared.fixpoint.Row.{Row}
-use Rattle.qs_syncset.specs.Flow.{Holding, held_after, IsReached, IsMissed, HasArrived, IsPassedOn}
-use Rattle.qs_syncset.specs.RowsOf.{no_row, row_at, holding, reached_in, held_in, HasMet, AreRowsOf, sets_of}
+-- What passing on along an edge keeps of what is known of the nodes.
+use Rattle.std.proofs.Common.{◌≡◌, ◌≢◌, ℕ, ◌<◌, ◌/◌, ◌^◌, inl, inr, Bool, true, false, List, [], length, get_or, set, sym, ap, subst, ◌∙◌, arith, bit_and}
+use Rattle.std.specs.Prelude.{◌&&◌, ◌||◌, ◌==◌}
+use Rattle.std.proofs.lemmas.Bool.{and_cases, and_parts, cases_eq, cases_lt, or_parts}
+use Rattle.std.proofs.lemmas.List.{get_or-map, get_or-set_other, get_or-set_same, get_or_default, get_or_past, length-map}
+use Rattle.std.proofs.lemmas.Nat.Bits.{shr_and_one}
+use Rattle.qs_graph.specs.Nodes.{Place, place_at}
+use Rattle.qs_graph.specs.declared.node.Node.{Node}
+use Rattle.qs_graph.specs.Paths.{HasEdge}
+use Rattle.qs_syncset.specs.Flow.{Holding, held_after, IsReached, IsMissed, AreWitnessed, HasArrived, IsAtEntry, IsPassedOn}
+use Rattle.qs_syncset.specs.Bytes.{in_set, truths, truths_of}
+use Rattle.qs_syncset.specs.Dataflow.{State, held_at, reached_at, set_at}
 use Rattle.qs_syncset.specs.Table.{AreSetsOf, has}
+use Rattle.qs_syncset.proofs.Bits.{in_both, truths_at}
 use Rattle.qs_syncset.proofs.Paths.{held_is, missed_past, reached_past}
 
--- what goes to n lacks only what some path to n misses
-pub record IsFair (g : List Place) (n : ℕ) (out : List Bool) : Type 0 where
-  pub reached : IsReached g n
-  pub lacks : (h : ℕ) → h < 8 → holding out h ≡ false → IsMissed g n h
-
--- the row of n alone has met what comes in
-pub record IsMetAt (rows new : List Row) (n : ℕ) (out : List Bool) : Type 0 where
-  pub row : new ≡ set rows n (row_at new n)
-  pub met : HasMet (row_at rows n) (row_at new n) out
-
-pub other_row : (rows new : List Row) (n : ℕ) (out : List Bool) → IsMetAt rows new n out
-    → (x : ℕ) → x ≢ n → row_at new x ≡ row_at rows x
-other_row rows new n out m x ne = ap (λ r. row_at r x) m.row ∙ get_or-set_other rows n x (row_at new n) no_row ne
-
+-- the two parts of a test that fails, for the machines' proofs too
 pub or_first : (a b : Bool) → (a || b) ≡ false → a ≡ false
-or_first false b e = refl
-or_first true b e = e
+or_first a b e = (or_parts a b e).0
 
 pub or_second : (a b : Bool) → (a || b) ≡ false → b ≡ false
-or_second false b e = e
-or_second true b e = absurd (let t : true ≡ false = e in cc)
+or_second a b e = (or_parts a b e).1
 
--- a measure that falls where one of two things changed
-pub falls_by : (a b : Bool) (x y z : ℕ) → y + cond b 1 0 ≤ x → x + cond a 1 0 ≤ z → y + cond (a || b) 1 0 ≤ z
-falls_by false b x y z first second = omega (arith, first, second)
-falls_by true false x y z first second = omega (arith, first, second)
-falls_by true true x y z first second = omega (arith, first, second)
+-- what goes to n lacks only what some path to n misses
+pub record IsFair (g : List Place) (n out : ℕ) : Type 0 where
+  pub reached : IsReached g n
+  pub lacks : (h : ℕ) → h < 8 → in_set out h ≡ false → IsMissed g n h
 
-and_false : (a b : Bool) → a && b ≡ false → (a ≡ false) ⊎ (b ≡ false)
-and_false true b e = inr e
-and_false false b e = inl refl
+-- what comes in has met the set of n, and nothing else has changed
+pub record IsMetAt (old new : State) (n out : ℕ) : Type 0 where
+  pub inside_reached : n < length old.reached
+  pub inside : n < length old.sets
+  pub reached : new.reached ≡ set old.reached n true
+  pub sets : new.sets ≡ set old.sets n (bit_and (set_at old n) out)
 
-and_true : (a b : Bool) → a ≡ a && b → a ≡ true → b ≡ true
-and_true true b e t = sym e
-and_true false b e t = absurd (let u : false ≡ true = t in cc)
+module _ (old new : State) (n out : ℕ) (m : IsMetAt old new n out) where
+  pub reached_there : reached_at new n ≡ true
+  reached_there = ap (λ r. get_or r n false) m.reached ∙ get_or-set_same old.reached n true false m.inside_reached
 
-met_miss : (g : List Place) (rows new : List Row) (n : ℕ) (out : List Bool) → AreRowsOf g rows → IsMetAt rows new n out → IsFair g n out
-    → (h : ℕ) → h < 8 → held_in new n h ≡ false → IsMissed g n h
-met_miss g rows new n out a m f h l e = elim (and_false (held_in rows n h) (holding out h) (sym (m.met.held h l) ∙ e)) [
-  | inl x ↦ a.witnessed.miss n h l x
-  | inr x ↦ f.lacks h l x
-]
+  reached_elsewhere : (x : ℕ) → x ≢ n → reached_at new x ≡ reached_at old x
+  reached_elsewhere x other = ap (λ r. get_or r x false) m.reached ∙ get_or-set_other old.reached n x true false other
 
-pub rows_met : (g : List Place) (rows new : List Row) (n : ℕ) (out : List Bool) → AreRowsOf g rows → IsMetAt rows new n out → IsFair g n out
-    → AreRowsOf g new
-rows_met g rows new n out a m f = record {
-  count = ap length m.row ∙ length-set rows n (row_at new n) ∙ a.count;
-  witnessed = record {
+  set_there : set_at new n ≡ bit_and (set_at old n) out
+  set_there = ap (λ s. get_or s n 255) m.sets ∙ get_or-set_same old.sets n (bit_and (set_at old n) out) 255 m.inside
+
+  pub set_elsewhere : (x : ℕ) → x ≢ n → set_at new x ≡ set_at old x
+  set_elsewhere x other = ap (λ s. get_or s x 255) m.sets ∙ get_or-set_other old.sets n x (bit_and (set_at old n) out) 255 other
+
+  held_there : (h : ℕ) → held_at new n h ≡ held_at old n h && in_set out h
+  held_there h = ap (λ s. in_set s h) set_there ∙ in_both (set_at old n) out h
+
+  held_elsewhere : (x : ℕ) → x ≢ n → (h : ℕ) → held_at new x h ≡ held_at old x h
+  held_elsewhere x other h = ap (λ s. in_set s h) (set_elsewhere x other)
+
+  pub reached_was : (x : ℕ) → x ≢ n → reached_at new x ≡ true → reached_at old x ≡ true
+  reached_was x other r = sym (reached_elsewhere x other) ∙ r
+
+  pub reached_still : (x : ℕ) → reached_at old x ≡ true → reached_at new x ≡ true
+  reached_still x r = elim (cases_eq x n) [
+    | inl same ↦ rw same reached_there
+    | inr other ↦ reached_elsewhere x other ∙ r
+  ]
+
+  missed_there : (g : List Place) → AreWitnessed g (reached_at old) (held_at old) → IsFair g n out
+      → (h : ℕ) → h < 8 → held_at new n h ≡ false → IsMissed g n h
+  missed_there g w f h below e = elim (and_cases (held_at old n h) (in_set out h) (sym (held_there h) ∙ e)) [
+    | inl before ↦ w.miss n h below before
+    | inr lacking ↦ f.lacks h below lacking
+  ]
+
+  pub witnessed_still : (g : List Place) → AreWitnessed g (reached_at old) (held_at old) → IsFair g n out
+      → AreWitnessed g (reached_at new) (held_at new)
+  witnessed_still g w f = record {
     reach = λ x r. elim (cases_eq x n) [
-      | inl e ↦ rw e f.reached
-      | inr ne ↦ a.witnessed.reach x (sym (ap (λ (r : Row). r.reached) (other_row rows new n out m x ne)) ∙ r)
+      | inl same ↦ rw same f.reached
+      | inr other ↦ w.reach x (reached_was x other r)
     ];
-    miss = λ x h l r. elim (cases_eq x n) [
-      | inl e ↦ rw e (met_miss g rows new n out a m f h l (rw e at r))
-      | inr ne ↦ a.witnessed.miss x h l (sym (ap (λ (r : Row). holding r.held h) (other_row rows new n out m x ne)) ∙ r)
+    miss = λ x h below e. elim (cases_eq x n) [
+      | inl same ↦ rw same (missed_there g w f h below (rw same at e))
+      | inr other ↦ w.miss x h below (sym (held_elsewhere x other h) ∙ e)
     ];
-  };
-  entry = record {
-    reach = elim (cases_eq 0 n) [
-      | inl e ↦ rw e m.met.reach
-      | inr ne ↦ ap (λ (r : Row). r.reached) (other_row rows new n out m 0 ne) ∙ a.entry.reach
+  }
+
+  pub entry_still : IsAtEntry (reached_at old) (held_at old) → IsAtEntry (reached_at new) (held_at new)
+  entry_still entry = record {
+    reach = reached_still 0 entry.reach;
+    none = λ h below. elim (cases_eq 0 n) [
+      | inl same ↦ rw same (held_there h ∙ ap (λ b. b && in_set out h) (rw same at (entry.none h below)))
+      | inr other ↦ held_elsewhere 0 other h ∙ entry.none h below
     ];
-    none = λ h l. elim (cases_eq 0 n) [
-      | inl e ↦ rw e (m.met.held h l ∙ ap (λ b. b && holding out h) (rw e at (a.entry.none h l)))
-      | inr ne ↦ ap (λ (r : Row). holding r.held h) (other_row rows new n out m 0 ne) ∙ a.entry.none h l
+  }
+
+  -- what had come to a node is there still
+  pub arrived_still : (x : ℕ) (sent : Holding) → HasArrived (reached_at old) (held_at old) x sent
+      → HasArrived (reached_at new) (held_at new) x sent
+  arrived_still x sent a = record {
+    reach = reached_still x a.reach;
+    below = λ h below t. elim (cases_eq x n) [
+      | inl same ↦
+          a.below h below (rw same (and_parts (held_at old n h) (in_set out h) (sym (held_there h) ∙ (rw same at t))).0)
+      | inr other ↦ a.below h below (sym (held_elsewhere x other h) ∙ t)
     ];
-  };
-}
+  }
+
+  -- what comes in has come
+  pub arrived_there : HasArrived (reached_at new) (held_at new) n (in_set out)
+  arrived_there = record {
+    reach = reached_there;
+    below = λ h below t. (and_parts (held_at old n h) (in_set out h) (sym (held_there h) ∙ t)).1;
+  }
+
+  -- another node has passed on what it has, as before
+  pub passed_still : (g : List Place) (x : ℕ) → x ≢ n → IsPassedOn g (reached_at old) (held_at old) x
+      → IsPassedOn g (reached_at new) (held_at new) x
+  passed_still g x other passed to edge =
+      let sent = held_after (place_at g x).node (held_at old x) in
+      let before : HasArrived (reached_at new) (held_at new) to sent = arrived_still to sent (passed to edge) in
+      record {
+        reach = before.reach;
+        below = λ h below t.
+            ap (λ s. held_after (place_at g x).node (in_set s) h) (set_elsewhere x other) ∙ before.below h below t;
+      }
 
 -- what goes along an edge of a node that is reached is fair
-pub fair_edge : (g : List Place) (rows : List Row) (m n : ℕ) (out : List Bool) → AreRowsOf g rows → HasEdge g m n → reached_in rows m ≡ true
-    → ((h : ℕ) → h < 8 → holding out h ≡ held_after (place_at g m).node (held_in rows m) h) → IsFair g n out
-fair_edge g rows m n out a edge r is = record {
-  reached = reached_past g (reached_in rows) (held_in rows) a.witnessed m n edge r;
-  lacks = λ h l e. missed_past g (reached_in rows) (held_in rows) a.witnessed m n h edge r l (sym (is h l) ∙ e);
+pub fair_edge : (g : List Place) (s : State) (m n out : ℕ) → AreWitnessed g (reached_at s) (held_at s) → HasEdge g m n
+    → reached_at s m ≡ true → ((h : ℕ) → h < 8 → in_set out h ≡ held_after (place_at g m).node (held_at s m) h) → IsFair g n out
+fair_edge g s m n out w edge r is = record {
+  reached = reached_past g (reached_at s) (held_at s) w m n edge r;
+  lacks = λ h below e. missed_past g (reached_at s) (held_at s) w m n h edge r below (sym (is h below) ∙ e);
 }
 
--- where nothing changed, what was sent had arrived
-pub arrived_same : (rows new : List Row) (n : ℕ) (out : List Bool) (sent : Holding) → HasMet (row_at rows n) (row_at new n) out → new ≡ rows
-    → ((h : ℕ) → h < 8 → holding out h ≡ sent h) → HasArrived (reached_in rows) (held_in rows) n sent
-arrived_same rows new n out sent met same is =
-    let q : HasMet (row_at rows n) (row_at rows n) out = subst (λ (r : List Row). HasMet (row_at rows n) (row_at r n) out) same met in
-    record { reach = q.reach; below = λ h l t. sym (is h l) ∙ and_true (held_in rows n h) (holding out h) (q.held h l) t }
-
-no_edge : (g : List Place) (m n : ℕ) → length g ≤ m → HasEdge g m n → ⊥
-no_edge g m n past edge = let e : place_at g m ≡ exit = get_or_past g m exit past in rw e at edge
-
--- the rows at the end are the held sets
-pub sets_of_rows : (g : List Place) (rows : List Row) → AreRowsOf g rows
-    → ((m : ℕ) → m < length g → reached_in rows m ≡ true → IsPassedOn g (reached_in rows) (held_in rows) m) → AreSetsOf g (sets_of rows)
-sets_of_rows g rows a closed = record {
-  nodes = length-map rows (λ r. r.held) ∙ a.count;
-  exact = λ n h inside l.
-      let e : has (sets_of rows) n h ≡ held_in rows n h =
-      ap (λ r. get_or r h true) (get_or-map (λ r. r.held) rows n no_row [] (omega (arith, a.count))) in
-      rw e (held_is g (reached_in rows) (held_in rows) a.witnessed a.entry (λ m r. elim (cases_lt m (length g)) [
-        | inl within ↦ closed m within r
-        | inr past ↦ λ k edge. absurd (no_edge g m k past edge)
-      ]) n h l);
-}
-
--- ---- the edges of a node, one after another
-
-pub among_at : (es : List ℕ) (i : ℕ) → i < length es → IsAmong (get_or es i 0) es
-among_at [] i inside = absurd (omega arith)
-among_at (e ∷ es) zero inside = inl refl
-among_at (e ∷ es) (suc i) inside = inr (among_at es i (omega arith))
-
-among_taken : (n : ℕ) (es : List ℕ) (i : ℕ) → i < length es → IsAmong n (take (suc i) es) → IsAmong n (take i es) ⊎ (n ≡ get_or es i 0)
-among_taken n [] i inside among = absurd (omega arith)
-among_taken n (e ∷ es) zero inside (inl same) = inr same
-among_taken n (e ∷ es) zero inside (inr later) = absurd later
-among_taken n (e ∷ es) (suc i) inside (inl same) = inl (inl same)
-among_taken n (e ∷ es) (suc i) inside (inr later) = elim (among_taken n es i (omega arith) later) [
-  | inl before ↦ inl (inr before)
-  | inr here ↦ inr here
+-- a node that is reached is a node
+pub reached_inside : (s : State) (n : ℕ) → reached_at s n ≡ true → n < length s.reached
+reached_inside s n r = elim (cases_lt n (length s.reached)) [
+  | inl inside ↦ inside
+  | inr past ↦ absurd (let never : false ≡ true = sym (get_or_past s.reached n false past) ∙ r in cc)
 ]
 
--- what holds of the edges before the next one, and of it, holds of all up to it
-pub arrived_more : (P : ℕ → Type 0) (es : List ℕ) (i : ℕ) → i < length es → ((n : ℕ) → IsAmong n (take i es) → P n) → P (get_or es i 0)
-    → (n : ℕ) → IsAmong n (take (i + 1) es) → P n
-arrived_more P es i inside before here n among =
-    let more : i + 1 ≡ suc i = omega arith in
-    elim (among_taken n es i inside (subst (λ k. IsAmong n (take k es)) more among)) [
-      | inl earlier ↦ before n earlier
-      | inr same ↦ subst P (sym same) here
-    ]
+-- what goes out of a node, by the byte that the code reads
+pub sent_from : (g : List Place) (v : Node) (out : ℕ) (s : State) (x d : ℕ) → v ≡ (place_at g x).node → x < length s.sets
+    → ((h : ℕ) → h < 8 → in_set out h ≡ held_after v (in_set (get_or s.sets x d)) h)
+    → (h : ℕ) → h < 8 → in_set out h ≡ held_after (place_at g x).node (held_at s x) h
+sent_from g v out s x d e inside is h below =
+    let read : get_or s.sets x d ≡ set_at s x = get_or_default s.sets x d 255 inside in
+    subst (λ (w : Node). in_set out h ≡ held_after w (held_at s x) h) e
+    (is h below ∙ ap (λ n. held_after v (in_set n) h) read)
+
+has_byte : (sets : List ℕ) (n h d : ℕ) → n < length sets → h < 8 → has (truths_of sets) n h ≡ in_set (get_or sets n d) h
+has_byte sets n h d inside below =
+    ap (λ r. get_or r h true) (get_or-map truths sets n d [] inside) ∙ truths_at (get_or sets n d) h below
+
+-- the bit that the code reads
+pub has_bit : (sets : List ℕ) (n h set : ℕ) → n < length (truths_of sets) → h < 8 → set ≡ get_or sets n set
+    → (bit_and (set / 2 ^ h) 1 == 1) ≡ has (truths_of sets) n h
+has_bit sets n h set inside below read =
+    let within : n < length sets = omega (arith, inside, length-map sets truths) in
+    ap (λ b. b == 1) (shr_and_one set h) ∙ ap (λ s. in_set s h) read ∙ sym (has_byte sets n h set within below)
+
+-- where everything is passed on, the bytes are the held sets
+pub bytes_are_sets : (g : List Place) (s : State) → length s.sets ≡ length g → AreWitnessed g (reached_at s) (held_at s)
+    → IsAtEntry (reached_at s) (held_at s) → ((m : ℕ) → reached_at s m ≡ true → IsPassedOn g (reached_at s) (held_at s) m)
+    → AreSetsOf g (truths_of s.sets)
+bytes_are_sets g s each w entry closed = record {
+  nodes = length-map s.sets truths ∙ each;
+  exact = λ n h inside below.
+      rw (has_byte s.sets n h 255 (omega (arith, each)) below) (held_is g (reached_at s) (held_at s) w entry closed n h below);
+}

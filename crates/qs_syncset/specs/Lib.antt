@@ -1,7 +1,8 @@
 pub mod Held
 pub mod Flow
 pub mod Table
-pub mod RowsOf
+pub mod Bytes
+pub mod Dataflow
 pub mod Coalesced
 pub mod Modes
 pub mod Codes

@@ -7,9 +7,9 @@ ghost use Rattle.qs_program.specs.Loads.{load_of};
 ghost use Rattle.qs_syncset.specs.Codes.{IsCode, IsCodeOf, IsBlockCode, IsGraphOf, code_at, load_at};
 ghost use Rattle.qs_syncset.specs.Modes.{is_static};
 
-use crate::fixpoint::held_sets;
 use crate::mode::Mode;
 use crate::removal::coalesce;
+use crate::sets::held_sets;
 use qs_graph::{Graph, graph};
 use qs_program::Program;
 use std::alloc::{AllocError, Global};

@@ -4,6 +4,7 @@ ghost use Rattle.qs_syncset.specs.CodeLaws.{CoalescingIsUnique, NodesStaySound, 
 ghost use Rattle.qs_syncset.specs.HeldExamples.{HeldExamples};
 ghost use Rattle.qs_syncset.specs.SyncCounts.{SetsDecide, SyncsAreCounted};
 ghost use Rattle.qs_syncset.specs.SyncExamples.{SyncExamples};
+ghost use Rattle.qs_syncset.specs.Table.{UnreachedNodesHoldAll};
 
 /// Blocks with what is held at the nodes of their graphs, and with these graphs coalesced; it does nothing.
 pub fn held_examples()
@@ -42,4 +43,9 @@ pub fn sync_count_examples()
 /// The held sets of a graph are a test of where its synchronisations are held; it does nothing.
 pub fn sets_decide()
     ensures decide { SetsDecide }
+{}
+
+/// Where no path leads, the held sets have each of 8 handlers, so every name of the block's list; it does nothing.
+pub fn unreached_nodes_hold_all()
+    ensures all { UnreachedNodesHoldAll }
 {}

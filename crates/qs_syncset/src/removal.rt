@@ -4,7 +4,7 @@ ghost use Rattle.std.specs.Prelude.{◌≡◌, length};
 ghost use Rattle.qs_syncset.specs.Coalesced.{IsCoalesced};
 ghost use Rattle.qs_syncset.specs.Table.{AreSetsOf};
 
-use crate::fixpoint::Sets;
+use crate::sets::Sets;
 use qs_graph::{Graph, Node};
 
 /// Removes each synchronisation whose own handler is held as it is reached; takes no memory.

@@ -1,0 +1,78 @@
+//! The held sets of a graph.
+
+ghost use Rattle.std.specs.Prelude.{◌≡◌, ◌+◌, ◌*◌, ◌<◌, ◌≤◌, length, IfOk, OnOk};
+ghost use Rattle.qs_syncset.specs.Table.{AreSetsOf, has};
+
+use crate::dataflow::run;
+use crate::worklist::{Turns, Worklist};
+use qs_graph::Graph;
+use std::alloc::{AllocError, Global};
+use std::marker::{Brand, Model};
+use std::sync::ledger::{Blank, Ledger};
+
+/// For each node of a graph the handlers that are held there: one byte a node, handler h in bit h.
+#[derive(Drop)]
+pub struct Sets {
+    bytes: Vec<u8>,
+}
+
+impl Model for Sets {
+    ghost use Rattle.std.specs.Prelude.{List, Bool};
+    ghost use Rattle.qs_syncset.specs.Bytes.{truths_of};
+
+    ghost Value = { List (List Bool) };
+
+    ghost view = { λ s. truths_of s.bytes.items };
+}
+
+impl Sets {
+    /// Whether a handler is held as a node is reached; takes no memory.
+    pub fn holds(&self, node: usize, handler: u8) -> bool
+        requires node { node < length self.now }
+        requires handler { handler < 8 }
+        ensures value { result ≡ has self.now node handler }
+    {
+        (self.bytes[node] >> handler) & 1 == 1
+    }
+}
+
+/// The held sets of a graph, with a turn for each node that is taken from the worklist. There are at most nine for each node of the graph,
+/// whether memory lasts or not: a node is put on the list as it is first reached and as its set loses one of 8 handlers. Where memory
+/// lasts, Entry at least is taken.
+pub fn held_sets_counted<L: Ledger>(
+    alloc: Global,
+    graph: &Graph,
+    turns: &mut Turns<L>,
+) -> Result<Sets, AllocError>
+    ensures sets { IfOk result (λ sets. AreSetsOf graph.now.nodes sets) }
+    ensures counted { OnOk result (turns.old < turns.new) }
+    ensures turns { turns.new ≤ turns.old + 9 * length graph.now.nodes }
+{
+    graph.is_graph();
+    let count = graph.len();
+    let mut reached = vec![in alloc; false; count]?;
+    reached[0] = true;
+    let mut bytes = vec![in alloc; 0xff; count]?;
+    bytes[0] = 0;
+    let mut list = Worklist::of(alloc, 0)?;
+    run(graph, &mut reached, &mut bytes, &mut list, turns)?;
+    Ok(Sets { bytes })
+}
+
+// The held sets of a graph, whose turns a new ledger counts.
+fn newly_counted<L: Ledger>(alloc: Global, graph: &Graph, blank: Blank) -> Result<Sets, AllocError>
+    requires name { blank.name ≡ L.name }
+    requires parts { blank.parts ≡ L.parts }
+    requires some { 0 < blank.parts }
+    ensures sets { IfOk result (λ sets. AreSetsOf graph.now.nodes sets) }
+{
+    let mut turns = Turns::<L>::new(blank);
+    held_sets_counted(alloc, graph, &mut turns)
+}
+
+/// The held sets of a graph.
+pub fn held_sets(alloc: Global, graph: &Graph) -> Result<Sets, AllocError>
+    ensures sets { IfOk result (λ sets. AreSetsOf graph.now.nodes sets) }
+{
+    newly_counted::<Brand>(alloc, graph, Blank::new(1))
+}
