@@ -61,10 +61,18 @@ impl BlockCode {
 }
 
 /// The code of a client: for each of its blocks the reserved handlers, the graph and the loads, and whether it tests what it holds.
-#[derive(Drop)]
 pub struct Code {
     dynamic: bool,
     blocks: Vec<BlockCode>,
+}
+
+impl Drop for Code {
+    fn drop(self) {
+        let Code {
+            dynamic: _,
+            blocks: _,
+        } = self;
+    }
 }
 
 impl Model for Code {

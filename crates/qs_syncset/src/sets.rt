@@ -11,9 +11,14 @@ use std::marker::{Brand, Model};
 use std::sync::ledger::{Blank, Ledger};
 
 /// For each node of a graph the handlers that are held there: one byte a node, handler h in bit h.
-#[derive(Drop)]
 pub struct Sets {
     bytes: Vec<u8>,
+}
+
+impl Drop for Sets {
+    fn drop(self) {
+        let Sets { bytes: _ } = self;
+    }
 }
 
 impl Model for Sets {

@@ -17,10 +17,18 @@ pub struct SyncCount {
 
 /// For each block of a client, and each object of the block's list in order, how many Syncs were sent for it: the counts of all blocks
 /// lie in one row. Memory is taken in `new` alone.
-#[derive(Drop)]
 pub struct SyncCounts {
     objects: Rows<u8>,
     counts: Rows<u32>,
+}
+
+impl Drop for SyncCounts {
+    fn drop(self) {
+        let SyncCounts {
+            objects: _,
+            counts: _,
+        } = self;
+    }
 }
 
 impl Model for SyncCounts {
