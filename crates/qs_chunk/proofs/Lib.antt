@@ -1,3 +1,5 @@
 pub mod LaneFronts
 pub mod LaneMatch
 pub mod LaneRuns
+pub mod Rings
+pub mod Rooms

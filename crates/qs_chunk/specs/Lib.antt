@@ -9,3 +9,5 @@ pub mod LaneParts
 pub mod LaneRun
 pub mod LaneRunLaws
 pub mod LaneRunExamples
+pub mod Ring
+pub mod Room

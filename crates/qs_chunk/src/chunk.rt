@@ -1,30 +1,37 @@
-//! The chunk: values in order, in a vector.
+//! The chunk: values in order, in a ring of places.
 
 ghost use Rattle.std.specs.Prelude.{◌≡◌, ◌<◌, ◌≤◌, ◌↔◌, [], ◌∷◌, ◌++◌, length, IfNone, IfSome, IfOk, IfErr, IsOk};
 ghost use Rattle.qs_chunk.specs.Batch.{batch};
 
+use crate::cells::{Room, make};
+use crate::places::place_on;
 use crate::size::ChunkSize;
 use std::alloc::{AllocError, Global};
 use std::marker::Model;
+use std_alloc::room::may_hold;
 
-/// Values in order, at most as many as the capacity. No call but the constructor takes memory.
-#[derive(Drop)]
+/// Values in order, at most as many as the capacity. No call but the constructor takes memory. They lie from the place `start` on,
+/// and go on at place 0 behind the last place.
 pub struct Chunk<T> {
-    values: Vec<T>,
+    room: Room<T, Global>,
     capacity: usize,
+    start: usize,
+    count: usize,
+    alloc: Global,
 }
 
 impl<T> Model for Chunk<T> {
-    ghost use Rattle.std.specs.Prelude.{◌≤◌, vec_len, vec_capacity};
+    ghost use Rattle.std.specs.Prelude.{◌≡◌, ◌≤◌};
     ghost use Rattle.qs_chunk.specs.Batch.{Batch, batch, batch_code};
+    ghost use Rattle.qs_chunk.specs.Ring.{ring_values, IsRing};
 
     ghost Value = { Batch T };
 
     ghost coded = { batch_code T.code };
 
-    ghost view = { λ c. batch c.values.items c.capacity };
+    ghost view = { λ c. batch (ring_values c.start c.room.places) c.capacity };
 
-    ghost invariant = { λ c. (vec_len c.values ≤ c.capacity) × (c.capacity ≤ vec_capacity c.values) × (1 ≤ c.capacity) × (c.capacity ≤ 32) };
+    ghost invariant = { λ c. IsRing c.room.places c.capacity c.start c.count × (c.room.giver ≡ c.alloc) × (1 ≤ c.capacity) × (c.capacity ≤ 32) };
 }
 
 impl<T> Chunk<T> {
@@ -33,8 +40,17 @@ impl<T> Chunk<T> {
         ensures empty { IfOk result (λ chunk. chunk ≡ batch [] size) }
     {
         let capacity = usize::from(size.get());
-        let values = Vec::with_capacity(alloc, capacity)?;
-        Ok(Chunk { values, capacity })
+        if !may_hold::<T>(capacity) {
+            return Err(AllocError);
+        }
+        let room = make(&alloc, capacity)?;
+        Ok(Chunk {
+            room,
+            capacity,
+            start: 0,
+            count: 0,
+            alloc,
+        })
     }
 
     /// How many values there are.
@@ -42,7 +58,7 @@ impl<T> Chunk<T> {
         ensures count { result ≡ length self.now.items }
         ensures within { result ≤ self.now.capacity }
     {
-        self.values.len()
+        self.count
     }
 
     /// How many values there may be: from 1 to 32.
@@ -59,10 +75,12 @@ impl<T> Chunk<T> {
         ensures ok { IfOk result (λ _. self.new ≡ batch (self.old.items ++ item ∷ []) self.old.capacity) }
         ensures err { IfErr result (λ back. (back ≡ item) × (self.new ≡ self.old)) }
     {
-        if self.values.len() >= self.capacity {
+        if self.count >= self.capacity {
             return Err(item);
         }
-        self.values.push_reserved(item);
+        let back = place_on(self.start, self.count, self.capacity);
+        self.room.write(back, item);
+        self.count += 1;
         Ok(())
     }
 
@@ -71,9 +89,26 @@ impl<T> Chunk<T> {
         ensures none { IfNone result ((self.old.items ≡ []) × (self.new ≡ self.old)) }
         ensures some { IfSome result (λ item. self.old ≡ batch (item ∷ self.new.items) self.new.capacity) }
     {
-        if self.values.is_empty() {
+        if self.count == 0 {
             return None;
         }
-        Some(self.values.remove(0))
+        let front = self.start;
+        self.start = place_on(front, 1, self.capacity);
+        self.count -= 1;
+        Some(self.room.read(front))
+    }
+}
+
+impl<T: Drop> Drop for Chunk<T> {
+    fn drop(self) {
+        let Chunk {
+            mut room,
+            capacity,
+            start,
+            count,
+            alloc,
+        } = self;
+        room.drop_values(capacity, start, count);
+        room.free(&alloc, capacity);
     }
 }

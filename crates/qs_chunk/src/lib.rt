@@ -1,9 +1,11 @@
 //! Requests travel from a client to a handler in chunks, and chunks, objects and marks in lanes: the values, and the form of a lane.
 #![tactic(auto)]
 
+mod cells;
 mod chunk;
 pub mod laws;
 mod parcel;
+mod places;
 mod size;
 #[cfg(test)]
 mod tests;

@@ -1,4 +1,4 @@
-//! Values that a chunk hands out or drops, each once, and what travels to another thread.
+//! Values that a chunk hands out or drops, each once; places that go round; and what travels to another thread.
 
 use crate::{Chunk, ChunkSize, Parcel};
 use std::sync::Arc;
@@ -12,6 +12,12 @@ fn first_of(chunk: Chunk<Arc<u8>>, parcel: Parcel) -> Option<Arc<u8>> {
         Parcel::End => chunk.take_front(),
         _ => None,
     }
+}
+
+// The first value of a chunk, and the chunk on its way back.
+fn taken(chunk: Chunk<u8>) -> (Option<u8>, Chunk<u8>) {
+    let mut chunk = chunk;
+    (chunk.take_front(), chunk)
 }
 
 #[test]
@@ -31,5 +37,30 @@ fn values_are_taken_or_dropped_once(rt: HostRuntime) -> Result<(), Fail> {
     assert_eq!(rt; Arc::strong_count(&counted), 2);
     drop(taken);
     assert_eq!(rt; Arc::strong_count(&counted), 1);
+    Ok(())
+}
+
+#[test]
+fn places_go_round(rt: HostRuntime) -> Result<(), Fail> {
+    let size = ChunkSize::new(2).ok_or("no size")?;
+    for is_sent in [false, true] {
+        let mut chunk = Chunk::with_capacity(rt.alloc(), size)?;
+        assert_eq!(rt; chunk.push(1), Ok(()));
+        assert_eq!(rt; chunk.push(2), Ok(()));
+        assert_eq!(rt; chunk.push(3), Err(3));
+        for wanted in [Some(1), Some(2), Some(3), None] {
+            let (value, back) = if is_sent {
+                thread::spawn(&rt, move || taken(chunk))?.join(&rt)
+            } else {
+                taken(chunk)
+            };
+            assert_eq!(rt; value, wanted);
+            chunk = back;
+            if wanted == Some(1) {
+                assert_eq!(rt; chunk.push(3), Ok(()));
+            }
+        }
+        assert_eq!(rt; chunk.len(), 0);
+    }
     Ok(())
 }
