@@ -41,9 +41,9 @@ impl Sets {
     }
 }
 
-/// The held sets of a graph, with a turn for each node that is taken from the worklist. There are at most nine for each node of the graph,
-/// whether memory lasts or not: a node is put on the list as it is first reached and as its set loses one of 8 handlers. Where memory
-/// lasts, Entry at least is taken.
+/// The held sets of a graph, with a turn for each node that is taken from the worklist. Whether memory lasts or not, there are at most
+/// nine for each node of the graph: a node is put on the list as it is first reached and as its set loses one of 8 handlers. Where
+/// memory lasts, Entry at least is taken.
 pub fn held_sets_counted<L: Ledger>(
     alloc: Global,
     graph: &Graph,
