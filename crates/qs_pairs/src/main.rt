@@ -41,6 +41,7 @@ const OTHER_STATE: &str = "object a account 99
     client ann { separate a { a.deposit(5); x = a.balance(); } }";
 
 // A program with the actors that step first, and how many rounds come then.
+#[derive(Clone, Copy)]
 struct Schedule<'a> {
     text: &'a str,
     picks: &'a [Actor],

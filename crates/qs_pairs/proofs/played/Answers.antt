@@ -1,1 +1,0 @@
-use Rattle.qs_pairs.proofs.played.Goals as goal
