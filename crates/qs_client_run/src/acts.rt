@@ -15,7 +15,7 @@ use crate::hands::Hands;
 use crate::run::Run;
 use crate::stage::{Handed, Stage};
 use qs_chunk::{Chunk, Parcel};
-use qs_graph::{Graph, Node};
+use qs_graph::{Graph, Node, bound};
 use qs_objects::{Held, Request, Ticket};
 use qs_syncset::Code;
 
@@ -75,10 +75,14 @@ impl Run {
     {
         graph.is_graph();
         match graph.node(self.way.node()) {
-            Node::Call(call) => self.hands.clear(call.object, Act::NeedChunk(call.object)),
-            Node::Sync(handler) => self
-                .hands
-                .clear(*handler, Act::Send(*handler, Parcel::Sync)),
+            Node::Call(call) => {
+                let object = bound(call.object);
+                self.hands.clear(object, Act::NeedChunk(object))
+            }
+            Node::Sync(name) => {
+                let handler = bound(*name);
+                self.hands.clear(handler, Act::Send(handler, Parcel::Sync))
+            }
             _ => unreachable!(),
         }
     }
@@ -146,7 +150,7 @@ impl Run {
         let Node::Call(call) = graph.node(self.way.node()) else {
             unreachable!();
         };
-        self.hands.put_chunk(call.object, chunk);
+        self.hands.put_chunk(bound(call.object), chunk);
         self.resume(code, ticket);
     }
 }

@@ -13,7 +13,7 @@ ghost use Rattle.qs_client_run.specs.declared.stage.Stage.TheVariants as stages;
 use crate::hands::Hands;
 use crate::stage::Stage;
 use crate::way::Way;
-use qs_graph::{Graph, Node};
+use qs_graph::{Graph, Node, bound};
 use qs_objects::{Event, Ticket, Traces};
 use qs_program::Call;
 
@@ -71,10 +71,11 @@ impl Run {
         ensures new { self.new ≡ (called block (request_of self.old.way.locals call.now) (at_node self.old.way next) self.old).0 }
         ensures on { result ≡ (called block (request_of self.old.way.locals call.now) (at_node self.old.way next) self.old).1 }
     {
-        if self.hands.holds(call.object) {
+        let object = bound(call.object);
+        if self.hands.holds(object) {
             return false;
         }
-        let Some(mut chunk) = self.hands.take_chunk(call.object) else {
+        let Some(mut chunk) = self.hands.take_chunk(object) else {
             return false;
         };
         let request = self.way.request(call);
@@ -86,11 +87,11 @@ impl Run {
             unreachable!();
         };
         let is_full = chunk.len() == chunk.capacity();
-        self.hands.put_chunk(call.object, chunk);
+        self.hands.put_chunk(object, chunk);
         self.traces.note(block, event);
         self.way.go_to(next);
         if is_full {
-            self.stage = Stage::Full(call.object);
+            self.stage = Stage::Full(object);
         }
         !is_full
     }
@@ -106,12 +107,13 @@ impl Run {
         ensures new { self.new
             ≡ (asked ticket (request_of self.old.way.locals call.now) (λ v. at_node (with_value self.old.way variable v) next) self.old).0 }
     {
-        let Some(mut held) = self.hands.take_held(call.object) else {
+        let object = bound(call.object);
+        let Some(mut held) = self.hands.take_held(object) else {
             unreachable!();
         };
         let request = self.way.request(call);
         let reply = held.run(ticket, request.copied());
-        self.hands.put_held(call.object, held);
+        self.hands.put_held(object, held);
         self.traces
             .note(usize::from(ticket.index), Event { request, reply });
         self.way.assign(variable, reply.unwrap_or(0));
@@ -158,7 +160,7 @@ impl Run {
                 self.query(terms.ticket, *variable, call, next);
                 true
             }
-            Node::Sync(handler) => self.sync(terms.dynamic, *handler, next),
+            Node::Sync(name) => self.sync(terms.dynamic, bound(*name), next),
             Node::Exit => {
                 self.leave(reserved);
                 false

@@ -9,7 +9,7 @@ ghost use Rattle.qs_client_run.specs.Running.{IsRunning};
 
 use crate::run::{Run, Terms};
 use crate::stage::{Handed, Stage};
-use qs_graph::{Graph, Node};
+use qs_graph::{Graph, Node, bound};
 use qs_objects::Ticket;
 use qs_syncset::Code;
 
@@ -38,9 +38,10 @@ impl Run {
         ensures new { self.new ≡ synced_on graph.now.nodes self.old }
     {
         let node = self.way.node();
-        if let Node::Sync(handler) = graph.node(node) {
+        if let Node::Sync(name) = graph.node(node) {
+            let handler = bound(*name);
             self.way.go_to(graph.first_target(node));
-            self.stage = Stage::Awaits(*handler);
+            self.stage = Stage::Awaits(handler);
         }
     }
 

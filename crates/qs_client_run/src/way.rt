@@ -5,7 +5,7 @@ ghost use Rattle.qs_program.specs.Values.{request_of};
 ghost use Rattle.qs_graph.specs.Walk.{acted, at_node, chosen, with_value};
 ghost use Rattle.qs_client_run.specs.Restart.{restarted};
 
-use qs_graph::{Action, Choice};
+use qs_graph::{Action, Choice, bound};
 use qs_objects::Request;
 use qs_program::{Call, Locals};
 use std::marker::Model;
@@ -66,7 +66,9 @@ impl Way {
         requires few { length call.now.args ≤ 3 }
         ensures value { result ≡ request_of self.now.locals call.now }
     {
-        call.request(*self.counts.allocator(), &self.locals)
+        let mut request = call.request(*self.counts.allocator(), &self.locals);
+        request.object = bound(call.object);
+        request
     }
 
     /// To the first node, with all counts 0.

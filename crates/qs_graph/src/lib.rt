@@ -10,4 +10,4 @@ mod node;
 
 pub use build::graph;
 pub use graphs::Graph;
-pub use node::{Action, Choice, Named, Node};
+pub use node::{Action, Choice, Named, Node, bound};

@@ -4,7 +4,9 @@ use Rattle.qs_graph.specs.declared.node.Node.{Node}
 use Rattle.qs_graph.specs.Nodes.{place_at, first_target, second_target}
 use Rattle.qs_graph.specs.Walk.{Move, Spot, move_by}
 use Rattle.qs_graph.specs.declared.node.Node.TheVariants as nodes
-use Rattle.qs_client_run.specs.Acting.{act_by, hands_by, with_hands}
+use Rattle.qs_client_run.specs.Acting.{act_by, cleared, hands_by, with_hands, without}
+use Rattle.qs_client_run.specs.declared.act.Act.TheVariants as acts
+use Rattle.qs_chunk.specs.declared.parcel.Parcel.TheVariants as parcels
 use Rattle.qs_client_run.specs.Running.{IsLoud}
 use Rattle.qs_client_run.specs.declared.run.Run.{Run}
 use Rattle.qs_client_run.proofs.Moves.{moves}
@@ -36,8 +38,8 @@ returns-in-Call c =
     let is = ap (λ n. (place_at g n).node) (sym c.node.ensures.value) ∙ sym c.node-2.ensures.value ∙ c.in-Call.is in
     let at = sym (moves g s.way (nodes.Call c.in-Call.call) is) in
     record {
-      act = c.clear.ensures.act ∙ ap (λ (m : Move). act_by s.hands m) at;
-      rest = ap (with_hands s) (c.clear.ensures.rest ∙ ap (λ (m : Move). hands_by s.hands m) at);
+      act = c.clear.ensures.act ∙ ap (λ n. cleared s.hands n (acts.NeedChunk n)) c.bound-object.ensures.object ∙ ap (λ (m : Move). act_by s.hands m) at;
+      rest = ap (with_hands s) (c.clear.ensures.rest ∙ ap (without s.hands) c.bound-object.ensures.object ∙ ap (λ (m : Move). hands_by s.hands m) at);
     }
 
 pub returns-in-Sync : goal.returns-in-Sync
@@ -45,8 +47,8 @@ returns-in-Sync c =
     let s : Run = c.args.self.now in
     let g = c.args.graph.now.nodes in
     let is = ap (λ n. (place_at g n).node) (sym c.node.ensures.value) ∙ sym c.node-2.ensures.value ∙ c.in-Sync.is in
-    let at = sym (moves g s.way (nodes.Sync c.in-Sync.handler) is) in
+    let at = sym (moves g s.way (nodes.Sync c.in-Sync.name) is) in
     record {
-      act = c.clear-in-Sync.ensures.act ∙ ap (λ (m : Move). act_by s.hands m) at;
-      rest = ap (with_hands s) (c.clear-in-Sync.ensures.rest ∙ ap (λ (m : Move). hands_by s.hands m) at);
+      act = c.clear-in-Sync.ensures.act ∙ ap (λ n. cleared s.hands n (acts.Send n parcels.Sync)) c.bound-handler.ensures.object ∙ ap (λ (m : Move). act_by s.hands m) at;
+      rest = ap (with_hands s) (c.clear-in-Sync.ensures.rest ∙ ap (without s.hands) c.bound-handler.ensures.object ∙ ap (λ (m : Move). hands_by s.hands m) at);
     }

@@ -15,8 +15,8 @@ returns-in-Sync c =
     let next = c.go_to.ensures.value ∙ ap (at_node s.way) (c.first_target.ensures.value ∙ ap (λ n. first_target (place_at g n)) c.node-node.ensures.value) in
     let is = ap (λ n. (place_at g n).node) (sym c.node-node.ensures.value) ∙ sym c.node.ensures.value ∙ c.in-Sync.is in
     record {
-      new = (λ i. record { way = next i; hands = s.hands; traces = s.traces; stage = stages.Awaits c.in-Sync.handler })
-          ∙ ap (λ (m : Move). synced_by m s) (sym (moves g s.way (v.Sync c.in-Sync.handler) is));
+      new = (λ i. record { way = next i; hands = s.hands; traces = s.traces; stage = stages.Awaits (c.bound-handler.ensures.object i) })
+          ∙ ap (λ (m : Move). synced_by m s) (sym (moves g s.way (v.Sync c.in-Sync.name) is));
     }
 
 pub returns-in_default : goal.returns-in_default

@@ -1,4 +1,4 @@
-use Rattle.std.proofs.Common.{◌≡◌, arith, refl, sym, ap, ◌∙◌, set-set, Some, None, Option, ℤ, pos}
+use Rattle.std.proofs.Common.{◌≡◌, arith, refl, sym, ap, ◌∙◌, set-set, Some, None, Option, ℕ, ℤ, pos}
 use Rattle.std.specs.Prelude.{unwrap_or}
 use Rattle.std.proofs.lemmas.Int.{to_z-of_z, ints}
 use Rattle.qs_objects.specs.declared.Request.{Request}
@@ -7,6 +7,7 @@ use Rattle.qs_program.specs.Values.{request_of}
 use Rattle.qs_meaning.specs.Solo.{event, value_of}
 use Rattle.qs_graph.specs.Walk.{Spot, at_node, with_value}
 use Rattle.qs_client_run.specs.Hand.{HandsState, with_held}
+use Rattle.qs_client_run.specs.Running.{asked}
 use Rattle.qs_objects.specs.Traces.{noted_at}
 use Rattle.qs_client_run.specs.declared.run.Run.{Run}
 use Rattle.qs_client_run.proofs.Steps.{asked_runs}
@@ -21,10 +22,11 @@ unwrapped (Some v) = refl
 pub returns : goal.returns
 returns c =
     let s : Run = c.args.self.now in
-    let h = c.args.call.now.object in
+    let h = c.bound-object.result in
     let u = c.args.ticket in
-    let r : Request = request_of s.way.locals c.args.call.now in
-    let same : c.request-request.result ≡ r = c.request-request.ensures.value in
+    let to = λ (n : ℕ). record (request_of s.way.locals c.args.call.now) { object = n } in
+    let r : Request = to h in
+    let same : c.request-request.result ≡ r = c.request-request.ensures.value ∙ ap to (sym c.bound-object.ensures.object) in
     let hands : c.put_held.new.self ≡ with_held s.hands h (Some c.run-reply.new.self) =
     c.put_held.ensures.value ∙ ap (λ (x : HandsState). with_held x h (Some c.run-reply.new.self)) c.take_held.ensures.rest
     ∙ ap (λ xs. record { held = xs; chunks = s.hands.chunks }) (set-set s.hands.held h None (Some c.run-reply.new.self)) in
@@ -41,5 +43,6 @@ returns c =
     record {
       new =
           (λ i. record { way = way i; hands = c.put_held.new.self; traces = event i; stage = s.stage })
-          ∙ asked_runs u r spot s c.in-Some.held c.run-reply.new.self c.run-reply.result c.put_held.new.self (sym c.take_held.ensures.value ∙ c.in-Some.is) done hands;
+          ∙ asked_runs u r spot s c.in-Some.held c.run-reply.new.self c.run-reply.result c.put_held.new.self (sym c.take_held.ensures.value ∙ c.in-Some.is) done hands
+          ∙ ap (λ n. (asked u (to n) spot s).0) c.bound-object.ensures.object;
     }

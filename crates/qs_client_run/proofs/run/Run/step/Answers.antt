@@ -3,7 +3,7 @@ use Rattle.qs_program.specs.Values.{request_of}
 use Rattle.qs_graph.specs.Nodes.{place_at, second_target}
 use Rattle.qs_graph.specs.Walk.{at_node, with_value}
 use Rattle.qs_graph.specs.declared.node.Node.TheVariants as v
-use Rattle.qs_client_run.specs.Running.{called}
+use Rattle.qs_client_run.specs.Running.{called, synced}
 use Rattle.qs_client_run.specs.declared.run.Run.{Run}
 use Rattle.qs_client_run.proofs.Moves.{moves, moved_at}
 use Rattle.qs_client_run.proofs.Steps.{asked_on}
@@ -46,14 +46,14 @@ returns-in-Call-clause-on c =
 pub returns-in-Sync-clause-new : goal.returns-in-Sync-clause-new
 returns-in-Sync-clause-new c =
     let s : Run = c.args.self.now in
-    c.sync.ensures.new ∙
-    ap (λ (p : Run × Bool). p.0) (moved_at c.args.graph.now.nodes c.args.terms c.args.reserved.now s c.node-node.result c.first_target-next.result (second_target (place_at c.args.graph.now.nodes c.node-node.result)) (v.Sync c.in-Sync.handler) c.node-node.ensures.value c.first_target-next.ensures.value refl (sym c.node.ensures.value ∙ c.in-Sync.is))
+    c.sync.ensures.new ∙ ap (λ h. (synced c.args.terms.dynamic h (at_node s.way c.first_target-next.result) s).0) c.bound.ensures.object ∙
+    ap (λ (p : Run × Bool). p.0) (moved_at c.args.graph.now.nodes c.args.terms c.args.reserved.now s c.node-node.result c.first_target-next.result (second_target (place_at c.args.graph.now.nodes c.node-node.result)) (v.Sync c.in-Sync.name) c.node-node.ensures.value c.first_target-next.ensures.value refl (sym c.node.ensures.value ∙ c.in-Sync.is))
 
 pub returns-in-Sync-clause-on : goal.returns-in-Sync-clause-on
 returns-in-Sync-clause-on c =
     let s : Run = c.args.self.now in
-    c.sync.ensures.on ∙
-    ap (λ (p : Run × Bool). p.1) (moved_at c.args.graph.now.nodes c.args.terms c.args.reserved.now s c.node-node.result c.first_target-next.result (second_target (place_at c.args.graph.now.nodes c.node-node.result)) (v.Sync c.in-Sync.handler) c.node-node.ensures.value c.first_target-next.ensures.value refl (sym c.node.ensures.value ∙ c.in-Sync.is))
+    c.sync.ensures.on ∙ ap (λ h. (synced c.args.terms.dynamic h (at_node s.way c.first_target-next.result) s).1) c.bound.ensures.object ∙
+    ap (λ (p : Run × Bool). p.1) (moved_at c.args.graph.now.nodes c.args.terms c.args.reserved.now s c.node-node.result c.first_target-next.result (second_target (place_at c.args.graph.now.nodes c.node-node.result)) (v.Sync c.in-Sync.name) c.node-node.ensures.value c.first_target-next.ensures.value refl (sym c.node.ensures.value ∙ c.in-Sync.is))
 
 pub returns-in-Exit-clause-new : goal.returns-in-Exit-clause-new
 returns-in-Exit-clause-new c =
