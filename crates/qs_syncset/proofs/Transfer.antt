@@ -14,7 +14,7 @@ use Rattle.qs_syncset.specs.Table.{AreSetsOf, has}
 use Rattle.qs_syncset.proofs.Bits.{in_both, truths_at}
 use Rattle.qs_syncset.proofs.Paths.{held_is, missed_past, reached_past}
 
--- the two parts of a test that fails, for the machines' proofs too
+-- the two parts of a test that fails, which the proofs of the machines cite
 pub or_first : (a b : Bool) → (a || b) ≡ false → a ≡ false
 or_first a b e = (or_parts a b e).0
 
