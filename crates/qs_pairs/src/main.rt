@@ -14,6 +14,9 @@ use std::io;
 use std::io::Write;
 use std::process::ExitCode;
 
+// So many rounds end each of these runs.
+const WHOLE: u32 = 1_000_000;
+
 const ANN: u8 = 0;
 
 const BOB: u8 = 1;
@@ -120,7 +123,7 @@ fn sign_of(told: Option<Twin>) -> [u8; 2] {
 fn put<W: Write>(
     out: &mut W,
     alloc: Global,
-    what: &[u8],
+    what: &str,
     client: u8,
     here: &Schedule<'_>,
     there: &Schedule<'_>,
@@ -133,74 +136,68 @@ fn put<W: Write>(
             let _ = out.write_all(b" ");
         }
     }
-    let _ = out.write_all(what);
+    let _ = out.write_all(what.as_bytes());
     let _ = out.write_all(b"\n");
 }
 
-fn whole<'a>(text: &'a str, picks: &'a [Actor]) -> Schedule<'a> {
+fn scheduled<'a>(text: &'a str, picks: &'a [Actor], rounds: u32) -> Schedule<'a> {
     Schedule {
         text,
         picks,
-        rounds: 1_000_000,
+        rounds,
     }
 }
 
-fn main(rt: HostRuntime) -> ExitCode {
-    let alloc = rt.alloc();
-    let mut out = io::writer(&rt);
+// Ann's and bob's blocks in both orders of their reservations.
+fn compare_orders<W: Write>(out: &mut W, alloc: Global) {
     let none = [];
     let bob_first = [Actor::Client(1)];
-    let in_turn = whole(BOTH, &none);
-    let turned = whole(BOTH, &bob_first);
+    let in_turn = scheduled(BOTH, &none, WHOLE);
+    let turned = scheduled(BOTH, &bob_first, WHOLE);
     put(
-        &mut out,
+        out,
         alloc,
-        b"ann's, after bob or before him",
+        "ann's, after bob or before him",
         ANN,
         &in_turn,
         &turned,
     );
     put(
-        &mut out,
+        out,
         alloc,
-        b"bob's, after ann or before her",
+        "bob's, after ann or before her",
         BOB,
         &in_turn,
         &turned,
     );
-    let alone = whole(ALONE, &none);
-    put(
-        &mut out,
-        alloc,
-        b"ann's, alone or beside bob",
-        ANN,
-        &alone,
-        &whole(BESIDE, &none),
-    );
-    put(
-        &mut out,
-        alloc,
-        b"ann's, with another number",
-        ANN,
-        &alone,
-        &whole(OTHER_NUMBER, &none),
-    );
-    put(
-        &mut out,
-        alloc,
-        b"ann's, with another variable",
-        ANN,
-        &alone,
-        &whole(OTHER_VARIABLE, &none),
-    );
-    put(
-        &mut out,
-        alloc,
-        b"ann's, from another state",
-        ANN,
-        &alone,
-        &whole(OTHER_STATE, &none),
-    );
+}
+
+// Ann's block alone, and in other scripts or runs.
+fn compare_texts<W: Write>(out: &mut W, alloc: Global) {
+    let none = [];
+    let alone = scheduled(ALONE, &none, WHOLE);
+    for (what, text, rounds) in [
+        ("ann's, alone or beside bob", BESIDE, WHOLE),
+        ("ann's, with another number", OTHER_NUMBER, WHOLE),
+        ("ann's, with another variable", OTHER_VARIABLE, WHOLE),
+        ("ann's, from another state", OTHER_STATE, WHOLE),
+        ("ann's, whole or cut after her command", ALONE, 2),
+    ] {
+        put(
+            out,
+            alloc,
+            what,
+            ANN,
+            &alone,
+            &scheduled(text, &none, rounds),
+        );
+    }
+}
+
+fn main(rt: HostRuntime) -> ExitCode {
+    let mut out = io::writer(&rt);
+    compare_orders(&mut out, rt.alloc());
+    compare_texts(&mut out, rt.alloc());
     let _ = out.flush();
     ExitCode::SUCCESS
 }
