@@ -100,6 +100,7 @@ impl<T> Chunk<T> {
 }
 
 impl<T: Drop> Drop for Chunk<T> {
+    // The pattern names each field, so that a further one would be seen.
     fn drop(self) {
         let Chunk {
             mut room,
