@@ -222,6 +222,23 @@ fn carry_through<R: Wait>(rt: &R, alloc: Global, size: ChunkSize) -> Option<Opti
     Some(carried)
 }
 
+// A lane is dropped with what lies in it: a chunk of one request, and three empty chunks. Whether the chunk was sent; none where memory
+// is refused.
+fn leave_parcels<R: Wait>(rt: &R, alloc: Global, size: ChunkSize) -> Option<bool> {
+    let Ok((mut out, inside)) = lane(rt, alloc, size) else {
+        return None;
+    };
+    let request = Request {
+        object: 5,
+        op: Op::Refused,
+        args: Args::new(alloc),
+    };
+    let fits = send_chunk(rt, &mut out, request);
+    drop(out);
+    drop(inside);
+    Some(fits)
+}
+
 fn is_all(carried: Carried) -> bool {
     carried.value == 7
         && carried.ends == 16
@@ -236,5 +253,6 @@ fn a_lane_carries_what_is_sent(rt: HostRuntime) -> Result<(), Fail> {
     let size = ChunkSize::new(3).ok_or("no size")?;
     let carried = carry_through(&rt, rt.alloc(), size).ok_or("out of memory")?;
     assert!(rt; carried.is_some_and(is_all));
+    assert!(rt; leave_parcels(&rt, rt.alloc(), size).ok_or("out of memory")?);
     Ok(())
 }
