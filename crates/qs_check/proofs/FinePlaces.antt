@@ -7,6 +7,7 @@ use Rattle.qs_objects.specs.declared.object.Kind.{Kind}
 use Rattle.qs_check.specs.declared.fault.CheckFault.{CheckFault}
 use Rattle.qs_check.specs.declared.fault.CheckFault.TheVariants as f
 use Rattle.qs_program.specs.Numbering.{Name, is_among, named}
+use Rattle.qs_program.specs.Limits.{most_variables}
 use Rattle.qs_check.specs.Places.{Scope, Place, Met, object, number, client, separate, listed, target, operation, arguments, variable, leaves, step, met, then_at, with_variable, op_at, is_known, takes}
 use Rattle.qs_check.specs.Resolve.{variables_at}
 use Rattle.qs_check.proofs.Inner.{Inner}
@@ -99,13 +100,13 @@ room : (n : ℕ) (names : List Name) (x : Name) (b : Bool) → length (if b then
 room n names x true h e = cc
 room n names x false h e = let k : length names + 1 ≤ n = rw length-append at h in omega (arith, k)
 
-variable_case : (s : Scope) (x : Name) (b : Bool) → length (if b then s.variables else s.variables ++ x ∷ []) ≤ 16
-    → (if b then fine s else (if nat_lt (length s.variables) 16 then Ok (with_variable s x) else Err f.Limit)) ≡ Ok (with_names s (if b then s.variables else s.variables ++ x ∷ []))
+variable_case : (s : Scope) (x : Name) (b : Bool) → length (if b then s.variables else s.variables ++ x ∷ []) ≤ most_variables
+    → (if b then fine s else (if nat_lt (length s.variables) most_variables then Ok (with_variable s x) else Err f.Limit)) ≡ Ok (with_names s (if b then s.variables else s.variables ++ x ∷ []))
 variable_case s x true h = refl
 variable_case s x false h =
-    then_step (nat_lt (length s.variables) 16) s (Ok (with_variable s x)) f.Limit (below (length s.variables) 16 (room 16 s.variables x false h refl))
+    then_step (nat_lt (length s.variables) most_variables) s (Ok (with_variable s x)) f.Limit (below (length s.variables) 16 (room 16 s.variables x false h refl))
 
-pub variable_step : (s : Scope) (x : Name) → length (named s.variables x) ≤ 16 → step s (variable x) ≡ Ok (with_names s (named s.variables x))
+pub variable_step : (s : Scope) (x : Name) → length (named s.variables x) ≤ most_variables → step s (variable x) ≡ Ok (with_names s (named s.variables x))
 variable_step s x h = variable_case s x (is_among s.variables x) h
 
 target_step : (s : Scope) (o : Name) → is_among s.objects o ≡ true → is_among s.reserved o ≡ true → step s (target o) ≡ Ok s
@@ -114,7 +115,7 @@ target_step s o h k =
     ∙ then_step (is_among s.reserved o) s (Ok s) f.NotReserved k
 
 -- fine places are met without a fault
-pub fine_met : (s : Scope) (ps : List Place) → Inner ps → AreFine s ps → length (variables_at s.variables ps) ≤ 16 → met s ps ≡ Ok (with_names s (variables_at s.variables ps))
+pub fine_met : (s : Scope) (ps : List Place) → Inner ps → AreFine s ps → length (variables_at s.variables ps) ≤ most_variables → met s ps ≡ Ok (with_names s (variables_at s.variables ps))
 fine_met s [] i h few = refl
 fine_met s (object n k ∷ ps) i h few = absurd i
 fine_met s (number low high n ∷ ps) i h few = leads s s (number low high n) ps _ (else_step (nat_lt n low || nat_lt high n) (Ok s) f.Range (between low high n h.0.0 h.0.1)) (fine_met s ps i h.1 few)
@@ -126,6 +127,6 @@ fine_met s (operation asks o op ∷ ps) i h few = leads s s (operation asks o op
 fine_met s (arguments asks o op n ∷ ps) i h few = leads s s (arguments asks o op n) ps _ (then_step (takes (op_at s.objects s.kinds asks o op) n) s (Ok s) f.Arity h.0) (fine_met s ps i h.1 few)
 fine_met s (variable x ∷ ps) i h few =
     let names = named s.variables x in
-    let small : length names ≤ 16 = omega (arith, few, variables_more names ps i) in
+    let small : length names ≤ most_variables = omega (arith, few, variables_more names ps i) in
     leads s (with_names s names) (variable x) ps _ (variable_step s x small) (fine_met (with_names s names) ps i h.1 few)
 fine_met s (leaves inside ∷ ps) i h few = leads s s (leaves inside) ps _ (then_step inside s (Ok s) f.LeaveOutside h.0) (fine_met s ps i h.1 few)

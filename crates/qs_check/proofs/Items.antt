@@ -8,6 +8,7 @@ use Rattle.qs_script.specs.declared.tree.Item.TheVariants.{Object, Client}
 use Rattle.qs_check.specs.declared.fault.CheckFault.{CheckFault}
 use Rattle.qs_check.specs.declared.fault.CheckFault.TheVariants as f
 use Rattle.qs_program.specs.Numbering.{Name, is_among}
+use Rattle.qs_program.specs.Limits.{most_objects}
 use Rattle.qs_check.specs.Places.{Scope, Place, Met, number, met, then_at, over, without_variables, with_object, kind_of, kind_places, script_places, Fails}
 use Rattle.qs_check.specs.Resolve.{lists_of}
 use Rattle.qs_check.proofs.Walks.{met-then, fails_first}
@@ -41,7 +42,7 @@ forget [] s = refl
 forget (Client c ∷ rest) s = refl
 forget (Object o ∷ rest) s =
     let k = kind_of o.kind in
-    after_object (is_among s.objects o.name) (nat_lt (length s.objects) 8) (with_object s o.name k) (λ t. met t (kind_places o.kind ++ script_places rest))
+    after_object (is_among s.objects o.name) (nat_lt (length s.objects) most_objects) (with_object s o.name k) (λ t. met t (kind_places o.kind ++ script_places rest))
     (after_kind o.kind (with_object s o.name k) (script_places rest) (forget rest (with_object s o.name k)))
 
 -- the lists of variables of the items from i on, of which the one at i is known

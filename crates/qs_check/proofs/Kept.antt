@@ -2,6 +2,7 @@
 use Rattle.std.proofs.Common.{◌≡◌, ℕ, ◌+◌, ◌<◌, ◌≤◌, false, List, [], ◌∷◌, ◌++◌, length, refl, ap, sym, ◌∙◌, subst, arith, Ok}
 use Rattle.qs_script.specs.declared.tree.Block.{Block}
 use Rattle.qs_program.specs.Numbering.{Name}
+use Rattle.qs_program.specs.Limits.{most_blocks, most_variables}
 use Rattle.qs_check.specs.Places.{Scope, Place, object, number, client, separate, listed, target, operation, arguments, variable, leaves, met, places, listed_places, block_places, blocks_places, with_block, with_listed}
 use Rattle.qs_check.proofs.Steps.{split, ok_same}
 use Rattle.qs_check.proofs.Inner.{Inner, parted, inner_body}
@@ -12,7 +13,7 @@ pub record Stays (s t : Scope) : Type 0 where
   pub kinds : t.kinds ≡ s.kinds
   pub clients : t.clients ≡ s.clients
   pub blocks : t.blocks ≡ s.blocks
-  pub few : length s.variables ≤ 16 → length t.variables ≤ 16
+  pub few : length s.variables ≤ most_variables → length t.variables ≤ most_variables
 
 -- no place of an object, a client or a block
 abbrev pub InBlock : List Place → Type 0
@@ -79,7 +80,7 @@ stays s t (variable x ∷ ps) i h =
 stays s t (leaves inside ∷ ps) i h = let w = split s t (leaves inside) ps h in then_stays s w.0 t (same_scope s w.0 w.1) (stays w.0 t ps i w.2)
 
 -- after a block: one more block, and all else as before
-pub block_stays : (s t : Scope) (b : Block) → met s (block_places b) ≡ Ok t → (s.blocks < 64) × Stays (with_block s) t
+pub block_stays : (s t : Scope) (b : Block) → met s (block_places b) ≡ Ok t → (s.blocks < most_blocks) × Stays (with_block s) t
 block_stays s t b h =
     let w = split s t separate (listed_places b.reserved ++ places false b.body) h in
     let P : Scope → Type 0 = λ u. Stays u t in
@@ -90,8 +91,8 @@ pub record Blocked (s t : Scope) (n : ℕ) : Type 0 where
   pub objects : t.objects ≡ s.objects
   pub kinds : t.kinds ≡ s.kinds
   pub clients : t.clients ≡ s.clients
-  pub count : s.blocks ≤ 64 → s.blocks + n ≤ 64
-  pub few : length s.variables ≤ 16 → length t.variables ≤ 16
+  pub count : s.blocks ≤ most_blocks → s.blocks + n ≤ most_blocks
+  pub few : length s.variables ≤ most_variables → length t.variables ≤ most_variables
 
 pub blocks_stay : (s t : Scope) (bs : List Block) → met s (blocks_places bs) ≡ Ok t → Blocked s t (length bs)
 blocks_stay s t [] h =
@@ -105,6 +106,6 @@ blocks_stay s t (b ∷ bs) h =
       objects = more.objects ∙ one.1.objects;
       kinds = more.kinds ∙ one.1.kinds;
       clients = more.clients ∙ one.1.clients;
-      count = λ l. let now : w.0.blocks ≤ 64 = omega (arith, one.0, one.1.blocks) in omega (arith, more.count now, one.1.blocks);
+      count = λ l. let now : w.0.blocks ≤ most_blocks = omega (arith, one.0, one.1.blocks) in omega (arith, more.count now, one.1.blocks);
       few = λ l. more.few (one.1.few l);
     }

@@ -10,6 +10,7 @@ use Rattle.qs_script.specs.declared.tree.ObjectItem.{ObjectItem}
 use Rattle.qs_script.specs.declared.tree.Item.{Item}
 use Rattle.qs_script.specs.declared.tree.Item.TheVariants.{Object, Client}
 use Rattle.qs_program.specs.declared.program.Declared.{Declared}
+use Rattle.qs_program.specs.Limits.{most_clients, most_objects, most_variables}
 use Rattle.qs_check.specs.Places.{Scope, object, number, client, met, kind_of, kind_places, item_places, blocks_places, script_places, with_object, with_client}
 use Rattle.qs_check.specs.Resolve.{objects_of, names_of, kinds_of, lists_of, variables_of}
 use Rattle.qs_check.proofs.Steps.{split, variables_met, ok_same}
@@ -22,22 +23,22 @@ fine_kind (Buffer n) = tt
 fine_kind (Grid r c) = tt
 
 -- after an object's declaration
-pub object_stays : (s t : Scope) (o : ObjectItem) → met s (item_places (Object o)) ≡ Ok t → (length s.objects < 8) × Stays (with_object s o.name (kind_of o.kind)) t
+pub object_stays : (s t : Scope) (o : ObjectItem) → met s (item_places (Object o)) ≡ Ok t → (length s.objects < most_objects) × Stays (with_object s o.name (kind_of o.kind)) t
 object_stays s t o h =
     let w = split s t (object o.name (kind_of o.kind)) (kind_places o.kind) h in
     let P : Scope → Type 0 = λ u. Stays u t in
     (w.1.1, subst P w.1.2 (stays w.0 t (kind_places o.kind) (fine_kind o.kind) w.2))
 
 -- after a client
-pub client_stays : (s t : Scope) (c : ClientItem) → met s (item_places (Client c)) ≡ Ok t → (length s.clients < 8) × (met (with_client s c.name) (blocks_places c.blocks) ≡ Ok t)
+pub client_stays : (s t : Scope) (c : ClientItem) → met s (item_places (Client c)) ≡ Ok t → (length s.clients < most_clients) × (met (with_client s c.name) (blocks_places c.blocks) ≡ Ok t)
 client_stays s t c h =
     let w = split s t (client c.name) (blocks_places c.blocks) h in
     (w.1.1, ap (λ u. met u (blocks_places c.blocks)) (sym w.1.2) ∙ w.2)
 
-pub few_variables : (s t : Scope) (c : ClientItem) → met s (item_places (Client c)) ≡ Ok t → length (variables_of c) ≤ 16
+pub few_variables : (s t : Scope) (c : ClientItem) → met s (item_places (Client c)) ≡ Ok t → length (variables_of c) ≤ most_variables
 few_variables s t c h =
     let w = (client_stays s t c h).1 in
-    let few : length t.variables ≤ 16 = (blocks_stay (with_client s c.name) t c.blocks w).few (omega arith) in
+    let few : length t.variables ≤ most_variables = (blocks_stay (with_client s c.name) t c.blocks w).few (omega arith) in
     rw (← variables_met (with_client s c.name) t (blocks_places c.blocks) w) few
 
 both : (a b : ℕ) (n : ℕ) → a ≤ n → n ≤ b → (nat_le a n && nat_le n b) ≡ true
@@ -69,9 +70,9 @@ object_starts s t o h = let w = split s t (object o.name (kind_of o.kind)) (kind
 pub record Scripted (s t : Scope) (items : List Item) : Type 0 where
   pub objects : t.objects ≡ s.objects ++ names_of items
   pub kinds : t.kinds ≡ s.kinds ++ kinds_of items
-  pub few_objects : length s.objects ≤ 8 → length t.objects ≤ 8
-  pub few_clients : length s.clients ≤ 8 → length s.clients + length (lists_of items) ≤ 8
-  pub few_variables : AllByRecursion (λ v. length v ≤ 16) (lists_of items)
+  pub few_objects : length s.objects ≤ most_objects → length t.objects ≤ most_objects
+  pub few_clients : length s.clients ≤ most_clients → length s.clients + length (lists_of items) ≤ most_clients
+  pub few_variables : AllByRecursion (λ v. length v ≤ most_variables) (lists_of items)
   pub starting : AllByRecursion (λ (o : Declared). IsSome (starts o.kind)) (objects_of items)
 
 pub scripted : (items : List Item) (s t : Scope) → met s (script_places items) ≡ Ok t → Scripted s t items

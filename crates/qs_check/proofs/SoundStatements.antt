@@ -23,6 +23,7 @@ use Rattle.qs_program.specs.Program.{no_object}
 use Rattle.qs_check.specs.Resolve.{atom_of, expr_of, test_of, call_of, body_of}
 use Rattle.qs_program.specs.Sound.{IsSoundAtom, IsSoundExpr, IsSoundTest, IsSoundCall, IsSoundBody, is_in}
 use Rattle.qs_program.proofs.Found.{found_small}
+use Rattle.qs_program.specs.Limits.{most_variables}
 use Rattle.qs_check.proofs.Inner.{Inner, kept, parted, inner_body, inner_call, inner_expr, inner_test}
 use Rattle.qs_check.proofs.Steps.{split}
 
@@ -73,7 +74,7 @@ module _ (D : List Declared) where
       (o : Name) → is_among os o ≡ true
       → (is_among names o ≡ true) × (slice_index_or kinds (found_at names o) (Account (pos 0)) ≡ slice_index_or ks (found_at os o) (Account (pos 0)))
 
-  module _ (R : List ℕ) (V : List Name) (few : length V ≤ 16) where
+  module _ (R : List ℕ) (V : List Name) (few : length V ≤ most_variables) where
     abbrev pub Here : Scope → Type 0
     Here s = Known s.objects s.kinds × ((o : Name) → is_among s.reserved o ≡ true → is_in R (found_at names o) ≡ true)
 

@@ -22,6 +22,7 @@ use Rattle.qs_check.specs.Resolve.{atom_of, expr_of, body_of, block_of, clients_
 use Rattle.qs_program.specs.Sound.{IsAtomBelow, IsExprBelow, AreVariablesBelow, AreLeavesInside, IsFormedBlock, IsFormedClient, AreNamesApart, IsFormedProgram, IsSound}
 use Rattle.qs_check.specs.WellFormed.{atom_names, atoms_names, expr_names, test_names, variables_in, variables_in_all, AreStatements, AreItems, IsWellFormedBlock, clients_in, IsWellFormed}
 use Rattle.qs_program.proofs.Found.{found_within, or_true, same_name-refl}
+use Rattle.qs_program.specs.Limits.{most_requests, most_steps}
 use Rattle.qs_check.proofs.Resolving.{levels_same}
 use Rattle.qs_check.proofs.Soundness.{sound}
 use Rattle.qs_check.proofs.TextNames.{distinct_variables, among_variables}
@@ -147,14 +148,14 @@ resolved_form items well =
     record { objects = well.objects_apart; clients = subst P (sym (names_same items (names_of items) (kinds_of items))) well.clients_apart } in
     (apart, clients_formed items [] (names_of items) (kinds_of items) well.each)
 
-sound_resolved : (items : List Item) → HasForm items → text_fault items ≡ None → whole_load (resolved items) ≤ 100000 → whole_weight (resolved items) ≤ 1000000 → IsSound (resolved items)
+sound_resolved : (items : List Item) → HasForm items → text_fault items ≡ None → whole_load (resolved items) ≤ most_requests → whole_weight (resolved items) ≤ most_steps → IsSound (resolved items)
 sound_resolved items form h load weight =
     let w = walk_ends (met start (script_places items)) h in
     let faultless : fault_of items ≡ None = ap (λ m. first_fault m (excess_of (resolved items))) w.1 ∙ no_fault_left (resolved items) load weight in
     sound items w.0 w.1 load weight (resolved_form items (well_formed_from items form faultless))
 
-pub sound_text : (items : List Item) (p : ProgramShape) → HasForm items → text_fault items ≡ None → p ≡ resolved items → whole_load p ≤ 100000 → whole_weight p ≤ 1000000 → IsSound p
+pub sound_text : (items : List Item) (p : ProgramShape) → HasForm items → text_fault items ≡ None → p ≡ resolved items → whole_load p ≤ most_requests → whole_weight p ≤ most_steps → IsSound p
 sound_text items p form h e load weight =
-    let lighter : whole_load (resolved items) ≤ 100000 = omega (arith, load, ap whole_load e) in
-    let shorter : whole_weight (resolved items) ≤ 1000000 = omega (arith, weight, ap whole_weight e) in
+    let lighter : whole_load (resolved items) ≤ most_requests = omega (arith, load, ap whole_load e) in
+    let shorter : whole_weight (resolved items) ≤ most_steps = omega (arith, weight, ap whole_weight e) in
     subst IsSound (sym e) (sound_resolved items form h lighter shorter)

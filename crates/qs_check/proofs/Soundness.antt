@@ -17,6 +17,7 @@ use Rattle.qs_program.specs.Program.{whole_load, whole_weight}
 use Rattle.qs_check.specs.Resolve.{block_of, client_of, clients_of, objects_of, names_of, kinds_of, lists_of, variables_of, resolved}
 use Rattle.qs_program.specs.Sound.{IsSoundBlock, IsSoundClient, IsFormedProgram, IsSound, is_in}
 use Rattle.qs_program.proofs.Found.{apart, same, false_not_true, or_true, is_among-append, is_among-last, found_within, found_append, found_apart}
+use Rattle.qs_program.specs.Limits.{most_objects, most_requests, most_steps, most_variables}
 use Rattle.qs_check.proofs.Inner.{parted}
 use Rattle.qs_check.proofs.Kept.{block_stays, blocks_stay}
 use Rattle.qs_check.proofs.Scripts.{object_stays, client_stays, few_variables, scripted}
@@ -84,7 +85,7 @@ module _ (D : List Declared) where
       let Q : List Kind → Type 0 = λ ks. Known D s.objects ks in
       subst P (sym e) (subst Q (sym f) known)
 
-  sound_block : (V : List Name) → length V ≤ 16 → (b : Block) (s t : Scope) → Known D s.objects s.kinds → met s (block_places b) ≡ Ok t → IsSoundBlock D (block_of (names D) (kinds D) V b)
+  sound_block : (V : List Name) → length V ≤ most_variables → (b : Block) (s t : Scope) → Known D s.objects s.kinds → met s (block_places b) ≡ Ok t → IsSoundBlock D (block_of (names D) (kinds D) V b)
   sound_block V few b s t known h =
       let w = split s t separate (listed_places b.reserved ++ places false b.body) h in
       let s1 = with_block s in
@@ -99,7 +100,7 @@ module _ (D : List Declared) where
         body = sound_body D R V few b.body false v.0 t here v.2;
       }
 
-  sound_blocks : (V : List Name) → length V ≤ 16 → (bs : List Block) (s t : Scope) → Known D s.objects s.kinds → met s (blocks_places bs) ≡ Ok t → AllByRecursion (IsSoundBlock D) (map (block_of (names D) (kinds D) V) bs)
+  sound_blocks : (V : List Name) → length V ≤ most_variables → (bs : List Block) (s t : Scope) → Known D s.objects s.kinds → met s (blocks_places bs) ≡ Ok t → AllByRecursion (IsSoundBlock D) (map (block_of (names D) (kinds D) V) bs)
   sound_blocks V few [] s t known h = tt
   sound_blocks V few (b ∷ bs) s t known h =
       let w = parted s t (block_places b) (blocks_places bs) h in
@@ -158,8 +159,8 @@ pub record Walked (items : List Item) (s : Scope) : Type 0 where
   pub met_all : met start (script_places items) ≡ Ok last
   pub objects : s.objects ≡ names_of items
   pub kinds : s.kinds ≡ kinds_of items
-  pub few_objects : length s.objects ≤ 8
-  pub few_variables : AllByRecursion (λ v. length v ≤ 16) (lists_of items)
+  pub few_objects : length s.objects ≤ most_objects
+  pub few_variables : AllByRecursion (λ v. length v ≤ most_variables) (lists_of items)
 
 over_ok : (m : Met) (s : Scope) → over m ≡ Ok (without_variables s) → (t : Scope) × (m ≡ Ok t) × (without_variables s ≡ without_variables t)
 over_ok (Ok t) s h = (t, refl, ok_same (without_variables t) (without_variables s) h)
@@ -180,10 +181,10 @@ walked items s h =
     }
 
 -- a script with no fault in its text, whose load and weight are in their limits
-pub sound : (items : List Item) (t : Scope) → met start (script_places items) ≡ Ok t → whole_load (resolved items) ≤ 100000 → whole_weight (resolved items) ≤ 1000000 → IsFormedProgram (resolved items) → IsSound (resolved items)
+pub sound : (items : List Item) (t : Scope) → met start (script_places items) ≡ Ok t → whole_load (resolved items) ≤ most_requests → whole_weight (resolved items) ≤ most_steps → IsFormedProgram (resolved items) → IsSound (resolved items)
 sound items t h load weight form =
     let known = scripted items start t h in
-    let count : length t.objects ≤ 8 = known.few_objects (omega arith) in
+    let count : length t.objects ≤ most_objects = known.few_objects (omega arith) in
     record {
       objects = omega (arith, count, ap length known.objects, length-map (objects_of items) (λ (o : Declared). o.name));
       clients = omega (arith, known.few_clients (omega arith), length-clients (names_of items) (kinds_of items) items);

@@ -4,6 +4,7 @@ use Rattle.std.proofs.lemmas.Bool.Decides.{nat_tests}
 use Rattle.qs_check.specs.declared.fault.CheckFault.{CheckFault}
 use Rattle.qs_check.specs.declared.fault.CheckFault.TheVariants as f
 use Rattle.qs_program.specs.Numbering.{Name, is_among, named}
+use Rattle.qs_program.specs.Limits.{most_blocks, most_clients, most_objects, most_variables}
 use Rattle.qs_check.specs.Places.{Scope, Place, Met, object, number, client, separate, listed, target, operation, arguments, variable, leaves, step, met, then_at, with_object, with_client, with_block, with_listed, with_variable, op_at, is_known, takes, Meets}
 use Rattle.qs_check.specs.Resolve.{variables_at}
 
@@ -13,15 +14,15 @@ with_names s names = record s { variables = names }
 
 -- what is known before and after a place that is no fault
 abbrev pub Stepped : Scope → Place → Scope → Type 0
-Stepped s (object n k) t = (is_among s.objects n ≡ false) × (length s.objects < 8) × (t ≡ with_object s n k)
+Stepped s (object n k) t = (is_among s.objects n ≡ false) × (length s.objects < most_objects) × (t ≡ with_object s n k)
 Stepped s (number low high n) t = (low ≤ n) × (n ≤ high) × (t ≡ s)
-Stepped s (client n) t = (is_among s.clients n ≡ false) × (length s.clients < 8) × (t ≡ with_client s n)
-Stepped s separate t = (s.blocks < 64) × (t ≡ with_block s)
+Stepped s (client n) t = (is_among s.clients n ≡ false) × (length s.clients < most_clients) × (t ≡ with_client s n)
+Stepped s separate t = (s.blocks < most_blocks) × (t ≡ with_block s)
 Stepped s (listed o) t = (is_among s.objects o ≡ true) × (is_among s.reserved o ≡ false) × (t ≡ with_listed s o)
 Stepped s (target o) t = (is_among s.objects o ≡ true) × (is_among s.reserved o ≡ true) × (t ≡ s)
 Stepped s (operation asks o op) t = (is_known (op_at s.objects s.kinds asks o op) ≡ true) × (t ≡ s)
 Stepped s (arguments asks o op n) t = (takes (op_at s.objects s.kinds asks o op) n ≡ true) × (t ≡ s)
-Stepped s (variable x) t = (t ≡ with_names s (named s.variables x)) × (length s.variables ≤ 16 → length t.variables ≤ 16)
+Stepped s (variable x) t = (t ≡ with_names s (named s.variables x)) × (length s.variables ≤ most_variables → length t.variables ≤ most_variables)
 Stepped s (leaves inside) t = t ≡ s
 
 abbrev pub fine : Scope → Met
@@ -44,28 +45,28 @@ below a b h = grind (arith, nat_tests)
 in_range : (low high n : ℕ) → (nat_lt n low || nat_lt high n) ≡ false → (low ≤ n) × (n ≤ high)
 in_range low high n h = (grind (arith, nat_tests), grind (arith, nat_tests))
 
-variable_stepped : (s t : Scope) (x : Name) (b : Bool) → b ≡ is_among s.variables x → (if b then Ok s else (if nat_lt (length s.variables) 16 then Ok (with_variable s x) else Err f.Limit)) ≡ Ok t → (t ≡ with_names s (if b then s.variables else s.variables ++ x ∷ [])) × (length s.variables ≤ 16 → length t.variables ≤ 16)
+variable_stepped : (s t : Scope) (x : Name) (b : Bool) → b ≡ is_among s.variables x → (if b then Ok s else (if nat_lt (length s.variables) most_variables then Ok (with_variable s x) else Err f.Limit)) ≡ Ok t → (t ≡ with_names s (if b then s.variables else s.variables ++ x ∷ [])) × (length s.variables ≤ most_variables → length t.variables ≤ most_variables)
 variable_stepped s t x true e h = let same = ok_same s t h in (same, λ l. rw (ap (λ u. length u.variables) same) l)
 variable_stepped s t x false e h =
-    let p = then_ok (nat_lt (length s.variables) 16) (Ok (with_variable s x)) f.Limit t h in
+    let p = then_ok (nat_lt (length s.variables) most_variables) (Ok (with_variable s x)) f.Limit t h in
     let same = ok_same (with_variable s x) t p.1 in
     (same, λ l. rw (ap (λ u. length u.variables) same, length-append) (omega (arith, below _ _ p.0)))
 
 pub stepped : (s t : Scope) (p : Place) → step s p ≡ Ok t → Stepped s p t
 stepped s t (object n k) h =
-    let p = else_ok (is_among s.objects n) (if nat_lt (length s.objects) 8 then Ok (with_object s n k) else Err f.Limit) f.Twice t h in
-    let q = then_ok (nat_lt (length s.objects) 8) (Ok (with_object s n k)) f.Limit t p.1 in
+    let p = else_ok (is_among s.objects n) (if nat_lt (length s.objects) most_objects then Ok (with_object s n k) else Err f.Limit) f.Twice t h in
+    let q = then_ok (nat_lt (length s.objects) most_objects) (Ok (with_object s n k)) f.Limit t p.1 in
     (p.0, below _ _ q.0, ok_same _ t q.1)
 stepped s t (number low high n) h =
     let p = else_ok (nat_lt n low || nat_lt high n) (Ok s) f.Range t h in
     let r = in_range low high n p.0 in
     (r.0, r.1, ok_same s t p.1)
 stepped s t (client n) h =
-    let p = else_ok (is_among s.clients n) (if nat_lt (length s.clients) 8 then Ok (with_client s n) else Err f.Limit) f.Twice t h in
-    let q = then_ok (nat_lt (length s.clients) 8) (Ok (with_client s n)) f.Limit t p.1 in
+    let p = else_ok (is_among s.clients n) (if nat_lt (length s.clients) most_clients then Ok (with_client s n) else Err f.Limit) f.Twice t h in
+    let q = then_ok (nat_lt (length s.clients) most_clients) (Ok (with_client s n)) f.Limit t p.1 in
     (p.0, below _ _ q.0, ok_same _ t q.1)
 stepped s t separate h =
-    let q = then_ok (nat_lt s.blocks 64) (Ok (with_block s)) f.Limit t h in (below _ _ q.0, ok_same _ t q.1)
+    let q = then_ok (nat_lt s.blocks most_blocks) (Ok (with_block s)) f.Limit t h in (below _ _ q.0, ok_same _ t q.1)
 stepped s t (listed o) h =
     let p = then_ok (is_among s.objects o) (if is_among s.reserved o then Err f.ReservedTwice else Ok (with_listed s o)) f.UnknownObject t h in
     let q = else_ok (is_among s.reserved o) (Ok (with_listed s o)) f.ReservedTwice t p.1 in

@@ -7,6 +7,7 @@ use Rattle.qs_script.specs.declared.tree.Block.{Block}
 use Rattle.qs_check.specs.declared.fault.CheckFault.TheVariants as f
 use Rattle.qs_program.specs.declared.program.Declared.{Declared}
 use Rattle.qs_program.specs.Numbering.{Name, same_name, is_among, named}
+use Rattle.qs_program.specs.Limits.{most_blocks, most_variables}
 use Rattle.qs_check.specs.Places.{Scope, listed, separate, met, places, listed_places, block_places, blocks_places, with_listed}
 use Rattle.qs_check.specs.Resolve.{variables_at}
 use Rattle.qs_check.specs.WellFormed.{AreStatements, variables_in_all}
@@ -118,7 +119,7 @@ module _ (D : List Declared) (C : List Name) where
           kept listing t (places false b.body) (inner_body false b.body) w.1
           ∙ ap (with_names listing) (variables_met (scope D C n V R) t (block_places b) h)
 
-    module _ (distinct : IsDistinct same_name (names D)) (right : IsRight D b) (room : n < 64) (few : length (variables_at V (block_places b)) ≤ 16) where
+    module _ (distinct : IsDistinct same_name (names D)) (right : IsRight D b) (room : n < most_blocks) (few : length (variables_at V (block_places b)) ≤ most_variables) where
       list_met : met begun (listed_places b.reserved) ≡ Ok listing
       list_met = list_to b.reserved begun right.declares (unseen b.reserved, right.distinct)
         where
@@ -129,10 +130,10 @@ module _ (D : List Declared) (C : List Name) where
       pub right_to : met (scope D C n V R) (block_places b) ≡ Ok (scope D C (n + 1) (variables_at V (block_places b)) b.reserved)
       right_to =
           let names_are = block_variables V b in
-          let small : length (variables_at V (places false b.body)) ≤ 16 = omega (arith, few, ap length names_are) in
+          let small : length (variables_at V (places false b.body)) ≤ most_variables = omega (arith, few, ap length names_are) in
           let body = fine_met listing (places false b.body) (inner_body false b.body) (statements_to D b.reserved distinct false b.body right.statements) small in
           leads (scope D C n V R) begun separate (listed_places b.reserved ++ places false b.body) _
-          (then_step (nat_lt n 64) begun (Ok begun) f.Limit (below n 64 room))
+          (then_step (nat_lt n most_blocks) begun (Ok begun) f.Limit (below n 64 room))
           (met-then begun listing (listed_places b.reserved) (places false b.body) list_met ∙ body ∙ ap (λ v. Ok (with_names listing v)) (sym names_are))
 
   pub blocks_from : (bs : List Block) (n : ℕ) (V R : List Name) (t : Scope) → met (scope D C n V R) (blocks_places bs) ≡ Ok t → AllByRecursion (IsRight D) bs
@@ -146,14 +147,14 @@ module _ (D : List Declared) (C : List Name) where
   all_more old [] = omega arith
   all_more old (x ∷ xs) = omega (arith, named_more old x, all_more (named old x) xs)
 
-  pub blocks_to : IsDistinct same_name (names D) → (bs : List Block) (n : ℕ) (V R : List Name) → n + length bs ≤ 64 → length (variables_at V (blocks_places bs)) ≤ 16 → AllByRecursion (IsRight D) bs → (t : Scope) × (met (scope D C n V R) (blocks_places bs) ≡ Ok t) × (m : ℕ) × (Q : List Name) × (t ≡ scope D C m (variables_at V (blocks_places bs)) Q)
+  pub blocks_to : IsDistinct same_name (names D) → (bs : List Block) (n : ℕ) (V R : List Name) → n + length bs ≤ most_blocks → length (variables_at V (blocks_places bs)) ≤ most_variables → AllByRecursion (IsRight D) bs → (t : Scope) × (met (scope D C n V R) (blocks_places bs) ≡ Ok t) × (m : ℕ) × (Q : List Name) × (t ≡ scope D C m (variables_at V (blocks_places bs)) Q)
   blocks_to distinct [] n V R room few right = (scope D C n V R, refl, n, R, refl)
   blocks_to distinct (b ∷ bs) n V R room few right =
       let V1 = variables_at V (block_places b) in
       let parts : variables_at V (blocks_places (b ∷ bs)) ≡ variables_at V1 (blocks_places bs) = variables_at-append V (block_places b) (blocks_places bs) in
       let more = all_more V1 (variables_in_all bs) in
-      let few_now : length V1 ≤ 16 = omega (arith, few, ap length parts, ap length (tell_blocks bs V1), more) in
-      let few_later : length (variables_at V1 (blocks_places bs)) ≤ 16 = omega (arith, few, ap length parts) in
+      let few_now : length V1 ≤ most_variables = omega (arith, few, ap length parts, ap length (tell_blocks bs V1), more) in
+      let few_later : length (variables_at V1 (blocks_places bs)) ≤ most_variables = omega (arith, few, ap length parts) in
       let one = right_to n V R b distinct right.0 (omega arith) few_now in
       let w = blocks_to distinct bs (n + 1) V1 b.reserved (omega arith) few_later right.1 in
       (w.0, met-then (scope D C n V R) (scope D C (n + 1) V1 b.reserved) (block_places b) (blocks_places bs) one ∙ w.1, w.2, w.3, w.4 ∙ ap (λ vs. scope D C w.2 vs w.3) (sym parts))

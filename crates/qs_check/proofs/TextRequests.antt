@@ -10,6 +10,7 @@ use Rattle.std.specs.List.{AllByRecursion, IsDistinct, position_or_len}
 use Rattle.qs_objects.specs.declared.Op.{Op}
 use Rattle.qs_objects.specs.declared.object.Kind.TheVariants.{Account}
 use Rattle.qs_objects.specs.Operations.{arity}
+use Rattle.qs_objects.proofs.Elements.{AllByRecursion-get_or}
 use Rattle.qs_script.specs.declared.tree.Atom.{Atom}
 use Rattle.qs_script.specs.declared.tree.Atom.TheVariants.{Variable, Number}
 use Rattle.qs_script.specs.declared.tree.Expr.{Expr}
@@ -22,7 +23,6 @@ use Rattle.qs_program.specs.Numbering.{Name, same_name, is_among, found_at}
 use Rattle.qs_check.specs.Operators.{op_of}
 use Rattle.qs_check.specs.Places.{Place, places, atom_places, atoms_places, expr_places, test_places, request_places, call_places, op_at, is_known, takes}
 use Rattle.qs_check.specs.WellFormed.{IsRequest, AreStatements}
-use Rattle.qs_program.proofs.Bounds.{AllByRecursion-get_or}
 use Rattle.qs_program.proofs.Found.{name_at, found_is, found_within, or_true, same_name-refl}
 use Rattle.qs_check.proofs.FinePlaces.{IsFine}
 use Rattle.qs_check.proofs.SoundStatements.{names, kinds}

@@ -6,6 +6,7 @@ use Rattle.std.proofs.lemmas.List.Sums.{sum_by-cons}
 use Rattle.std.proofs.lemmas.Map.Made.{is_member-Decides}
 use Rattle.std.specs.List.{AllByRecursion, IsDistinct}
 use Rattle.qs_objects.specs.declared.object.Kind.{Kind}
+use Rattle.qs_objects.specs.Limits.{most_lines}
 use Rattle.qs_script.specs.Form.{IsFormed, HasForm}
 use Rattle.qs_script.specs.declared.tree.Block.{Block}
 use Rattle.qs_script.specs.declared.tree.ClientItem.{ClientItem}
@@ -22,6 +23,7 @@ use Rattle.qs_program.specs.Loads.{weight_of}
 use Rattle.qs_program.specs.Numbering.{Name, same_name, is_among}
 use Rattle.qs_check.specs.Places.{Scope, Met, number, object, client, met, start, kind_of, kind_places, item_places, blocks_places, script_places, with_object}
 use Rattle.qs_program.specs.Program.{BlockShape, ClientShape, ProgramShape, block_load, whole_load, whole_weight}
+use Rattle.qs_program.specs.Limits.{most_clients, most_objects, most_requests, most_steps, most_variables}
 use Rattle.qs_check.specs.Resolve.{objects_of, names_of, kinds_of, clients_of, client_of, lists_of, variables_of, resolved}
 use Rattle.qs_check.specs.TextLoads.{steps_in, text_block_load, text_load, text_weight}
 use Rattle.qs_check.specs.WellFormed.{IsKindInRange, IsDeclared, IsWellFormedBlock, IsWellFormedClient, AreItems, clients_in, IsWellFormed, FaultlessAreWellFormed, AcceptsWellFormed}
@@ -71,7 +73,7 @@ kind_to : (s : Scope) (k : KindText) → IsKindInRange k → met s (kind_places 
 kind_to s (Account n) h = in_range s 0 1000000000000000 n h.0 h.1
 kind_to s (Buffer n) h = in_range s 1 1024 n h.0 h.1
 kind_to s (Grid r c) ((a, b), (d, e)) =
-    leads s s (number 1 16 r) (number 1 16 c ∷ []) (Ok s) (else_step _ (Ok s) f.Range (between 1 16 r a b)) (in_range s 1 16 c d e)
+    leads s s (number 1 16 r) (number 1 16 c ∷ []) (Ok s) (else_step _ (Ok s) f.Range (between 1 most_lines r a b)) (in_range s 1 most_lines c d e)
 
 -- lists of declared names
 declared_from : (D : List Declared) (ns : List Name) → AllByRecursion (λ o. is_among (names D) o ≡ true) ns → AllByRecursion (IsDeclared D) ns
@@ -119,7 +121,7 @@ items_from (Client c ∷ rest) D C n V R t form h =
     let u = scope D (C ++ c.name ∷ []) w.0.blocks w.0.variables w.0.reserved in
     let after : w.0 ≡ u = λ i. record { objects = kept.objects i; kinds = kept.kinds i; clients = kept.clients i; blocks = w.0.blocks; variables = w.0.variables; reserved = w.0.reserved } in
     let more = items_from rest D (C ++ c.name ∷ []) w.0.blocks w.0.variables w.0.reserved t form.1 (again u t w.0 (script_places rest) after w.2) in
-    let few : length (variables_of c) ≤ 16 = few_variables s w.0 c w.1 in
+    let few : length (variables_of c) ≤ most_variables = few_variables s w.0 c w.1 in
     let one : IsWellFormedClient D c = record {
       blocks = omega (arith, kept.count (omega arith));
       variables = omega (arith, few, count_variables c);
@@ -132,7 +134,7 @@ length_last [] n = refl
 length_last (m ∷ ns) n = omega (arith, length_last ns n)
 
 -- a script that is well formed is walked to its end
-items_to : (items : List Item) (D : List Declared) (C : List Name) (n : ℕ) (V R : List Name) → IsDistinct same_name (names D) → Fresh (names D) (names_of items) → Fresh C (client_names items) → length (names D) + length (names_of items) ≤ 8 → length C + length (clients_in items) ≤ 8 → AreItems D items → (t : Scope) × (met (scope D C n V R) (script_places items) ≡ Ok t)
+items_to : (items : List Item) (D : List Declared) (C : List Name) (n : ℕ) (V R : List Name) → IsDistinct same_name (names D) → Fresh (names D) (names_of items) → Fresh C (client_names items) → length (names D) + length (names_of items) ≤ most_clients → length C + length (clients_in items) ≤ most_clients → AreItems D items → (t : Scope) × (met (scope D C n V R) (script_places items) ≡ Ok t)
 items_to [] D C n V R apart fresh others few few_clients each = (scope D C n V R, refl)
 items_to (Object o ∷ rest) D C n V R apart fresh others few few_clients (kind, each) =
     let s = scope D C n V R in
@@ -140,30 +142,30 @@ items_to (Object o ∷ rest) D C n V R apart fresh others few few_clients (kind,
     let P : List Name → Type 0 = λ ns. IsDistinct same_name ns in
     let Q : List Name → Type 0 = λ ns. Fresh ns (names_of rest) in
     let with_name = names_with D o in
-    let room : length (names D) < 8 = omega arith in
+    let room : length (names D) < most_objects = omega arith in
     let u = with_object s o.name (kind_of o.kind) in
-    let fewer : length (names (with_one D o)) + length (names_of rest) ≤ 8 =
+    let fewer : length (names (with_one D o)) + length (names_of rest) ≤ most_objects =
     omega (arith, few, ap length (sym with_name), length_last (names D) o.name) in
     let more = items_to rest (with_one D o) C n V R (subst P with_name (distinct_last (names D) o.name apart w.0)) (subst Q with_name w.1) others fewer few_clients each in (
       more.0,
       leads s u (object o.name (kind_of o.kind)) (kind_places o.kind ++ script_places rest) (Ok more.0)
-          (else_step (is_among (names D) o.name) (if nat_lt (length (names D)) 8 then Ok u else Err f.Limit) f.Twice w.0
-          ∙ then_step (nat_lt (length (names D)) 8) s (Ok u) f.Limit (below (length (names D)) 8 room))
+          (else_step (is_among (names D) o.name) (if nat_lt (length (names D)) most_objects then Ok u else Err f.Limit) f.Twice w.0
+          ∙ then_step (nat_lt (length (names D)) most_objects) s (Ok u) f.Limit (below (length (names D)) 8 room))
           (met-then u u (kind_places o.kind) (script_places rest) (kind_to u o.kind kind) ∙ ap (λ v. met v (script_places rest)) (grown D C n V R o) ∙ more.1),
     )
 items_to (Client c ∷ rest) D C n V R apart fresh others few few_clients (one, each) =
     let s = scope D C n V R in
     let w = fresh_rest C c.name (client_names rest) others in
     let begun = scope D (C ++ c.name ∷ []) 0 [] [] in
-    let room : length C < 8 = omega arith in
-    let small : length (variables_of c) ≤ 16 = omega (arith, one.variables, count_variables c) in
+    let room : length C < most_clients = omega arith in
+    let small : length (variables_of c) ≤ most_variables = omega (arith, one.variables, count_variables c) in
     let b = blocks_to D (C ++ c.name ∷ []) apart c.blocks 0 [] [] (omega (arith, one.blocks)) small (right_blocks D c.blocks one.each) in
-    let fewer : length (C ++ c.name ∷ []) + length (clients_in rest) ≤ 8 = omega (arith, few_clients, length_last C c.name) in
+    let fewer : length (C ++ c.name ∷ []) + length (clients_in rest) ≤ most_clients = omega (arith, few_clients, length_last C c.name) in
     let more = items_to rest D (C ++ c.name ∷ []) b.2 (variables_of c) b.3 apart fresh w.1 few fewer each in (
       more.0,
       leads s begun (client c.name) (blocks_places c.blocks ++ script_places rest) (Ok more.0)
-          (else_step (is_among C c.name) (if nat_lt (length C) 8 then Ok begun else Err f.Limit) f.Twice w.0
-          ∙ then_step (nat_lt (length C) 8) s (Ok begun) f.Limit (below (length C) 8 room))
+          (else_step (is_among C c.name) (if nat_lt (length C) most_clients then Ok begun else Err f.Limit) f.Twice w.0
+          ∙ then_step (nat_lt (length C) most_clients) s (Ok begun) f.Limit (below (length C) 8 room))
           (met-then begun b.0 (blocks_places c.blocks) (script_places rest) b.1 ∙ ap (λ v. met v (script_places rest)) b.4 ∙ more.1),
     )
 
@@ -195,12 +197,12 @@ at_most limit n h = grind (arith, nat_tests)
 not_above : (limit n : ℕ) → n ≤ limit → nat_lt limit n ≡ false
 not_above limit n h = grind (arith, nat_tests)
 
-within_limits : (p : ProgramShape) → excess_of p ≡ None → (whole_load p ≤ 100000) × (whole_weight p ≤ 1000000)
+within_limits : (p : ProgramShape) → excess_of p ≡ None → (whole_load p ≤ most_requests) × (whole_weight p ≤ most_steps)
 within_limits p h =
     let w = no_excess (nat_lt 100000 (whole_load p)) (nat_lt 1000000 (whole_weight p)) h in
     (at_most 100000 (whole_load p) w.0, at_most 1000000 (whole_weight p) w.1)
 
-pub no_fault_left : (p : ProgramShape) → whole_load p ≤ 100000 → whole_weight p ≤ 1000000 → excess_of p ≡ None
+pub no_fault_left : (p : ProgramShape) → whole_load p ≤ most_requests → whole_weight p ≤ most_steps → excess_of p ≡ None
 no_fault_left p h k = rw (not_above 100000 (whole_load p) h, not_above 1000000 (whole_weight p) k) refl
 
 ends_well : (m : Met) (after : Option CheckFault) → first_fault m after ≡ None → (t : Scope) × (m ≡ Ok t) × (after ≡ None)
@@ -234,10 +236,10 @@ unseen (m ∷ ns) = (refl, unseen ns)
 
 well_formed_to : (items : List Item) → IsWellFormed items → fault_of items ≡ None
 well_formed_to items well =
-    let few : length (names_of items) ≤ 8 = omega (arith, well.objects, length-map (objects_of items) (λ (o : Declared). o.name)) in
+    let few : length (names_of items) ≤ most_objects = omega (arith, well.objects, length-map (objects_of items) (λ (o : Declared). o.name)) in
     let w = items_to items [] [] 0 [] [] no_names (unseen (names_of items), well.objects_apart) (unseen (client_names items), well.clients_apart) (omega (arith, few)) (omega (arith, well.clients)) well.each in
-    let load : whole_load (resolved items) ≤ 100000 = omega (arith, well.load, items_loads items [] (names_of items) (kinds_of items) refl well.each) in
-    let weight : whole_weight (resolved items) ≤ 1000000 = omega (arith, well.weight, items_weights items (names_of items) (kinds_of items)) in
+    let load : whole_load (resolved items) ≤ most_requests = omega (arith, well.load, items_loads items [] (names_of items) (kinds_of items) refl well.each) in
+    let weight : whole_weight (resolved items) ≤ most_steps = omega (arith, well.weight, items_weights items (names_of items) (kinds_of items)) in
     ap (λ m. first_fault m (excess_of (resolved items))) w.1 ∙ no_fault_left (resolved items) load weight
 
 formed_blocks : (D : List Declared) (bs : List Block) → AllByRecursion (IsWellFormedBlock D) bs → AllByRecursion IsFormed bs

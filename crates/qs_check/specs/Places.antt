@@ -16,7 +16,8 @@ use Rattle.qs_script.specs.declared.tree.KindText.TheVariants.{Account, Buffer, 
 use Rattle.qs_script.specs.declared.tree.Item.{Item}
 use Rattle.qs_script.specs.declared.tree.Item.TheVariants.{Object, Client}
 use Rattle.qs_script.specs.Tree.{Stmts, end, command, query, assign, choose, choose_else, again, leave}
-use Rattle.qs_program.specs.Limits.{greatest_balance, most_blocks, most_clients, most_lines, most_objects, most_turns, most_values, most_variables}
+use Rattle.qs_objects.specs.Limits.{greatest_balance, most_lines, most_values}
+use Rattle.qs_program.specs.Limits.{most_blocks, most_clients, most_objects, most_turns, most_variables}
 use Rattle.qs_check.specs.declared.fault.CheckFault.{CheckFault}
 use Rattle.qs_check.specs.declared.fault.CheckFault.TheVariants as f
 use Rattle.qs_program.specs.Numbering.{Name, is_among, found_at}

@@ -4,7 +4,8 @@ ghost use Rattle.std.specs.Prelude.{◌≡◌, ◌≤◌, ◌<◌, IfOk, length,
 ghost use Rattle.std.specs.List.{AllByRecursion};
 ghost use Rattle.qs_script.specs.Form.{levels_of, IsFormed, HasForm};
 ghost use Rattle.qs_script.specs.Views.{single as single_text};
-ghost use Rattle.qs_program.specs.Limits.{most_levels, most_objects, most_variables};
+ghost use Rattle.qs_script.specs.Limits.{most_levels};
+ghost use Rattle.qs_program.specs.Limits.{most_objects, most_variables};
 ghost use Rattle.qs_program.specs.Numbering.{found_at};
 ghost use Rattle.qs_check.specs.Resolve.{atom_of, expr_of, test_of, call_of, body_of, block_of, client_of, clients_of, objects_of, lists_of};
 ghost use Rattle.qs_program.specs.Views.{single};

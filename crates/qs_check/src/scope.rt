@@ -8,7 +8,7 @@ ghost use Rattle.qs_check.specs.Places.{Scope as Known, Meets, met, step, start,
 use crate::fault::CheckFault;
 use crate::operators::find_op;
 use qs_objects::{Kind, Op};
-use qs_program::Names;
+use qs_program::{MOST_BLOCKS, MOST_CLIENTS, MOST_OBJECTS, MOST_VARIABLES, Names};
 use qs_script::{Name, Number};
 use std::alloc::{AllocError, Global};
 use std::marker::Model;
@@ -55,7 +55,7 @@ impl Scope {
         if self.objects.contains(name) {
             return Err(CheckFault::Twice);
         }
-        if self.objects.len() >= 8 {
+        if self.objects.len() >= MOST_OBJECTS {
             return Err(CheckFault::Limit);
         }
         self.objects.number(name.copied())?;
@@ -70,7 +70,7 @@ impl Scope {
         if self.clients.contains(name) {
             return Err(CheckFault::Twice);
         }
-        if self.clients.len() >= 8 {
+        if self.clients.len() >= MOST_CLIENTS {
             return Err(CheckFault::Limit);
         }
         self.clients.number(name.copied())?;
@@ -84,7 +84,7 @@ impl Scope {
     pub(crate) fn separate(&mut self, alloc: Global) -> Result<(), CheckFault>
         ensures meets { Meets result (step self.old separate) self.new }
     {
-        if self.blocks >= 64 {
+        if self.blocks >= MOST_BLOCKS {
             return Err(CheckFault::Limit);
         }
         self.blocks += 1;
@@ -145,7 +145,7 @@ impl Scope {
         if self.variables.contains(name) {
             return Ok(());
         }
-        if self.variables.len() >= 16 {
+        if self.variables.len() >= MOST_VARIABLES {
             return Err(CheckFault::Limit);
         }
         self.variables.number(name.copied())?;

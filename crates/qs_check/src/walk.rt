@@ -7,7 +7,8 @@ ghost use Rattle.qs_check.specs.Resolve.{variables_of};
 
 use crate::fault::CheckFault;
 use crate::scope::{Scope, check_number};
-use qs_objects::Kind;
+use qs_objects::{GREATEST_BALANCE, Kind, MOST_LINES, MOST_VALUES};
+use qs_program::MOST_TURNS;
 use qs_script::{
     Atom, Block, Body, Call, ClientItem, Expr, Item, KindText, Name, ObjectItem, Stmt, Test,
 };
@@ -48,7 +49,7 @@ fn check_stmt(scope: &mut Scope, inside: bool, stmt: &Stmt) -> Result<(), CheckF
             check_body(scope, inside, other)
         }
         Stmt::Repeat(count, body) => {
-            check_number(0, 1000, *count)?;
+            check_number(0, MOST_TURNS, *count)?;
             check_body(scope, true, body)
         }
         Stmt::Leave => {
@@ -168,11 +169,11 @@ fn check_kind(kind: &KindText) -> Result<(), CheckFault>
     ensures meets { (s : Known) → Meets result (met s (kind_places kind.now)) s }
 {
     match kind {
-        KindText::Account(balance) => check_number(0, 1_000_000_000_000_000, *balance),
-        KindText::Buffer(capacity) => check_number(1, 1024, *capacity),
+        KindText::Account(balance) => check_number(0, GREATEST_BALANCE as u64, *balance),
+        KindText::Buffer(capacity) => check_number(1, MOST_VALUES as u64, *capacity),
         KindText::Grid(rows, columns) => {
-            check_number(1, 16, *rows)?;
-            check_number(1, 16, *columns)
+            check_number(1, MOST_LINES as u64, *rows)?;
+            check_number(1, MOST_LINES as u64, *columns)
         }
     }
 }

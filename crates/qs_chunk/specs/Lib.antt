@@ -1,3 +1,4 @@
+pub mod Limits
 pub mod Batch
 pub mod Runs
 pub mod Lanes

@@ -8,6 +8,7 @@ ghost use Rattle.std.specs.Vec.Ownership.{FitsInBlock};
 ghost use base.Fml.{ftrue};
 ghost use Rattle.qs_chunk.specs.Ring.{IsRing};
 ghost use Rattle.qs_chunk.specs.Room.{room_owns};
+ghost use Rattle.qs_chunk.specs.Limits.{largest_chunk};
 
 use crate::places::place_on;
 use std::alloc::{AllocError, Allocator};
@@ -75,7 +76,7 @@ impl<T, A: Allocator> Room<T, A> {
     where
         T: Drop,
         requires ring { IsRing self.old.places capacity start count }
-        requires size { capacity ≤ 32 }
+        requires size { capacity ≤ largest_chunk }
         ensures places { self.new.places ≡ replicate capacity None }
         ensures giver { self.new.giver ≡ self.old.giver }
     {

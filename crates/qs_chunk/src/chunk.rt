@@ -2,6 +2,7 @@
 
 ghost use Rattle.std.specs.Prelude.{◌≡◌, ◌<◌, ◌≤◌, ◌↔◌, [], ◌∷◌, ◌++◌, length, IfNone, IfSome, IfOk, IfErr, IsOk};
 ghost use Rattle.qs_chunk.specs.Batch.{batch};
+ghost use Rattle.qs_chunk.specs.Limits.{largest_chunk};
 
 use crate::cells::{Room, make};
 use crate::places::place_on;
@@ -23,6 +24,7 @@ pub struct Chunk<T> {
 impl<T> Model for Chunk<T> {
     ghost use Rattle.std.specs.Prelude.{◌≡◌, ◌≤◌};
     ghost use Rattle.qs_chunk.specs.Batch.{Batch, batch, batch_code};
+    ghost use Rattle.qs_chunk.specs.Limits.{largest_chunk};
     ghost use Rattle.qs_chunk.specs.Ring.{ring_values, IsRing};
 
     ghost Value = { Batch T };
@@ -31,7 +33,7 @@ impl<T> Model for Chunk<T> {
 
     ghost view = { λ c. batch (ring_values c.start c.room.places) c.capacity };
 
-    ghost invariant = { λ c. IsRing c.room.places c.capacity c.start c.count × (c.room.giver ≡ c.alloc) × (1 ≤ c.capacity) × (c.capacity ≤ 32) };
+    ghost invariant = { λ c. IsRing c.room.places c.capacity c.start c.count × (c.room.giver ≡ c.alloc) × (1 ≤ c.capacity) × (c.capacity ≤ largest_chunk) };
 }
 
 impl<T> Chunk<T> {
@@ -64,7 +66,7 @@ impl<T> Chunk<T> {
     /// How many values there may be: from 1 to 32.
     pub fn capacity(&self) -> usize
         ensures capacity { result ≡ self.now.capacity }
-        ensures within { (1 ≤ result) × (result ≤ 32) }
+        ensures within { (1 ≤ result) × (result ≤ largest_chunk) }
     {
         self.capacity
     }

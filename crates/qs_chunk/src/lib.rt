@@ -4,6 +4,7 @@
 mod cells;
 mod chunk;
 pub mod laws;
+mod limits;
 mod parcel;
 mod places;
 mod size;
@@ -11,5 +12,6 @@ mod size;
 mod tests;
 
 pub use chunk::Chunk;
+pub use limits::{LANE_ROOM, SPARE_ROOM};
 pub use parcel::Parcel;
 pub use size::ChunkSize;

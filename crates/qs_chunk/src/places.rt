@@ -2,10 +2,11 @@
 
 ghost use Rattle.std.specs.Prelude.{◌<◌, ◌≤◌};
 ghost use Rattle.qs_chunk.specs.Ring.{IsOn};
+ghost use Rattle.qs_chunk.specs.Limits.{largest_chunk};
 
 /// The place that lies `steps` on from `start`. Behind the last place lies place 0.
 pub(crate) fn place_on(start: usize, steps: usize, capacity: usize) -> usize
-    requires { (start < capacity) × (steps ≤ capacity) × (capacity ≤ 32) }
+    requires { (start < capacity) × (steps ≤ capacity) × (capacity ≤ largest_chunk) }
     ensures { IsOn start steps capacity result }
 {
     let place = start + steps;

@@ -31,8 +31,9 @@ use Rattle.qs_client_run.specs.Minds.{HasSettled, items_of, outcome, place_by}
 use Rattle.qs_client_run.specs.Running.{Fits, IsRunning}
 use Rattle.qs_client_run.specs.Standing.{HasCome, IsStanding}
 use Rattle.qs_objects.specs.Traces.{AreEmptyAfter, TraceState, trace_at, trace_state}
+use Rattle.qs_program.specs.Limits.{most_handlers, most_objects}
 use Rattle.qs_client_run.specs.declared.run.Run.{Run}
-use Rattle.qs_client_run.proofs.Codes.{reserved_below_eight}
+use Rattle.qs_client_run.proofs.Codes.{longest_covers, reserved_below_eight}
 use Rattle.qs_client_run.proofs.Coming.{reserves_here}
 use Rattle.qs_client_run.proofs.Going.{standing_of}
 use Rattle.qs_client_run.specs.declared.act.Act.TheVariants as acts
@@ -83,20 +84,20 @@ one_counted : (h : ℕ) (r : Request) → r.object ≡ h → counts h r ≡ 1
 one_counted h r e = subst (λ m. ◌≡◌ {A = ℕ} (if r.object == m then 1 else 0) 1) e (ap (λ (b : Bool). if b then 1 else 0) (eqb_self r.object))
 
 -- a tree whose requests are within these loads fits into their sum
-pub fits_within : (t : Synced) (f : ℕ → ℕ) (n : ℕ) (reserved : List ℕ) → ((h : ℕ) → is_in reserved h ≡ true → h < 8) → IsOnReserved reserved t
-    → ((h : ℕ) → h < 8 → paths.Within h (erased t) (f h)) → sum_below 8 f ≤ n → Fits n t
+pub fits_within : (t : Synced) (f : ℕ → ℕ) (n : ℕ) (reserved : List ℕ) → ((h : ℕ) → is_in reserved h ≡ true → h < most_handlers) → IsOnReserved reserved t
+    → ((h : ℕ) → h < most_objects → paths.Within h (erased t) (f h)) → sum_below most_objects f ≤ n → Fits n t
 fits_within (Done l) f n reserved eight on within few = tt
 fits_within (Sync h next) f n reserved eight on within few = fits_within next f n reserved eight on.1 within few
 fits_within (Call r next) f n reserved eight on within few =
     let o = r.object in
-    let inside : o < 8 = eight o on.0 in
+    let inside : o < most_handlers = eight o on.0 in
     let some : 1 ≤ f o = omega (arith, (within o inside).0, one_counted o r refl) in (
       omega (arith, some, sum_some f o 8 inside, few),
       fits_within next (less f o) (n - 1) reserved eight on.1 (λ h below. (within h below).1) (omega (arith, sum_falls f o 8 inside some, few)),
     )
 fits_within (Query r next) f n reserved eight on within few =
     let o = r.object in
-    let inside : o < 8 = eight o on.0 in
+    let inside : o < most_handlers = eight o on.0 in
     let some : 1 ≤ f o = omega (arith, (within o inside).0, one_counted o r refl) in (
       omega (arith, some, sum_some f o 8 inside, few),
       λ v. fits_within (next v) (less f o) (n - 1) reserved eight (on.1 v) (λ h below. (within h below).1 v) (omega (arith, sum_falls f o 8 inside some, few)),
@@ -144,12 +145,6 @@ begins code k l counts w inside long =
           (subst (λ x. paths.Within h x (load_of b.body h)) (sym s.tree) (requests_within b.body l h)))
           (omega arith);
     }
-
--- each graph is as long as the longest at most
-pub as_long : (blocks : List BlockCode) (k : ℕ) → k < length blocks → length (get_or blocks k no_code).graph ≤ longest blocks
-as_long [] k inside = absurd (omega (arith, inside))
-as_long (b ∷ bs) zero inside = omega arith
-as_long (b ∷ bs) (suc k) inside = omega (arith, as_long bs k (omega (arith, inside)))
 
 -- where the blocks after one have no events, later traces have none
 empty_after : (ts : List TraceState) (n k : ℕ) → length ts ≡ n → ((j : ℕ) → k < j → j < n → (trace_at ts j).events ≡ []) → AreEmptyAfter ts k
@@ -204,7 +199,7 @@ module _ (m : MindState) (w : IsKept m) (t : Ticket) (asked : Asks (mind_of m) a
       let over = subst (IsStanding (block_of m) m.size m.ticket.index w.left m.run) (reserves m w asked).0 w.standing in
       let counts : List ℕ = replicate (length m.run.way.counts) 0 in
       let long : length (code_at m.code t.index).graph ≤ length counts =
-      omega (arith, as_long m.code.blocks t.index inside, w.counts, length-replicate {A = ℕ} (length m.run.way.counts) 0) in
+      omega (arith, longest_covers m.code.blocks t.index, w.counts, length-replicate {A = ℕ} (length m.run.way.counts) 0) in
       let b = begins m.code t.index m.run.way.locals counts w.code inside long in
       record {
         few = omega arith;

@@ -8,8 +8,8 @@ use Rattle.qs_objects.specs.declared.Request.{Request}
 use Rattle.qs_program.specs.Values.{Locals}
 use Rattle.qs_meaning.specs.Serial.{zeros}
 use Rattle.qs_graph.specs.Steps.{limit}
-use Rattle.qs_syncset.specs.SyncRows.{AreFew, CountsState, counts_state, fresh_rows, no_syncs}
-use Rattle.qs_syncset.proofs.CountRows.{few_none}
+use Rattle.qs_sync_counts.specs.SyncRows.{AreFew, CountsState, counts_state, fresh_rows, no_syncs}
+use Rattle.qs_sync_counts.proofs.CountRows.{few_none}
 use Rattle.qs_syncset.specs.Codes.{BlockCode, ClientCode, IsCode, no_code}
 use Rattle.qs_chunk.specs.Batch.{Batch}
 use Rattle.qs_client_run.specs.Beginning.{fresh_run}
@@ -18,6 +18,7 @@ use Rattle.qs_client_run.specs.BlockSizes.{empty_rows, room_for, longest}
 use Rattle.qs_client_run.specs.Minds.{items_of}
 use Rattle.qs_client_run.specs.Running.{IsOpen}
 use Rattle.qs_objects.specs.Traces.{empty_trace, events_of, trace_state}
+use Rattle.qs_chunk.specs.Limits.{largest_chunk}
 use Rattle.qs_client_run.specs.declared.run.Run.{Run}
 use Rattle.qs_client_run.specs.declared.stage.Handed.TheVariants as handeds
 use Rattle.qs_client.specs.Kept.{IsKept}
@@ -58,7 +59,7 @@ no_nodes : 0 + 0 ≤ 0 * limit
 unfolding limit
 no_nodes = omega arith
 
-pub fresh_kept : (code : ClientCode) (size room : ℕ) → IsCode code → (1 ≤ size) × (size ≤ 32) → IsKept (fresh_state code size room)
+pub fresh_kept : (code : ClientCode) (size room : ℕ) → IsCode code → (1 ≤ size) × (size ≤ largest_chunk) → IsKept (fresh_state code size room)
 fresh_kept code size room ok sized = record {
   code = ok;
   size = sized;

@@ -9,9 +9,9 @@ use Rattle.qs_objects.proofs.Choices.{apart_eqb, eqb_self, num_cases}
 use Rattle.qs_graph.specs.Steps.{limit}
 use Rattle.qs_graph.specs.Walk.{Spot, walk, Within}
 use Rattle.qs_graph.specs.Nodes as places
-use Rattle.qs_syncset.specs.SyncRows.{AreFew, CountsState, counts_state, with_sync}
-use Rattle.qs_syncset.specs.declared.sync_counts.SyncCount.{SyncCount}
-use Rattle.qs_syncset.proofs.CountRows.{few_in, few_more}
+use Rattle.qs_sync_counts.specs.SyncRows.{AreFew, CountsState, counts_state, with_sync}
+use Rattle.qs_sync_counts.specs.declared.sync_counts.SyncCount.{SyncCount}
+use Rattle.qs_sync_counts.proofs.CountRows.{few_in, few_more}
 use Rattle.qs_syncset.specs.Codes.{BlockCode, IsCode, code_at}
 use Rattle.qs_client_run.specs.Acting.{HasActed, Wants, IsQuiet}
 use Rattle.qs_client_run.specs.Client.{Settled, got, took_chunk}
@@ -20,6 +20,7 @@ use Rattle.qs_client_run.specs.Standing.{count_sync, HasCome, HasGot, HasSent, H
 use Rattle.qs_client_run.specs.Minds.{Outcome, place_by}
 use Rattle.qs_client_run.specs.Running.{KeepsRows}
 use Rattle.qs_objects.specs.Traces.{TraceState, empty_trace, events_of, trace_at, trace_state}
+use Rattle.qs_chunk.specs.Limits.{largest_chunk}
 use Rattle.qs_client_run.specs.declared.act.Act.{Act}
 use Rattle.qs_client_run.specs.declared.run.Run.{Run}
 use Rattle.qs_client_run.specs.declared.stage.Handed.{Handed}
@@ -100,7 +101,7 @@ comes_mind m by most new w =
 -- what does not depend on where a client stands in its block
 pub record IsSteady (m : MindState) : Type 0 where
   pub code : IsCode m.code
-  pub size : (1 ≤ m.size) × (m.size ≤ 32)
+  pub size : (1 ≤ m.size) × (m.size ≤ largest_chunk)
   pub blocks : length m.entries ≤ length m.code.blocks
   pub rows : length m.run.traces ≡ length m.code.blocks
   pub counts : length m.run.way.counts ≡ longest m.code.blocks

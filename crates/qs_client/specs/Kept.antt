@@ -1,18 +1,19 @@
 -- What holds of a client's mind as it is kept.
 use Rattle.std.specs.Prelude.{◌≡◌, ◌<◌, ◌≤◌, ℕ, suc, ◌+◌, ◌*◌, [], length, slice_index_or}
 use Rattle.qs_graph.specs.Steps.{limit}
-use Rattle.qs_syncset.specs.SyncRows.{AreFew}
+use Rattle.qs_sync_counts.specs.SyncRows.{AreFew}
 use Rattle.qs_syncset.specs.Codes.{IsCode, code_at}
 use Rattle.qs_client_run.specs.BlockSizes.{longest, room_for}
 use Rattle.qs_client_run.specs.Standing.{IsGone, IsStanding}
 use Rattle.qs_objects.specs.Traces.{empty_trace, trace_at}
+use Rattle.qs_chunk.specs.Limits.{largest_chunk}
 use Rattle.qs_client_run.specs.declared.stage.Handed.TheVariants as handeds
 use Rattle.qs_client_run.specs.declared.stage.Stage.TheVariants as stages
 use Rattle.qs_client.specs.MindState.{MindState, block_of}
 
 pub record IsKept (m : MindState) : Type 0 where
   pub code : IsCode m.code
-  pub size : (1 ≤ m.size) × (m.size ≤ 32)
+  pub size : (1 ≤ m.size) × (m.size ≤ largest_chunk)
   pub blocks : length m.entries ≤ length m.code.blocks
   pub rows : length m.run.traces ≡ length m.code.blocks
   pub counts : length m.run.way.counts ≡ longest m.code.blocks

@@ -9,8 +9,8 @@ use Rattle.qs_graph.specs.Steps.{limit}
 use Rattle.qs_graph.specs.Synced.{Synced}
 use Rattle.qs_graph.specs.Walk.{entry, walk}
 use Rattle.qs_syncset.specs.Codes.{BlockCode, ClientCode, code_at}
-use Rattle.qs_syncset.specs.SyncRows.{fresh_rows, with_sync}
-use Rattle.qs_syncset.specs.declared.sync_counts.SyncCount.{SyncCount}
+use Rattle.qs_sync_counts.specs.SyncRows.{fresh_rows, with_sync}
+use Rattle.qs_sync_counts.specs.declared.sync_counts.SyncCount.{SyncCount}
 use Rattle.qs_client_run.specs.Client.{Client, Place, Settings, Settled, act_of, between, runs, full, awaits, leaves, booked, first_client, got, took_chunk}
 use Rattle.qs_client_run.specs.ClientLaws.{with_act}
 use Rattle.qs_client_run.specs.Standing.{after_send, gave, handed_of, count_sync}

@@ -3,11 +3,12 @@ use Rattle.std.specs.Prelude.{◌≡◌, ◌<◌, ◌≤◌, ℕ, ◌+◌, ◌*�
 use Rattle.qs_objects.specs.declared.held.Ticket.{Ticket}
 use Rattle.qs_program.specs.Values.{Locals}
 use Rattle.qs_graph.specs.Steps.{limit}
-use Rattle.qs_syncset.specs.SyncRows.{CountsState}
+use Rattle.qs_sync_counts.specs.SyncRows.{CountsState}
 use Rattle.qs_syncset.specs.Codes.{BlockCode, ClientCode, IsCode, code_at}
 use Rattle.qs_client_run.specs.Client.{Client, Settings}
 use Rattle.qs_client_run.specs.Minds.{client_of}
 use Rattle.qs_objects.specs.Traces.{events_of}
+use Rattle.qs_chunk.specs.Limits.{largest_chunk}
 use Rattle.qs_client_run.specs.declared.run.Run.{Run}
 use Rattle.qs_client_run.specs.declared.stage.Handed.{Handed}
 use Rattle.qs_client.specs.Mind.{Mind, is_between}
@@ -52,7 +53,7 @@ mind_of m = record {
 -- what holds of every mind
 pub record IsMind (m : Mind) : Type 0 where
   pub code : IsCode m.code
-  pub size : (1 ≤ m.size) × (m.size ≤ 32)
+  pub size : (1 ≤ m.size) × (m.size ≤ largest_chunk)
   pub entries : length m.entries ≡ m.client.begun
   pub blocks : m.client.begun ≤ length m.code.blocks
   pub traces : length m.traces ≡ length m.code.blocks

@@ -3,17 +3,19 @@
 ghost use Rattle.std.specs.Prelude.{◌≡◌, ◌<◌, ℕ, [], IfOk, IsErr, length, option_copied, slice_index_or};
 ghost use Rattle.qs_chunk.specs.Batch.{batch};
 ghost use Rattle.qs_client.specs.Mind.{Asks, lists_of, tallied, booked_mind, chunk_mind, done, ended_by, fresh_mind, got_mind, is_between, next_act, next_mind};
-ghost use Rattle.qs_syncset.specs.SyncRows.{AreFew, all_counts, counts_state, fresh_rows, greatest_count};
+ghost use Rattle.qs_sync_counts.specs.SyncRows.{AreFew, all_counts, counts_state, fresh_rows, greatest_count};
 ghost use Rattle.qs_client_run.specs.Acting.{IsQuiet};
 ghost use Rattle.qs_client.specs.MindState.{IsMind, mind_of};
 ghost use Rattle.qs_objects.specs.Rows.{joined};
 ghost use Rattle.qs_objects.specs.Traces.{events_of};
+ghost use Rattle.qs_program.specs.Limits.{most_handlers};
 
 use qs_chunk::{Chunk, ChunkSize};
 use qs_client_run::{Act, Handed, Run, Stage};
 use qs_objects::{Event, Held, Request, Ticket, Traces};
 use qs_program::Locals;
-use qs_syncset::{Code, SyncCounts};
+use qs_sync_counts::SyncCounts;
+use qs_syncset::Code;
 use std::alloc::{AllocError, Global};
 use std::marker::Model;
 
@@ -287,7 +289,7 @@ impl Mind {
     /// The object of a handler, where the client holds it.
     #[tactic(auto, unfolding(crate::specs::MindState::mind_of))]
     pub fn held(&self, handler: u8) -> Option<&Held>
-        requires handler { handler < 8 }
+        requires handler { handler < most_handlers }
         ensures value { option_copied result ≡ (mind_of self.now).client.held handler }
     {
         self.run.hands.held(handler)

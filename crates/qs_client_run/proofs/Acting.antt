@@ -3,6 +3,7 @@ use Rattle.std.proofs.Common.{◌≡◌, ℕ, zero, suc, ◌<◌, ◌≤◌, fal
 use Rattle.std.proofs.lemmas.List.{get_or-set_same}
 use Rattle.qs_objects.specs.Journals.{HeldState}
 use Rattle.qs_objects.specs.declared.Request.{Request}
+use Rattle.qs_program.specs.Limits.{most_handlers}
 use Rattle.qs_meaning.specs.Solo.{put}
 use Rattle.qs_graph.specs.Steps.{limit}
 use Rattle.qs_graph.specs.Walk.{Move, Ends, Goes, Calls, Syncs, Queries, move, said, walk}
@@ -48,7 +49,7 @@ gone_full g s h None w = tt
 
 module _ (b : BlockCode) (settings : Settings) (blocks k begun most : ℕ) where
   -- at a call or a synchronisation with this handler
-  at_node : (n h : ℕ) (s : Run) (m : Move) (other : Act) → suc n ≤ most → s.stage ≡ stages.Runs → move b.graph s.way ≡ m → h < 8 → IsLoud m
+  at_node : (n h : ℕ) (s : Run) (m : Move) (other : Act) → suc n ≤ most → s.stage ≡ stages.Runs → move b.graph s.way ≡ m → h < most_handlers → IsLoud m
       → IsSoundSynced (put (holding s.hands) h false) (said (walk b.graph n) s.way.locals m)
       → IsRunning b.graph settings.size k (suc n) s
       → cleared_by h (held_at s.hands h) (chunk_at s.hands h) other
@@ -132,7 +133,7 @@ module _ (b : BlockCode) (settings : Settings) (blocks k begun most : ℕ) where
             (gone_full b.graph new h c (get_or-set_same s.hands.chunks h None None room));
       }
 
-  pub acts_leaving : (i : ℕ) (s : Run) → s.stage ≡ stages.Leaves i → i < length b.reserved → get_or b.reserved i 0 < 8 → IsOver b.graph settings.size s
+  pub acts_leaving : (i : ℕ) (s : Run) → s.stage ≡ stages.Leaves i → i < length b.reserved → get_or b.reserved i 0 < most_handlers → IsOver b.graph settings.size s
       → HasActed b settings blocks k begun most (cleared s.hands (get_or b.reserved i 0) (Send (get_or b.reserved i 0) parcels.End)) s
       (with_hands s (without s.hands (get_or b.reserved i 0)))
   acts_leaving i s stands inside eight w =

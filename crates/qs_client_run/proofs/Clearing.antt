@@ -2,6 +2,7 @@
 use Rattle.std.proofs.Common.{◌≡◌, ℕ, ◌<◌, ◌==◌, Bool, true, false, Option, Some, None, List, length, length-set, refl, sym, ap, ◌∙◌, subst, arith}
 use Rattle.qs_objects.specs.Journals.{HeldState}
 use Rattle.qs_objects.specs.declared.Request.{Request}
+use Rattle.qs_program.specs.Limits.{most_handlers}
 use Rattle.qs_meaning.specs.Solo.{put}
 use Rattle.qs_graph.specs.Synced.{Synced, Call, Sync}
 use Rattle.qs_graph.specs.Walk.{walk}
@@ -95,7 +96,7 @@ away_at_call f r next w = subst (λ q. IsSoundSynced q next) (sym (put_twice f r
 pub away_at_sync : (f : ℕ → Bool) (h : ℕ) (next : Synced) → IsSoundSynced f (Sync h next) → IsSoundSynced (put f h false) (Sync h next)
 away_at_sync f h next w = subst (λ q. IsSoundSynced q next) (sym (put_twice f h false true)) w
 
-pub cleared_running : (g : List places.Place) (size k n h : ℕ) (s : Run) (x : Option HeldState) → h < 8
+pub cleared_running : (g : List places.Place) (size k n h : ℕ) (s : Run) (x : Option HeldState) → h < most_handlers
     → IsSoundSynced (put (holding s.hands) h false) (walk g n s.way) → IsRunning g size k n s
     → IsRunning g size k n (record { way = s.way; hands = without_by s.hands h x; traces = s.traces; stage = s.stage })
 cleared_running g size k n h s x eight sound w = record {
@@ -111,7 +112,7 @@ cleared_running g size k n h s x eight sound w = record {
   opened = without_opened size s.hands h (omega (arith, eight, w.chunks)) x w.opened;
 }
 
-pub cleared_over : (g : List places.Place) (size h : ℕ) (s : Run) (x : Option HeldState) → h < 8 → IsOver g size s
+pub cleared_over : (g : List places.Place) (size h : ℕ) (s : Run) (x : Option HeldState) → h < most_handlers → IsOver g size s
     → IsOver g size (record { way = s.way; hands = without_by s.hands h x; traces = s.traces; stage = s.stage })
 cleared_over g size h s x eight w = record {
   held = without_held s.hands h x ∙ w.held;

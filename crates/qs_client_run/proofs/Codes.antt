@@ -1,14 +1,17 @@
 -- What a client relies on in its code: few blocks, handlers among 8, and room for all requests.
-use Rattle.std.proofs.Common.{◌≡◌, inl, inr, ℕ, ◌<◌, ◌≤◌, true, false, ◌==◌, ◌||◌, List, [], ◌∷◌, length, get_or, sym, ap, ◌∙◌, subst, arith, ⊎_elim}
+use Rattle.std.proofs.Common.{◌≡◌, inl, inr, ℕ, zero, suc, ◌<◌, ◌≤◌, true, false, ◌==◌, ◌||◌, List, [], ◌∷◌, length, get_or, sym, ap, ◌∙◌, subst, arith, ⊎_elim}
 use Rattle.std.proofs.lemmas.Bool.{cases_lt}
 use Rattle.std.proofs.lemmas.List.{get_or_past}
 use Rattle.std.specs.List.{AllByRecursion}
 use Rattle.qs_objects.proofs.Choices.{num_cases}
+use Rattle.qs_objects.proofs.Elements.{AllByRecursion-get_or}
 use Rattle.qs_program.specs.Program.{ProgramShape, block_at, blocks_of, client_at, no_client}
 use Rattle.qs_program.specs.Sound.{IsSound, IsSoundBlock, IsSoundClient, is_in}
-use Rattle.qs_program.proofs.Bounds.{AllByRecursion-get_or, sound_block}
+use Rattle.qs_program.proofs.Bounds.{sound_block}
+use Rattle.qs_program.specs.Limits.{most_blocks, most_handlers}
 use Rattle.qs_syncset.proofs.ShortLists.{few_reserved}
-use Rattle.qs_syncset.specs.Codes.{ClientCode, IsCode, code_at}
+use Rattle.qs_syncset.specs.Codes.{BlockCode, ClientCode, IsCode, code_at, no_code}
+use Rattle.qs_client_run.specs.BlockSizes.{longest}
 
 -- a client that has blocks is a client of the program
 client_inside : (p : ProgramShape) (c k : ℕ) → k < blocks_of p c → c < length p.clients
@@ -18,7 +21,7 @@ client_inside p c k inside = elim (cases_lt c (length p.clients)) [
 ]
 
 pub below_eight : (code : ClientCode) (k i : ℕ) → IsCode code → k < length code.blocks → i < length (code_at code k).reserved
-    → get_or (code_at code k).reserved i 0 < 8
+    → get_or (code_at code k).reserved i 0 < most_handlers
 below_eight code k i w inside at =
     let p = w.program in
     let here : k < blocks_of p w.client = omega (arith, inside, w.of.count) in
@@ -37,13 +40,13 @@ in_each P (y ∷ ys) x member each =
     (num_cases y x)
 
 -- a handler of a block's list is one of 8
-pub reserved_below_eight : (p : ProgramShape) (c k : ℕ) → IsSound p → k < blocks_of p c → (h : ℕ) → is_in (block_at p c k).reserved h ≡ true → h < 8
+pub reserved_below_eight : (p : ProgramShape) (c k : ℕ) → IsSound p → k < blocks_of p c → (h : ℕ) → is_in (block_at p c k).reserved h ≡ true → h < most_handlers
 reserved_below_eight p c k sound inside h member =
     let block : IsSoundBlock p.objects (block_at p c k) = sound_block p c k sound (client_inside p c k inside) inside in
     let below : h < length p.objects = in_each (λ o. o < length p.objects) (block_at p c k).reserved h member block.reserved in
     omega (arith, below, sound.objects)
 
-pub few_blocks : (code : ClientCode) → IsCode code → length code.blocks ≤ 64
+pub few_blocks : (code : ClientCode) → IsCode code → length code.blocks ≤ most_blocks
 few_blocks code w = elim (cases_lt 0 (length code.blocks)) [
   | inl lt ↦
       let p = w.program in
@@ -55,10 +58,16 @@ few_blocks code w = elim (cases_lt 0 (length code.blocks)) [
 ]
 
 -- a block reserves at most 8 objects
-pub few_objects : (code : ClientCode) (k : ℕ) → IsCode code → k < length code.blocks → length (code_at code k).reserved ≤ 8
+pub few_objects : (code : ClientCode) (k : ℕ) → IsCode code → k < length code.blocks → length (code_at code k).reserved ≤ most_handlers
 few_objects code k w inside =
     let p = w.program in
     let here : k < blocks_of p w.client = omega (arith, inside, w.of.count) in
     let few = few_reserved p w.client k w.sound (client_inside p w.client k here) here in
     let same = ap (λ (hs : List ℕ). length hs) (w.of.blocks k here).reserved in
     omega (arith, few, same)
+
+-- each graph is as long as the longest at most
+pub longest_covers : (bs : List BlockCode) (k : ℕ) → length (get_or bs k no_code).graph ≤ longest bs
+longest_covers [] k = omega arith
+longest_covers (b ∷ bs) zero = omega arith
+longest_covers (b ∷ bs) (suc k) = omega (arith, longest_covers bs k)

@@ -23,6 +23,7 @@ use Rattle.qs_client_run.specs.Acting.{Wants, with_hands, IsQuiet}
 use Rattle.qs_client_run.specs.Client.{Client, Settings, act_at, act_of, call_act, clears, got, rest_act, took_chunk, settle}
 use Rattle.qs_client_run.specs.Hand.{held_at, chunk_at, with_held, with_chunk}
 use Rattle.qs_objects.specs.Traces.{trace_at}
+use Rattle.qs_program.specs.Limits.{most_handlers, most_objects}
 use Rattle.qs_client_run.specs.Minds.{HasSettled, client_of, items_of, outcome, place_by, place_of}
 use Rattle.qs_client_run.specs.Running.{IsOpen, IsRunning, IsLoud}
 use Rattle.qs_client_run.specs.Standing.{HasGot, HasTaken, IsAwaiting, IsStanding, handed_of}
@@ -90,7 +91,7 @@ called_here g s h call is w =
     ap (λ (r : Request). r.object) request ∙ w.same
 
 pub eight_here : (g : List places.Place) (n : ℕ) (s : Run) (call : calls.Call) → IsGraph g → Within g n s.way
-    → (places.place_at g s.way.node).node ≡ nodes.Call call → call.object < 8
+    → (places.place_at g s.way.node).node ≡ nodes.Call call → call.object < most_objects
 eight_here g n s call ok within is = subst IsAmongEight (moves g s.way (nodes.Call call) is) (among_eight g s.way ok (node_inside g n s.way within))
 
 no_call : (v : Node) (s t : Spot) (a b : ℕ) (r : Request) → move_by v s a b ≡ Calls r t → ((x : calls.Call) → v ≡ nodes.Call x → ⊥) → ⊥
@@ -227,7 +228,7 @@ module _ (b : BlockCode) (settings : Settings) (ticket : Ticket) (blocks begun m
   }
 
   -- with an empty chunk
-  pub filled_running : (n h : ℕ) → h < 8 → 0 < settings.size → IsRunning b.graph settings.size ticket.index n s
+  pub filled_running : (n h : ℕ) → h < most_handlers → 0 < settings.size → IsRunning b.graph settings.size ticket.index n s
       → IsRunning b.graph settings.size ticket.index n (with_hands s (with_chunk s.hands h (Some (batch [] settings.size))))
   filled_running n h eight some w = record {
     few = w.few;
@@ -243,7 +244,7 @@ module _ (b : BlockCode) (settings : Settings) (ticket : Ticket) (blocks begun m
         (refl, omega (arith, some)) (λ j other. w.opened j);
   }
 
-  pub taken_comes : (n h : ℕ) (new : Run) → s.stage ≡ stages.Runs → n ≤ most → h < 8 → IsRunning b.graph settings.size ticket.index n s
+  pub taken_comes : (n h : ℕ) (new : Run) → s.stage ≡ stages.Runs → n ≤ most → h < most_handlers → IsRunning b.graph settings.size ticket.index n s
       → HasSettled b.graph settings ticket b.reserved begun (place_of b.graph b.reserved s) n
       (with_hands s (with_chunk s.hands h (Some (batch [] settings.size)))) new
       → HasTaken b settings ticket begun most h s new

@@ -7,7 +7,6 @@ use Rattle.qs_objects.specs.declared.held.Event.{Event}
 use Rattle.qs_objects.specs.declared.Request.{Request}
 use Rattle.qs_objects.specs.declared.held.Ticket.{Ticket}
 use Rattle.qs_objects.proofs.Choices.{eqb_self, apart_eqb, and_cases, num_cases}
-use Rattle.qs_program.proofs.Bounds.{AllByRecursion-get_or}
 use Rattle.qs_meaning.specs.Solo.{put, event, value_of}
 use Rattle.qs_graph.specs.declared.node.Node.{Node}
 use Rattle.qs_graph.specs.declared.node.Action.TheVariants.{Assign, SetCount, Nothing}
@@ -26,6 +25,8 @@ use Rattle.qs_client_run.specs.Client.{Client, Settings, Settled, settle, leavin
 use Rattle.qs_client_run.specs.Hand.{HandsState, held_at, chunk_at, with_held, with_chunk}
 use Rattle.qs_objects.proofs.TraceRows.{empty_after_note}
 use Rattle.qs_objects.specs.Traces.{TraceState, trace_state, trace_at, noted, noted_at}
+use Rattle.qs_objects.proofs.Elements.{AllByRecursion-get_or}
+use Rattle.qs_program.specs.Limits.{most_handlers, most_objects}
 use Rattle.qs_client_run.specs.Minds.{items_of, client_with, client_of, place_of, place_by, outcome, coming, reached, HasSettled}
 use Rattle.qs_client_run.specs.Standing.{IsStanding, HasSent, resumed}
 use Rattle.qs_client_run.specs.Running.{IsRunning, IsFull, IsStopped, IsLoud, IsOpen, IsSized, KeepsRows, Fits, goes_to, called_by, called, asked_by, asked, synced, ended, moved_by, moved}
@@ -39,9 +40,9 @@ use Rattle.qs_client_run.specs.declared.stage.Stage.TheVariants as stages
 
 -- the handlers that a move names are among the 8
 abbrev pub IsAmongEight : Move → Type 0
-IsAmongEight (Calls r t) = r.object < 8
-IsAmongEight (Syncs h t) = h < 8
-IsAmongEight (Queries r t) = r.object < 8
+IsAmongEight (Calls r t) = r.object < most_objects
+IsAmongEight (Syncs h t) = h < most_handlers
+IsAmongEight (Queries r t) = r.object < most_objects
 IsAmongEight m = Unit {0}
 
 pub sized_of : (size : ℕ) (c : Option (Batch Request)) → IsOpen size c → IsSized size c

@@ -2,6 +2,7 @@
 use Rattle.std.specs.Prelude.{ℕ, zero, suc, ◌+◌, List, [], map, ◌∷◌, length, max}
 use Rattle.qs_syncset.specs.Codes.{BlockCode, load_at}
 use Rattle.qs_objects.specs.Traces.{TraceState, empty_trace}
+use Rattle.qs_program.specs.Limits.{most_objects}
 
 -- the sum of f below n
 abbrev pub sum_below : ℕ → (ℕ → ℕ) → ℕ
@@ -10,7 +11,7 @@ sum_below (suc n) f = f n + sum_below n f
 
 -- no more requests are made in the block
 abbrev pub room_for : BlockCode → ℕ
-room_for b = sum_below 8 (load_at b)
+room_for b = sum_below most_objects (load_at b)
 
 -- the traces before the first block
 abbrev pub empty_rows : List BlockCode → List TraceState

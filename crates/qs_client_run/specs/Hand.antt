@@ -2,6 +2,7 @@
 use Rattle.std.specs.Prelude.{ℕ, List, Option, None, replicate, slice_index_or, slice_set}
 use Rattle.qs_objects.specs.Journals.{HeldState}
 use Rattle.qs_objects.specs.declared.Request.{Request}
+use Rattle.qs_program.specs.Limits.{most_handlers}
 use Rattle.qs_chunk.specs.Batch.{Batch}
 
 -- for each of 8 handlers the object, where it is held, and the open chunk, where there is one
@@ -22,4 +23,4 @@ abbrev pub with_chunk : HandsState → ℕ → Option (Batch Request) → HandsS
 with_chunk s h c = record { held = s.held; chunks = slice_set s.chunks h c }
 
 abbrev pub no_hands : HandsState
-no_hands = record { held = replicate 8 None; chunks = replicate 8 None }
+no_hands = record { held = replicate most_handlers None; chunks = replicate most_handlers None }

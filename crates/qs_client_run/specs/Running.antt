@@ -13,6 +13,7 @@ use Rattle.qs_syncset.specs.SoundSynced.{IsSoundSynced}
 use Rattle.qs_chunk.specs.Batch.{Batch, batch}
 use Rattle.qs_client_run.specs.Hand.{held_at, chunk_at, with_held, with_chunk}
 use Rattle.qs_objects.specs.Traces.{AreEmptyAfter, TraceState, trace_at, noted_at}
+use Rattle.qs_program.specs.Limits.{most_handlers}
 use Rattle.qs_client_run.specs.declared.stage.Stage.{Stage}
 use Rattle.qs_client_run.specs.declared.run.Run.{Run}
 use Rattle.qs_client_run.specs.declared.run.Terms.{Terms}
@@ -102,8 +103,8 @@ pub record IsRunning (g : List Place) (size k n : ℕ) (s : Run) : Type 0 where
   pub fits : Fits (trace_at s.traces k).room (walk g n s.way)
   pub row : k < length s.traces
   pub last : AreEmptyAfter s.traces k
-  pub held : length s.hands.held ≡ 8
-  pub chunks : length s.hands.chunks ≡ 8
+  pub held : length s.hands.held ≡ most_handlers
+  pub chunks : length s.hands.chunks ≡ most_handlers
   pub opened : (h : ℕ) → IsOpen size (chunk_at s.hands h)
 
 -- an open chunk has the size of all chunks
@@ -131,16 +132,16 @@ pub record IsFull (g : List Place) (size k n h : ℕ) (s : Run) : Type 0 where
   pub fits : Fits (trace_at s.traces k).room (walk g n s.way)
   pub row : k < length s.traces
   pub last : AreEmptyAfter s.traces k
-  pub held : length s.hands.held ≡ 8
-  pub chunks : length s.hands.chunks ≡ 8
-  pub handler : h < 8
+  pub held : length s.hands.held ≡ most_handlers
+  pub chunks : length s.hands.chunks ≡ most_handlers
+  pub handler : h < most_handlers
   pub sized : (j : ℕ) → IsSized size (chunk_at s.hands j)
   pub others : (j : ℕ) → (h == j) ≡ false → IsOpen size (chunk_at s.hands j)
 
 -- what holds of a client at the end of its block
 pub record IsOver (g : List Place) (size : ℕ) (s : Run) : Type 0 where
-  pub held : length s.hands.held ≡ 8
-  pub chunks : length s.hands.chunks ≡ 8
+  pub held : length s.hands.held ≡ most_handlers
+  pub chunks : length s.hands.chunks ≡ most_handlers
   pub opened : (h : ℕ) → IsOpen size (chunk_at s.hands h)
 
 -- what holds of a client that makes no quiet move, within at most `most` nodes of its block's end

@@ -13,6 +13,7 @@ use Rattle.qs_client_run.specs.declared.stage.Handed.{Handed}
 use Rattle.qs_client_run.specs.Client.{Client, Settings, Settled, Place, settle, stays, holds, fills, got, took_chunk, sent_sync, sent_end, runs, full}
 use Rattle.qs_client_run.specs.Hand.{held_at, chunk_at}
 use Rattle.qs_objects.specs.Traces.{AreEmptyAfter, trace_at}
+use Rattle.qs_program.specs.Limits.{most_handlers}
 use Rattle.qs_client_run.specs.Minds.{client_of, place_of, outcome, reached}
 use Rattle.qs_client_run.specs.Running.{IsOpen, IsOver, IsStopped, Fits, KeepsRows}
 use Rattle.qs_client_run.specs.declared.act.Act.{Act}
@@ -79,9 +80,9 @@ pub record IsAwaiting (g : List GraphPlace) (size k n h : ℕ) (s : Run) : Type 
   pub fits : Fits (trace_at s.traces k).room (walk g n s.way)
   pub row : k < length s.traces
   pub last : AreEmptyAfter s.traces k
-  pub held : length s.hands.held ≡ 8
-  pub chunks : length s.hands.chunks ≡ 8
-  pub handler : h < 8
+  pub held : length s.hands.held ≡ most_handlers
+  pub chunks : length s.hands.chunks ≡ most_handlers
+  pub handler : h < most_handlers
   pub opened : (j : ℕ) → IsOpen size (chunk_at s.hands j)
 
 -- what holds between two acts of a client in a block of this code, within at most `most` nodes of its end

@@ -1,6 +1,7 @@
 //! The next act of a client in a block, and what comes to it.
 
 ghost use Rattle.std.specs.Prelude.{◌≡◌, ◌<◌, [], ℕ, None, length};
+ghost use Rattle.qs_program.specs.Limits.{most_handlers};
 ghost use Rattle.qs_chunk.specs.Batch.{batch};
 ghost use Rattle.qs_graph.specs.Walk.{move};
 ghost use Rattle.qs_syncset.specs.Codes.{code_at};
@@ -39,7 +40,7 @@ impl Act {
 impl Hands {
     // With the object, it goes home; else with an open chunk, the chunk goes; else this act is next.
     fn clear(&mut self, handler: u8, other: Act) -> Act
-        requires handler { handler < 8 }
+        requires handler { handler < most_handlers }
         ensures act { result ≡ cleared self.old handler other }
         ensures rest { self.new ≡ without self.old handler }
     {
@@ -54,7 +55,7 @@ impl Hands {
 
     // A full chunk goes.
     fn send_full(&mut self, handler: u8) -> Act
-        requires handler { handler < 8 }
+        requires handler { handler < most_handlers }
         ensures act { result ≡ full_by handler (chunk_at self.old handler) }
         ensures rest { self.new ≡ with_chunk self.old handler None }
     {

@@ -14,6 +14,7 @@ use crate::run::Run;
 use crate::stage::Stage;
 use crate::way::Way;
 use qs_objects::{Ticket, Traces};
+use qs_program::MOST_VARIABLES;
 use qs_syncset::Code;
 use std::alloc::{AllocError, Global};
 
@@ -78,7 +79,7 @@ impl Run {
     {
         let counts = repeat_counts(alloc, code)?;
         Ok(Run {
-            way: Way::new(0, [0; 16], counts),
+            way: Way::new(0, [0; MOST_VARIABLES], counts),
             hands: Hands::new(),
             traces: empty_traces(alloc, code)?,
             stage: Stage::Between,

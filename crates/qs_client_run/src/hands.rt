@@ -1,17 +1,19 @@
 //! The objects that a client holds, and its open chunks.
 
 ghost use Rattle.std.specs.Prelude.{◌≡◌, ◌<◌, None, Some, is_some, length, option_copied};
+ghost use Rattle.qs_program.specs.Limits.{most_handlers};
 ghost use Rattle.qs_client_run.specs.Hand.{held_at, chunk_at, with_held, with_chunk, no_hands};
 
 use qs_chunk::Chunk;
 use qs_objects::{Held, Request};
+use qs_program::MOST_HANDLERS;
 use std::marker::Model;
 use std::mem;
 
 /// For each of 8 handlers the object, where the client holds it, and the open chunk, where there is one.
 pub struct Hands {
-    held: [Option<Held>; 8],
-    chunks: [Option<Chunk<Request>>; 8],
+    held: [Option<Held>; MOST_HANDLERS],
+    chunks: [Option<Chunk<Request>>; MOST_HANDLERS],
 }
 
 impl Drop for Hands {
@@ -22,13 +24,14 @@ impl Drop for Hands {
 
 impl Model for Hands {
     ghost use Rattle.std.specs.Prelude.{◌≡◌, length};
+    ghost use Rattle.qs_program.specs.Limits.{most_handlers};
     ghost use Rattle.qs_client_run.specs.Hand.{HandsState};
 
     ghost Value = { HandsState };
 
     ghost view = { λ h. record { held = h.held; chunks = h.chunks } };
 
-    ghost invariant = { λ h. (length h.held ≡ 8) × (length h.chunks ≡ 8) };
+    ghost invariant = { λ h. (length h.held ≡ most_handlers) × (length h.chunks ≡ most_handlers) };
 }
 
 impl Hands {
@@ -44,15 +47,15 @@ impl Hands {
 
     /// What holds of all hands: there are 8 places of each kind. It does nothing.
     pub fn are_8(&self)
-        ensures held { length self.now.held ≡ 8 }
-        ensures chunks { length self.now.chunks ≡ 8 }
+        ensures held { length self.now.held ≡ most_handlers }
+        ensures chunks { length self.now.chunks ≡ most_handlers }
     {
         let _ = &self.held;
     }
 
     /// The object, where the client holds it.
     pub fn held(&self, handler: u8) -> Option<&Held>
-        requires handler { handler < 8 }
+        requires handler { handler < most_handlers }
         ensures value { option_copied result ≡ held_at self.now handler }
     {
         self.held[usize::from(handler)].as_ref()
@@ -60,7 +63,7 @@ impl Hands {
 
     /// Whether the client holds the object.
     pub fn holds(&self, handler: u8) -> bool
-        requires handler { handler < 8 }
+        requires handler { handler < most_handlers }
         ensures value { result ≡ is_some (held_at self.now handler) }
     {
         self.held[usize::from(handler)].is_some()
@@ -68,7 +71,7 @@ impl Hands {
 
     /// Takes the object out.
     pub fn take_held(&mut self, handler: u8) -> Option<Held>
-        requires handler { handler < 8 }
+        requires handler { handler < most_handlers }
         ensures value { result ≡ held_at self.old handler }
         ensures rest { self.new ≡ with_held self.old handler None }
     {
@@ -77,7 +80,7 @@ impl Hands {
 
     /// Keeps the object.
     pub fn put_held(&mut self, handler: u8, held: Held)
-        requires handler { handler < 8 }
+        requires handler { handler < most_handlers }
         ensures value { self.new ≡ with_held self.old handler (Some held) }
     {
         self.held[usize::from(handler)] = Some(held);
@@ -85,7 +88,7 @@ impl Hands {
 
     /// Takes the open chunk out.
     pub fn take_chunk(&mut self, handler: u8) -> Option<Chunk<Request>>
-        requires handler { handler < 8 }
+        requires handler { handler < most_handlers }
         ensures value { result ≡ chunk_at self.old handler }
         ensures rest { self.new ≡ with_chunk self.old handler None }
     {
@@ -94,7 +97,7 @@ impl Hands {
 
     /// Keeps a chunk open.
     pub fn put_chunk(&mut self, handler: u8, chunk: Chunk<Request>)
-        requires handler { handler < 8 }
+        requires handler { handler < most_handlers }
         ensures value { self.new ≡ with_chunk self.old handler (Some chunk) }
     {
         self.chunks[usize::from(handler)] = Some(chunk);

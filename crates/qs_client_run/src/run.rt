@@ -6,6 +6,7 @@ ghost use Rattle.qs_graph.specs.Walk.{at_node, with_value};
 ghost use Rattle.qs_client_run.specs.Hand.{chunk_at, held_at};
 ghost use Rattle.qs_client_run.specs.Running.{IsOpen, IsRunning, asked, called, ended, moved, synced};
 ghost use Rattle.qs_objects.specs.Traces.{AreEmptyAfter, trace_at};
+ghost use Rattle.qs_program.specs.Limits.{most_handlers, most_objects};
 ghost use Rattle.qs_client_run.specs.Client.{Settings, Place};
 ghost use Rattle.qs_client_run.specs.Minds.{HasSettled};
 ghost use Rattle.qs_client_run.specs.declared.stage.Stage.TheVariants as stages;
@@ -62,7 +63,7 @@ impl Run {
 
     // A command: into the open chunk, where the object is not held.
     fn call(&mut self, block: usize, call: &Call, next: usize) -> bool
-        requires object { call.now.object < 8 }
+        requires object { call.now.object < most_objects }
         requires few { length call.now.args ≤ 3 }
         requires block { block < length self.old.traces }
         requires last { AreEmptyAfter self.old.traces block }
@@ -98,7 +99,7 @@ impl Run {
 
     // A query on an object that is held.
     fn query(&mut self, ticket: Ticket, variable: u8, call: &Call, next: usize)
-        requires object { call.now.object < 8 }
+        requires object { call.now.object < most_objects }
         requires few { length call.now.args ≤ 3 }
         requires block { ticket.index < length self.old.traces }
         requires last { AreEmptyAfter self.old.traces ticket.index }
@@ -122,7 +123,7 @@ impl Run {
 
     // A synchronisation, skipped where the object is held and the client tests that.
     fn sync(&mut self, dynamic: bool, handler: u8, next: usize) -> bool
-        requires handler { handler < 8 }
+        requires handler { handler < most_handlers }
         ensures new { self.new ≡ (synced dynamic handler (at_node self.old.way next) self.old).0 }
         ensures on { result ≡ (synced dynamic handler (at_node self.old.way next) self.old).1 }
     {

@@ -23,7 +23,8 @@ use Rattle.qs_protocol.proofs.ClientInvariants.{listed}
 use Rattle.qs_protocol.proofs.ClientTales.{InTale, in_tale, reserves_between}
 use Rattle.qs_protocol.proofs.DeedLanes.{stands_along}
 use Rattle.qs_protocol.proofs.ReservedActs.{await_reserved, need_reserved, send_reserved}
-use Rattle.qs_core_laws.proofs.CoreCodes.{lined, longest_covers}
+use Rattle.qs_protocol.proofs.ReservedLists.{lined}
+use Rattle.qs_client_run.proofs.Codes.{longest_covers}
 use Rattle.qs_client_thread.specs.RunActs.{IsMidRun, RunActLaws, lane_of}
 
 module _ (p : ProgramShape) (c : ℕ) (code : ClientCode) (size : ℕ) (deeds : List Deed) (m : Mind) (run : IsMidRun p c code size deeds m) where

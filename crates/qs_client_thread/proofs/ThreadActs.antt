@@ -8,6 +8,7 @@ use Rattle.qs_objects.specs.declared.held.Ticket.{Ticket}
 use Rattle.qs_objects.proofs.Choices.{eqb_self}
 use Rattle.qs_program.specs.Program.{ProgramShape, blocks_of}
 use Rattle.qs_program.specs.Sound.{IsSound}
+use Rattle.qs_program.specs.Limits.{most_handlers}
 use Rattle.qs_meaning.specs.Following.{reserves}
 use Rattle.qs_syncset.specs.Codes.{IsCodeOf}
 use Rattle.qs_syncset.specs.declared.mode.Mode.{Mode}
@@ -71,7 +72,7 @@ module _ (p : ProgramShape) (c : ℕ) (first : Mind) (start : List (Option OutVi
     mid = record { sound = sound; mode = code.0; of = code.1; lead = subst (λ (x : Mind). DeedsLead c x kept.0 m) at_first kept.1 }
 
     -- a lane is there for what the mind asks for
-    pub reaches : (h : ℕ) (act : Act) → next_act m ≡ act → lane_of act ≡ Some h → (h < 8) × IsSome (lane_at lanes h)
+    pub reaches : (h : ℕ) (act : Act) → next_act m ≡ act → lane_of act ≡ Some h → (h < most_handlers) × IsSome (lane_at lanes h)
     reaches h act is uses =
         let own = act_reserved p c first.code first.size kept.0 m mid h act is uses in
         let object = reserved_inside p sound (ticket c own.0) h own.2 in

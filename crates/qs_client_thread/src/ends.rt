@@ -1,6 +1,7 @@
 //! A client's ends of its lanes to handlers.
 
 ghost use Rattle.std.specs.Prelude.{◌≡◌, ◌+◌, ◌<◌, [], ◌∷◌, ◌++◌, false, slice_set, IsSome, Some};
+ghost use Rattle.qs_program.specs.Limits.{most_handlers};
 ghost use Rattle.qs_chunk.specs.Batch.{batch};
 ghost use Rattle.qs_chunk.specs.Lanes.{MayFollow, is_asked};
 ghost use Rattle.qs_client_thread.specs.ClientThreads.{lane_at};
@@ -9,14 +10,15 @@ ghost use Rattle.qs_lane.specs.Views.{OutView};
 use qs_chunk::{Chunk, Parcel};
 use qs_lane::LaneOut;
 use qs_objects::{Held, Request};
+use qs_program::MOST_HANDLERS;
 use std::sync::Wait;
 
 /// The client's end of the lane to each handler that has one.
-pub type Lanes = [Option<LaneOut>; 8];
+pub type Lanes = [Option<LaneOut>; MOST_HANDLERS];
 
 /// Sends a parcel, which may follow what was sent, to a handler. Waits until there is room.
 pub(crate) fn send<R: Wait>(rt: &R, lanes: &mut Lanes, handler: u8, parcel: Parcel)
-    requires handler { handler < 8 }
+    requires handler { handler < most_handlers }
     requires lane { IsSome (lane_at lanes.old handler) }
     requires follows { (lane : OutView) → lane_at lanes.old handler ≡ Some lane → MayFollow lane.size (is_asked false lane.sent) parcel }
     ensures sent { (lane : OutView) → lane_at lanes.old handler ≡ Some lane
@@ -30,7 +32,7 @@ pub(crate) fn send<R: Wait>(rt: &R, lanes: &mut Lanes, handler: u8, parcel: Parc
 
 /// Takes the next object that a handler gave. Waits until there is one.
 pub(crate) fn get<R: Wait>(rt: &R, lanes: &mut Lanes, handler: u8) -> Held
-    requires handler { handler < 8 }
+    requires handler { handler < most_handlers }
     requires lane { IsSome (lane_at lanes.old handler) }
     ensures got { (lane : OutView) → lane_at lanes.old handler ≡ Some lane
         → lanes.new ≡ slice_set lanes.old handler (Some (record lane { got = lane.got ++ result ∷ [] })) }
@@ -43,7 +45,7 @@ pub(crate) fn get<R: Wait>(rt: &R, lanes: &mut Lanes, handler: u8) -> Held
 
 /// Takes an empty chunk of the lane to a handler. Waits until there is one.
 pub(crate) fn empty<R: Wait>(rt: &R, lanes: &mut Lanes, handler: u8) -> Chunk<Request>
-    requires handler { handler < 8 }
+    requires handler { handler < most_handlers }
     requires lane { IsSome (lane_at lanes.old handler) }
     ensures taken { (lane : OutView) → lane_at lanes.old handler ≡ Some lane
         → (lanes.new ≡ slice_set lanes.old handler (Some (record lane { taken = lane.taken + 1 }))) × (result ≡ batch [] lane.size) }

@@ -8,11 +8,12 @@ use Rattle.qs_objects.specs.declared.Request.{Request}
 use Rattle.qs_meaning.specs.Solo.{put}
 use Rattle.qs_program.specs.Values.{Locals}
 use Rattle.qs_syncset.specs.Codes.{ClientCode, code_at}
-use Rattle.qs_syncset.specs.SyncRows.{with_sync}
-use Rattle.qs_syncset.specs.declared.sync_counts.SyncCount.{SyncCount}
+use Rattle.qs_sync_counts.specs.SyncRows.{with_sync}
+use Rattle.qs_sync_counts.specs.declared.sync_counts.SyncCount.{SyncCount}
 use Rattle.qs_chunk.specs.Batch.{Batch}
 use Rattle.qs_chunk.specs.declared.parcel.Parcel.{Parcel}
 use Rattle.qs_chunk.specs.declared.parcel.Parcel.TheVariants as parcels
+use Rattle.qs_chunk.specs.Limits.{lane_room}
 use Rattle.qs_handler.specs.Handler.{Handler}
 use Rattle.qs_client_run.specs.Client.{Settled, got, sent, took_chunk}
 use Rattle.qs_client.specs.Mind.{Mind, asked_of, chunk_mind, done, extended, got_mind, hands_out, settings_of}
@@ -127,7 +128,7 @@ module _ (order : List Ticket) (sides : ℕ → Side) (handler : ℕ → Handler
           ap (λ (t : Ticket). after_send (settings_of own) t (code_at own.code t.index).reserved (handed_of (acts.Send h p)) (gave own.client (acts.Send h p))) ticket_is
           ∙ sym (parted (settings_of own) now (code_at own.code now.index).reserved (length own.code.blocks) own.client h p asked)
 
-      pub sends_steps : nat_lt (length lane.down) 16 ≡ true → core_step code own.size before (actor.Client c) ≡ Some (after sent_on (with_down lane (lane.down ++ p ∷ [])))
+      pub sends_steps : nat_lt (length lane.down) lane_room ≡ true → core_step code own.size before (actor.Client c) ≡ Some (after sent_on (with_down lane (lane.down ++ p ∷ [])))
       sends_steps room = rw asked (rw room (ap Some (comes by_parcel sent_on (with_down lane (lane.down ++ p ∷ [])) _ _ _ _ _
           (ap (λ (r : Settled). r.client) settled_as)
           (ap (λ (r : Settled). extended own.traces own.ticket.index r.events) settled_as ∙ ap (λ (t : Ticket). extended own.traces t.index by_parcel.events) ticket_is)
@@ -161,7 +162,7 @@ module _ (order : List Ticket) (sides : ℕ → Side) (handler : ℕ → Handler
           tallies_are (parcels.Home x) = tickets_kept counts_in sides c (side_after (parcels.Home x)) refl
           tallies_are parcels.End = tickets_kept counts_in sides c (side_after parcels.End) refl
 
-      pub sends_stay : nat_lt (length lane.down) 16 ≡ false → core_step code own.size before (actor.Client c) ≡ None
+      pub sends_stay : nat_lt (length lane.down) lane_room ≡ false → core_step code own.size before (actor.Client c) ≡ None
       sends_stay full = rw asked (rw full refl)
 
     -- the object came
@@ -215,7 +216,7 @@ module _ (order : List Ticket) (sides : ℕ → Side) (handler : ℕ → Handler
       abbrev stepped : Act → Type 0
       stepped act = core_step code own.size before (actor.Client c) ≡ result_of (lane_step own act lane)
 
-      sent_or_not : (p : Parcel) (room : Bool) → nat_lt (length lane.down) 16 ≡ room → asked_of own ≡ acts.Send h p → stepped (acts.Send h p)
+      sent_or_not : (p : Parcel) (room : Bool) → nat_lt (length lane.down) lane_room ≡ room → asked_of own ≡ acts.Send h p → stepped (acts.Send h p)
       sent_or_not p true e asked = sends_steps parted p asked e ∙ sym (rw e refl)
       sent_or_not p false e asked = sends_stay parted p asked e ∙ sym (rw e refl)
 
@@ -231,7 +232,7 @@ module _ (order : List Ticket) (sides : ℕ → Side) (handler : ℕ → Handler
       at_lane acts.Reserve asked e = cc
       at_lane (acts.Send g p) asked e =
           let same : g ≡ h = ap handler_or_none e in
-          subst (λ n. stepped (acts.Send n p)) (sym same) (sent_or_not p (nat_lt (length lane.down) 16) refl (asked ∙ ap (λ n. acts.Send n p) same))
+          subst (λ n. stepped (acts.Send n p)) (sym same) (sent_or_not p (nat_lt (length lane.down) lane_room) refl (asked ∙ ap (λ n. acts.Send n p) same))
       at_lane (acts.Await g) asked e =
           let same : g ≡ h = ap handler_or_none e in
           subst (λ n. stepped (acts.Await n)) (sym same) (got_or_not lane.up refl (asked ∙ ap acts.Await same))

@@ -8,6 +8,7 @@ use Rattle.qs_objects.specs.Journals.{HeldState}
 use Rattle.qs_objects.specs.declared.held.Ticket.{Ticket}
 use Rattle.qs_objects.specs.declared.Request.{Request}
 use Rattle.qs_objects.specs.declared.held.Next.TheVariants as nexts
+use Rattle.qs_objects.proofs.Elements.{AllByRecursion-get_or}
 use Rattle.qs_program.specs.Program.{block_at, blocks_of}
 use Rattle.qs_meaning.specs.Solo.{put}
 use Rattle.qs_program.specs.Sound.{IsSound, IsSoundBlock, is_in}
@@ -38,7 +39,7 @@ use Rattle.qs_core_parts.proofs.ClientModels.{IsSeatOf}
 use Rattle.qs_core.specs.CoreState.{CoreKeeps, CoreState, CoreSteps, IsCoreState, IsSide, Side, all_blocks, codes_of, core_from, core_of, handler_at, side_at, side_of, tickets_at}
 use Rattle.qs_core.proofs.CoreEntering.{can_enter, handlers_entered, length_entered, order_few, rooms_entered, tickets_entered}
 use Rattle.qs_core.proofs.CoreFields.{each, field_kept}
-use Rattle.qs_core.proofs.CoreLists.{all_here, all_set, handler_put, map_here, side_put, tickets_put_at}
+use Rattle.qs_core.proofs.CoreLists.{all_set, handler_put, map_here, side_put, tickets_put_at}
 use Rattle.qs_core.proofs.CoreMoves.{all_put}
 use Rattle.qs_core.proofs.HandlerFields as handlers
 use Rattle.qs_core.proofs.CoreReserving as reserving
@@ -204,7 +205,7 @@ module _ (s : CoreState) (kept : IsCoreState s) (sound : IsSound s.program) (kee
       room_at : (h : ℕ) → h < length s.handlers → is_in list h ≡ true → length (seat_at s.handlers h).tickets < (seat_at s.handlers h).room
       room_at h less member =
           let queue : tickets_at s.handlers h ≡ (seat_at s.handlers h).tickets = map_here (λ (x : CoreHandlerState). x.tickets) s.handlers h no_seat [] less in
-          let roomy : all_blocks s.program ≤ (seat_at s.handlers h).room = all_here (λ (x : CoreHandlerState). all_blocks s.program ≤ x.room) s.handlers h no_seat kept.rooms less in
+          let roomy : all_blocks s.program ≤ (seat_at s.handlers h).room = AllByRecursion-get_or (λ (x : CoreHandlerState). all_blocks s.program ≤ x.room) s.handlers h no_seat kept.rooms less in
           omega (arith, longer h member, ap length queue, roomy)
 
   module _ (new : CoreClientState) (came : IsSeatOf (booked_mind own now) new) (lanes_stay : new.lanes ≡ old.lanes) where

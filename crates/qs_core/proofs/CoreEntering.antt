@@ -4,6 +4,7 @@ use Rattle.std.specs.List.{AllByRecursion, IsDistinct, range_with_len}
 use Rattle.std.proofs.lemmas.List.{length-set, get_or-set_other}
 use Rattle.std.proofs.lemmas.Map.Keys.{IsDistinct-head, IsDistinct-tail}
 use Rattle.qs_objects.specs.declared.held.Ticket.{Ticket}
+use Rattle.qs_objects.proofs.Elements.{AllByRecursion-get_or}
 use Rattle.qs_program.specs.Program.{ProgramShape}
 use Rattle.qs_meaning.specs.Solo.{put}
 use Rattle.qs_program.specs.Sound.{is_in}
@@ -11,7 +12,7 @@ use Rattle.qs_client_run.proofs.Hold.{put_same}
 use Rattle.qs_played.proofs.Lists.{sum_by-range_more}
 use Rattle.qs_core_parts.specs.CoreHandlers.{CanEnterAll, CoreHandlerState, entered, entered_all, entered_at, handler_of, no_seat, seat_at}
 use Rattle.qs_core.specs.CoreState.{handler_at, tickets_at}
-use Rattle.qs_core.proofs.CoreLists.{all_here, all_set, handler_put, map_here, tickets_put_at}
+use Rattle.qs_core.proofs.CoreLists.{all_set, handler_put, map_here, tickets_put_at}
 
 module _ (t : Ticket) where
   pub length_entered : (hs : List CoreHandlerState) (rs : List ℕ) → length (entered_all t hs rs) ≡ length hs
@@ -68,7 +69,7 @@ module _ (t : Ticket) where
   rooms_entered n hs [] inside all = all
   rooms_entered n hs (h ∷ rest) inside all =
       rooms_entered n (entered_at t hs h) rest (subst (λ m. AllByRecursion (λ k. k < m) rest) (sym (length-set hs h (entered t (seat_at hs h)))) inside.1)
-      (all_set (λ (s : CoreHandlerState). n ≤ s.room) hs h (entered t (seat_at hs h)) (all_here (λ (s : CoreHandlerState). n ≤ s.room) hs h no_seat all inside.0) all)
+      (all_set (λ (s : CoreHandlerState). n ≤ s.room) hs h (entered t (seat_at hs h)) (AllByRecursion-get_or (λ (s : CoreHandlerState). n ≤ s.room) hs h no_seat all inside.0) all)
 
 -- the tickets of the first n clients
 abbrev below : ℕ → List Ticket → ℕ

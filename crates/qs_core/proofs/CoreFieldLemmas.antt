@@ -4,6 +4,7 @@ use Rattle.std.specs.Bool.{OnTrue}
 use Rattle.std.proofs.Math.ListN.{set}
 use Rattle.std.proofs.lemmas.List.{set-get_or}
 use Rattle.qs_objects.specs.declared.held.Ticket.{Ticket}
+use Rattle.qs_objects.proofs.Elements.{AllByRecursion-get_or}
 use Rattle.qs_program.specs.Program.{block_at, blocks_of}
 use Rattle.qs_program.specs.Sound.{IsSound}
 use Rattle.qs_client_run.specs.Client.{act_of as client_act}
@@ -20,7 +21,7 @@ use Rattle.qs_core_parts.specs.CoreClients.{AreStocked, CoreClientState, HasLane
 use Rattle.qs_core_parts.specs.CoreHandlers.{CanEnterAll, CoreHandlerState, entered_all}
 use Rattle.qs_core_parts.proofs.ClientModels.{IsSeatOf}
 use Rattle.qs_core.specs.CoreState.{CoreKeeps, CoreState, CoreSteps, GoesOn, IsCoreState, Side, all_blocks, codes_of, core_of, no_side, side_at, side_of}
-use Rattle.qs_core.proofs.CoreLists.{all_here, map_here}
+use Rattle.qs_core.proofs.CoreLists.{map_here}
 use Rattle.qs_core.proofs.CoreMoves.{client_kept, client_rests, client_steps, with_clients}
 use Rattle.qs_core.proofs.CoreBooking as booking
 
@@ -36,7 +37,7 @@ module _ (r s : CoreState) (view : r ≡ s) (kept : IsCoreState r) (keeps : Core
   here = client_here r.clients c n d number inside value
 
   pub stocked : AreStocked d
-  stocked = subst AreStocked (sym (value ∙ ap (λ m. get_or r.clients m d) number)) (all_here AreStocked r.clients c d kept.stocked inside)
+  stocked = subst AreStocked (sym (value ∙ ap (λ m. get_or r.clients m d) number)) (AllByRecursion-get_or AreStocked r.clients c d kept.stocked inside)
 
   keeps_here : CoreKeeps r
   keeps_here = subst CoreKeeps (sym view) keeps

@@ -10,7 +10,7 @@ use Rattle.qs_program.specs.Program.{ClientShape, ProgramShape, blocks_of, no_cl
 use Rattle.qs_program.specs.Sound.{IsSound}
 use Rattle.qs_syncset.specs.declared.mode.Mode.{Mode}
 use Rattle.qs_syncset.specs.Codes.{BlockCode, ClientCode, IsCodeOf, code_at, no_code}
-use Rattle.qs_syncset.specs.SyncRows.{fresh_rows, no_syncs}
+use Rattle.qs_sync_counts.specs.SyncRows.{fresh_rows, no_syncs}
 use Rattle.qs_handler.specs.Handler.{free}
 use Rattle.qs_client.specs.Mind.{Mind, fresh_mind, lists_of}
 use Rattle.qs_played.specs.JournalRooms.{fresh_held}

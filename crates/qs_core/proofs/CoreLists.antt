@@ -29,11 +29,6 @@ all_set P [] n x h all = tt
 all_set P (y ∷ xs) zero x h all = (h, all.1)
 all_set P (y ∷ xs) (suc n) x h all = (all.0, all_set P xs n x h all.1)
 
-pub all_here : {A : Type 0} (P : A → Type 0) (xs : List A) (n : ℕ) (d : A) → AllByRecursion P xs → n < length xs → P (get_or xs n d)
-all_here P [] n d all inside = absurd (omega arith)
-all_here P (x ∷ xs) zero d all inside = all.0
-all_here P (x ∷ xs) (suc n) d all inside = all_here P xs n d all.1 (omega arith)
-
 pub side_put : (cs : List CoreClientState) (c : ℕ) (s : CoreClientState) → c < length cs → side_at (set cs c s) ≡ put (side_at cs) c (side_of s)
 side_put cs c s inside = fun_ext (map_put side_of cs c s no_side inside)
 

@@ -5,6 +5,7 @@ use Rattle.std.proofs.Math.ListN.{set}
 use Rattle.std.proofs.lemmas.List.{length-set}
 use Rattle.qs_objects.specs.declared.held.Ticket.{Ticket}
 use Rattle.qs_objects.specs.declared.Request.{Request}
+use Rattle.qs_objects.proofs.Elements.{AllByRecursion-get_or}
 use Rattle.qs_meaning.specs.Solo.{put}
 use Rattle.qs_chunk.specs.Batch.{Batch, batch}
 use Rattle.qs_handler.specs.Handler.{Handler, act_of}
@@ -26,7 +27,7 @@ use Rattle.qs_core_parts.proofs.CoreMinds.{Kept, lane_begun, step_keeps, whole_m
 use Rattle.qs_core_parts.specs.CoreHandlers as seats
 use Rattle.qs_core.specs.CoreState.{CoreState, CoreSteps, IsCoreState, IsSide, Side, all_blocks, codes_of, core_from, core_of, handler_at, side_at, side_of, tickets_at}
 use Rattle.qs_core.proofs.CoreFields.{field_kept, each}
-use Rattle.qs_core.proofs.CoreLists.{all_here, all_set, handler_put, side_put, tickets_keep}
+use Rattle.qs_core.proofs.CoreLists.{all_set, handler_put, side_put, tickets_keep}
 use Rattle.qs_core.proofs.ClientFields as clients
 use Rattle.qs_core.proofs.HandlerFields as handlers
 
@@ -137,7 +138,7 @@ module _ (s : CoreState) (kept : IsCoreState s) (c : ℕ) (inside : c < length s
     stocked = all_set AreStocked s.clients c new
         (subst (λ n. AllByRecursion (IsStocked n) new.lanes) (sym same.size)
         (subst (AllByRecursion (IsStocked own.size)) (sym moves.lanes)
-        (all_set (IsStocked own.size) old.lanes moves.handler moves.lane (same.stocked own.size (all_here (IsStocked own.size) old.lanes moves.handler _ stocked (has_lane moves.handler moves.turned))) stocked)))
+        (all_set (IsStocked own.size) old.lanes moves.handler moves.lane (same.stocked own.size (AllByRecursion-get_or (IsStocked own.size) old.lanes moves.handler _ stocked (has_lane moves.handler moves.turned))) stocked)))
         kept.stocked;
     rooms = kept.rooms;
     mode = kept.mode;
@@ -275,7 +276,7 @@ module _ (s : CoreState) (kept : IsCoreState s) (h : ℕ) (inside : h < length s
     lane_stocked : IsStocked (whole_of guest).size k
     lane_stocked =
         handler_stocked (handler_of old) next old.act c (lane_at guest.lanes h) k (whole_of guest).size turned moves.1 fits
-        (all_here (IsStocked (whole_of guest).size) guest.lanes h _ stocked (subst (λ (x : Side). h < length x.lanes) found lane_of_guest))
+        (AllByRecursion-get_or (IsStocked (whole_of guest).size) guest.lanes h _ stocked (subst (λ (x : Side). h < length x.lanes) found lane_of_guest))
 
     pub handler_kept : IsCoreState met_after
     handler_kept = record {

@@ -3,6 +3,7 @@ use Rattle.std.proofs.Common.{◌≡◌, ◌<◌, ℕ, zero, suc, ◌+◌, Bool,
 use Rattle.std.specs.List.{range_with_len}
 use Rattle.qs_objects.specs.Journals.{HeldState}
 use Rattle.qs_objects.specs.declared.Request.{Request}
+use Rattle.qs_objects.proofs.Elements.{AllByRecursion-get_or}
 use Rattle.qs_program.specs.Sound.{IsSound}
 use Rattle.qs_chunk.specs.Batch.{Batch}
 use Rattle.qs_handler.specs.Handler.{Handler, free, serves, spares, gives, away, closed, act_of, is_free}
@@ -16,7 +17,7 @@ use Rattle.qs_core_parts.specs.CoreHandlers.{is_waiting, CoreHandlerState, handl
 use Rattle.qs_core_parts.specs.LaneStates.{lane_at}
 use Rattle.qs_core.specs.CoreShown.{AreBegunBy, AreShowable, AreSomewhere, HaveLanes, TurnTo, are_clear, core_in, held_at, is_clear, is_through, object_at, shown_by}
 use Rattle.qs_core.specs.CoreState.{CoreKeeps, CoreState, IsCoreState, core_of, handler_at, side_at, tickets_at}
-use Rattle.qs_core.proofs.CoreLists.{all_here, map_here}
+use Rattle.qs_core.proofs.CoreLists.{map_here}
 
 -- two readings of each number of a range that agree
 map_range : {A : Type 0} (f g : ℕ → A) (a n : ℕ) → ((k : ℕ) → k < a + n → f k ≡ g k) → map f (range_with_len a n) ≡ map g (range_with_len a n)
@@ -64,7 +65,7 @@ module _ (s : CoreState) (h : ℕ) (inside : h < length s.handlers) where
 begun_in : (s : CoreState) → IsCoreState s → CoreKeeps s → AreBegunBy s.clients s.order
 unfolding core_of ReachedCore
 begun_in s is keeps i d inside =
-    let begun = all_here (IsBegun s.program (core_of s)) s.order i d keeps.tickets.order inside in
+    let begun = AllByRecursion-get_or (IsBegun s.program (core_of s)) s.order i d keeps.tickets.order inside in
     (subst (λ n. (get_or s.order i d).client < n) (sym is.clients) begun.0, begun.1)
 
 lanes_in : (s : CoreState) → IsCoreState s → HaveLanes s.clients s.handlers

@@ -14,7 +14,7 @@ use Rattle.qs_core_parts.specs.CoreClients.{CoreClientState, IsCoreClient, whole
 use Rattle.qs_core_parts.specs.CoreHandlers.{CoreHandlerState, IsCoreHandler, handler_of, seat_at, turns_to}
 use Rattle.qs_core_parts.specs.LaneStates.{lane_at}
 use Rattle.qs_core_parts.proofs.CoreMinds.{whole_mind}
-use Rattle.qs_core.specs.CoreShown.{TurnsTo, core_in, object_at}
+use Rattle.qs_core.specs.CoreShown.{TurnsTo, core_in, most_syncs, object_at}
 use Rattle.qs_core.specs.CoreState.{side_at}
 
 and_true : (b : Bool) → (b && true) ≡ b
@@ -37,7 +37,7 @@ all_more is n =
     ∙ all_push is (range_with_len 0 n) n
 
 -- at most 64 blocks, and in each at most as many Syncs as a walk has nodes
-pub few_syncs : (s : CoreClientState) → IsCoreClient s → IsMind (mind_of s.mind) → (whole_of s).syncs ≤ 192000128
+pub few_syncs : (s : CoreClientState) → IsCoreClient s → IsMind (mind_of s.mind) → (whole_of s).syncs ≤ most_syncs
 unfolding limit
 few_syncs s kept ok =
     let m = whole_mind s kept ok in

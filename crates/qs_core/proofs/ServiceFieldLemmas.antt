@@ -5,6 +5,7 @@ use Rattle.std.proofs.Math.ListN.{set}
 use Rattle.std.proofs.lemmas.List.{set-get_or}
 use Rattle.std.specs.Prelude.{IsTrue}
 use Rattle.qs_objects.specs.declared.Request.{Request}
+use Rattle.qs_objects.proofs.Elements.{AllByRecursion-get_or}
 use Rattle.qs_chunk.specs.Batch.{Batch, batch}
 use Rattle.qs_chunk.specs.Lanes.{may_stand}
 use Rattle.qs_handler.specs.Handler.{Handler, act_of, away, closed, free, gives, is_away, serves, spares}
@@ -18,7 +19,7 @@ use Rattle.qs_core_parts.specs.CoreHandlers.{CoreHandlerState, IsCoreHandler, Ma
 use Rattle.qs_core_parts.specs.LaneStates.{lane_at}
 use Rattle.qs_core.specs.CoreState.{CoreKeeps, CoreState, CoreSteps, IsCoreState, Side, all_blocks, codes_of, core_of, handler_at, side_at, side_of, tickets_at}
 use Rattle.qs_core.proofs.CoreBooking.{ticket_kept, ticket_rests, ticket_steps}
-use Rattle.qs_core.proofs.CoreLists.{all_here, map_here}
+use Rattle.qs_core.proofs.CoreLists.{map_here}
 use Rattle.qs_core.proofs.CoreMoves.{handler_kept, handler_rests, handler_steps, with_handlers}
 use Rattle.qs_core.proofs.CoreFieldLemmas.{client_here}
 
@@ -40,7 +41,7 @@ module _ (r s : CoreState) (view : r ≡ s) (kept : IsCoreState r) (keeps : Core
   queue = map_here (λ (x : CoreHandlerState). x.tickets) r.handlers h d [] inside ∙ ap (λ (x : CoreHandlerState). x.tickets) in_list
 
   roomy : all_blocks r.program ≤ d.room
-  roomy = subst (λ (x : CoreHandlerState). all_blocks r.program ≤ x.room) in_list (all_here (λ (x : CoreHandlerState). all_blocks r.program ≤ x.room) r.handlers h d kept.rooms inside)
+  roomy = subst (λ (x : CoreHandlerState). all_blocks r.program ≤ x.room) in_list (AllByRecursion-get_or (λ (x : CoreHandlerState). all_blocks r.program ≤ x.room) r.handlers h d kept.rooms inside)
 
   keeps_here : CoreKeeps r
   keeps_here = subst CoreKeeps (sym view) keeps
@@ -111,7 +112,7 @@ module _ (r s : CoreState) (view : r ≡ s) (kept : IsCoreState r) (keeps : Core
       found = client_here r.clients c n' g number' there value'
 
       stocked : AreStocked g
-      stocked = subst AreStocked (sym (value' ∙ ap (λ m. get_or r.clients m g) number')) (all_here AreStocked r.clients c g kept.stocked there)
+      stocked = subst AreStocked (sym (value' ∙ ap (λ m. get_or r.clients m g) number')) (AllByRecursion-get_or AreStocked r.clients c g kept.stocked there)
 
       pub lane_there : h < length g.lanes
       lane_there =

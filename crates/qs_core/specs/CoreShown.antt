@@ -3,6 +3,7 @@ use Rattle.std.specs.Prelude.{◌≡◌, ◌<◌, ◌≤◌, ℕ, Bool, ◌&&◌
 use Rattle.std.specs.List.{AllByRecursion, range_with_len}
 use Rattle.qs_objects.specs.Journals.{HeldState}
 use Rattle.qs_objects.specs.declared.held.Ticket.{Ticket}
+use Rattle.qs_program.specs.Limits.{most_clients, most_handlers}
 use Rattle.qs_handler.specs.Handler.{act_of}
 use Rattle.qs_client.specs.Mind.{Mind, is_between, has_ended}
 use Rattle.qs_played.specs.Played.{ClientRows, Played}
@@ -14,6 +15,10 @@ use Rattle.qs_core_parts.specs.CoreClients.{CoreClientState, rows_of, whole_of}
 use Rattle.qs_core_parts.specs.CoreHandlers.{CoreHandlerState, handler_of, seat_at, turns_to, is_waiting}
 use Rattle.qs_core_parts.specs.LaneStates.{LaneState, lane_at}
 use Rattle.qs_core.specs.CoreState.{core_from, side_at}
+
+-- how many Syncs a client sends at most: one at each node that it comes to, of at most 3,000,002 in each of its 64 blocks
+abbrev pub most_syncs : ℕ
+most_syncs = 192000128
 
 -- a ticket names a block that one of these clients has begun, and so do all
 abbrev pub IsBegunBy : List CoreClientState → Ticket → Type 0
@@ -105,8 +110,8 @@ shown_by order cs hs = record {
 
 -- of these lists all that is shown can be read off
 pub record AreShowable (order : List Ticket) (cs : List CoreClientState) (hs : List CoreHandlerState) : Type 0 where
-  pub clients : length cs ≤ 8
-  pub handlers : length hs ≤ 8
+  pub clients : length cs ≤ most_clients
+  pub handlers : length hs ≤ most_handlers
   pub begun : AreBegunBy cs order
   pub lanes : HaveLanes cs hs
   pub turns : TurnTo cs hs

@@ -3,10 +3,11 @@
 ghost use Rattle.std.specs.Prelude.{◌≡◌, ◌≤◌, ◌<◌, ◌&&◌, IfOk, length, map, sum_by, slice_index_or, [], IsSome, Some, option_copied};
 ghost use Rattle.std.specs.List.{range_with_len};
 ghost use Rattle.qs_objects.specs.declared.held.Ticket.{Ticket as TicketShape};
+ghost use Rattle.qs_program.specs.Limits.{most_clients, most_handlers};
 ghost use Rattle.qs_core_parts.specs.CoreClients.{whole_of};
 ghost use Rattle.qs_client.specs.Mind.{has_ended};
 ghost use Rattle.qs_core_parts.specs.CoreHandlers.{is_waiting};
-ghost use Rattle.qs_core.specs.CoreShown.{AreBegunBy, AreShowable, AreMinds, AreSomewhere, HaveLane, HaveLanes, IsBegunBy, TurnTo, TurnsTo, are_clear, are_through, are_waiting, endings_by, held_at, object_at, rows_by, shown_by};
+ghost use Rattle.qs_core.specs.CoreShown.{AreBegunBy, AreShowable, AreMinds, AreSomewhere, HaveLane, HaveLanes, IsBegunBy, TurnTo, TurnsTo, are_clear, are_through, are_waiting, endings_by, held_at, most_syncs, object_at, rows_by, shown_by};
 ghost use Rattle.qs_core.specs.CoreState.{side_at};
 ghost use Rattle.qs_core_parts.specs.CoreHandlers.{IsCoreHandler, seat_at};
 
@@ -51,7 +52,7 @@ pub(crate) fn endings(
 // How many Syncs a client has sent: at most so many in each of its blocks.
 fn syncs_of(client: &CoreClient) -> u64
     ensures value { result ≡ (whole_of client.now).syncs }
-    ensures few { result ≤ 192000128 }
+    ensures few { result ≤ most_syncs }
 {
     client.is_seat();
     client.syncs()
@@ -59,7 +60,7 @@ fn syncs_of(client: &CoreClient) -> u64
 
 /// How many Syncs the clients have sent.
 pub(crate) fn syncs(clients: &[CoreClient]) -> u64
-    requires few { length clients.now ≤ 8 }
+    requires few { length clients.now ≤ most_clients }
     ensures value { result ≡ sum_by (λ c. (side_at clients.now c).mind.syncs) (range_with_len 0 (length clients.now)) }
 {
     let mut syncs = 0;
@@ -142,7 +143,7 @@ fn object<'a>(
     number: u8,
 ) -> Option<&'a Held>
     requires number { number < length handlers.now }
-    requires few { length handlers.now ≤ 8 }
+    requires few { length handlers.now ≤ most_handlers }
     requires lanes { HaveLane clients.now number }
     requires turns { TurnsTo clients.now (seat_at handlers.now number) }
     ensures value { option_copied result ≡ object_at clients.now handlers.now number }
@@ -165,7 +166,7 @@ fn copied(
     number: u8,
 ) -> Result<Held, AllocError>
     requires number { number < length handlers.now }
-    requires few { length handlers.now ≤ 8 }
+    requires few { length handlers.now ≤ most_handlers }
     requires lanes { HaveLane clients.now number }
     requires turns { TurnsTo clients.now (seat_at handlers.now number) }
     requires somewhere { IsSome (object_at clients.now handlers.now number) }
@@ -183,7 +184,7 @@ pub(crate) fn parts(
     clients: &[CoreClient],
     handlers: &[CoreHandler],
 ) -> Result<(Row<Journal>, Row<Object>), AllocError>
-    requires few { length handlers.now ≤ 8 }
+    requires few { length handlers.now ≤ most_handlers }
     requires lanes { HaveLanes clients.now handlers.now }
     requires turns { TurnTo clients.now handlers.now }
     requires somewhere { AreSomewhere clients.now handlers.now }

@@ -1,7 +1,7 @@
 -- Chunks keep their size, clients beyond the program rest, and nothing is known of blocks that were not begun.
 use Rattle.std.proofs.Common.{◌≡◌, ◌<◌, ◌≤◌, ◌-◌, ℕ, zero, suc, nat_lt, ◌==◌, Bool, true, false, if◌then◌else◌, List, [], ◌∷◌, ◌++◌, length, refl, sym, ap, ◌∙◌, subst, ⊎_elim, Option, Some, None, arith}
 use Rattle.std.specs.List.{AllByRecursion}
-use Rattle.qs_syncset.specs.declared.sync_counts.SyncCount.{SyncCount}
+use Rattle.qs_sync_counts.specs.declared.sync_counts.SyncCount.{SyncCount}
 use Rattle.qs_objects.specs.Journals.{HeldState}
 use Rattle.qs_objects.specs.Parts.{same}
 use Rattle.qs_objects.specs.declared.held.Event.{Event}
@@ -34,7 +34,8 @@ use Rattle.qs_played.proofs.FunctionUpdate.{put_all, put_at, put_at_there, put_k
 use Rattle.qs_played.specs.declared.actor.Actor.TheVariants as actor
 use Rattle.qs_protocol.proofs.ActKinds.{outside_not_send}
 use Rattle.qs_protocol.proofs.ActObjects.{sent_begun, got_begun, chunk_begun, settle_begun, not_send, not_await, not_need}
-use Rattle.qs_core_laws.specs.Core.{Core, AreCodes, blocks, client_step, core_begin, core_step, gets, gives_chunk, handled, handler_step, lane_room, put_lane, reserved_of, reserves_from, settings_of, spare_room, takes_chunk, takes_parcel, takes_ticket, tree_of, with_down, with_tickets}
+use Rattle.qs_chunk.specs.Limits.{lane_room, spare_room}
+use Rattle.qs_core_laws.specs.Core.{Core, AreCodes, blocks, client_step, core_begin, core_step, gets, gives_chunk, handled, handler_step, put_lane, reserved_of, reserves_from, settings_of, takes_chunk, takes_parcel, takes_ticket, tree_of, with_down, with_tickets}
 use Rattle.qs_core_laws.specs.CoreSchedule.{core_or_stay, core_plays}
 use Rattle.qs_core_laws.proofs.CoreCodes.{blocks_are}
 use Rattle.qs_core_laws.proofs.HandlerSteps.{some_is}

@@ -1,98 +1,57 @@
 -- What the codes of a program's clients say of its blocks.
-use Rattle.std.proofs.Common.{◌≡◌, ◌<◌, ◌≤◌, ℕ, zero, suc, nat_lt, ◌==◌, ◌||◌, Bool, true, false, List, [], ◌∷◌, length, get_or, replicate, refl, sym, ap, ◌∙◌, subst, arith}
+use Rattle.std.proofs.Common.{◌≡◌, ◌<◌, ◌≤◌, ℕ, nat_lt, Bool, true, false, List, length, get_or, replicate, refl, sym, ap, ◌∙◌, arith}
 use Rattle.std.proofs.lemmas.List.{get_or_past, length-replicate}
-use Rattle.std.proofs.lemmas.Map.Keys.{IsDistinct-head, IsDistinct-tail}
-use Rattle.std.specs.List.{AllByRecursion, IsDistinct}
 use Rattle.qs_objects.specs.declared.held.Ticket.{Ticket}
-use Rattle.qs_objects.proofs.Choices.{eqb_apart, apart_eqb, eqb_self}
-use Rattle.qs_meaning.specs.Following.{reserves, block_tree}
-use Rattle.qs_program.specs.Program.{BlockShape, ProgramShape, blocks_of, no_block, text_of}
-use Rattle.qs_program.specs.Sound.{IsSound, is_in}
+use Rattle.qs_meaning.specs.Following.{block_tree}
+use Rattle.qs_program.specs.Program.{BlockShape, ProgramShape, blocks_of}
+use Rattle.qs_program.specs.Sound.{IsSound}
 use Rattle.qs_program.specs.Values.{Locals}
-use Rattle.qs_program.proofs.Bounds.{sound_block}
-use Rattle.qs_meaning.proofs.Each.{each_map}
 use Rattle.qs_graph.specs.Synced.{erased}
 use Rattle.qs_syncset.specs.declared.mode.Mode.{Mode}
 use Rattle.qs_syncset.specs.Codes.{BlockCode, ClientCode, no_code}
 use Rattle.qs_syncset.specs.SoundSynced.{IsSoundSynced, IsOnReserved}
 use Rattle.qs_syncset.proofs.CodeWalks.{walks_are_sound}
 use Rattle.qs_client_run.specs.BlockSizes.{longest}
+use Rattle.qs_client_run.proofs.Codes.{longest_covers}
 use Rattle.qs_played.proofs.ReservedObjects.{none_beyond, no_text}
-use Rattle.qs_protocol.proofs.ClientInvariants.{listed, Lined}
+use Rattle.qs_protocol.proofs.ClientInvariants.{listed}
 use Rattle.qs_core_laws.specs.Core.{AreCodes, blocks, reserved_of, tree_of}
 
--- an object of a list of which none is twice is not among those after it
-lined_from : (may : ℕ → Bool) (hs : List ℕ) → IsDistinct ◌==◌ hs → AllByRecursion (λ h. may h ≡ true) hs → Lined may hs
-lined_from may [] distinct all = tt
-lined_from may (h ∷ hs) distinct all = (none hs (IsDistinct-head ◌==◌ h hs distinct), all.0, lined_from may hs (IsDistinct-tail ◌==◌ h hs distinct) all.1)
-  where
-    none : (gs : List ℕ) → AllByRecursion (λ g. (h == g) ≡ false) gs → is_in gs h ≡ false
-    none [] apart = refl
-    none (g ∷ gs) apart = let other : (g == h) ≡ false = eqb_apart g h (λ is. apart_eqb h g apart.0 (sym is)) in rw other (none gs apart.1)
-
-each_is_in : (hs : List ℕ) → AllByRecursion (λ h. is_in hs h ≡ true) hs
-each_is_in [] = tt
-each_is_in (h ∷ hs) = (rw (eqb_self h) refl, each_map (λ g (k : is_in hs g ≡ true). more g k (h == g)) hs (each_is_in hs))
-  where
-    more : (g : ℕ) → is_in hs g ≡ true → (b : Bool) → (b || is_in hs g) ≡ true
-    more g k true = refl
-    more g k false = k
-
-pub longest_covers : (bs : List BlockCode) (k : ℕ) → length (get_or bs k no_code).graph ≤ longest bs
-longest_covers [] k = omega arith
-longest_covers (b ∷ bs) zero = omega arith
-longest_covers (b ∷ bs) (suc k) = omega (arith, longest_covers bs k)
-
-module _ (program : ProgramShape) (sound : IsSound program) where
-  pub lined : (t : Ticket) → Lined (reserves program t) (listed program t)
-  lined t = by_client (nat_lt t.client (length program.clients)) refl
+module _ (program : ProgramShape) (sound : IsSound program) (mode : Mode) (code : ℕ → ClientCode) (codes : AreCodes program mode code) (size : ℕ) where
+  pub blocks_are : (c : ℕ) → blocks code size c ≡ blocks_of program c
+  blocks_are c = by_client (nat_lt c (length program.clients)) refl
     where
-      none : text_of program t ≡ no_block → Lined (reserves program t) (listed program t)
-      none e = subst (λ (b : BlockShape). Lined (is_in b.reserved) b.reserved) (sym e) tt
+      by_client : (b : Bool) → nat_lt c (length program.clients) ≡ b → blocks code size c ≡ blocks_of program c
+      by_client true e = (codes.own c (grind (arith, e))).count
+      by_client false e = ap length (codes.none c (grind (arith, e))) ∙ sym (none_beyond program sound c (grind (arith, e)))
 
-      by_block : t.client < length program.clients → (b : Bool) → nat_lt t.index (blocks_of program t.client) ≡ b → Lined (reserves program t) (listed program t)
-      by_block inside true e = lined_from (reserves program t) (listed program t) (sound_block program t.client t.index sound inside (grind (arith, e))).distinct (each_is_in (listed program t))
-      by_block inside false e = none (no_text program sound t (grind (arith, e)))
+  pub reserved_is : (t : Ticket) → reserved_of code size t ≡ listed program t
+  reserved_is t = by_block (nat_lt t.index (blocks_of program t.client)) refl
+    where
+      by_block : (b : Bool) → nat_lt t.index (blocks_of program t.client) ≡ b → reserved_of code size t ≡ listed program t
+      by_block true e =
+          let some : t.index < blocks_of program t.client = grind (arith, e) in
+          by_client some (nat_lt t.client (length program.clients)) refl
+        where
+          by_client : t.index < blocks_of program t.client → (b : Bool) → nat_lt t.client (length program.clients) ≡ b → reserved_of code size t ≡ listed program t
+          by_client some true e = ((codes.own t.client (grind (arith, e))).blocks t.index some).reserved
+          by_client some false e = let n = none_beyond program sound t.client (grind (arith, e)) in absurd (omega (arith, n, some))
+      by_block false e =
+          let out : blocks_of program t.client ≤ t.index = grind (arith, e) in
+          let long = blocks_are t.client in
+          ap (λ (b : BlockCode). b.reserved) (get_or_past (code t.client).blocks t.index no_code (omega (arith, out, long)))
+          ∙ sym (ap (λ (b : BlockShape). b.reserved) (no_text program sound t out))
 
-      by_client : (b : Bool) → nat_lt t.client (length program.clients) ≡ b → Lined (reserves program t) (listed program t)
-      by_client true e = by_block (grind (arith, e)) (nat_lt t.index (blocks_of program t.client)) refl
-      by_client false e = let n = none_beyond program sound t.client (grind (arith, e)) in none (no_text program sound t (omega (arith, n)))
-
-  module _ (mode : Mode) (code : ℕ → ClientCode) (codes : AreCodes program mode code) (size : ℕ) where
-    pub blocks_are : (c : ℕ) → blocks code size c ≡ blocks_of program c
-    blocks_are c = by_client (nat_lt c (length program.clients)) refl
-      where
-        by_client : (b : Bool) → nat_lt c (length program.clients) ≡ b → blocks code size c ≡ blocks_of program c
-        by_client true e = (codes.own c (grind (arith, e))).count
-        by_client false e = ap length (codes.none c (grind (arith, e))) ∙ sym (none_beyond program sound c (grind (arith, e)))
-
-    pub reserved_is : (t : Ticket) → reserved_of code size t ≡ listed program t
-    reserved_is t = by_block (nat_lt t.index (blocks_of program t.client)) refl
-      where
-        by_block : (b : Bool) → nat_lt t.index (blocks_of program t.client) ≡ b → reserved_of code size t ≡ listed program t
-        by_block true e =
-            let some : t.index < blocks_of program t.client = grind (arith, e) in
-            by_client some (nat_lt t.client (length program.clients)) refl
-          where
-            by_client : t.index < blocks_of program t.client → (b : Bool) → nat_lt t.client (length program.clients) ≡ b → reserved_of code size t ≡ listed program t
-            by_client some true e = ((codes.own t.client (grind (arith, e))).blocks t.index some).reserved
-            by_client some false e = let n = none_beyond program sound t.client (grind (arith, e)) in absurd (omega (arith, n, some))
-        by_block false e =
-            let out : blocks_of program t.client ≤ t.index = grind (arith, e) in
-            let long = blocks_are t.client in
-            ap (λ (b : BlockCode). b.reserved) (get_or_past (code t.client).blocks t.index no_code (omega (arith, out, long)))
-            ∙ sym (ap (λ (b : BlockShape). b.reserved) (no_text program sound t out))
-
-    -- a block's tree with its synchronisations
-    pub block_walk : (t : Ticket) (l : Locals) → t.index < blocks_of program t.client
-        → (erased (tree_of code size t l) ≡ block_tree program t l) × IsSoundSynced (λ h. false) (tree_of code size t l) × IsOnReserved (listed program t) (tree_of code size t l)
-    block_walk t l some = by_client (nat_lt t.client (length program.clients)) refl
-      where
-        by_client : (b : Bool) → nat_lt t.client (length program.clients) ≡ b
-            → (erased (tree_of code size t l) ≡ block_tree program t l) × IsSoundSynced (λ h. false) (tree_of code size t l) × IsOnReserved (listed program t) (tree_of code size t l)
-        by_client true e =
-            let counts : List ℕ = replicate (longest (code t.client).blocks) 0 in
-            let long : length counts ≡ longest (code t.client).blocks = length-replicate (longest (code t.client).blocks) 0 in
-            let w = walks_are_sound program mode t.client (code t.client) sound (codes.own t.client (grind (arith, e))) t.index l counts some (omega (arith, long, longest_covers (code t.client).blocks t.index)) in
-            (w.tree, w.sound, w.reserved)
-        by_client false e = let n = none_beyond program sound t.client (grind (arith, e)) in absurd (omega (arith, n, some))
+  -- a block's tree with its synchronisations
+  pub block_walk : (t : Ticket) (l : Locals) → t.index < blocks_of program t.client
+      → (erased (tree_of code size t l) ≡ block_tree program t l) × IsSoundSynced (λ h. false) (tree_of code size t l) × IsOnReserved (listed program t) (tree_of code size t l)
+  block_walk t l some = by_client (nat_lt t.client (length program.clients)) refl
+    where
+      by_client : (b : Bool) → nat_lt t.client (length program.clients) ≡ b
+          → (erased (tree_of code size t l) ≡ block_tree program t l) × IsSoundSynced (λ h. false) (tree_of code size t l) × IsOnReserved (listed program t) (tree_of code size t l)
+      by_client true e =
+          let counts : List ℕ = replicate (longest (code t.client).blocks) 0 in
+          let long : length counts ≡ longest (code t.client).blocks = length-replicate (longest (code t.client).blocks) 0 in
+          let w = walks_are_sound program mode t.client (code t.client) sound (codes.own t.client (grind (arith, e))) t.index l counts some (omega (arith, long, longest_covers (code t.client).blocks t.index)) in
+          (w.tree, w.sound, w.reserved)
+      by_client false e = let n = none_beyond program sound t.client (grind (arith, e)) in absurd (omega (arith, n, some))

@@ -19,8 +19,8 @@ use Rattle.qs_meaning.proofs.SerialRuns.{legal_apart}
 use Rattle.qs_syncset.specs.declared.mode.Mode.{Mode}
 use Rattle.qs_syncset.specs.Codes.{ClientCode}
 use Rattle.qs_syncset.specs.SyncCounts.{syncs_along}
-use Rattle.qs_syncset.specs.SyncRows.{object_of, syncs_for, with_sync}
-use Rattle.qs_syncset.specs.declared.sync_counts.SyncCount.{SyncCount}
+use Rattle.qs_sync_counts.specs.SyncRows.{object_of, syncs_for, with_sync}
+use Rattle.qs_sync_counts.specs.declared.sync_counts.SyncCount.{SyncCount}
 use Rattle.qs_syncset.proofs.CountedSyncs.{code_asks}
 use Rattle.qs_syncset.proofs.SyncTrees.{IsAsking}
 use Rattle.qs_chunk.specs.declared.parcel.Parcel.{Parcel}
@@ -46,9 +46,10 @@ use Rattle.qs_protocol.proofs.ActObjects.{not_send, not_await, not_need, send_at
 use Rattle.qs_protocol.proofs.ClientCounts.{CountAt, Counts, Even, Over, chunk_counts, count_up, got_counts, send_counts, settle_counts}
 use Rattle.qs_protocol.proofs.ClientInvariants.{PlaceOk, Leaving}
 use Rattle.qs_protocol.proofs.ObjectViews.{HandlerLog}
-use Rattle.qs_core_laws.specs.Core.{Core, AreCodes, blocks, client_step, core_begin, core_step, gets, gives, gives_chunk, handled, handler_step, handles, lane_room, lies, put_ticket, reserved, reserved_of, reserves_from, sends, settings_of, settled, spare_room, takes_chunk, takes_parcel, takes_ticket, tree_of, with_down, with_spare, with_tickets, with_up}
+use Rattle.qs_chunk.specs.Limits.{lane_room, spare_room}
+use Rattle.qs_core_laws.specs.Core.{Core, AreCodes, blocks, client_step, core_begin, core_step, gets, gives, gives_chunk, handled, handler_step, handles, lies, put_ticket, reserved, reserved_of, reserves_from, sends, settings_of, settled, takes_chunk, takes_parcel, takes_ticket, tree_of, with_down, with_spare, with_tickets, with_up}
 use Rattle.qs_core_laws.specs.CoreSchedule.{core_or_stay, core_plays}
-use Rattle.qs_core_laws.proofs.CoreCodes.{longest_covers}
+use Rattle.qs_client_run.proofs.Codes.{longest_covers}
 use Rattle.qs_core_laws.proofs.CoreInvariant.{LaneHistory, CoreInvariant}
 use Rattle.qs_core_laws.proofs.CoreSteps.{Kept, begin_kept, begun_by, has_more, is_between, next_of, step_kept}
 use Rattle.qs_core_laws.proofs.HandlerSteps.{some_is}

@@ -28,7 +28,7 @@ use Rattle.qs_protocol.proofs.ClientInvariants.{PlaceOk}
 use Rattle.qs_protocol.proofs.ObjectViews.{HandlerLog, ahead}
 use Rattle.qs_core_laws.specs.Core.{Core, core_begin}
 use Rattle.qs_core_laws.specs.CoreSchedule.{CoreRunsAreIsolated, all_of, core_played, core_plays, held_now, held_or_none, is_done, is_finished, is_idle, on_way}
-use Rattle.qs_core_laws.proofs.CoreCodes.{lined}
+use Rattle.qs_protocol.proofs.ReservedLists.{lined}
 use Rattle.qs_core_laws.proofs.JournalOrder.{goes}
 use Rattle.qs_core_laws.proofs.CoreInvariant.{LaneHistory, post, TicketOk, CoreInvariant}
 use Rattle.qs_core_laws.proofs.CoreObjects.{now, object_found}

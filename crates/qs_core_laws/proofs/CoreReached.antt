@@ -43,7 +43,7 @@ use Rattle.qs_core_laws.specs.Core.{Core, AreCodes, blocks, client_step, core_be
 use Rattle.qs_core_laws.specs.CoreSchedule.{before_it, core_plays, found_by}
 use Rattle.qs_core_laws.specs.CoreReached.{NextStands, IsBegun, HandlersServe, ClientsAsk, TicketsStand, OthersRest, CoreStands, ReachedCore}
 use Rattle.qs_core_laws.proofs.CoreBounds.{CoreBounded, run_both}
-use Rattle.qs_core_laws.proofs.CoreCodes.{lined}
+use Rattle.qs_protocol.proofs.ReservedLists.{lined}
 use Rattle.qs_core_laws.proofs.CoreInvariant.{LaneHistory, CoreInvariant}
 use Rattle.qs_core_laws.proofs.CoreObjects.{object_found}
 use Rattle.qs_core_laws.proofs.CoreSteps.{begun_by}

@@ -25,10 +25,12 @@ use Rattle.qs_played.specs.declared.actor.Actor.TheVariants as actor
 use Rattle.qs_protocol.proofs.ObjectViews.{HandlerLog}
 use Rattle.qs_protocol.proofs.ActObjects.{not_send, not_await, not_need, reserve_at}
 use Rattle.qs_played.specs.JournalRooms.{fresh_held}
-use Rattle.qs_core_laws.specs.Core.{Core, AreCodes, blocks, client_step, core_begin, core_step, gets, gives_chunk, handled, handler_step, handles, lane_room, lies, put_lane, reserves_from, settings_of, settled, spare_room, synced, takes_chunk, takes_parcel, takes_ticket, tree_of, with_down, with_spare, with_tickets, with_up}
+use Rattle.qs_chunk.specs.Limits.{lane_room, spare_room}
+use Rattle.qs_core_laws.specs.Core.{Core, AreCodes, blocks, client_step, core_begin, core_step, gets, gives_chunk, handled, handler_step, handles, lies, put_lane, reserves_from, settings_of, settled, synced, takes_chunk, takes_parcel, takes_ticket, tree_of, with_down, with_spare, with_tickets, with_up}
 use Rattle.qs_core_laws.specs.CoreSchedule.{core_or_stay, core_plays}
 use Rattle.qs_core_laws.proofs.CoreInvariant.{LaneHistory, CoreInvariant}
-use Rattle.qs_core_laws.proofs.CoreCodes.{lined, blocks_are, reserved_is, block_walk}
+use Rattle.qs_protocol.proofs.ReservedLists.{lined}
+use Rattle.qs_core_laws.proofs.CoreCodes.{blocks_are, reserved_is, block_walk}
 use Rattle.qs_core_laws.proofs.HandlerSteps.{some_is, take_kept, serves_kept, away_kept, give_kept, spare_kept}
 use Rattle.qs_core_laws.proofs.SendingPreserved.{send_kept, get_kept, chunk_kept}
 use Rattle.qs_core_laws.proofs.BookingPreserved.{reserve_kept}

@@ -6,17 +6,17 @@ use Rattle.std.proofs.lemmas.List.{get_or-map}
 use Rattle.std.proofs.lemmas.List.Sums.{sum_by-cons}
 use Rattle.qs_objects.specs.declared.held.Event.{Event}
 use Rattle.qs_objects.specs.declared.held.Ticket.{Ticket}
+use Rattle.qs_objects.proofs.Elements.{AllByRecursion-get_or}
 use Rattle.qs_meaning.specs.Following.{Leads, block_tree}
 use Rattle.qs_program.specs.Program.{ProgramShape, blocks_of, text_of}
 use Rattle.qs_program.specs.Sound.{IsSound}
-use Rattle.qs_program.proofs.Bounds.{AllByRecursion-get_or}
 use Rattle.qs_syncset.specs.declared.mode.Mode.{Mode}
 use Rattle.qs_syncset.specs.Codes.{ClientCode, code_at}
 use Rattle.qs_syncset.specs.Modes.{is_dynamic}
 use Rattle.qs_syncset.specs.SyncCounts.{AreOrdered, IsSentBy, queries, syncs_along}
 use Rattle.qs_syncset.proofs.CountedSyncs.{syncs_are_counted}
 use Rattle.qs_syncset.specs.SyncCounts as counts
-use Rattle.qs_syncset.specs.SyncRows.{object_of, syncs_for, syncs_of}
+use Rattle.qs_sync_counts.specs.SyncRows.{object_of, syncs_for, syncs_of}
 use Rattle.qs_syncset.proofs.QueryRuns.{runs_within}
 use Rattle.qs_client_run.specs.Client.{Client, Place, between, runs, full, awaits, leaves}
 use Rattle.qs_client_run.specs.BlockSizes.{longest}

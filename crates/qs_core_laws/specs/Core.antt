@@ -12,11 +12,12 @@ use Rattle.qs_program.specs.Sound.{is_in}
 use Rattle.qs_program.specs.Values.{Locals}
 use Rattle.qs_graph.specs.Synced.{Synced}
 use Rattle.qs_syncset.specs.declared.mode.Mode.{Mode}
-use Rattle.qs_syncset.specs.SyncRows.{no_syncs, with_sync}
-use Rattle.qs_syncset.specs.declared.sync_counts.SyncCount.{SyncCount}
+use Rattle.qs_sync_counts.specs.SyncRows.{no_syncs, with_sync}
+use Rattle.qs_sync_counts.specs.declared.sync_counts.SyncCount.{SyncCount}
 use Rattle.qs_syncset.specs.Codes.{ClientCode, IsCodeOf, code_at}
 use Rattle.qs_chunk.specs.declared.parcel.Parcel.{Parcel}
 use Rattle.qs_chunk.specs.declared.parcel.Parcel.TheVariants.{Work, Sync, Home, End}
+use Rattle.qs_chunk.specs.Limits.{lane_room, spare_room}
 use Rattle.qs_handler.specs.Handler.{Handler, free, gave, received, taken}
 use Rattle.qs_handler.specs.Handler as handlers
 use Rattle.qs_handler.specs.declared.mind.Act as handler_acts
@@ -45,13 +46,6 @@ pub record Core : Type 0 where
   pub tickets : ℕ → List Ticket
   pub entry : Ticket → Locals
   pub trace : Ticket → List Event
-
--- how many parcels a lane takes, and how many empty chunks
-abbrev pub lane_room : ℕ
-lane_room = 16
-
-abbrev pub spare_room : ℕ
-spare_room = 4
 
 -- at client c and handler h
 abbrev pub put_lane : {A : Type 0} → (ℕ → ℕ → A) → ℕ → ℕ → A → ℕ → ℕ → A

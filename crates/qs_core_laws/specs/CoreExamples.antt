@@ -11,7 +11,7 @@ use Rattle.qs_program.specs.Program.{BlockShape, ProgramShape, client_at}
 use Rattle.qs_program.specs.Statements.{end, command}
 use Rattle.qs_graph.specs.Graphs.{block_graph}
 use Rattle.qs_syncset.specs.Codes.{BlockCode, ClientCode}
-use Rattle.qs_syncset.specs.declared.sync_counts.SyncCount.{SyncCount}
+use Rattle.qs_sync_counts.specs.declared.sync_counts.SyncCount.{SyncCount}
 use Rattle.qs_syncset.specs.declared.mode.Mode.TheVariants as modes
 use Rattle.qs_played.specs.ExampleRuns.{answers, holding, in_transfer}
 use Rattle.qs_played.specs.declared.actor.Actor.{Actor}

@@ -10,7 +10,8 @@ use Rattle.qs_syncset.specs.Codes.{ClientCode}
 use Rattle.qs_chunk.specs.Batch.{Batch}
 use Rattle.qs_chunk.specs.declared.parcel.Parcel.{Parcel}
 use Rattle.qs_client_run.specs.Client.{Settled}
-use Rattle.qs_syncset.specs.SyncRows.{fresh_rows}
+use Rattle.qs_sync_counts.specs.SyncRows.{fresh_rows}
+use Rattle.qs_chunk.specs.Limits.{lane_room}
 use Rattle.qs_client.specs.Mind.{Asks, Mind, lists_of, asked_of, chunk_mind, comes_to, counted, done, extended, got_mind, hands_out, next_act, next_mind, settings_of, whole, booked_mind, enters, fresh_mind, locals_at}
 use Rattle.qs_client.specs.MindState.{MindState, mind_of}
 use Rattle.qs_client_run.specs.declared.act.Act.{Act}
@@ -107,7 +108,7 @@ module _ (s : CoreClientState) (kept : IsCoreClient s) (t : CoreClientState) (h 
   lane = lane_at s.lanes h
 
   -- it sent a parcel
-  pub sent_steps : (p : Parcel) → s.act ≡ acts.Send h p → nat_lt (length lane.down) 16 ≡ true
+  pub sent_steps : (p : Parcel) → s.act ≡ acts.Send h p → nat_lt (length lane.down) lane_room ≡ true
       → t.act ≡ next_act (mind_of s.mind) → mind_of t.mind ≡ next_mind (mind_of s.mind) → t.lanes ≡ set s.lanes h (with_down lane (lane.down ++ p ∷ []))
       → LaneSteps s t
   sent_steps p is room act handed lanes_are =
@@ -186,13 +187,13 @@ module _ (s now : CoreClientState) (kept : IsCoreClient s) (same : s ≡ now) (h
   lanes_are : (k j : LaneState) → k ≡ j → set_to k ≡ set s.lanes h j
   lanes_are k j is = λ i. set s.lanes (number i) (is i)
 
-  pub code_sent : (p q : Parcel) (g : ℕ) → now.act ≡ acts.Send h p → s.act ≡ acts.Send g q → nat_lt (length l.down) 16 ≡ true → (t : CoreClientState) → t.act ≡ next_act (mind_of s.mind) → mind_of t.mind ≡ next_mind (mind_of s.mind)
+  pub code_sent : (p q : Parcel) (g : ℕ) → now.act ≡ acts.Send h p → s.act ≡ acts.Send g q → nat_lt (length l.down) lane_room ≡ true → (t : CoreClientState) → t.act ≡ next_act (mind_of s.mind) → mind_of t.mind ≡ next_mind (mind_of s.mind)
       → (k : LaneState) → k ≡ with_down l (l.down ++ q ∷ []) → t.lanes ≡ set_to k → IsCoreClient t × LaneSteps now t
   code_sent p q g asked is room t act handed k pushed lanes =
       let sends : s.act ≡ acts.Send h q = send_same s.act h g p q (ap (λ (x : CoreClientState). x.act) same ∙ asked) is in (
         (seat_done s.mind t act handed).seat,
         subst (λ (x : CoreClientState). LaneSteps x t) same
-            (sent_steps s kept t h q sends (subst (λ (x : LaneState). nat_lt (length x.down) 16 ≡ true) lane_is room) act handed
+            (sent_steps s kept t h q sends (subst (λ (x : LaneState). nat_lt (length x.down) lane_room ≡ true) lane_is room) act handed
             (lanes ∙ lanes_are k _ (pushed ∙ ap (λ (x : LaneState). with_down x (x.down ++ q ∷ [])) lane_is))),
       )
 

@@ -6,6 +6,7 @@ use Rattle.qs_objects.specs.declared.Request.{Request}
 use Rattle.qs_graph.specs.Steps.{limit}
 use Rattle.qs_chunk.specs.Batch.{Batch, batch}
 use Rattle.qs_chunk.specs.declared.parcel.Parcel.TheVariants as parcels
+use Rattle.qs_chunk.specs.Limits.{lane_room}
 use Rattle.qs_client_run.specs.Client.{Client, Place, act_at, between, runs, full, awaits, leaves}
 use Rattle.qs_client.specs.Mind.{Mind, asked_of, hands_out, is_between, settings_of}
 use Rattle.qs_client.specs.MindState.{IsMind, mind_of}
@@ -90,9 +91,9 @@ tail_stocked size bs l is all = subst (AllByRecursion (λ (b : Batch Request). b
 
 all_kept : (m : Mind) (act : Act) (l : LaneState) → KeptBy m l (lane_step m act l)
 all_kept m acts.Reserve l = tt
-all_kept m (acts.Send h p) l = by_room (nat_lt (length l.down) 16) refl
+all_kept m (acts.Send h p) l = by_room (nat_lt (length l.down) lane_room) refl
   where
-    by_room : (b : Bool) → nat_lt (length l.down) 16 ≡ b → KeptBy m l (lane_step m (acts.Send h p) l)
+    by_room : (b : Bool) → nat_lt (length l.down) lane_room ≡ b → KeptBy m l (lane_step m (acts.Send h p) l)
     by_room true e = rw e (record { code = refl; size = refl; ticket = refl; stocked = λ size all. all })
     by_room false e = rw e tt
 all_kept m (acts.Await h) l = by_object l.up

@@ -4,6 +4,7 @@ use Rattle.std.specs.List.{AllByRecursion}
 use Rattle.qs_objects.specs.Journals.{HeldState}
 use Rattle.qs_objects.specs.declared.Request.{Request}
 use Rattle.qs_chunk.specs.Batch.{Batch}
+use Rattle.qs_chunk.specs.Limits.{lane_room}
 use Rattle.qs_client.specs.Mind.{Mind, asked_of, chunk_mind, done, got_mind, hands_out, whole}
 use Rattle.qs_client.specs.MindState.{MindState, mind_of}
 use Rattle.qs_client_run.specs.declared.act.Act.{Act}
@@ -51,7 +52,7 @@ takes_empty m h l (b ∷ bs) = Some (chunk_mind m h, with_spare l bs)
 abbrev pub lane_step : Mind → Act → LaneState → Option (Mind × LaneState)
 lane_step m acts.Reserve l = None
 lane_step m (acts.Send h parcel) l =
-    if nat_lt (length l.down) 16 then Some (done (hands_out m (acts.Send h parcel)), with_down l (l.down ++ parcel ∷ [])) else None
+    if nat_lt (length l.down) lane_room then Some (done (hands_out m (acts.Send h parcel)), with_down l (l.down ++ parcel ∷ [])) else None
 lane_step m (acts.Await h) l = takes_object m l l.up
 lane_step m (acts.NeedChunk h) l = takes_empty m h l l.spare
 lane_step m acts.Finished l = None

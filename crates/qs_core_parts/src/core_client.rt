@@ -2,6 +2,7 @@
 
 ghost use Rattle.std.specs.Prelude.{◌≡◌, ◌<◌, [], false, ◌&&◌, ◌++◌, ◌∷◌, ℕ, length, nat_eq, replicate, slice_index_or, slice_set, IfOk, option_copied};
 ghost use Rattle.std.specs.Bool.{OnTrue};
+ghost use Rattle.qs_program.specs.Limits.{most_handlers};
 ghost use Rattle.qs_client.specs.Mind.{booked_mind, fresh_mind, is_between};
 ghost use Rattle.qs_client.specs.MindState.{IsMind, mind_of};
 ghost use Rattle.qs_chunk.specs.declared.parcel.Parcel.{Parcel as ParcelShape};
@@ -248,7 +249,7 @@ impl CoreClient {
 
     /// The handler's object, where the client has it, or sends it home.
     pub fn held(&self, handler: u8) -> Option<&Held>
-        requires { handler < 8 }
+        requires { handler < most_handlers }
         ensures value { option_copied result ≡ (whole_of self.now).client.held handler }
     {
         match &self.act {
@@ -273,7 +274,7 @@ impl CoreClient {
 
     /// The handler's object, where the handler gave it away: on its way to the client, on its way home, or with the client.
     pub fn away(&self, handler: u8) -> Option<&Held>
-        requires few { handler < 8 }
+        requires few { handler < most_handlers }
         requires lane { handler < length self.now.lanes }
         ensures value { option_copied result ≡ away_at (lane_at self.now.lanes handler).up (lane_at self.now.lanes handler).down ((whole_of self.now).client.held handler) }
     {

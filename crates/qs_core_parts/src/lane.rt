@@ -2,9 +2,10 @@
 
 ghost use Rattle.std.specs.Prelude.{◌≡◌, ◌<◌, ◌∷◌, ◌++◌, [], IfOk, MatchOption, None, Some, length, not, nat_lt, nat_eq, option_copied, List};
 ghost use Rattle.qs_chunk.specs.declared.parcel.Parcel.{Parcel as ParcelShape};
+ghost use Rattle.qs_chunk.specs.Limits.{lane_room, spare_room};
 ghost use Rattle.qs_core_parts.specs.LaneStates.{fresh_lane, with_down, with_spare, with_up};
 
-use qs_chunk::{Chunk, ChunkSize, Parcel};
+use qs_chunk::{Chunk, ChunkSize, LANE_ROOM, Parcel, SPARE_ROOM};
 use qs_objects::{Held, Request};
 use std::alloc::{AllocError, Global};
 use std::collections::VecDeque;
@@ -12,9 +13,6 @@ use std::marker::Model;
 use std::mem;
 
 // How many parcels a lane takes, and how many empty chunks.
-const PARCELS: usize = 16;
-
-const CHUNKS: usize = 4;
 
 /// The lane from a client to a handler: parcels on their way, the object on its way up, and empty chunks. It takes memory in `new` alone.
 pub struct Lane {
@@ -36,13 +34,14 @@ impl Drop for Lane {
 impl Model for Lane {
     ghost use Rattle.std.specs.Prelude.{◌≤◌};
     ghost use Rattle.std.specs.VecDeque.{deque_len, deque_capacity};
+    ghost use Rattle.qs_chunk.specs.Limits.{lane_room, spare_room};
     ghost use Rattle.qs_core_parts.specs.LaneStates.{LaneState};
 
     ghost Value = { LaneState };
 
     ghost view = { λ l. record { down = l.down.items; up = l.up; spare = l.spare.items } };
 
-    ghost invariant = { λ l. (16 ≤ deque_capacity l.down) × (deque_len l.spare ≤ 4) × (4 ≤ deque_capacity l.spare) };
+    ghost invariant = { λ l. (lane_room ≤ deque_capacity l.down) × (deque_len l.spare ≤ spare_room) × (spare_room ≤ deque_capacity l.spare) };
 }
 
 impl Lane {
@@ -50,9 +49,9 @@ impl Lane {
     pub fn new(alloc: Global, size: ChunkSize) -> Result<Lane, AllocError>
         ensures fresh { IfOk result (λ lane. lane ≡ fresh_lane size) }
     {
-        let down = VecDeque::with_capacity(alloc, PARCELS)?;
-        let mut spare = VecDeque::with_capacity(alloc, CHUNKS)?;
-        for _chunk in 0..CHUNKS {
+        let down = VecDeque::with_capacity(alloc, LANE_ROOM)?;
+        let mut spare = VecDeque::with_capacity(alloc, SPARE_ROOM)?;
+        for _chunk in 0..SPARE_ROOM {
             spare.push_back_reserved(Chunk::with_capacity(alloc, size)?);
         }
         Ok(Lane {
@@ -64,9 +63,9 @@ impl Lane {
 
     /// Whether one more parcel finds room.
     pub fn has_room(&self) -> bool
-        ensures value { result ≡ nat_lt (length self.now.down) 16 }
+        ensures value { result ≡ nat_lt (length self.now.down) lane_room }
     {
-        self.down.len() < PARCELS
+        self.down.len() < LANE_ROOM
     }
 
     /// Whether no parcel lies there.
@@ -85,7 +84,7 @@ impl Lane {
 
     /// A parcel, at the end.
     pub fn push(&mut self, parcel: Parcel)
-        requires room { length self.old.down < 16 }
+        requires room { length self.old.down < lane_room }
         ensures pushed { self.new ≡ with_down self.old (self.old.down ++ parcel ∷ []) }
     {
         self.down.push_back_reserved(parcel);
@@ -125,7 +124,7 @@ impl Lane {
     pub fn has_chunk_room(&self) -> bool
         ensures value { result ≡ nat_lt (length self.now.spare) 4 }
     {
-        self.spare.len() < CHUNKS
+        self.spare.len() < SPARE_ROOM
     }
 
     /// Gives an empty chunk back.

@@ -7,6 +7,7 @@ use Rattle.qs_meaning.specs.Serial.{LegalFrom, IsLegal}
 use Rattle.qs_meaning.specs.Solo.{put}
 use Rattle.qs_program.specs.Sound.{IsSound, IsSoundClient}
 use Rattle.qs_program.specs.declared.program.Declared.{Declared}
+use Rattle.qs_program.specs.Limits.{most_blocks, most_clients}
 use Rattle.qs_desk.specs.Limits.{all_bookings}
 use Rattle.qs_desk.specs.Tickets.{of_client}
 
@@ -45,18 +46,18 @@ beyond [] c i less = absurd (omega (arith, less))
 beyond (x ∷ cs) zero i less = omega arith
 beyond (x ∷ cs) (suc c) i less = omega (arith, beyond cs c i less)
 
-few : (objects : List Declared) (cs : List ClientShape) → AllByRecursion (IsSoundClient objects) cs → (c : ℕ) → length (slice_index_or cs c no_client).blocks ≤ 64
+few : (objects : List Declared) (cs : List ClientShape) → AllByRecursion (IsSoundClient objects) cs → (c : ℕ) → length (slice_index_or cs c no_client).blocks ≤ most_blocks
 few objects [] all c = omega arith
 few objects (x ∷ cs) all zero = all.0.blocks
 few objects (x ∷ cs) all (suc c) = few objects cs all.1 c
 
-pub few_blocks : (p : ProgramShape) → IsSound p → (c : ℕ) → blocks_of p c ≤ 64
+pub few_blocks : (p : ProgramShape) → IsSound p → (c : ℕ) → blocks_of p c ≤ most_blocks
 few_blocks p sound c = few p.objects p.clients sound.each c
 
 abbrev one : Bool → ℕ
 one x = cond x 1 0
 
-exactly_one : (k : ℕ) → k < 8 → one (k == 0) + one (k == 1) + one (k == 2) + one (k == 3) + one (k == 4) + one (k == 5) + one (k == 6) + one (k == 7) ≡ 1
+exactly_one : (k : ℕ) → k < most_clients → one (k == 0) + one (k == 1) + one (k == 2) + one (k == 3) + one (k == 4) + one (k == 5) + one (k == 6) + one (k == 7) ≡ 1
 exactly_one zero less = refl
 exactly_one (suc zero) less = refl
 exactly_one (suc (suc zero)) less = refl
@@ -75,7 +76,7 @@ of_one c u ts = by (u.client == c)
     by false = omega arith
 
 -- each ticket is of one of the eight places
-shared_out : (p : ProgramShape) (b : ℕ → ℕ) (ts : List Ticket) → length p.clients ≤ 8 → LegalFrom p b ts
+shared_out : (p : ProgramShape) (b : ℕ → ℕ) (ts : List Ticket) → length p.clients ≤ most_clients → LegalFrom p b ts
     → length ts ≡ length (of_client 0 ts) + length (of_client 1 ts) + length (of_client 2 ts) + length (of_client 3 ts) + length (of_client 4 ts) + length (of_client 5 ts) + length (of_client 6 ts) + length (of_client 7 ts)
 shared_out p b [] eight legal = refl
 shared_out p b (u ∷ ts) eight legal =
@@ -86,5 +87,5 @@ shared_out p b (u ∷ ts) eight legal =
 pub short : (p : ProgramShape) (ts : List Ticket) → IsSound p → IsLegal p ts → length ts ≤ all_bookings
 short p ts sound legal = omega (arith, shared_out p (λ _. 0) ts sound.clients legal, at 0, at 1, at 2, at 3, at 4, at 5, at 6, at 7)
   where
-    at : (c : ℕ) → length (of_client c ts) ≤ 64
+    at : (c : ℕ) → length (of_client c ts) ≤ most_blocks
     at c = omega (arith, within p (λ _. 0) ts legal (λ _. omega arith) c, few_blocks p sound c)

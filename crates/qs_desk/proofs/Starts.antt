@@ -2,10 +2,11 @@
 use Rattle.std.proofs.Common.{◌≡◌, ℕ, zero, suc, ◌<◌, Some, List, [], ◌∷◌, ◌++◌, map, length, set, refl, ap, arith}
 use Rattle.atomic_table.specs.Seated.{TableId}
 use Rattle.qs_program.specs.Program.{ProgramShape}
+use Rattle.qs_program.specs.Limits.{most_handlers}
 use Rattle.qs_desk.specs.Lines.{LineView, line_at, line_name, new_end, end_at}
 use Rattle.qs_desk.specs.Places.{places}
 
-pub ends_more : (p : ProgramShape) (names : List TableId) (n : TableId) → length names < 8
+pub ends_more : (p : ProgramShape) (names : List TableId) (n : TableId) → length names < most_handlers
     → set (map (end_at p names) places) (length names) (Some (new_end p n (length names))) ≡ map (end_at p (names ++ n ∷ [])) places
 ends_more p [] n less = refl
 ends_more p (a ∷ []) n less = refl

@@ -9,6 +9,7 @@ use Rattle.qs_objects.specs.declared.held.Ticket.{Ticket}
 use Rattle.qs_program.specs.Program.{ProgramShape, blocks_of}
 use Rattle.qs_meaning.specs.Serial.{IsLegal}
 use Rattle.qs_program.specs.Sound.{IsSound}
+use Rattle.qs_program.specs.Limits.{most_clients}
 use Rattle.qs_desk.specs.Desks.{IsDesk}
 use Rattle.qs_desk.specs.Limits.{all_bookings}
 use Rattle.qs_desk.specs.Lines.{LineView, line_at, line_name, IsLineOf, IsNewLine, grown, closed_line, MayGrow, MayClose}
@@ -28,7 +29,7 @@ none (suc n) zero = refl
 none (suc n) (suc k) = none n k
 
 pub starts : (p : ProgramShape) (names : List TableId) (lines : List LineView) → IsSound p → map line_name lines ≡ names → length lines ≡ length p.objects
-    → ((h : ℕ) → h < length lines → IsNewLine p h (line_at lines h)) → IsDesk p names [] false lines (replicate 8 0)
+    → ((h : ℕ) → h < length lines → IsNewLine p h (line_at lines h)) → IsDesk p names [] false lines (replicate most_clients 0)
 starts p names lines sound are all new = record {
   sound = sound;
   legal = tt;
@@ -48,7 +49,7 @@ module _ (p : ProgramShape) (names : List TableId) (history : List Ticket) (line
   pub all_may_close : (h : ℕ) → h < length lines → MayClose (line_at lines h)
   all_may_close h less = may_close p names history h (line_at lines h) (is.pushed h less) few_tickets
 
-  module _ (c n : ℕ) (place : c < 8) (was : slice_index books c ≡ n) (some : n < blocks_of p c) where
+  module _ (c n : ℕ) (place : c < most_clients) (was : slice_index books c ≡ n) (some : n < blocks_of p c) where
     abbrev pub t : Ticket
     t = ticket c n
 

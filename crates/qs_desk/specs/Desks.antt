@@ -5,6 +5,7 @@ use Rattle.qs_objects.specs.declared.held.Ticket.{Ticket}
 use Rattle.qs_program.specs.Program.{ProgramShape}
 use Rattle.qs_meaning.specs.Serial.{IsLegal}
 use Rattle.qs_program.specs.Sound.{IsSound}
+use Rattle.qs_program.specs.Limits.{most_clients}
 use Rattle.qs_desk.specs.Lines.{LineView, line_at, IsLineOf}
 use Rattle.qs_desk.specs.Tickets.{of_client}
 
@@ -15,5 +16,5 @@ pub record IsDesk (p : ProgramShape) (names : List TableId) (history : List Tick
   pub legal : IsLegal p history
   pub pushed : (h : ℕ) → h < length lines → IsLineOf p names history closed h (line_at lines h)
   pub all : (length lines ≡ length names) × (length names ≡ length p.objects)
-  pub counted : (c : ℕ) → c < 8 → slice_index books c ≡ length (of_client c history)
-  pub eight : length books ≡ 8
+  pub counted : (c : ℕ) → c < most_clients → slice_index books c ≡ length (of_client c history)
+  pub eight : length books ≡ most_clients

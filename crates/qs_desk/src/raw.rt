@@ -12,7 +12,7 @@ use crate::plan::Plan;
 use crate::queue::{Line, LineEnd, Tickets, make_line};
 use crate::share::{Blanks, Share};
 use qs_objects::Ticket;
-use qs_program::Program;
+use qs_program::{MOST_CLIENTS, MOST_HANDLERS, MOST_TICKETS, Program};
 use std::alloc::{AllocError, Global};
 use std::marker::Model;
 use std::snapshot::Snapshot;
@@ -23,7 +23,7 @@ pub struct RawDesk {
     plan: Plan,
     history: Vec<Ticket>,
     lines: Vec<Line>,
-    ends: [Option<LineEnd>; 8],
+    ends: [Option<LineEnd>; MOST_HANDLERS],
     blanks: Blanks,
 }
 
@@ -68,14 +68,14 @@ impl Model for RawDesk {
 #[derive(Drop)]
 pub struct DeskParts<D: DeskName> {
     pub desk: Desk<D>,
-    pub shares: [Option<Share<D>>; 8],
-    pub tickets: [Option<Tickets<D>>; 8],
+    pub shares: [Option<Share<D>>; MOST_CLIENTS],
+    pub tickets: [Option<Tickets<D>>; MOST_HANDLERS],
 }
 
 fn make_lines(
     alloc: Global,
     program: &Program,
-) -> Result<(Vec<Line>, [Option<LineEnd>; 8]), AllocError>
+) -> Result<(Vec<Line>, [Option<LineEnd>; MOST_HANDLERS]), AllocError>
     ensures len { IfOk result (λ made. length made.0.items ≡ length program.now.objects) }
     ensures lines { IfOk result (λ made. (h : ℕ) → h < length made.0.items → IsNewLine program.now h (line_at made.0.items h)) }
     ensures ends { IfOk result (λ made. made.1 ≡ map (end_at program.now (map line_name made.0.items)) places) }
@@ -99,7 +99,7 @@ impl RawDesk {
     {
         program.is_sound();
         let plan = Plan::new(alloc, program)?;
-        let history = Vec::with_capacity(alloc, 512)?;
+        let history = Vec::with_capacity(alloc, MOST_TICKETS)?;
         let (lines, ends) = make_lines(alloc, program)?;
         Ok(RawDesk {
             program: Snapshot::of(program),
@@ -149,7 +149,9 @@ fn name_end<D: DeskName>(handler: u8, end: Option<LineEnd>) -> Option<Tickets<D>
     }
 }
 
-fn name_all<D: DeskName>(ends: [Option<LineEnd>; 8]) -> [Option<Tickets<D>>; 8]
+fn name_all<D: DeskName>(
+    ends: [Option<LineEnd>; MOST_HANDLERS],
+) -> [Option<Tickets<D>>; MOST_HANDLERS]
     requires names { length D.queues ≡ length D.program.objects }
     requires ends { ends ≡ map (end_at D.program D.queues) places }
     ensures tickets { result ≡ map (tickets_at D.program) places }

@@ -10,6 +10,7 @@ ghost use Rattle.qs_desk.specs.Tickets.{ticket};
 use crate::name::DeskName;
 use crate::plan::Plan;
 use qs_objects::Ticket;
+use qs_program::MOST_CLIENTS;
 use std::marker::{Model, PhantomData};
 use std::sync::ledger::{self, Blank, Book, Ledger};
 
@@ -199,7 +200,10 @@ impl Blanks {
     }
 
     /// Books in which nothing is booked, and the shares of the clients that there are.
-    pub(crate) fn open<D: DeskName>(self, plan: &Plan) -> (Books<D>, [Option<Share<D>>; 8])
+    pub(crate) fn open<D: DeskName>(
+        self,
+        plan: &Plan,
+    ) -> (Books<D>, [Option<Share<D>>; MOST_CLIENTS])
         requires ledgers { D.ledgers ≡ self }
         requires plan { plan.now ≡ lists_of D.program }
         ensures books { result.0 ≡ replicate most_clients 0 }

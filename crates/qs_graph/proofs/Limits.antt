@@ -5,6 +5,7 @@ use Rattle.qs_program.specs.Statements.{Statements}
 use Rattle.qs_program.specs.Values.{Locals}
 use Rattle.qs_program.specs.Loads.{weight_of}
 use Rattle.qs_program.specs.Program.{BlockShape, ClientShape, ProgramShape, no_block, no_client, client_at, block_at, whole_weight}
+use Rattle.qs_program.specs.Limits.{most_steps}
 use Rattle.qs_graph.specs.Graphs.{block_graph}
 use Rattle.qs_graph.specs.Synced.{synced_of}
 use Rattle.qs_graph.specs.Walk.{entry}
@@ -40,14 +41,14 @@ follows_from n b l counts w = record {
 pub walks_follow_blocks : WalksFollowBlocks
 walks_follow_blocks b l counts room = follows_from (whole_steps b) b l counts (block_says b l counts room)
 
-small : (n w : ℕ) → n ≤ 3 * w → w ≤ 1000000 → 2 + n ≤ limit
+small : (n w : ℕ) → n ≤ 3 * w → w ≤ most_steps → 2 + n ≤ limit
 unfolding limit
 small n w h k = omega arith
 
 pub walks_within_limit : WalksWithinLimit
 walks_within_limit p c k l counts sound room =
     let b = (block_at p c k).body in
-    let light : weight_of b ≤ 1000000 = omega (arith, block_weight p c k, sound.weight) in
+    let light : weight_of b ≤ most_steps = omega (arith, block_weight p c k, sound.weight) in
     let up = small (steps b) (weight_of b) (steps_within_weight b) light in
     follows_from limit b l counts
     (says_up (block_graph b) (whole_steps b) limit (entry l counts) (synced_of b l) up (block_says b l counts room))

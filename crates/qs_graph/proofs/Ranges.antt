@@ -9,6 +9,7 @@ use Rattle.qs_program.specs.declared.program.Declared.{Declared}
 use Rattle.qs_program.specs.Statements.{Statements, end, command, query, assign, choose, again, leave}
 use Rattle.qs_program.specs.Program.{BlockShape, ClientShape, ProgramShape, no_block, no_client, block_at}
 use Rattle.qs_program.specs.Sound.{IsSound, IsSoundBlock, IsSoundBody, IsSoundCall, IsSoundClient, is_in}
+use Rattle.qs_program.specs.Limits.{most_handlers, most_objects}
 use Rattle.qs_graph.specs.declared.node.Node.{Node}
 use Rattle.qs_graph.specs.declared.node.Node.TheVariants.{Entry, Local, Branch, Sync, Query, Call, Exit}
 use Rattle.qs_graph.specs.declared.node.Action.TheVariants.{Assign, SetCount, Nothing}
@@ -129,9 +130,9 @@ module _ (objects : List Declared) (reserved : List ℕ) (n : ℕ) where
       (record { edges = (u, tt); count = refl; sound = tt }, places_fine rest (at + 1) next out sound (omega arith) w u)
 
 -- the numbers of sound nodes are in range
-module _ (objects : List Declared) (few : length objects ≤ 8) (reserved : List ℕ)
+module _ (objects : List Declared) (few : length objects ≤ most_objects) (reserved : List ℕ)
     (known : AllByRecursion (λ h. h < length objects) reserved) where
-  handler_ok : (h : ℕ) → is_in reserved h ≡ true → h < 8
+  handler_ok : (h : ℕ) → is_in reserved h ≡ true → h < most_handlers
   handler_ok h member =
       let below : h < length objects = is_in-all (λ o. o < length objects) reserved h member known in
       omega arith

@@ -3,6 +3,7 @@ use Rattle.std.specs.Prelude.{◌≡◌, ◌<◌, ℕ, true, false, List}
 use Rattle.std.specs.List.{AllByRecursion}
 use Rattle.qs_program.specs.declared.program.Declared.{Declared}
 use Rattle.qs_program.specs.Sound.{IsSoundExpr, IsSoundTest, IsSoundCall, is_in}
+use Rattle.qs_program.specs.Limits.{most_variables}
 use Rattle.qs_graph.specs.declared.node.Node.{Node}
 use Rattle.qs_graph.specs.declared.node.Node.TheVariants.{Local, Branch, Sync, Query, Call}
 use Rattle.qs_graph.specs.declared.node.Action.{Action}
@@ -12,7 +13,7 @@ use Rattle.qs_graph.specs.declared.node.Choice.TheVariants.{If, Repeat}
 use Rattle.qs_graph.specs.Nodes.{Place}
 
 abbrev pub IsSoundAction : Action → Type 0
-IsSoundAction (Assign x e) = (x < 16) × IsSoundExpr e
+IsSoundAction (Assign x e) = (x < most_variables) × IsSoundExpr e
 IsSoundAction _ = Unit {0}
 
 abbrev pub IsSoundChoice : Choice → Type 0
@@ -25,7 +26,7 @@ module _ (objects : List Declared) (reserved : List ℕ) where
   IsSoundNode (Local a) = IsSoundAction a
   IsSoundNode (Branch c) = IsSoundChoice c
   IsSoundNode (Sync h) = is_in reserved h ≡ true
-  IsSoundNode (Query x c) = (x < 16) × IsSoundCall objects reserved true c
+  IsSoundNode (Query x c) = (x < most_variables) × IsSoundCall objects reserved true c
   IsSoundNode (Call c) = IsSoundCall objects reserved false c
   IsSoundNode _ = Unit {0}
 

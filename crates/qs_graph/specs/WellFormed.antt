@@ -2,6 +2,7 @@
 use Rattle.std.specs.Prelude.{◌≡◌, ◌<◌, ◌≤◌, ℕ, List, length}
 use Rattle.std.specs.List.{AllByRecursion}
 use Rattle.qs_program.specs.declared.code.Call as calls
+use Rattle.qs_program.specs.Limits.{most_handlers, most_objects, most_variables}
 use Rattle.qs_graph.specs.declared.node.Node.{Node}
 use Rattle.qs_graph.specs.declared.node.Node.TheVariants.{Entry, Local, Branch, Sync, Query, Call, Exit}
 use Rattle.qs_graph.specs.declared.node.Action.{Action}
@@ -16,17 +17,17 @@ edge_count _ = 1
 
 -- one of 8 handlers, and at most 3 arguments
 abbrev pub IsCallInRange : calls.Call → Type 0
-IsCallInRange c = (c.object < 8) × (length c.args ≤ 3)
+IsCallInRange c = (c.object < most_objects) × (length c.args ≤ 3)
 
 abbrev pub IsActionInRange : Action → Type 0
-IsActionInRange (Assign x e) = x < 16
+IsActionInRange (Assign x e) = x < most_variables
 IsActionInRange _ = Unit {0}
 
 -- the handlers that a node names and the variables that it sets are in range
 abbrev pub IsInRange : Node → Type 0
 IsInRange (Local a) = IsActionInRange a
-IsInRange (Sync h) = h < 8
-IsInRange (Query x c) = (x < 16) × IsCallInRange c
+IsInRange (Sync h) = h < most_handlers
+IsInRange (Query x c) = (x < most_variables) × IsCallInRange c
 IsInRange (Call c) = IsCallInRange c
 IsInRange _ = Unit {0}
 

@@ -10,6 +10,7 @@ use Rattle.qs_objects.specs.declared.held.Next.TheVariants as nexts
 use Rattle.qs_objects.specs.declared.held.Ticket.{Ticket}
 use Rattle.qs_objects.proofs.Choices.{apart_eqb, eqb_self, num_cases}
 use Rattle.qs_program.specs.Program.{ProgramShape}
+use Rattle.qs_program.specs.Limits.{most_clients}
 use Rattle.qs_meaning.specs.Following.{reserves}
 use Rattle.qs_chunk.specs.Batch.{Batch, batch}
 use Rattle.qs_chunk.specs.LaneRun.{syncs}
@@ -186,22 +187,22 @@ module _ (p : ProgramShape) (h : ℕ) where
         )
 
     module _ (m n : Handler) (tickets : TicketsView) (lanes : List (Option InView)) (k : Kept m tickets lanes) (at : n ≡ gave m)
-        (reached : (t : Ticket) → reserves p t h ≡ true → (t.client < 8) × IsSome (lane_at start t.client)) where
+        (reached : (t : Ticket) → reserves p t h ≡ true → (t.client < most_clients) × IsSome (lane_at start t.client)) where
       -- it has a lane to the client that it serves
-      reaches : (c : ℕ) → Serves m c → (c < 8) × IsSome (lane_at lanes c)
+      reaches : (c : ℕ) → Serves m c → (c < most_clients) × IsSome (lane_at lanes c)
       reaches c s =
           let own = (subst (AllByRecursion (λ t. reserves p t h ≡ true)) s.own k.1.own).0 in
           let there = reached s.ticket own in
-          subst (λ c. (c < 8) × IsSome (lane_at lanes c)) s.client
+          subst (λ c. (c < most_clients) × IsSome (lane_at lanes c)) s.client
           (there.0, still_there s.ticket.client k.0 (lane_at start s.ticket.client) (lane_at lanes s.ticket.client) (k.1.ends s.ticket.client) there.1)
 
-      pub reaches_sender : (c : ℕ) → act_of m ≡ acts.TakeParcel c → (c < 8) × IsSome (lane_at lanes c)
+      pub reaches_sender : (c : ℕ) → act_of m ≡ acts.TakeParcel c → (c < most_clients) × IsSome (lane_at lanes c)
       reaches_sender c asks = reaches c (takes_from m c asks)
 
-      pub reaches_asker : (c : ℕ) (y : HeldState) → act_of m ≡ acts.Give c y → (c < 8) × IsSome (lane_at lanes c)
+      pub reaches_asker : (c : ℕ) (y : HeldState) → act_of m ≡ acts.Give c y → (c < most_clients) × IsSome (lane_at lanes c)
       reaches_asker c y asks = reaches c (gives_to m c y asks)
 
-      pub reaches_spared : (c : ℕ) (b : Batch Request) → act_of m ≡ acts.Spare c b → (c < 8) × IsSome (lane_at lanes c)
+      pub reaches_spared : (c : ℕ) (b : Batch Request) → act_of m ≡ acts.Spare c b → (c < most_clients) × IsSome (lane_at lanes c)
       reaches_spared c b asks = reaches c (spares_to m c b asks)
 
       lane_is : (c : ℕ) (lane : InView) → lane_at lanes c ≡ Some lane → Between c k.0 (lane_at start c) lane

@@ -1,6 +1,7 @@
 //! A handler's ends of its clients' lanes.
 
 ghost use Rattle.std.specs.Prelude.{◌≡◌, ◌+◌, ◌<◌, ◌⊎◌, [], ◌∷◌, ◌++◌, false, true, length, slice_set, IsSome, Some};
+ghost use Rattle.qs_program.specs.Limits.{most_clients};
 ghost use Rattle.qs_chunk.specs.Batch.{batch};
 ghost use Rattle.qs_chunk.specs.LaneRun.{syncs};
 ghost use Rattle.qs_chunk.specs.Lanes.{MayFollow, is_asked};
@@ -10,14 +11,15 @@ ghost use Rattle.qs_lane.specs.Views.{InView};
 use qs_chunk::{Chunk, Parcel};
 use qs_lane::LaneIn;
 use qs_objects::{Held, Request};
+use qs_program::MOST_CLIENTS;
 use std::sync::Wait;
 
 /// The handler's end of the lane from each client that has one.
-pub type Lanes = [Option<LaneIn>; 8];
+pub type Lanes = [Option<LaneIn>; MOST_CLIENTS];
 
 /// Takes the next parcel of a client's lane. Waits until there is one.
 pub(crate) fn take_parcel<R: Wait>(rt: &R, lanes: &mut Lanes, client: u8) -> Parcel
-    requires client { client < 8 }
+    requires client { client < most_clients }
     requires lane { IsSome (lane_at lanes.old client) }
     ensures took { (lane : InView) → lane_at lanes.old client ≡ Some lane
         → (lanes.new ≡ slice_set lanes.old client (Some (record lane { received = lane.received ++ result ∷ [] })))
@@ -31,7 +33,7 @@ pub(crate) fn take_parcel<R: Wait>(rt: &R, lanes: &mut Lanes, client: u8) -> Par
 
 /// Gives the object to a client, which asked for it by the last parcel. Waits while an object lies in the lane.
 pub(crate) fn give<R: Wait>(rt: &R, lanes: &mut Lanes, client: u8, held: Held)
-    requires client { client < 8 }
+    requires client { client < most_clients }
     requires lane { IsSome (lane_at lanes.old client) }
     requires asked { (lane : InView) → lane_at lanes.old client ≡ Some lane
         → (is_asked false lane.received ≡ true) × (length lane.given + 1 ≡ syncs lane.received) }
@@ -46,7 +48,7 @@ pub(crate) fn give<R: Wait>(rt: &R, lanes: &mut Lanes, client: u8, held: Held)
 
 /// Gives an empty chunk back to a client.
 pub(crate) fn spare<R: Wait>(rt: &R, lanes: &mut Lanes, client: u8, chunk: Chunk<Request>)
-    requires client { client < 8 }
+    requires client { client < most_clients }
     requires lane { IsSome (lane_at lanes.old client) }
     requires empty { (lane : InView) → lane_at lanes.old client ≡ Some lane → chunk ≡ batch [] lane.size }
     ensures spared { (lane : InView) → lane_at lanes.old client ≡ Some lane

@@ -1,6 +1,7 @@
 //! A handler's whole run.
 
 ghost use Rattle.std.specs.Prelude.{◌≡◌, ◌<◌, ℕ, [], List, IsSome, true};
+ghost use Rattle.qs_program.specs.Limits.{most_clients};
 ghost use Rattle.qs_handler.specs.Handler.{closed};
 ghost use Rattle.qs_handler.specs.HandlerRuns.{Task};
 ghost use Rattle.qs_handler_thread.specs.HandlerThreads.{IsFresh, IsServing, lane_at};
@@ -31,7 +32,7 @@ pub fn serve<D: DeskName, G: Gate, R: Wait>(
 ) -> (Held, Tickets<D>, Lanes)
     requires taken { tickets.taken ≡ [] }
     requires fresh { (c : ℕ) → IsFresh (lane_at lanes c) }
-    requires reached { (t : Ticket) → reserves D.program t tickets.handler ≡ true → (t.client < 8) × IsSome (lane_at lanes t.client) }
+    requires reached { (t : Ticket) → reserves D.program t tickets.handler ≡ true → (t.client < most_clients) × IsSome (lane_at lanes t.client) }
     ensures served { (tasks : List Task)
         × IsServing D.program tickets.handler held lanes tasks (closed result.0) result.1 result.2 }
 {

@@ -6,6 +6,7 @@ use Rattle.qs_objects.specs.declared.held.Entry.{Entry}
 use Rattle.qs_objects.specs.declared.held.Ticket.{Ticket}
 use Rattle.qs_program.specs.Program.{ProgramShape}
 use Rattle.qs_program.specs.Sound.{IsSound}
+use Rattle.qs_program.specs.Limits.{most_tickets}
 use Rattle.qs_meaning.specs.Serial.{IsLegal}
 use Rattle.qs_syncset.specs.declared.mode.Mode.{Mode}
 use Rattle.qs_desk.specs.Views.{DeskView}
@@ -23,7 +24,7 @@ use Rattle.qs_joins.proofs.ThreadsOf.{AllMet}
 
 -- what these lists show is an outcome, and can be shown
 pub record IsJoined (p : ProgramShape) (mode : Mode) (order : List Ticket) (rows : List ClientRows) (journals : List (List Entry)) (states : List State) : Type 0 where
-  pub few : length order ≤ 512
+  pub few : length order ≤ most_tickets
   pub rows_there : HaveRows rows order
   pub short_rows : AreShort rows order
   pub is_outcome : IsOutcome p mode (over_with order rows journals states)

@@ -7,6 +7,7 @@ use Rattle.qs_objects.specs.declared.held.Next.TheVariants.{Closed}
 use Rattle.qs_objects.specs.declared.held.Ticket.{Ticket}
 use Rattle.qs_program.specs.Program.{ProgramShape}
 use Rattle.qs_program.specs.Sound.{IsSound}
+use Rattle.qs_program.specs.Limits.{most_clients, most_handlers}
 use Rattle.qs_meaning.specs.Serial.{IsLegal}
 use Rattle.qs_syncset.specs.declared.mode.Mode.{Mode}
 use Rattle.qs_handler.specs.HandlerRuns.{Task}
@@ -51,14 +52,14 @@ module _ {D : Type 0} where
         one_lane_still h c a.2.deeds b.2.tasks (running.lane_at a.0.lanes h) (running.lane_at s.lanes h) (handling.lane_at b.0.lanes c)
         (handling.lane_at r.lanes c) (a.2.done.ends h) (ran.ready.lanes c h a.0 b.0 a.1 b.1) (b.2.served.ends c)
 
-    pub few_handlers : IsSound p → length handlers ≤ 8
+    pub few_handlers : IsSound p → length handlers ≤ most_handlers
     few_handlers sound =
         let all = ran.ready.all_handlers in
         let same = same_length (HandlerServed p) ran.before_handlers handlers ran.served in
         let few = sound.objects in
         omega (arith, all, same, few)
 
-    pub few_clients : IsSound p → length clients ≤ 8
+    pub few_clients : IsSound p → length clients ≤ most_clients
     few_clients sound =
         let all = ran.ready.all_clients in
         let same = same_length ClientRan ran.before_clients clients ran.ran in

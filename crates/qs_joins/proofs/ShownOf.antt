@@ -6,11 +6,12 @@ use Rattle.std.specs.List.{AllByRecursion, range_with_len}
 use Rattle.std.specs.Prelude.{sum_by}
 use Rattle.qs_objects.specs.Journals.{HeldState}
 use Rattle.qs_objects.specs.declared.held.Ticket.{Ticket}
+use Rattle.qs_objects.proofs.Elements.{AllByRecursion-get_or}
 use Rattle.qs_program.specs.Program.{ProgramShape, blocks_of}
 use Rattle.qs_program.specs.Sound.{IsSound}
-use Rattle.qs_program.proofs.Bounds.{AllByRecursion-get_or}
+use Rattle.qs_program.specs.Limits.{most_objects}
 use Rattle.qs_meaning.specs.Serial.{no_state}
-use Rattle.qs_syncset.specs.SyncRows.{object_of, syncs_of}
+use Rattle.qs_sync_counts.specs.SyncRows.{object_of, syncs_of}
 use Rattle.qs_syncset.specs.declared.mode.Mode.{Mode}
 use Rattle.qs_syncset.proofs.ShortLists.{few_reserved}
 use Rattle.qs_client.specs.Mind.{Mind}
@@ -116,7 +117,7 @@ module _ {D : Type 0} (p : ProgramShape) (sound : IsSound p) (mode : Mode) (size
   -- a block counts for the objects of its list alone, of which there are few
   pub short : AreShort rows order
   unfolding AreSyncsCounted
-  short = from_places (λ (t : Ticket). length (counts_in rows t) ≤ 8) (ticket 0 0) order (λ i few.
+  short = from_places (λ (t : Ticket). length (counts_in rows t) ≤ most_objects) (ticket 0 0) order (λ i few.
       let t = ticket_at (shown_by p r) i in
       let inside = AllByRecursion-get_or (λ (t : Ticket). t.index < blocks_of p t.client) order i (ticket 0 0) (legal_blocks p (λ _. 0) order met.legal) few in
       let client = no_block_beyond p t.client (omega (arith, inside)) in

@@ -5,6 +5,7 @@ use Rattle.std.specs.List.{AllByRecursion}
 use Rattle.qs_objects.specs.Act.{State}
 use Rattle.qs_objects.specs.declared.held.Entry.{Entry}
 use Rattle.qs_objects.specs.declared.held.Ticket.{Ticket}
+use Rattle.qs_program.specs.Limits.{most_objects}
 use Rattle.qs_client.specs.MindState.{MindState, mind_of}
 use Rattle.qs_client_thread.specs.ClientThreads as running
 use Rattle.qs_handler_thread.specs.HandlerThreads as handling
@@ -13,7 +14,7 @@ use Rattle.qs_played.specs.Played.{ClientRows, Played, counts_in, shown_with}
 use Rattle.qs_seats.specs.Runs.{AreOneLane}
 use Rattle.qs_seats.specs.declared.seat.ClientSeat.{ClientSeat}
 use Rattle.qs_seats.specs.declared.seat.HandlerSeat.{HandlerSeat}
-use Rattle.qs_syncset.specs.SyncRows.{syncs_of}
+use Rattle.qs_sync_counts.specs.SyncRows.{syncs_of}
 use Rattle.qs_joins.specs.Meetings.{HaveMet}
 
 -- a mind's rows
@@ -54,7 +55,7 @@ module _ {D : Type 0} where
 
 -- each block of the order counts its Syncs for eight objects at most
 abbrev pub AreShort : List ClientRows → List Ticket → Type 0
-AreShort rows order = AllByRecursion (λ t. length (counts_in rows t) ≤ 8) order
+AreShort rows order = AllByRecursion (λ t. length (counts_in rows t) ≤ most_objects) order
 
 -- what is shown of a run that is over, by these lists: its Syncs are those of all blocks together
 abbrev pub over_with : List Ticket → List ClientRows → List (List Entry) → List State → Played

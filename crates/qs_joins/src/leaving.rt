@@ -2,6 +2,7 @@
 
 ghost use Rattle.std.specs.Prelude.{◌≡◌, ◌<◌, ◌≤◌, true, length, map, vec_len, vec_capacity};
 ghost use Rattle.std.specs.List.{AllByRecursion};
+ghost use Rattle.qs_program.specs.Limits.{most_clients, most_handlers};
 ghost use Rattle.qs_joins.specs.Meetings.{HasFollowed, IsBooked};
 ghost use Rattle.qs_joins.specs.Seating.{AllFit, AllLanesMet, LanesFit, LanesMet, cut, cut_first, journal_of, rows_of, state_of};
 
@@ -19,8 +20,8 @@ fn leave<D: DeskName>(
     number: usize,
     client: ClientSeat<D>,
 ) -> ClientRows
-    requires number { number < 8 }
-    requires few { length handlers.old ≤ 8 }
+    requires number { number < most_handlers }
+    requires few { length handlers.old ≤ most_handlers }
     requires fit { LanesFit client.lanes number handlers.old }
     ensures desk { desk.new ≡ desk.old }
     ensures booked { IsBooked desk.old.history client }
@@ -47,7 +48,7 @@ pub(crate) fn clients_leave<D: DeskName>(
     rows: Vec<ClientRows>,
 ) -> Vec<ClientRows>
     requires room { (vec_len rows ≡ 0) × (vec_len clients ≤ vec_capacity rows) }
-    requires few { (length handlers.old ≤ 8) × (vec_len clients ≤ 8) }
+    requires few { (length handlers.old ≤ most_handlers) × (vec_len clients ≤ most_clients) }
     requires fit { AllFit handlers.old clients.items }
     ensures desk { desk.new ≡ desk.old }
     ensures booked { AllByRecursion (IsBooked desk.old.history) clients.items }

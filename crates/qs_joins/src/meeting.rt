@@ -1,6 +1,7 @@
 //! The two ends of each lane meet.
 
 ghost use Rattle.std.specs.Prelude.{◌≡◌, ◌<◌, ◌≤◌, length, map, slice_set, None};
+ghost use Rattle.qs_program.specs.Limits.{most_clients, most_handlers};
 ghost use Rattle.qs_client_thread.specs.ClientThreads as running;
 ghost use Rattle.qs_handler_thread.specs.HandlerThreads as handling;
 ghost use Rattle.qs_joins.specs.Meetings.{HaveMet};
@@ -30,8 +31,8 @@ fn meet_at<D: DeskName>(
     client: usize,
     handler: usize,
 )
-    requires client { client < 8 }
-    requires handler { handler < 8 }
+    requires client { client < most_clients }
+    requires handler { handler < most_handlers }
     requires lane { AreOneLane (running.lane_at lanes.old handler) (handling.lane_at seat.old.lanes client) }
     ensures met { HaveMet (running.lane_at lanes.old handler) (handling.lane_at seat.old.lanes client) }
     ensures lanes { lanes.new ≡ slice_set lanes.old handler None }
@@ -48,8 +49,8 @@ pub(crate) fn meet_all<D: DeskName>(
     client: usize,
     handlers: &mut [HandlerSeat<D>],
 )
-    requires client { client < 8 }
-    requires few { length handlers.old ≤ 8 }
+    requires client { client < most_clients }
+    requires few { length handlers.old ≤ most_handlers }
     requires fit { LanesFit lanes client handlers.old }
     ensures met { LanesMet lanes client handlers.old }
     ensures cut { handlers.new ≡ map (cut client) handlers.old }

@@ -1,10 +1,11 @@
 //! The room that a run's outcome takes.
 
-ghost use Rattle.std.specs.Prelude.{◌≡◌, ◌≤◌, ◌*◌, vec_len, vec_capacity};
-ghost use Rattle.qs_program.specs.Limits.{most_blocks, most_clients, most_objects};
+ghost use Rattle.std.specs.Prelude.{◌≡◌, ◌≤◌, vec_len, vec_capacity};
+ghost use Rattle.qs_program.specs.Limits.{most_clients, most_objects, most_tickets};
 
 use qs_objects::{Journal, Object};
 use qs_played::ClientRows;
+use qs_program::{MOST_CLIENTS, MOST_OBJECTS, MOST_TICKETS};
 use std::alloc::{AllocError, Global};
 
 /// The room that the outcome of any program's run takes, which is all empty yet: for each of 512 tickets whether its block has ended, for
@@ -16,17 +17,17 @@ pub struct Rooms {
     pub(crate) journals: Vec<Journal>,
     pub(crate) states: Vec<Object>,
     ghost empty: { (vec_len ended ≡ 0) × (vec_len rows ≡ 0) × (vec_len journals ≡ 0) × (vec_len states ≡ 0) },
-    ghost room: { (most_clients * most_blocks ≤ vec_capacity ended) × (most_clients ≤ vec_capacity rows)
+    ghost room: { (most_tickets ≤ vec_capacity ended) × (most_clients ≤ vec_capacity rows)
         × (most_objects ≤ vec_capacity journals) × (most_objects ≤ vec_capacity states) },
 }
 
 impl Rooms {
     /// All the room. An error says that this memory was refused.
     pub fn new(alloc: Global) -> Result<Rooms, AllocError> {
-        let ended = Vec::with_capacity(alloc, 512)?;
-        let rows = Vec::with_capacity(alloc, 8)?;
-        let journals = Vec::with_capacity(alloc, 8)?;
-        let states = Vec::with_capacity(alloc, 8)?;
+        let ended = Vec::with_capacity(alloc, MOST_TICKETS)?;
+        let rows = Vec::with_capacity(alloc, MOST_CLIENTS)?;
+        let journals = Vec::with_capacity(alloc, MOST_OBJECTS)?;
+        let states = Vec::with_capacity(alloc, MOST_OBJECTS)?;
         Ok(Rooms {
             ended,
             rows,

@@ -2,7 +2,8 @@
 
 ghost use Rattle.std.specs.Prelude.{◌≡◌, ◌≤◌, true, length, map, sum, sum_by, vec_len, vec_capacity};
 ghost use Rattle.std.specs.List.{AllByRecursion};
-ghost use Rattle.qs_syncset.specs.SyncRows.{syncs_of};
+ghost use Rattle.qs_program.specs.Limits.{most_objects, most_tickets};
+ghost use Rattle.qs_sync_counts.specs.SyncRows.{syncs_of};
 ghost use Rattle.qs_played.specs.Played.{HaveRows};
 ghost use Rattle.qs_joins.specs.Seating.{AreShort, over_with};
 
@@ -23,7 +24,7 @@ fn all_ended(order: &[Ticket], ended: Vec<bool>) -> Vec<bool>
 
 // How many Syncs a block has sent, for all objects of its list.
 fn sum_of(counts: &[u32]) -> u64
-    requires few { length counts.now ≤ 8 }
+    requires few { length counts.now ≤ most_objects }
     ensures sum { result ≡ sum counts.now }
     ensures limit { result ≤ 34359738360 }
 {
@@ -36,9 +37,9 @@ fn sum_of(counts: &[u32]) -> u64
 
 // How many Syncs all blocks have sent.
 fn all_syncs(played: &Played) -> u64
-    requires few { length played.now.order ≤ 512 }
+    requires few { length played.now.order ≤ most_tickets }
     requires counts { length played.now.sync_counts ≡ length played.now.order }
-    requires short { AllByRecursion (λ row. length row ≤ 8) played.now.sync_counts }
+    requires short { AllByRecursion (λ row. length row ≤ most_objects) played.now.sync_counts }
     ensures syncs { result ≡ sum_by syncs_of played.now.sync_counts }
 {
     let mut syncs = 0;
@@ -56,8 +57,8 @@ pub(crate) fn shown(
     states: Vec<Object>,
     ended: Vec<bool>,
 ) -> Outcome
-    requires room { (vec_len ended ≡ 0) × (512 ≤ vec_capacity ended) }
-    requires few { vec_len order ≤ 512 }
+    requires room { (vec_len ended ≡ 0) × (most_tickets ≤ vec_capacity ended) }
+    requires few { vec_len order ≤ most_tickets }
     requires rows { HaveRows rows.items order.items }
     requires short { AreShort rows.items order.items }
     ensures shown { result ≡ over_with order.items rows.items journals.items states.items }

@@ -6,9 +6,10 @@ ghost use Rattle.qs_chunk.specs.Batch.{batch};
 ghost use Rattle.qs_chunk.specs.LaneRun.{IsLaneRun, syncs};
 ghost use Rattle.qs_chunk.specs.Lanes.{IsLane, MayFollow, is_asked};
 ghost use Rattle.qs_chunk.specs.declared.parcel.Parcel.{Parcel};
+ghost use Rattle.qs_chunk.specs.Limits.{lane_room};
 
 use crate::protocols::{AnyObjects, EmptyChunks, InLane, Keyless, KnownSize, SizeKey};
-use qs_chunk::{Chunk, ChunkSize, Parcel};
+use qs_chunk::{Chunk, ChunkSize, LANE_ROOM, Parcel};
 use qs_objects::{Held, Request};
 use qs_queue::{Sender, Taker, make_ends};
 use std::alloc::{AllocError, Global};
@@ -31,6 +32,7 @@ pub struct LaneOut {
 impl Model for LaneOut {
     ghost use Rattle.std.specs.Prelude.{◌≡◌, length};
     ghost use Rattle.qs_chunk.specs.Lanes.{IsLane};
+    ghost use Rattle.qs_chunk.specs.Limits.{lane_room};
     ghost use Rattle.qs_lane.specs.Views.{OutView};
 
     ghost Value = { OutView };
@@ -43,7 +45,7 @@ impl Model for LaneOut {
       taken = length s.spare.received;
     } };
 
-    ghost invariant = { λ s. (s.down.room ≡ 16) × (s.spare.key ≡ s.down.key) × IsLane s.down.key s.down.sent };
+    ghost invariant = { λ s. (s.down.room ≡ lane_room) × (s.spare.key ≡ s.down.key) × IsLane s.down.key s.down.sent };
 }
 
 /// The handler's end of a lane.
@@ -127,7 +129,8 @@ fn lane_of<N: KnownSize, R: Wait>(
         drop(spare);
         return Err(AllocError);
     };
-    let Ok((down, down_end)) = make_ends::<Parcel, ChunkSize, InLane, SizeKey<N>>(alloc, 16) else {
+    let Ok((down, down_end)) = make_ends::<Parcel, ChunkSize, InLane, SizeKey<N>>(alloc, LANE_ROOM)
+    else {
         drop(spare_end);
         drop(spare);
         drop(up_end);
@@ -162,7 +165,7 @@ impl LaneOut {
         requires follows { MayFollow self.old.size (is_asked false self.old.sent) parcel }
         ensures ok { IfOk result (λ _. self.new ≡ record self.old { sent = self.old.sent ++ parcel ∷ [] }) }
         ensures back { IfErr result (λ back. (back ≡ parcel) × (self.new ≡ self.old)) }
-        ensures full { IfErr result (λ _. (received parcels : List Parcel) × (length parcels ≡ 16) × (self.old.sent ≡ received ++ parcels)) }
+        ensures full { IfErr result (λ _. (received parcels : List Parcel) × (length parcels ≡ lane_room) × (self.old.sent ≡ received ++ parcels)) }
     {
         self.down.try_send(rt, parcel)
     }

@@ -2,10 +2,11 @@
 use Rattle.std.proofs.Common.{◌≡◌, ℕ, zero, suc, ◌<◌, ◌≤◌, true, nat_lt, if◌then◌else◌, [], map, length, get_or, Some, None, refl, ap, ◌∙◌, arith, rules, tests}
 use Rattle.std.proofs.lemmas.List.{get_or-map}
 use Rattle.qs_program.specs.Program.{ProgramShape}
+use Rattle.qs_program.specs.Limits.{most_clients, most_handlers, most_objects}
 use Rattle.qs_desk.specs.Lines.{tickets_at}
 use Rattle.qs_desk.specs.Places.{places, share_at}
 
-place_at : (i : ℕ) → i < 8 → get_or places i 0 ≡ i
+place_at : (i : ℕ) → i < most_handlers → get_or places i 0 ≡ i
 place_at zero less = refl
 place_at (suc zero) less = refl
 place_at (suc (suc zero)) less = refl
@@ -16,19 +17,19 @@ place_at (suc (suc (suc (suc (suc (suc zero)))))) less = refl
 place_at (suc (suc (suc (suc (suc (suc (suc zero))))))) less = refl
 place_at (suc (suc (suc (suc (suc (suc (suc (suc i)))))))) less = absurd (omega (arith, less))
 
-at_place : {X : Type 0} (f : ℕ → X) (i : ℕ) (d : X) → i < 8 → get_or (map f places) i d ≡ f i
+at_place : {X : Type 0} (f : ℕ → X) (i : ℕ) (d : X) → i < most_handlers → get_or (map f places) i d ≡ f i
 at_place f i d less = get_or-map f places i 0 d less ∙ ap f (place_at i less)
 
 passes : (i n : ℕ) → i < n → nat_lt i n ≡ true
 passes i n less = search (rules, tests)
 
-pub share_there : (p : ProgramShape) (c : ℕ) → length p.clients ≤ 8 → c < length p.clients
+pub share_there : (p : ProgramShape) (c : ℕ) → length p.clients ≤ most_clients → c < length p.clients
     → get_or (map (share_at p) places) c None ≡ Some (record { client = c; count = 0 })
 share_there p c few less =
     at_place (share_at p) c None (omega (arith, few, less))
     ∙ ap (λ b. if b then Some (record { client = c; count = 0 }) else None) (passes c (length p.clients) less)
 
-pub tickets_there : (p : ProgramShape) (h : ℕ) → length p.objects ≤ 8 → h < length p.objects
+pub tickets_there : (p : ProgramShape) (h : ℕ) → length p.objects ≤ most_objects → h < length p.objects
     → get_or (map (tickets_at p) places) h None ≡ Some (record { handler = h; taken = [] })
 tickets_there p h few less =
     at_place (tickets_at p) h None (omega (arith, few, less))

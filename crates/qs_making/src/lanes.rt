@@ -1,13 +1,14 @@
 //! Lanes between clients and handlers.
 
 ghost use Rattle.std.specs.Prelude.{◌≡◌, ℕ, ◌<◌, None, length, IfOk};
+ghost use Rattle.qs_program.specs.Limits.{most_handlers};
 ghost use Rattle.qs_making.specs.Ends.{AreEnds, end_at, ever_reserves, in_at, out_at};
 
 use qs_chunk::ChunkSize;
 use qs_client_thread::Lanes as ClientLanes;
 use qs_handler_thread::Lanes as HandlerLanes;
 use qs_lane::{LaneIn, LaneOut, lane};
-use qs_program::Program;
+use qs_program::{MOST_HANDLERS, Program};
 use std::alloc::{AllocError, Global};
 use std::sync::Wait;
 
@@ -44,8 +45,14 @@ fn ends_between<R: Wait>(
     Ok((Some(out), Some(inside)))
 }
 
+// Ends in a row: at most one for each handler, or one for each client.
+const MOST_ENDS: usize = MOST_HANDLERS;
+
 // So many rows with no end in them.
-fn empty_rows<T: Drop>(alloc: Global, count: usize) -> Result<Vec<[Option<T>; 8]>, AllocError>
+fn empty_rows<T: Drop>(
+    alloc: Global,
+    count: usize,
+) -> Result<Vec<[Option<T>; MOST_ENDS]>, AllocError>
     ensures len { IfOk result (λ rows. length rows.items ≡ count) }
     ensures none { IfOk result (λ rows. (row place : ℕ) → end_at rows.items row place ≡ None) }
 {
@@ -57,9 +64,9 @@ fn empty_rows<T: Drop>(alloc: Global, count: usize) -> Result<Vec<[Option<T>; 8]
 }
 
 // Puts an end into its place, and changes no other.
-fn put<T: Drop>(rows: &mut Vec<[Option<T>; 8]>, row: u8, place: u8, end: Option<T>)
+fn put<T: Drop>(rows: &mut Vec<[Option<T>; MOST_ENDS]>, row: u8, place: u8, end: Option<T>)
     requires row { row < length rows.old.items }
-    requires place { place < 8 }
+    requires place { place < most_handlers }
     ensures len { length rows.new.items ≡ length rows.old.items }
     ensures here { end_at rows.new.items row place ≡ end }
     ensures other_rows { (r k : ℕ) → (r ≡ row → ⊥) → end_at rows.new.items r k ≡ end_at rows.old.items r k }

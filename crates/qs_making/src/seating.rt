@@ -19,6 +19,7 @@ use qs_client_thread::Lanes as ClientLanes;
 use qs_desk::{DeskName, Share, Tickets};
 use qs_handler_thread::Lanes as HandlerLanes;
 use qs_objects::Held;
+use qs_program::{MOST_CLIENTS, MOST_HANDLERS};
 use qs_seats::{ClientSeat, HandlerSeat, ReadyClient, ReadyHandler};
 use qs_syncset::Mode;
 use std::alloc::{AllocError, Global};
@@ -42,7 +43,7 @@ fn seat_handlers<D: DeskName>(
     seats: &mut Vec<ReadyHandler<D>>,
     helds: Vec<Held>,
     ins: Vec<HandlerLanes>,
-    tickets: [Option<Tickets<D>>; 8],
+    tickets: [Option<Tickets<D>>; MOST_HANDLERS],
 )
     requires sound { IsSound D.program }
     requires room { (seats.old.items ≡ []) × (length helds.items ≤ vec_capacity seats.old) }
@@ -79,7 +80,7 @@ fn seat_clients<D: DeskName>(
     seats: &mut Vec<ReadyClient<D>>,
     minds: Vec<Mind>,
     outs: Vec<ClientLanes>,
-    shares: [Option<Share<D>>; 8],
+    shares: [Option<Share<D>>; MOST_CLIENTS],
     mode: Mode,
     size: ChunkSize,
 )
@@ -117,8 +118,8 @@ fn seat_clients<D: DeskName>(
 pub fn seats<D: DeskName>(
     alloc: Global,
     parts: Parts,
-    shares: [Option<Share<D>>; 8],
-    tickets: [Option<Tickets<D>>; 8],
+    shares: [Option<Share<D>>; MOST_CLIENTS],
+    tickets: [Option<Tickets<D>>; MOST_HANDLERS],
     mode: Mode,
     size: ChunkSize,
 ) -> Result<(Vec<ReadyHandler<D>>, Vec<ReadyClient<D>>), AllocError>

@@ -15,12 +15,14 @@ use Rattle.qs_objects.specs.declared.Request.{Request}
 use Rattle.qs_objects.specs.declared.held.Event.{Event}
 use Rattle.qs_objects.specs.declared.held.Ticket.{Ticket}
 use Rattle.qs_objects.proofs.Choices.{eqb_self, eqb_apart, apart_eqb, num_cases}
+use Rattle.qs_objects.proofs.Elements.{AllByRecursion-get_or}
 use Rattle.qs_program.specs.Numbering.{Name, same_name}
 use Rattle.qs_program.specs.declared.program.Declared.{Declared}
 use Rattle.qs_program.specs.Program.{BlockShape, ClientShape, ProgramShape, client_at, text_of, no_block, no_client, no_object}
 use Rattle.qs_program.specs.Sound.{AreVariablesBelow, IsFormedBlock, IsFormedClient, IsFormedProgram, IsSound, IsSoundBlock, IsSoundClient, is_in}
 use Rattle.qs_program.specs.Statements.{Statements, end, command, query, assign, choose, again, leave}
 use Rattle.qs_program.specs.Values.{Locals, expr_value, test_value}
+use Rattle.qs_program.specs.Limits.{most_variables}
 use Rattle.qs_meaning.specs.Alike.{SameStatements, SameText, SameValues, SameObject, SameRequest, SameEvent, SameTrace, StartAlike, AskAlike, AlikeFrom}
 use Rattle.qs_meaning.specs.Alike.{HasValues, BlocksAlike, PlacesAlike, ValuesByName, object_name, variable_name, value_at}
 use Rattle.qs_meaning.specs.Following.{AsksOnly, reserves}
@@ -41,11 +43,6 @@ all_at P [] i d each past = past
 all_at P (x ∷ xs) zero d each past = each.0
 all_at P (x ∷ xs) (suc i) d each past = all_at P xs i d each.1 past
 
-pub within : {X : Type 0} (P : X → Type 0) (xs : List X) (i : ℕ) (d : X) → AllByRecursion P xs → i < length xs → P (get_or xs i d)
-within P [] i d each less = absurd (omega (arith, less))
-within P (x ∷ xs) zero d each less = each.0
-within P (x ∷ xs) (suc i) d each less = within P xs i d each.1 (omega (arith, less))
-
 other_name : (a b : Name) → same_name a b ≡ false → a ≢ b
 other_name a b e = other_text a b (sym e)
 
@@ -54,9 +51,9 @@ unfolding IsDistinct
 one_place [] i j distinct a b e = absurd (omega (arith, a))
 one_place (n ∷ ns) zero zero distinct a b e = refl
 one_place (n ∷ ns) zero (suc j) distinct a b e =
-    absurd (other_name n (get_or ns j []) (within (λ m. same_name n m ≡ false) ns j [] distinct.0 (omega (arith, b))) e)
+    absurd (other_name n (get_or ns j []) (AllByRecursion-get_or (λ m. same_name n m ≡ false) ns j [] distinct.0 (omega (arith, b))) e)
 one_place (n ∷ ns) (suc i) zero distinct a b e =
-    absurd (other_name n (get_or ns i []) (within (λ m. same_name n m ≡ false) ns i [] distinct.0 (omega (arith, a))) (sym e))
+    absurd (other_name n (get_or ns i []) (AllByRecursion-get_or (λ m. same_name n m ≡ false) ns i [] distinct.0 (omega (arith, a))) (sym e))
 one_place (n ∷ ns) (suc i) (suc j) distinct a b e = ap suc (one_place ns i j distinct.1 (omega (arith, a)) (omega (arith, b)) e)
 
 one_object : (p : ProgramShape) → IsSound p → (h g : ℕ) → h < length p.objects → g < length p.objects → object_name p h ≡ object_name p g → h ≡ g
@@ -296,12 +293,12 @@ values_by_name p q t u text l k values =
 -- A run changes the values of its client's variables, and not how many there are.
 
 abbrev Long : Interaction → Type 0
-Long (Done l) = length l ≡ 16
+Long (Done l) = length l ≡ most_variables
 Long (Call r next) = Long next
 Long (Query r next) = (v : ℤ) → Long (next v)
 
 abbrev Stay : Next → Type 0
-Stay next = (l : Locals) → length l ≡ 16 → Long (next l)
+Stay next = (l : Locals) → length l ≡ most_variables → Long (next l)
 
 turns_long : (k : ℕ) (body : Next → Next) (next : Next) → ((f : Next) → Stay f → Stay (body f)) → Stay next → Stay (turns k body next)
 turns_long zero body next one later = later
@@ -327,30 +324,30 @@ meaning_long (again n body rest) next leaves f g l e =
     turns_long n (λ turn. meaning body turn later) later (λ turn h. meaning_long body turn later h after) after l e
 meaning_long (leave rest) next leaves f g l e = g l e
 
-run_long : (t : Interaction) (st : States) → Long t → length (run t st).locals ≡ 16
+run_long : (t : Interaction) (st : States) → Long t → length (run t st).locals ≡ most_variables
 run_long (Done l) st e = e
 run_long (Call r next) st e = run_long next (changed st r) e
 run_long (Query r next) st e = run_long (next (value_of (answer (st r.object) r))) (changed st r) (e (value_of (answer (st r.object) r)))
 
-solo_long : (b : Statements) (l : Locals) (st : States) → length l ≡ 16 → length (solo b l st).locals ≡ 16
+solo_long : (b : Statements) (l : Locals) (st : States) → length l ≡ most_variables → length (solo b l st).locals ≡ most_variables
 solo_long b l st e =
     ap (λ (o : alone.Outcome). length o.locals) (trees_agree b l st) ∙ run_long (tree_of b l) st (meaning_long b Done Done (λ l e. e) (λ l e. e) l e)
 
-entries_long : (p : ProgramShape) (order : List Ticket) (ls : ℕ → Locals) (st : States) → ((c : ℕ) → length (ls c) ≡ 16)
+entries_long : (p : ProgramShape) (order : List Ticket) (ls : ℕ → Locals) (st : States) → ((c : ℕ) → length (ls c) ≡ most_variables)
     → AllByRecursion
-    (λ (s : Place). (length s.entry ≡ 16) × (s.trace ≡ (solo (text_of p s.ticket).body s.entry s.starts).trace)) (serial_from p ls st order).places
+    (λ (s : Place). (length s.entry ≡ most_variables) × (s.trace ≡ (solo (text_of p s.ticket).body s.entry s.starts).trace)) (serial_from p ls st order).places
 entries_long p [] ls st e = tt
 entries_long p (t ∷ ts) ls st e =
     let o : alone.Outcome = solo (text_of p t).body (ls t.client) st in
     ((e t.client, refl), entries_long p ts (put ls t.client o.locals) o.states (λ c. by_case c (t.client == c)))
   where
-    by_case : (c : ℕ) (b : Bool) → length (if b then (solo (text_of p t).body (ls t.client) st).locals else ls c) ≡ 16
+    by_case : (c : ℕ) (b : Bool) → length (if b then (solo (text_of p t).body (ls t.client) st).locals else ls c) ≡ most_variables
     by_case c true = solo_long (text_of p t).body (ls t.client) st (e t.client)
     by_case c false = e c
 
-few_variables : (p : ProgramShape) → IsSound p → (c : ℕ) → length (client_at p c).variables ≤ 16
+few_variables : (p : ProgramShape) → IsSound p → (c : ℕ) → length (client_at p c).variables ≤ most_variables
 few_variables p sound c =
-    all_at (λ (c : ClientShape). length c.variables ≤ 16) p.clients c no_client
+    all_at (λ (c : ClientShape). length c.variables ≤ most_variables) p.clients c no_client
     (each_map (λ (c : ClientShape) (f : IsSoundClient p.objects c). f.variables) p.clients sound.each) (omega arith)
 
 abbrev pub IsPlaceOf : ProgramShape → Place → Type 0
@@ -359,7 +356,7 @@ IsPlaceOf p s = HasValues p s.ticket s.entry × (s.trace ≡ (solo (text_of p s.
 pub places_of : (p : ProgramShape) → IsSound p → (order : List Ticket) → AllByRecursion (IsPlaceOf p) (serial p order).places
 places_of p sound order =
     each_map
-    (λ (s : Place) (e : (length s.entry ≡ 16) × (s.trace ≡ (solo (text_of p s.ticket).body s.entry s.starts).trace)).
+    (λ (s : Place) (e : (length s.entry ≡ most_variables) × (s.trace ≡ (solo (text_of p s.ticket).body s.entry s.starts).trace)).
     let few = few_variables p sound s.ticket.client in (omega (arith, few, e.0), e.1))
     (serial p order).places
     (entries_long p order (λ _. zeros) (declared p) (λ c. refl))

@@ -10,6 +10,7 @@ use Rattle.qs_program.specs.declared.program.Declared.{Declared}
 use Rattle.qs_program.specs.Numbering.{Name, same_name}
 use Rattle.qs_program.specs.Program.{no_object, whole_load, whole_weight}
 use Rattle.qs_program.specs.Sound.{IsFormedClient, IsFormedProgram, IsSound, IsSoundClient, is_in}
+use Rattle.qs_program.specs.Limits.{most_variables}
 use Rattle.qs_meaning.specs.Alike.{SameTrace, StartAlike, object_name}
 use Rattle.qs_meaning.specs.AlikeExamples.{AlikeExamples, Match, depositor, first, second, ann, bob, carol}
 
@@ -38,7 +39,7 @@ same_starts h g same some more =
 abbrev Has : List Declared → Op → ℕ → Type 0
 Has objects op h = fits op (slice_index_or objects h no_object).kind ≡ true
 
-depositor_sound : (objects : List Declared) (name : Name) (variables : List Name) (a b x : ℕ) → length variables ≤ 2 → x < 16
+depositor_sound : (objects : List Declared) (name : Name) (variables : List Name) (a b x : ℕ) → length variables ≤ 2 → x < most_variables
     → a < length objects → b < length objects → (a == b) ≡ false → Has objects Deposit a → Has objects Balance a → Has objects Deposit b
     → IsSoundClient objects (depositor name variables a b x)
 unfolding IsDistinct

@@ -15,6 +15,7 @@ use Rattle.qs_objects.specs.declared.object.Kind.{Kind}
 use Rattle.qs_objects.specs.declared.object.Kind.TheVariants as kinds
 use Rattle.qs_objects.proofs.Choices.{num_cases}
 use Rattle.qs_objects.proofs.ObjectLaws.{same_shape}
+use Rattle.qs_objects.specs.Limits.{most_lines}
 use Rattle.qs_program.specs.declared.program.Declared.{Declared}
 use Rattle.qs_program.specs.Program.{ProgramShape, object_at, text_of, no_object}
 use Rattle.qs_program.specs.Sound.{IsSound}
@@ -80,7 +81,7 @@ start_kind (kinds.Buffer k) is op = by_case (between 1 k 1024) is
     by_case : (test : Bool) → IsSome (start test) → fits op (kind_of (state_or_none (start test)).content) ≡ fits op (kinds.Buffer k)
     by_case true some = refl
     by_case false some = absurd (true≢false (sym some))
-start_kind (kinds.Grid n k) is op = by_case (between 1 n 16 && between 1 k 16) is
+start_kind (kinds.Grid n k) is op = by_case (between 1 n most_lines && between 1 k most_lines) is
   where
     start : Bool → Option State
     start test = if test then Some (fresh (grid (size_of n) (size_of k) (replicate (size_of n * size_of k) (pos 0)))) else None

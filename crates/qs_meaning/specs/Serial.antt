@@ -7,6 +7,7 @@ use Rattle.qs_objects.specs.declared.held.Ticket.{Ticket}
 use Rattle.qs_program.specs.Values.{Locals}
 use Rattle.qs_meaning.specs.Solo.{States, put, solo}
 use Rattle.qs_program.specs.Program.{ProgramShape, object_at, text_of, blocks_of}
+use Rattle.qs_program.specs.Limits.{most_variables}
 
 -- the tickets of each client come as 0, 1, 2, .. and each names a block of the program; from these counts of begun blocks on
 abbrev pub LegalFrom : ProgramShape → (ℕ → ℕ) → List Ticket → Type 0
@@ -31,7 +32,7 @@ declared p h = state_or_none (starts (object_at p h).kind)
 
 -- all variables begin at 0
 abbrev pub zeros : Locals
-zeros = replicate 16 (pos 0)
+zeros = replicate most_variables (pos 0)
 
 -- a place of the order: the ticket, its client's variables and the states that it found, and what its block did
 pub record Place : Type 0 where

@@ -1,4 +1,5 @@
 pub mod Choices
+pub mod Elements
 pub mod Sums
 pub mod ObjectLaws
 pub mod Replays

@@ -1,3 +1,4 @@
+pub mod Limits
 pub mod Act
 pub mod Objects
 pub mod Operations

@@ -7,6 +7,7 @@ use Rattle.qs_objects.specs.declared.object.Kind.{Kind}
 use Rattle.qs_objects.specs.declared.object.Kind.TheVariants as kinds
 use Rattle.qs_objects.specs.declared.object.Content as code
 use Rattle.qs_objects.specs.declared.object.Content.TheVariants.{Account, Buffer, Grid}
+use Rattle.qs_objects.specs.Limits.{most_lines, most_values}
 
 abbrev pub state_of : code.Content → ℤ → State
 state_of (Account b) n = record { content = account b; refused = n }
@@ -22,14 +23,14 @@ account_state b n = record { content = account b; refused = n }
 
 -- room for all of a buffer, from 1 to 1024 values
 abbrev pub IsRoomy : ℕ → Vec ℤ Global → Type 0
-IsRoomy k v = (vec_len v ≤ k) × (k ≤ vec_capacity v) × (1 ≤ k) × (k ≤ 1024)
+IsRoomy k v = (vec_len v ≤ k) × (k ≤ vec_capacity v) × (1 ≤ k) × (k ≤ most_values)
 
 abbrev pub buffer_state : ℕ → List ℤ → ℤ → State
 buffer_state k xs n = record { content = buffer k xs; refused = n }
 
 -- all cells of a grid, from 1 to 16 rows and columns
 abbrev pub IsFull : ℕ → ℕ → Vec ℤ Global → Type 0
-IsFull r c v = (vec_len v ≡ r * c) × (1 ≤ r) × (r ≤ 16) × (1 ≤ c) × (c ≤ 16)
+IsFull r c v = (vec_len v ≡ r * c) × (1 ≤ r) × (r ≤ most_lines) × (1 ≤ c) × (c ≤ most_lines)
 
 abbrev pub grid_state : ℕ → ℕ → List ℤ → ℤ → State
 grid_state r c cells n = record { content = grid r c cells; refused = n }
@@ -51,9 +52,9 @@ fresh c = record { content = c; refused = pos 0 }
 -- a new object, where the numbers of its kind are in range
 abbrev pub starts : Kind → Option State
 starts (kinds.Account b) = if between 0 b 1000000000000000 then Some (fresh (account b)) else None
-starts (kinds.Buffer k) = if between 1 k 1024 then Some (fresh (buffer (size_of k) [])) else None
+starts (kinds.Buffer k) = if between 1 k most_values then Some (fresh (buffer (size_of k) [])) else None
 starts (kinds.Grid n k) =
-    if between 1 n 16 && between 1 k 16
+    if between 1 n most_lines && between 1 k most_lines
     then Some (fresh (grid (size_of n) (size_of k) (replicate (size_of n * size_of k) (pos 0))))
     else None
 
@@ -84,5 +85,5 @@ values_of (grid n k cells) = cells
 -- a cell for each row and column
 abbrev pub IsInRange : Content → Type 0
 IsInRange (account b) = IsBalance b
-IsInRange (buffer k xs) = (1 ≤ k) × (k ≤ 1024) × (length xs ≤ k)
-IsInRange (grid n k cells) = (1 ≤ n) × (n ≤ 16) × (1 ≤ k) × (k ≤ 16) × (length cells ≡ n * k)
+IsInRange (buffer k xs) = (1 ≤ k) × (k ≤ most_values) × (length xs ≤ k)
+IsInRange (grid n k cells) = (1 ≤ n) × (n ≤ most_lines) × (1 ≤ k) × (k ≤ most_lines) × (length cells ≡ n * k)

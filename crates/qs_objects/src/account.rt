@@ -5,7 +5,7 @@ ghost use Rattle.qs_objects.specs.Objects.{IsBalance, account_state};
 ghost use Rattle.qs_objects.specs.Act.{account_act};
 
 use crate::Op;
-use crate::object::{LARGEST_BALANCE, count_refusal};
+use crate::object::{GREATEST_BALANCE, count_refusal};
 
 // Serves a request to an account.
 pub(crate) fn apply(balance: &mut i64, refused: &mut i64, op: Op, args: &[i64]) -> Option<i64>
@@ -16,7 +16,7 @@ pub(crate) fn apply(balance: &mut i64, refused: &mut i64, op: Op, args: &[i64]) 
 {
     match (op, args) {
         (Op::Deposit, [n]) => {
-            if *n < 0 || *n > LARGEST_BALANCE - *balance {
+            if *n < 0 || *n > GREATEST_BALANCE - *balance {
                 count_refusal(refused);
             } else {
                 *balance += *n;

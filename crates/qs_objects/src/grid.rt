@@ -3,6 +3,7 @@
 ghost use Rattle.std.specs.Prelude.{◌≡◌, ℕ, ◌+◌, ◌*◌, ◌<◌, ◌≤◌, length, take, drop, IfSome, Some, None, if◌then◌else◌, pos, ◌+ℤ◌};
 ghost use Rattle.qs_objects.specs.Objects.{IsFull, grid_state};
 ghost use Rattle.qs_objects.specs.Act.{grid_act, outside, below, place as cell_place, size_of, exact_sum, clamped};
+ghost use Rattle.qs_objects.specs.Limits.{most_lines};
 
 use crate::Op;
 use crate::object::count_refusal;
@@ -53,7 +54,7 @@ pub(crate) fn apply(
 
 // The place of a cell that is inside.
 fn place(rows: usize, columns: usize, row: i64, column: i64) -> Option<usize>
-    requires small { (rows ≤ 16) × (columns ≤ 16) }
+    requires small { (rows ≤ most_lines) × (columns ≤ most_lines) }
     ensures place { result
         ≡ (if outside rows columns row column then None else Some (cell_place columns row column)) }
     ensures within { IfSome result (λ place. place < rows * columns) }
@@ -66,7 +67,7 @@ fn place(rows: usize, columns: usize, row: i64, column: i64) -> Option<usize>
 
 // The sum of a row that is inside; the cells are those of the whole grid.
 fn row_sum(rows: usize, columns: usize, cells: &[i64], row: i64) -> i64
-    requires small { (rows ≤ 16) × (columns ≤ 16) }
+    requires small { (rows ≤ most_lines) × (columns ≤ most_lines) }
     requires full { length cells.now ≡ rows * columns }
     ensures sum { result
         ≡ (if below row rows then clamped (exact_sum (take columns (drop (size_of row * columns) cells.now)))
@@ -82,7 +83,7 @@ fn row_sum(rows: usize, columns: usize, cells: &[i64], row: i64) -> i64
 // The exact sum, clamped once. Sixteen values cannot leave the range of 128 bits.
 #[tactic(auto, using(crate::proofs::Sums::exact_sum_drop))]
 fn clamped_sum(values: &[i64]) -> i64
-    requires few { length values.now ≤ 16 }
+    requires few { length values.now ≤ most_lines }
     ensures sum { result ≡ clamped (exact_sum values.now) }
 {
     let mut sum: i128 = 0;

@@ -16,7 +16,7 @@ mod traces;
 
 pub use args::Args;
 pub use held::{Entry, Event, Held, Journal, Next, Ticket};
-pub use object::{Kind, Object, ObjectFault};
+pub use object::{GREATEST_BALANCE, Kind, MOST_LINES, MOST_VALUES, Object, ObjectFault};
 pub use rows::Rows;
 pub use traces::Traces;
 

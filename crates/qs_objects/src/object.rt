@@ -3,6 +3,7 @@
 ghost use Rattle.std.specs.Prelude.{◌≡◌, ◌↔◌, ◌≤◌, length, Some, None, IfOk, IsErr, IsErrOf, IsSome, IsTrue, slice_get, pos, ◌+ℤ◌, ℤ, vec_capacity};
 ghost use Rattle.qs_objects.specs.Objects.{IsKept, starts, has_memory, needs_memory, kind_of, state_of, values_of};
 ghost use Rattle.qs_objects.specs.Act.{act, clamped};
+ghost use Rattle.qs_objects.specs.Limits.{most_values};
 
 use crate::{Request, account, buffer, grid};
 use std::alloc::{AllocError, Global};
@@ -108,11 +109,14 @@ impl Model for Object {
     ghost invariant = { λ o. IsKept o.content };
 }
 
-pub(crate) const LARGEST_BALANCE: i64 = 1_000_000_000_000_000;
+/// The greatest balance of an account.
+pub const GREATEST_BALANCE: i64 = 1_000_000_000_000_000;
 
-const LARGEST_CAPACITY: i64 = 1024;
+/// The largest capacity of a buffer.
+pub const MOST_VALUES: i64 = 1024;
 
-const LARGEST_SIDE: i64 = 16;
+/// Rows, and columns, of the largest grid.
+pub const MOST_LINES: i64 = 16;
 
 impl Object {
     /// A new object, with all the memory that it will need: no later call takes any. `Range` comes
@@ -125,13 +129,13 @@ impl Object {
     {
         let content = match kind {
             Kind::Account { balance } => {
-                if balance < 0 || balance > LARGEST_BALANCE {
+                if balance < 0 || balance > GREATEST_BALANCE {
                     return Err(ObjectFault::Range);
                 }
                 Content::Account { balance }
             }
             Kind::Buffer { capacity } => {
-                if capacity < 1 || capacity > LARGEST_CAPACITY {
+                if capacity < 1 || capacity > MOST_VALUES {
                     return Err(ObjectFault::Range);
                 }
                 let capacity = capacity as usize;
@@ -139,7 +143,7 @@ impl Object {
                 Content::Buffer { capacity, values }
             }
             Kind::Grid { rows, columns } => {
-                if rows < 1 || rows > LARGEST_SIDE || columns < 1 || columns > LARGEST_SIDE {
+                if rows < 1 || rows > MOST_LINES || columns < 1 || columns > MOST_LINES {
                     return Err(ObjectFault::Range);
                 }
                 let rows = rows as usize;
@@ -180,7 +184,7 @@ impl Object {
     /// At most 1024.
     pub fn len(&self) -> usize
         ensures count { result ≡ length (values_of self.now.content) }
-        ensures at_most_1024 { result ≤ 1024 }
+        ensures at_most { result ≤ most_values }
     {
         match &self.content {
             Content::Account { .. } => 1,

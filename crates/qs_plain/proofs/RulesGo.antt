@@ -11,7 +11,7 @@ use Rattle.qs_meaning.specs.Interaction.{Interaction, Done, Call, Query}
 use Rattle.qs_program.specs.Program.{BlockShape, block_at, blocks_of}
 use Rattle.qs_meaning.specs.Solo.{event}
 use Rattle.qs_program.specs.Sound.{IsSound, IsSoundBlock, is_in}
-use Rattle.qs_program.proofs.Bounds.{sound_block, AllByRecursion-get_or}
+use Rattle.qs_program.proofs.Bounds.{sound_block}
 use Rattle.qs_played.specs.Played.{ticket}
 use Rattle.qs_played.specs.declared.actor.Actor.TheVariants as actor
 use Rattle.qs_plain_laws.specs.Plain.{Client, step, client_step, goes_on}
@@ -22,9 +22,10 @@ use Rattle.qs_plain_client.specs.ClientMoves.{moved}
 use Rattle.qs_plain_client.specs.Clients.{ClientState, IsClient, IsWithin, current_block, client_of, stage_of, absent, client_at}
 use Rattle.qs_plain_client.specs.Frames.{Frame, next_of, load_left}
 use Rattle.qs_plain_client.specs.TraceMoves.{counted_in, noted_in, last_of, no_trace}
-use Rattle.qs_syncset.specs.SyncRows.{with_sync}
-use Rattle.qs_syncset.specs.declared.sync_counts.SyncCount.{SyncCount}
+use Rattle.qs_sync_counts.specs.SyncRows.{with_sync}
+use Rattle.qs_sync_counts.specs.declared.sync_counts.SyncCount.{SyncCount}
 use Rattle.qs_objects.specs.Traces.{TraceState, trace_state}
+use Rattle.qs_objects.proofs.Elements.{AllByRecursion-get_or}
 use Rattle.qs_plain_client.specs.declared.stage.Stage.{Stage}
 use Rattle.qs_plain_client.proofs.ClientPreserved.{within_of}
 use Rattle.qs_plain_client.specs.declared.stage.Stage.TheVariants as stage

@@ -3,6 +3,7 @@
 ghost use Rattle.std.specs.Prelude.{◌≡◌, ◌≤◌, ◌∷◌, IfOk, length, map, sum_by};
 ghost use Rattle.qs_objects.specs.declared.held.Ticket.{Ticket as TicketShape};
 ghost use Rattle.qs_program.specs.Program.{ProgramShape};
+ghost use Rattle.qs_program.specs.Limits.{most_clients};
 ghost use Rattle.qs_plain_client.specs.Clients.{ClientState as State, client_of};
 ghost use Rattle.qs_plain_client.specs.Clients.{client_at};
 ghost use Rattle.qs_plain_laws.specs.PlainSchedule.{all_done, all_idle, has_ended, syncs_of};
@@ -44,7 +45,7 @@ pub(crate) fn rows(alloc: Global, clients: Vec<ClientState>) -> Result<Vec<Clien
 
 /// How many queries the clients have asked.
 pub(crate) fn syncs(clients: &[ClientState]) -> u64
-    requires { length clients.now ≤ 8 }
+    requires { length clients.now ≤ most_clients }
     ensures value { result ≡ sum_by (λ (d : State). syncs_of (client_of d)) clients.now }
 {
     let mut syncs = 0;

@@ -17,9 +17,9 @@ use Rattle.qs_plain_client.specs.Clients.{ClientState, IsClient, IsStaged, IsWit
 use Rattle.qs_plain_client.specs.PreparedBlock.{PreparedState}
 use Rattle.qs_plain_client.specs.Frames.{Frame, rest, load_left}
 use Rattle.qs_plain_client.specs.TraceMoves.{counted_in, noted_in, last_of, no_trace}
-use Rattle.qs_syncset.specs.SyncRows.{AreFew, no_syncs, with_sync}
-use Rattle.qs_syncset.specs.declared.sync_counts.SyncCount.{SyncCount}
-use Rattle.qs_syncset.proofs.CountRows.{few_in, few_more, few_none}
+use Rattle.qs_sync_counts.specs.SyncRows.{AreFew, no_syncs, with_sync}
+use Rattle.qs_sync_counts.specs.declared.sync_counts.SyncCount.{SyncCount}
+use Rattle.qs_sync_counts.proofs.CountRows.{few_in, few_more, few_none}
 use Rattle.qs_objects.specs.Traces.{TraceState}
 use Rattle.qs_plain_client.specs.declared.stage.Stage.{Stage}
 use Rattle.qs_plain_client.specs.declared.stage.Stage.TheVariants as stage

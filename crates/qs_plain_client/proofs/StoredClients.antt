@@ -8,11 +8,12 @@ use Rattle.std.proofs.lemmas.List.{drop-set-lt, get_or-map, length-append, lengt
 use Rattle.qs_objects.specs.Traces.{AreEmptyAfter, TraceState, empty_trace, events_of, noted, noted_at, trace_at}
 use Rattle.qs_objects.specs.declared.held.Event.{Event}
 use Rattle.qs_objects.proofs.Choices.{apart_eqb, num_cases}
-use Rattle.qs_syncset.specs.SyncRows.{fresh_rows, no_syncs, with_sync}
-use Rattle.qs_syncset.specs.declared.sync_counts.SyncCount.{SyncCount}
+use Rattle.qs_sync_counts.specs.SyncRows.{fresh_rows, no_syncs, with_sync}
+use Rattle.qs_sync_counts.specs.declared.sync_counts.SyncCount.{SyncCount}
 use Rattle.qs_program.specs.Program.{BlockShape, ProgramShape, block_at, block_load, blocks_of, client_at, no_block}
 use Rattle.qs_program.specs.Sound.{IsSound}
 use Rattle.qs_program.proofs.Bounds.{block_load-whole}
+use Rattle.qs_program.specs.Limits.{most_requests}
 use Rattle.qs_plain_client.specs.Clients.{AreRowsOf, AreStored, IsClient, IsReady, client_from, client_of}
 use Rattle.qs_plain_client.specs.ClientMoves.{begun_with, moved}
 use Rattle.qs_plain_client.specs.Frames.{Frame, places_of, rest}
@@ -90,10 +91,10 @@ stored_noted n ts cs later e is some room = record {
       let same : trace_at (noted_at ts (n - 1) e) (n - 1) ≡ t = get_or-set_same ts (n - 1) t no_trace (omega (arith, some, long)) in
       let old = is.sizes (n - 1) in
       let events = length-append (trace_at ts (n - 1)).events (e ∷ []) in
-      subst (λ k. length (trace_at (noted_at ts (n - 1) e) k).events + (trace_at (noted_at ts (n - 1) e) k).room ≤ 100000) here
-      (subst (λ (t : TraceState). length t.events + t.room ≤ 100000) (sym same) (omega (arith, old, events, room))))
+      subst (λ k. length (trace_at (noted_at ts (n - 1) e) k).events + (trace_at (noted_at ts (n - 1) e) k).room ≤ most_requests) here
+      (subst (λ (t : TraceState). length t.events + t.room ≤ most_requests) (sym same) (omega (arith, old, events, room))))
       (λ (other : (n - 1 == k) ≡ false).
-      subst (λ (t : TraceState). length t.events + t.room ≤ 100000)
+      subst (λ (t : TraceState). length t.events + t.room ≤ most_requests)
       (sym (get_or-set_other ts (n - 1) k (noted (trace_at ts (n - 1)) e) no_trace (λ e. apart_eqb (n - 1) k other (sym e)))) (is.sizes k))
       (num_cases (n - 1) k);
 }
@@ -265,9 +266,9 @@ module _ (p : ProgramShape) (c : ℕ) (sound : IsSound p) (inside : c < length p
           | inl below ↦
               let load = sound.load in
               let whole = block_load-whole p c k inside below in
-              subst (λ (t : TraceState). length t.events + t.room ≤ 100000) (sym (trace_fresh k below)) (omega (arith, load, whole))
+              subst (λ (t : TraceState). length t.events + t.room ≤ most_requests) (sym (trace_fresh k below)) (omega (arith, load, whole))
           | inr beyond ↦
-              subst (λ (t : TraceState). length t.events + t.room ≤ 100000) (sym (get_or-eq_default (map empty_trace (rooms_of p c)) no_trace {n = k} (omega (arith, traces, beyond)))) (omega arith)
+              subst (λ (t : TraceState). length t.events + t.room ≤ most_requests) (sym (get_or-eq_default (map empty_trace (rooms_of p c)) no_trace {n = k} (omega (arith, traces, beyond)))) (omega arith)
         ];
       }
 

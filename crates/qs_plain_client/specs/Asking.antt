@@ -5,6 +5,7 @@ use Rattle.qs_program.specs.Values.{Locals, request_of}
 use Rattle.qs_meaning.specs.Interaction.{Interaction, Done, Call, Query}
 use Rattle.qs_program.specs.Sound.{IsSoundBody, IsSoundCall}
 use Rattle.qs_program.specs.declared.program.Declared.{Declared}
+use Rattle.qs_program.specs.Limits.{most_variables}
 use Rattle.qs_plain_client.specs.declared.frames.Ask.{Ask}
 use Rattle.qs_plain_client.specs.Frames.{Frame, rest, turning, next_of}
 use Rattle.qs_plain_client.specs.declared.frames.Ask.TheVariants as ask
@@ -42,7 +43,7 @@ module _ (objects : List Declared) (reserved : List ℕ) where
 
   abbrev pub IsSoundAsk : Ask → Type 0
   IsSoundAsk (ask.Command c) = IsSoundCall objects reserved false c.now
-  IsSoundAsk (ask.Query x c) = (x < 16) × IsSoundCall objects reserved true c.now
+  IsSoundAsk (ask.Query x c) = (x < most_variables) × IsSoundCall objects reserved true c.now
   IsSoundAsk ask.End = Unit {0}
 
   abbrev pub IsSoundMove : Option Ask → Type 0

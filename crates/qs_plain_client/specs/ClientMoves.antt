@@ -4,7 +4,7 @@ use Rattle.qs_objects.specs.declared.Request.{Request}
 use Rattle.qs_meaning.specs.Interaction.{Done, Call, Query}
 use Rattle.qs_meaning.specs.Solo.{event, value_of}
 use Rattle.qs_program.specs.Sound.{is_in}
-use Rattle.qs_syncset.specs.declared.sync_counts.SyncCount.{SyncCount}
+use Rattle.qs_sync_counts.specs.declared.sync_counts.SyncCount.{SyncCount}
 use Rattle.qs_plain_client.specs.Clients.{ClientState, block_of}
 use Rattle.qs_plain_client.specs.PreparedBlock.{PreparedState}
 use Rattle.qs_plain_client.specs.TraceMoves.{counted_in, noted_in}

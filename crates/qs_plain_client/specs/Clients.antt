@@ -14,8 +14,9 @@ use Rattle.qs_plain_client.specs.PreparedBlock.{PreparedState, IsStocked, prepar
 use Rattle.qs_plain_client.specs.Queues.{QueueState}
 use Rattle.qs_played.specs.Played.{ClientRows}
 use Rattle.qs_objects.specs.Traces.{TraceState, events_of, trace_at}
-use Rattle.qs_syncset.specs.SyncRows.{AreFew}
-use Rattle.qs_syncset.specs.declared.sync_counts.SyncCount.{SyncCount}
+use Rattle.qs_program.specs.Limits.{most_requests}
+use Rattle.qs_sync_counts.specs.SyncRows.{AreFew}
+use Rattle.qs_sync_counts.specs.declared.sync_counts.SyncCount.{SyncCount}
 use Rattle.qs_plain_client.specs.declared.stage.Stage.{Stage}
 use Rattle.qs_plain_client.specs.declared.stage.Stage.TheVariants as stage
 
@@ -124,7 +125,7 @@ client_from p c stage locals frames depth entries traces counts queues = record 
 pub record AreStored (begun : ℕ) (traces : List TraceState) (counts : List (List SyncCount)) (prepared : ℕ) : Type 0 where
   pub all_traces : length traces ≡ begun + prepared
   pub all_counts : length counts ≡ begun + prepared
-  pub sizes : (k : ℕ) → length (trace_at traces k).events + (trace_at traces k).room ≤ 100000
+  pub sizes : (k : ℕ) → length (trace_at traces k).events + (trace_at traces k).room ≤ most_requests
 
 -- the rows of a client begin with what the plain rules say of its blocks
 pub record AreRowsOf (rows : ClientRows) (it : Client) : Type 0 where

@@ -4,8 +4,8 @@ use Rattle.std.specs.List.{AllByRecursion}
 use Rattle.qs_program.specs.Loads.{load_of}
 use Rattle.qs_program.specs.Program.{BlockShape, ProgramShape, block_load, client_at}
 use Rattle.qs_played.specs.Played.{ticket}
-use Rattle.qs_syncset.specs.SyncRows.{no_syncs}
-use Rattle.qs_syncset.specs.declared.sync_counts.SyncCount.{SyncCount}
+use Rattle.qs_sync_counts.specs.SyncRows.{no_syncs}
+use Rattle.qs_sync_counts.specs.declared.sync_counts.SyncCount.{SyncCount}
 use Rattle.qs_plain_client.specs.Queues.{QueueState}
 use Rattle.qs_objects.specs.Traces.{TraceState}
 

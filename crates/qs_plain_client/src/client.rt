@@ -4,11 +4,11 @@ ghost use Rattle.qs_program.specs.Limits.{most_blocks, most_requests};
 ghost use Rattle.qs_program.specs.Program.{block_at, block_load, blocks_of};
 ghost use Rattle.qs_plain_client.specs.PreparedBlock.{AreQueues, lists_of, rooms_of};
 ghost use Rattle.qs_objects.specs.Traces.{empty_trace};
-ghost use Rattle.qs_syncset.specs.SyncRows.{fresh_rows};
+ghost use Rattle.qs_sync_counts.specs.SyncRows.{fresh_rows};
 ghost use Rattle.qs_played.specs.Schedule.{queries_in};
 ghost use Rattle.qs_plain_client.specs.ReplyDelivery.{Hears};
 ghost use Rattle.qs_plain_client.specs.FreshClients.{AreFresh};
-ghost use Rattle.std.specs.Prelude.{◌≡◌, ◌+◌, ◌<◌, ◌≤◌, ℕ, IfOk, IsErr, length, map, nat_lt, slice_set};
+ghost use Rattle.std.specs.Prelude.{◌≡◌, ◌+◌, ◌*◌, ◌<◌, ◌≤◌, ℕ, IfOk, IsErr, length, map, nat_lt, slice_set, suc};
 ghost use Rattle.qs_plain_client.specs.Frames.{load_left};
 ghost use Rattle.qs_plain_client.specs.declared.stage.Stage.TheVariants as stages;
 
@@ -17,8 +17,8 @@ use crate::private_queue::PrivateQueue;
 use crate::stage::Stage;
 use qs_objects::{Event, Request, Ticket, Traces};
 use qs_played::ClientRows;
-use qs_program::{Locals, Program};
-use qs_syncset::SyncCounts;
+use qs_program::{Locals, MOST_VARIABLES, Program};
+use qs_sync_counts::SyncCounts;
 use std::alloc::{AllocError, Global};
 use std::collections::VecDeque;
 use std::marker::Model;
@@ -123,7 +123,7 @@ impl<'p> ClientState<'p> {
             program,
             number,
             stage: Stage::Out,
-            locals: [0; 16],
+            locals: [0; MOST_VARIABLES],
             frames: Frames::over(frames),
             entries: Vec::with_capacity(alloc, count)?,
             traces: fresh_traces(alloc, program, number)?,
@@ -196,7 +196,7 @@ impl<'p> ClientState<'p> {
     /// How many queries it has asked.
     pub fn syncs(&self) -> u64
         ensures value { result ≡ syncs_of (client_of self.now) }
-        ensures limit { result ≤ 6400001 }
+        ensures limit { result ≤ suc (most_blocks * most_requests) }
     {
         self.program.is_sound();
         let mut syncs = self.waits();

@@ -8,18 +8,18 @@ use Rattle.qs_objects.specs.declared.held.Event.{Event}
 use Rattle.qs_objects.specs.declared.held.Ticket.{Ticket}
 use Rattle.qs_objects.specs.declared.Request.{Request}
 use Rattle.qs_objects.proofs.Choices.{apart_eqb, eqb_apart, eqb_self}
+use Rattle.qs_objects.proofs.Elements.{AllByRecursion-get_or}
 use Rattle.qs_meaning.specs.Following.{AsksOnly, Leads, block_tree, reserves}
 use Rattle.qs_meaning.specs.Interaction.{Interaction, Done, Call, Query}
 use Rattle.qs_program.specs.Program.{ProgramShape, blocks_of, text_of}
 use Rattle.qs_meaning.specs.Serial.{IsLegal}
 use Rattle.qs_meaning.specs.Solo.{value_of}
 use Rattle.qs_program.specs.Sound.{IsSound}
-use Rattle.qs_program.proofs.Bounds.{AllByRecursion-get_or}
 use Rattle.qs_meaning.proofs.Histories.{Among, IsPage}
 use Rattle.qs_meaning.proofs.Each.{each_map}
 use Rattle.qs_meaning.proofs.SoundTrees.{blocks_ask_only}
 use Rattle.qs_syncset.specs.SyncCounts.{asks, queries}
-use Rattle.qs_syncset.specs.SyncRows.{object_of, syncs_for, syncs_of as syncs_of_row}
+use Rattle.qs_sync_counts.specs.SyncRows.{object_of, syncs_for, syncs_of as syncs_of_row}
 use Rattle.qs_syncset.proofs.SyncTrees.{command_asks_none, query_counts}
 use Rattle.qs_played.specs.Isolation.{ended_of, ticket_at, trace_of}
 use Rattle.qs_played.specs.Played.{ticket}

@@ -16,8 +16,8 @@ use Rattle.qs_program.specs.Values.{Locals}
 use Rattle.qs_meaning.specs.Interaction.{Interaction}
 use Rattle.qs_meaning.specs.Solo.{event}
 use Rattle.qs_syncset.specs.SyncCounts.{asks, queries}
-use Rattle.qs_syncset.specs.SyncRows.{no_syncs, object_of, syncs_for, with_sync}
-use Rattle.qs_syncset.specs.declared.sync_counts.SyncCount.{SyncCount}
+use Rattle.qs_sync_counts.specs.SyncRows.{no_syncs, object_of, syncs_for, with_sync}
+use Rattle.qs_sync_counts.specs.declared.sync_counts.SyncCount.{SyncCount}
 use Rattle.qs_syncset.proofs.SyncTrees.{command_asks_none, query_counts}
 use Rattle.qs_played.specs.Played.{ticket}
 use Rattle.qs_played.proofs.SyncTallies.{none_for, objects_none, objects_stay, one_more_for}

@@ -11,8 +11,8 @@ use Rattle.qs_meaning.specs.Serial.{declared, zeros, no_state}
 use Rattle.qs_meaning.specs.Solo.{value_of, event}
 use Rattle.qs_program.specs.Values.{Locals}
 use Rattle.qs_meaning.specs.Interaction.{Interaction, Done, Call, Query, tree_of}
-use Rattle.qs_syncset.specs.SyncRows.{no_syncs, with_sync}
-use Rattle.qs_syncset.specs.declared.sync_counts.SyncCount.{SyncCount}
+use Rattle.qs_sync_counts.specs.SyncRows.{no_syncs, with_sync}
+use Rattle.qs_sync_counts.specs.declared.sync_counts.SyncCount.{SyncCount}
 use Rattle.qs_played.specs.declared.actor.Actor.{Actor}
 use Rattle.qs_played.specs.Played.{ticket}
 use Rattle.qs_played.specs.JournalRooms.{room_of}

@@ -4,7 +4,7 @@ use Rattle.qs_objects.specs.declared.held.Ticket.{Ticket}
 use Rattle.qs_program.specs.Program.{ProgramShape}
 use Rattle.qs_program.specs.Sound.{IsSound}
 use Rattle.qs_syncset.specs.SyncCounts.{queries}
-use Rattle.qs_syncset.specs.SyncRows.{syncs_of}
+use Rattle.qs_sync_counts.specs.SyncRows.{syncs_of}
 use Rattle.qs_played.specs.Isolation.{ended_of, ticket_at, trace_of}
 use Rattle.qs_played.specs.Schedule.{queries_in}
 use Rattle.qs_played.specs.declared.actor.Actor.{Actor}

@@ -13,10 +13,10 @@ use Rattle.qs_objects.specs.declared.held.Entry.{Entry}
 use Rattle.qs_objects.specs.declared.held.Event.{Event}
 use Rattle.qs_objects.specs.declared.held.Ticket.{Ticket}
 use Rattle.qs_objects.specs.declared.Request.{Request}
+use Rattle.qs_objects.proofs.Elements.{AllByRecursion-get_or}
 use Rattle.qs_program.specs.Program.{ProgramShape, blocks_of}
 use Rattle.qs_meaning.specs.Serial.{IsLegal, serial, declared}
 use Rattle.qs_program.specs.Sound.{IsSound}
-use Rattle.qs_program.proofs.Bounds.{AllByRecursion-get_or}
 use Rattle.qs_meaning.proofs.Each.{each_map, zip_at}
 use Rattle.qs_meaning.proofs.Histories.{Among, Begins, Flow, InTurn, IsDone, IsPage, Line, NoQuery, OnlyCommands, Page, PartIs, Through, Told, parts_of, told}
 use Rattle.qs_meaning.proofs.SerialRuns.{Agrees, legal_apart, line, runs_serially}

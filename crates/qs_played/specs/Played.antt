@@ -5,7 +5,7 @@ use Rattle.qs_objects.specs.declared.held.Entry.{Entry}
 use Rattle.qs_objects.specs.declared.held.Event.{Event}
 use Rattle.qs_objects.specs.declared.held.Ticket.{Ticket}
 use Rattle.qs_program.specs.Values.{Locals}
-use Rattle.qs_syncset.specs.declared.sync_counts.SyncCount.{SyncCount}
+use Rattle.qs_sync_counts.specs.declared.sync_counts.SyncCount.{SyncCount}
 
 abbrev pub ticket : ℕ → ℕ → Ticket
 ticket c k = record { client = c; index = k }

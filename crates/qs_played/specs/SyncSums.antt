@@ -6,8 +6,8 @@ use Rattle.qs_graph.specs.Graphs.{block_graph}
 use Rattle.qs_syncset.specs.declared.mode.Mode.{Mode}
 use Rattle.qs_syncset.specs.declared.mode.Mode.TheVariants.{Plain, Static}
 use Rattle.qs_syncset.specs.Modes.{is_dynamic, is_static}
-use Rattle.qs_syncset.specs.SyncRows.{object_of, syncs_for, syncs_of}
-use Rattle.qs_syncset.specs.declared.sync_counts.SyncCount.{SyncCount}
+use Rattle.qs_sync_counts.specs.SyncRows.{object_of, syncs_for, syncs_of}
+use Rattle.qs_sync_counts.specs.declared.sync_counts.SyncCount.{SyncCount}
 use Rattle.qs_syncset.specs.SyncCounts.{AreOrdered, Decides, HasTest, kept, queries, runs}
 use Rattle.qs_played.specs.Isolation.{ended_of, entry_of, ticket_at, trace_of}
 use Rattle.qs_played.specs.Played.{Played}

@@ -2,13 +2,13 @@
 
 ghost use Rattle.std.specs.Prelude.{◌≡◌, ◌<◌, [], length, map, slice_index_or};
 ghost use Rattle.qs_objects.specs.Traces.{events_of};
-ghost use Rattle.qs_syncset.specs.SyncRows.{count_of, object_of};
+ghost use Rattle.qs_sync_counts.specs.SyncRows.{count_of, object_of};
 ghost use Rattle.qs_played.specs.Played.{HaveRows, no_events, shown_with};
 
 use crate::row::Row;
 use qs_objects::{Event, Journal, Object, Ticket, Traces};
 use qs_program::Locals;
-use qs_syncset::SyncCounts;
+use qs_sync_counts::SyncCounts;
 use std::marker::Model;
 
 /// A client's blocks: for each of them its trace, its client's variables at entry, and how many Syncs it has sent for each object of its

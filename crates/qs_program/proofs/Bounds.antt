@@ -2,6 +2,7 @@
 use Rattle.std.proofs.Common.{◌≡◌, ℕ, zero, suc, ◌+◌, ◌*◌, ◌<◌, ◌≤◌, Bool, true, false, ◌||◌, ◌==◌, List, [], ◌∷◌, length, get_or, take, refl, arith, sum_by}
 use Rattle.std.specs.List.{AllByRecursion, list_any}
 use Rattle.std.proofs.lemmas.List.Sums.{sum_by-cons}
+use Rattle.qs_objects.proofs.Elements.{AllByRecursion-get_or}
 use Rattle.qs_program.specs.declared.program.Declared.{Declared}
 use Rattle.qs_program.specs.Statements.{Statements, end, command, query, assign, choose, again, leave}
 use Rattle.qs_program.specs.Loads.{load_of}
@@ -19,12 +20,6 @@ pub sum_by-taken : {X : Type 0} (f : X → ℕ) (xs : List X) (i : ℕ) (d : X) 
 sum_by-taken f [] i d within = absurd (omega arith)
 sum_by-taken f (x ∷ xs) zero d within = rw sum_by-cons (omega arith)
 sum_by-taken f (x ∷ xs) (suc i) d within = rw (sum_by-cons f x (take i xs), sum_by-cons f x xs) (omega (arith, sum_by-taken f xs i d (omega arith)))
-
--- what holds of each element holds of the one at a place
-pub AllByRecursion-get_or : {X : Type 0} (P : X → Type 0) (xs : List X) (i : ℕ) (d : X) → AllByRecursion P xs → i < length xs → P (get_or xs i d)
-AllByRecursion-get_or P [] i d each within = absurd (omega arith)
-AllByRecursion-get_or P (x ∷ xs) zero d each within = each.0
-AllByRecursion-get_or P (x ∷ xs) (suc i) d each within = AllByRecursion-get_or P xs i d each.1 (omega arith)
 
 pub sum_by-bound : {X : Type 0} (f : X → ℕ) (m : ℕ) (xs : List X) → AllByRecursion (λ x. f x ≤ m) xs → sum_by f xs ≤ length xs * m
 sum_by-bound f m [] each = omega arith

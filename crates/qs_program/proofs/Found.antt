@@ -6,6 +6,7 @@ use Rattle.std.proofs.lemmas.List.Sums.{prefix_len_stops}
 use Rattle.std.specs.Cmp.Lexicographic.{same_text, other_text}
 use Rattle.std.specs.List.{list_any, position, position_or_len}
 use Rattle.qs_program.specs.Numbering.{Name, same_name, is_among, found_at}
+use Rattle.qs_program.specs.Limits.{most_variables}
 
 within_cons : (b : Bool) (i n : ℕ) (later : Bool) → (later ≡ true → i < n) → (b || later) ≡ true → cond (not b) (1 + i) 0 < suc n
 within_cons true i n later f h = omega arith
@@ -19,7 +20,7 @@ picked : (b : Bool) (i : ℕ) → b ≡ true → unwrap_or (cond b (Some i) None
 picked true i h = refl
 picked false i h = cc
 
-small : (b : Bool) (i n : ℕ) → b ≡ nat_lt i n → n ≤ 16 → unwrap_or (cond b (Some i) None) 0 < 16
+small : (b : Bool) (i n : ℕ) → b ≡ nat_lt i n → n ≤ most_variables → unwrap_or (cond b (Some i) None) 0 < most_variables
 small true i n e h = let lt : i < n = grind (arith, nat_tests) in omega arith
 small false i n e h = omega arith
 
@@ -57,7 +58,7 @@ true_by false h = h refl
 pub same_name-refl : (a : Name) → same_name a a ≡ true
 same_name-refl a = true_by (same_name a a) (λ h. absurd (other_text a a (sym h) refl))
 
-pub found_small : (names : List Name) (x : Name) → length names ≤ 16 → found_at names x < 16
+pub found_small : (names : List Name) (x : Name) → length names ≤ most_variables → found_at names x < most_variables
 found_small names x h = small (nat_lt (position_or_len (same_name x) names) (length names)) (position_or_len (same_name x) names) (length names) refl h
 
 pub is_among-append : (xs ys : List Name) (o : Name) → is_among xs o ≡ true → is_among (xs ++ ys) o ≡ true

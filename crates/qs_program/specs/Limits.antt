@@ -1,8 +1,12 @@
 -- The limits of a program.
-use Rattle.std.specs.Prelude.{ℕ}
+use Rattle.std.specs.Prelude.{ℕ, ◌*◌}
 
 abbrev pub most_objects : ℕ
 most_objects = 8
+
+-- each object has its own
+abbrev pub most_handlers : ℕ
+most_handlers = most_objects
 
 abbrev pub most_clients : ℕ
 most_clients = 8
@@ -11,29 +15,17 @@ most_clients = 8
 abbrev pub most_blocks : ℕ
 most_blocks = 64
 
+-- of a program: one for each block of each client
+abbrev pub most_tickets : ℕ
+most_tickets = most_clients * most_blocks
+
 -- of a client
 abbrev pub most_variables : ℕ
 most_variables = 16
 
--- statements one inside another: each inside at most eight others
-abbrev pub most_levels : ℕ
-most_levels = 9
-
 -- of a repeat
 abbrev pub most_turns : ℕ
 most_turns = 1000
-
--- an account's balance at the start
-abbrev pub greatest_balance : ℕ
-greatest_balance = 1000000000000000
-
--- values in a buffer
-abbrev pub most_values : ℕ
-most_values = 1024
-
--- rows, and columns, of a grid
-abbrev pub most_lines : ℕ
-most_lines = 16
 
 -- requests of a program
 abbrev pub most_requests : ℕ

@@ -1,7 +1,8 @@
 //! Statements with each name replaced by its number.
 
 ghost use Rattle.std.specs.Prelude.{◌≡◌, ◌≤◌, ◌+◌, [], ◌∷◌, ◌++◌, OnOk, OnErr, min};
-ghost use Rattle.qs_program.specs.Limits.{most_levels, most_requests, most_steps};
+ghost use Rattle.qs_script.specs.Limits.{most_levels};
+ghost use Rattle.qs_program.specs.Limits.{most_requests, most_steps};
 ghost use Rattle.qs_program.specs.Loads.{load_of, weight_of};
 ghost use Rattle.qs_program.specs.Sound.{levels_of};
 ghost use Rattle.qs_program.specs.Statements.{end, joined};

@@ -2,12 +2,17 @@
 #![tactic(auto)]
 
 mod code;
+mod limits;
 mod names;
 mod program;
 mod totals;
 mod values;
 
 pub use code::{Atom, Atoms, Body, Call, Expr, Stmt, Test};
+pub use limits::{
+    MOST_BLOCKS, MOST_CLIENTS, MOST_HANDLERS, MOST_OBJECTS, MOST_TICKETS, MOST_TURNS,
+    MOST_VARIABLES,
+};
 pub use names::Names;
 pub use program::{Block, Client, Declared, Program};
 pub use totals::{all_load, all_weight};

@@ -5,12 +5,13 @@ ghost use Rattle.qs_program.specs.Values.{atom_value, exact, expr_value, relates
 ghost use Rattle.qs_objects.specs.Act.{clamped};
 
 use crate::code::{Atom, Call, Expr, Test};
+use crate::limits::MOST_VARIABLES;
 use qs_objects::{Args, Request};
 use qs_script::{Operator, Relation};
 use std::alloc::Global;
 
 /// The values of a client's variables by their numbers, 0 where a number is not used.
-pub type Locals = [i64; 16];
+pub type Locals = [i64; MOST_VARIABLES];
 
 impl Atom {
     /// Its value.

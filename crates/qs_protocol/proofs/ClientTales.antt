@@ -16,7 +16,7 @@ use Rattle.qs_meaning.proofs.Histories.{Page, Begins}
 use Rattle.qs_graph.specs.Synced.{erased}
 use Rattle.qs_syncset.specs.Codes.{ClientCode, code_at}
 use Rattle.qs_syncset.specs.SoundSynced.{IsSoundSynced, IsOnReserved}
-use Rattle.qs_syncset.specs.declared.sync_counts.SyncCount.{SyncCount}
+use Rattle.qs_sync_counts.specs.declared.sync_counts.SyncCount.{SyncCount}
 use Rattle.qs_chunk.specs.declared.parcel.Parcel.{Parcel}
 use Rattle.qs_client_run.specs.Client.{Client, Place, Settings, Settled, act_at, act_of, between, booked, sent, took_chunk}
 use Rattle.qs_client_run.specs.Client as clients

@@ -19,5 +19,6 @@ pub mod MindSteps
 pub mod ObjectViews
 pub mod ObjectSteps
 pub mod ReservedActs
+pub mod ReservedLists
 pub mod SilentSteps
 pub mod TaleCounts

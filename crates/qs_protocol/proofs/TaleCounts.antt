@@ -17,8 +17,8 @@ use Rattle.qs_graph.specs.Synced.{erased}
 use Rattle.qs_syncset.specs.Codes.{BlockCode, ClientCode, code_at, no_code}
 use Rattle.qs_syncset.specs.SoundSynced.{IsSoundSynced, IsOnReserved}
 use Rattle.qs_syncset.specs.SyncCounts.{syncs_along}
-use Rattle.qs_syncset.specs.SyncRows.{fresh_rows, no_syncs, object_of, syncs_for, with_sync}
-use Rattle.qs_syncset.specs.declared.sync_counts.SyncCount.{SyncCount}
+use Rattle.qs_sync_counts.specs.SyncRows.{fresh_rows, no_syncs, object_of, syncs_for, with_sync}
+use Rattle.qs_sync_counts.specs.declared.sync_counts.SyncCount.{SyncCount}
 use Rattle.qs_syncset.proofs.SyncTrees.{IsAsking}
 use Rattle.qs_chunk.specs.declared.parcel.Parcel.{Parcel}
 use Rattle.qs_chunk.specs.declared.parcel.Parcel.TheVariants as parcels

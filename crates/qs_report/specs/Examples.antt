@@ -14,7 +14,7 @@ use Rattle.qs_program.specs.declared.program.Declared.{Declared}
 use Rattle.qs_program.specs.Program.{ProgramShape, ClientShape, BlockShape}
 use Rattle.qs_program.specs.Statements.{end}
 use Rattle.qs_played.specs.Played.{Played}
-use Rattle.qs_syncset.specs.SyncRows.{sync_count}
+use Rattle.qs_sync_counts.specs.SyncRows.{sync_count}
 use Rattle.qs_report.specs.declared.faults.Fault.{Fault}
 use Rattle.qs_report.specs.declared.faults.Fault.TheVariants.{CommandLine, Input, Read, Check, Play, Memory}
 use Rattle.qs_report.specs.Report.{report_text, counted_report_text, counts_text, state_line}

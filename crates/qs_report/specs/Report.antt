@@ -13,7 +13,7 @@ use Rattle.qs_objects.specs.declared.object.Kind.{Kind}
 use Rattle.qs_objects.specs.declared.object.Kind.TheVariants as kinds
 use Rattle.qs_program.specs.Program.{ProgramShape, object_at, client_at, whole_load, whole_weight}
 use Rattle.qs_played.specs.Played.{Played}
-use Rattle.qs_syncset.specs.declared.sync_counts.SyncCount.{SyncCount}
+use Rattle.qs_sync_counts.specs.declared.sync_counts.SyncCount.{SyncCount}
 use Rattle.qs_report.specs.Texts.{count_line, texts_up_to}
 
 -- the script's word of an operation

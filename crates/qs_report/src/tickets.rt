@@ -2,7 +2,7 @@
 
 ghost use Rattle.std.specs.Prelude.{◌≡◌, ◌<◌, ◌++◌, length, flat_map, OnOk, codes};
 ghost use Rattle.std.specs.Fmt.{signed_decimal};
-ghost use Rattle.qs_syncset.specs.SyncRows.{sync_count};
+ghost use Rattle.qs_sync_counts.specs.SyncRows.{sync_count};
 ghost use Rattle.qs_report.specs.Report.{op_text, args_text, request_text, reply_text, event_line, ended_text, ticket_line, ticket_text, sync_line, sync_lines, shown_ticket, order_text};
 
 use crate::bytes::{put, put_all, put_count, put_number};

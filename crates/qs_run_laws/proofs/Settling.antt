@@ -13,7 +13,7 @@ use Rattle.qs_meaning.specs.Serial.{Place, serial}
 use Rattle.qs_meaning.proofs.SerialRuns.{Agrees, legal_apart, runs_serially}
 use Rattle.qs_syncset.specs.Codes.{ClientCode}
 use Rattle.qs_syncset.specs.SyncCounts.{syncs_along}
-use Rattle.qs_syncset.specs.SyncRows.{object_of, syncs_for}
+use Rattle.qs_sync_counts.specs.SyncRows.{object_of, syncs_for}
 use Rattle.qs_syncset.specs.declared.mode.Mode.{Mode}
 use Rattle.qs_client.specs.Mind.{Mind}
 use Rattle.qs_played.specs.Isolation.{ended_of, entry_of, ticket_at, trace_of}

@@ -32,7 +32,9 @@ use Rattle.qs_protocol.proofs.ClientTales.{Tale, told}
 use Rattle.qs_protocol.proofs.TaleCounts.{TaleCounts, in_counts, told_counts}
 use Rattle.qs_played.specs.JournalRooms.{fresh_held}
 use Rattle.qs_core_laws.specs.Core.{AreCodes}
-use Rattle.qs_core_laws.proofs.CoreCodes.{block_walk, blocks_are, lined, longest_covers, reserved_is}
+use Rattle.qs_protocol.proofs.ReservedLists.{lined}
+use Rattle.qs_client_run.proofs.Codes.{longest_covers}
+use Rattle.qs_core_laws.proofs.CoreCodes.{block_walk, blocks_are, reserved_is}
 use Rattle.qs_desk.specs.Tickets.{of_handler}
 use Rattle.qs_run_laws.specs.ThreadRuns.{IsThreadRun, ThreadRun}
 

@@ -7,10 +7,10 @@ use Rattle.std.specs.List.{AllByRecursion, range_with_len}
 use Rattle.qs_objects.specs.Journals.{HeldState, replay, unstamped, IsHonest}
 use Rattle.qs_objects.specs.Parts.{HasEntry, part}
 use Rattle.qs_objects.specs.declared.held.Ticket.{Ticket}
+use Rattle.qs_objects.proofs.Elements.{AllByRecursion-get_or}
 use Rattle.qs_program.specs.Program.{ProgramShape, blocks_of, text_of}
 use Rattle.qs_program.specs.Sound.{IsSound}
 use Rattle.qs_program.specs.Values.{Locals}
-use Rattle.qs_program.proofs.Bounds.{AllByRecursion-get_or}
 use Rattle.qs_meaning.specs.Following.{block_tree}
 use Rattle.qs_meaning.specs.Serial.{declared, no_state}
 use Rattle.qs_meaning.proofs.Each.{each_map}

@@ -10,6 +10,7 @@ use Rattle.qs_script.specs.Reads.{IsScriptText}
 use Rattle.qs_script.specs.Sizes.{statements}
 use Rattle.qs_script.proofs.Counts.{item_counted, items_counted}
 use Rattle.qs_script.specs.Grammar.{IsScript}
+use Rattle.qs_script.specs.Limits.{longest_name}
 
 -- how many tokens what has begun may still make
 abbrev weight : Pending → ℕ
@@ -63,7 +64,7 @@ few_long false fault token = omega arith
 few_over : (p : Pending) → Few (weight p) (over p)
 few_over nothing = omega arith
 few_over comment = omega arith
-few_over (word w) = few_long (nat_lt 16 (length w)) Name (word_token w)
+few_over (word w) = few_long (nat_lt longest_name (length w)) Name (word_token w)
 few_over (digits ds) = few_long (nat_lt 18 (length ds)) Number (t.Number (value_of ds))
 few_over (sign None both) = tt
 few_over (sign (Some alone) both) = omega arith

@@ -8,6 +8,7 @@ use Rattle.std.proofs.Math.Dec.{ltb}
 use Rattle.qs_script.specs.Tokens.{Pending, nothing, word, digits, comment, sign, is_name_byte, is_letter, is_digit, is_space, word_token, value_of, Step, over, tokens_from, tokens_of, after, ends, begun, before, step, going_on, any_sign, single_sign, at, equals_signs}
 use Rattle.qs_script.specs.declared.token.Token.TheVariants as t
 use Rattle.qs_script.specs.Cutting.{run_of}
+use Rattle.qs_script.specs.Limits.{longest_name}
 
 abbrev Tokens : Type 0
 Tokens = Result (List Token) TokenFault
@@ -82,7 +83,7 @@ front_digits (b ∷ bs) ds rest n some not_letter e en eds erest =
 pub name_too_long : (name rest : List ℕ) → 16 < length name → then_tokens (over (word name)) rest ≡ Err Name
 name_too_long name rest h = let e : ltb 16 (length name) ≡ true = grind arith in rw e refl
 
-pub name_short : (name rest : List ℕ) → length name ≤ 16 → then_tokens (over (word name)) rest ≡ after (word_token name ∷ []) (tokens_of rest)
+pub name_short : (name rest : List ℕ) → length name ≤ longest_name → then_tokens (over (word name)) rest ≡ after (word_token name ∷ []) (tokens_of rest)
 name_short name rest h = let e : ltb 16 (length name) ≡ false = grind arith in rw e refl
 
 pub digits_too_long : (ds rest : List ℕ) → 18 < length ds → then_tokens (over (digits ds)) rest ≡ Err Number

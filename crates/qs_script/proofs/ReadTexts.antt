@@ -13,6 +13,7 @@ use Rattle.qs_script.specs.Grammar.{IsScript}
 use Rattle.qs_script.specs.Reads.{IsScriptText, IsRefused}
 use Rattle.qs_script.proofs.Sound.{items_sound}
 use Rattle.qs_script.proofs.Complete.{items_complete, one_tree}
+use Rattle.qs_script.specs.Limits.{longest_text}
 
 not_both_read : {A : Type 0} (r : Option A) (x : A) → r ≡ Some x → r ≡ None → ⊥
 not_both_read None x p q = cc
@@ -56,7 +57,7 @@ abbrev read_of : Result (List Token) TokenFault → Read (List Item)
 read_of (Ok ts) = run items_loop ts
 read_of (Err e) = None
 
-reads_tokens : (text : List ℕ) (s : List Item) (r : Result (List Token) TokenFault) → tokens_of text ≡ r → length text ≤ 65536 → read_of r ≡ Some (s, []) → IsScriptText text s
+reads_tokens : (text : List ℕ) (s : List Item) (r : Result (List Token) TokenFault) → tokens_of text ≡ r → length text ≤ longest_text → read_of r ≡ Some (s, []) → IsScriptText text s
 reads_tokens text s (Ok ts) p l q = record { short = l; tokens = ts; cut = p; tree = is_script ts s q }
 reads_tokens text s (Err e) p l q = cc
 

@@ -5,6 +5,7 @@ use Rattle.qs_script.specs.declared.tree.Block.{Block}
 use Rattle.qs_script.specs.declared.tree.Item.{Item}
 use Rattle.qs_script.specs.declared.tree.Item.TheVariants.{Object, Client}
 use Rattle.qs_script.specs.Tree.{Stmts, end, command, query, assign, choose, choose_else, again, leave}
+use Rattle.qs_script.specs.Limits.{most_levels}
 
 -- how many statements stand one inside another at most
 abbrev pub levels_of : Stmts → ℕ
@@ -20,7 +21,7 @@ levels_of (leave rest) = max 1 (levels_of rest)
 -- a block names an object, and a statement stands inside at most eight others, so nine stand one inside another
 pub record IsFormed (b : Block) : Type 0 where
   pub some : 0 < length b.reserved
-  pub shallow : levels_of b.body ≤ 9
+  pub shallow : levels_of b.body ≤ most_levels
 
 abbrev pub IsFormedItem : Item → Type 0
 IsFormedItem (Object o) = Unit {0}

@@ -19,6 +19,7 @@ use Rattle.qs_script.specs.declared.tree.KindText.TheVariants.{Account, Buffer, 
 use Rattle.qs_script.specs.declared.tree.Item.{Item}
 use Rattle.qs_script.specs.declared.tree.Item.TheVariants.{Object, Client}
 use Rattle.qs_script.specs.Tree.{Stmts, end, command, query, assign, choose, choose_else, again, leave}
+use Rattle.qs_script.specs.Limits.{most_levels}
 
 -- name | N | "-" N
 abbrev pub IsAtom : Atom → List Token → List Token → Type 0
@@ -101,7 +102,7 @@ AreSomeNames (n ∷ ns) ts rest = AreNames (n ∷ ns) ts rest
 abbrev pub IsBlock : Block → List Token → List Token → Type 0
 IsBlock b ts rest =
     (x y : List Token) × (ts ≡ t.Separate ∷ x) × AreSomeNames b.reserved x (t.OpenBrace ∷ y)
-    × AreStmts 9 b.body y (t.CloseBrace ∷ rest)
+    × AreStmts most_levels b.body y (t.CloseBrace ∷ rest)
 
 -- block*
 abbrev pub AreBlocks : List Block → List Token → List Token → Type 0

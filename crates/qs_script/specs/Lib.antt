@@ -1,3 +1,4 @@
+pub mod Limits
 pub mod Padding
 pub mod Tree
 pub mod TreeCode

@@ -21,6 +21,7 @@ use Rattle.qs_script.specs.declared.tree.Item.TheVariants.{Object, Client}
 use Rattle.qs_script.specs.declared.fault.Fault.{Fault}
 use Rattle.qs_script.specs.declared.fault.Fault.TheVariants.{Form, Memory}
 use Rattle.qs_script.specs.Tree.{Stmts, end, command, query, assign, choose, choose_else, again, leave, joined}
+use Rattle.qs_script.specs.Limits.{most_levels}
 
 -- what is read and the tokens after it, or nothing
 abbrev pub Read : Type 0 → Type 0
@@ -252,7 +253,7 @@ block_of reserved body = record { reserved = reserved; body = body }
 -- a block, after the word separate
 abbrev pub block_at : List Token → Read Block
 block_at ts =
-    name_at ts >>= λ n. after names_loop (n.0 ∷ []) (run names_loop n.1) >>= λ ns. run (body_loop 9) ns.1 >>= λ b.
+    name_at ts >>= λ n. after names_loop (n.0 ∷ []) (run names_loop n.1) >>= λ ns. run (body_loop most_levels) ns.1 >>= λ b.
     Some (block_of ns.0 b.0, b.1)
 
 -- a block with that word

@@ -8,10 +8,11 @@ use Rattle.qs_script.specs.declared.lex.TokenFault.{TokenFault}
 use Rattle.qs_script.specs.declared.lex.TokenFault.TheVariants as token
 use Rattle.qs_script.specs.Tokens.{tokens_of}
 use Rattle.qs_script.specs.Grammar.{IsScript}
+use Rattle.qs_script.specs.Limits.{longest_text}
 
 -- the text has at most 65,536 bytes, and its tokens are the script's
 pub record IsScriptText (text : List ℕ) (script : List Item) : Type 0 where
-  pub short : length text ≤ 65536
+  pub short : length text ≤ longest_text
   pub tokens : List Token
   pub cut : tokens_of text ≡ Ok tokens
   pub tree : IsScript script tokens
@@ -19,13 +20,13 @@ pub record IsScriptText (text : List ℕ) (script : List Item) : Type 0 where
 -- why a text is refused: too long, its first token fault, or no script has its tokens. The lines are left open; where memory
 -- runs out no more is said than that the text wasn't too long
 abbrev pub IsRefused : ReadFault → List ℕ → Type 0
-IsRefused f.Size text = 65536 < length text
-IsRefused (f.Byte line) text = (length text ≤ 65536) × (tokens_of text ≡ Err token.Byte)
-IsRefused (f.Number line) text = (length text ≤ 65536) × (tokens_of text ≡ Err token.Number)
-IsRefused (f.Name line) text = (length text ≤ 65536) × (tokens_of text ≡ Err token.Name)
+IsRefused f.Size text = longest_text < length text
+IsRefused (f.Byte line) text = (length text ≤ longest_text) × (tokens_of text ≡ Err token.Byte)
+IsRefused (f.Number line) text = (length text ≤ longest_text) × (tokens_of text ≡ Err token.Number)
+IsRefused (f.Name line) text = (length text ≤ longest_text) × (tokens_of text ≡ Err token.Name)
 IsRefused (f.Form line) text =
-    (length text ≤ 65536) × (ts : List Token) × (tokens_of text ≡ Ok ts) × ((script : List Item) → IsScript script ts → ⊥)
-IsRefused f.Memory text = length text ≤ 65536
+    (length text ≤ longest_text) × (ts : List Token) × (tokens_of text ≡ Ok ts) × ((script : List Item) → IsScript script ts → ⊥)
+IsRefused f.Memory text = length text ≤ longest_text
 
 abbrev pub IsReadOf : List ℕ → Result (List Item) ReadFault → Type 0
 IsReadOf text (Ok script) = IsScriptText text script

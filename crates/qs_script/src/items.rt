@@ -5,6 +5,7 @@ ghost use Rattle.qs_script.specs.Reading.{Gives, Finds, after, run, names_loop, 
 
 use crate::expect::{name, past_close_brace, past_open_brace};
 use crate::fault::Fault;
+use crate::limits::MOST_LEVELS;
 use crate::lists::add;
 use crate::name::Name;
 use crate::statements::body;
@@ -37,7 +38,7 @@ fn block(alloc: Global, tokens: &[Token]) -> Result<(Block, &[Token]), Fault>
 {
     let (first, rest) = name(tokens)?;
     let (reserved, rest) = names(alloc, first, rest)?;
-    let (body, rest) = body(alloc, 9, rest)?;
+    let (body, rest) = body(alloc, MOST_LEVELS, rest)?;
     Ok((Block { reserved, body }, rest))
 }
 

@@ -3,7 +3,9 @@
 ghost use Rattle.std.specs.Prelude.{◌≡◌, ℕ, ◌<◌, ◌≤◌, ◌≢◌, length, slice_index, IsTrue, IfOk, All, false};
 ghost use Rattle.qs_script.specs.Tokens.{is_digit as digit, is_letter as letter, is_space as space, at, signs, equals_signs, value_of, word_token, tokens_of, tokens_from, going_on, single_sign, sign};
 ghost use Rattle.qs_script.specs.Cutting.{Cuts, in_run, run_of};
+ghost use Rattle.qs_script.specs.Limits.{longest_name};
 
+use crate::limits::LONGEST_NAME;
 use crate::name::Name;
 use crate::number::Number;
 use crate::token::Token;
@@ -85,7 +87,7 @@ fn front_word(text: &[u8]) -> Result<(Piece, &[u8]), TokenFault>
     ensures shorter { IfOk result (λ x. length x.1.now < length text.now) }
 {
     let (word, rest) = text.split_at(run_end(Run::Name, text));
-    if word.len() > 16 {
+    if word.len() > LONGEST_NAME {
         return Err(TokenFault::Name);
     }
     Ok((Piece::Token(token_of(word)), rest))
@@ -93,7 +95,7 @@ fn front_word(text: &[u8]) -> Result<(Piece, &[u8]), TokenFault>
 
 // A reserved word, or a name.
 fn token_of(word: &[u8]) -> Token
-    requires { length word.now ≤ 16 }
+    requires { length word.now ≤ longest_name }
     ensures { result ≡ word_token word.now }
 {
     if word == b"object".as_slice() {

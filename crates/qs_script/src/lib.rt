@@ -6,6 +6,7 @@ mod fault;
 mod items;
 pub mod laws;
 mod lex;
+mod limits;
 mod lists;
 mod name;
 mod number;

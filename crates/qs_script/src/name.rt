@@ -5,13 +5,15 @@ ghost use Rattle.std.proofs.Common.{rules};
 ghost use Rattle.std.specs.Hash as fed;
 ghost use Rattle.std.specs.Cmp.Lexicographic.{pointwise};
 ghost use Rattle.std.specs.Cmp.Rules.{comparing, hashing};
+ghost use Rattle.qs_script.specs.Limits.{longest_name};
 
+use crate::limits::LONGEST_NAME;
 use std::hash::{Hash, Hasher};
 use std::marker::Model;
 
 /// A name: at most sixteen bytes, kept in place. Contracts see it as the list of its bytes.
 pub struct Name {
-    bytes: [u8; 16],
+    bytes: [u8; LONGEST_NAME],
     len: u8,
 }
 
@@ -36,10 +38,10 @@ impl Model for Name {
 impl Name {
     // The name of these bytes.
     pub(crate) fn new(text: &[u8]) -> Name
-        requires short { length text.now ≤ 16 }
+        requires short { length text.now ≤ longest_name }
         ensures same { result ≡ text.now }
     {
-        let mut bytes = [0; 16];
+        let mut bytes = [0; LONGEST_NAME];
         bytes[..text.len()].copy_from_slice(text);
         Name {
             bytes,
@@ -50,7 +52,7 @@ impl Name {
     /// The name's bytes.
     pub fn as_slice(&self) -> &[u8]
         ensures bytes { result.now ≡ self.now }
-        ensures short { length result.now ≤ 16 }
+        ensures short { length result.now ≤ longest_name }
     {
         &self.bytes[..self.len as usize]
     }

@@ -3,17 +3,16 @@
 ghost use Rattle.std.specs.Prelude.{◌≡◌, ◌<◌, ◌≤◌, ◌↔◌, [], ◌++◌, length, OnOk, IsErrOf};
 ghost use Rattle.qs_script.specs.Cutting.{tokens_in};
 ghost use Rattle.qs_script.specs.Reads.{IsReadOf, IsPlaced, AreTokensOf};
+ghost use Rattle.qs_script.specs.Limits.{longest_text};
 
 use crate::fault::{Fault, ReadFault};
 use crate::items::script;
 use crate::lex::{Piece, TokenFault, front};
+use crate::limits::LONGEST_TEXT;
 use crate::token::Token;
 use crate::tree::Script;
 use std::alloc::{AllocError, Global};
 use std::marker::Model;
-
-// The most bytes that a script has.
-const MOST_BYTES: usize = 65536;
 
 // A text's tokens in order, each with its line, and the line that was reached.
 #[derive(Drop)]
@@ -107,9 +106,9 @@ fn tokenize(alloc: Global, text: &[u8]) -> Result<Tokens, ReadFault>
 /// tokens. `Memory` may come at any allocation. A fault leaves nothing behind.
 pub fn read(alloc: Global, text: &[u8]) -> Result<Script, ReadFault>
     ensures exact { IsReadOf text.now result }
-    ensures size { IsErrOf result ReadFault.Size ↔ (65536 < length text.now) }
+    ensures size { IsErrOf result ReadFault.Size ↔ (longest_text < length text.now) }
 {
-    if text.len() > MOST_BYTES {
+    if text.len() > LONGEST_TEXT {
         return Err(ReadFault::Size);
     }
     let tokens = tokenize(alloc, text)?;

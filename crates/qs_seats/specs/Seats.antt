@@ -3,6 +3,7 @@ use Rattle.std.specs.Prelude.{◌≡◌, ◌<◌, ℕ, true, List, [], IsSome}
 use Rattle.qs_objects.specs.declared.held.Ticket.{Ticket}
 use Rattle.qs_program.specs.Program.{ProgramShape, blocks_of}
 use Rattle.qs_program.specs.Sound.{IsSound}
+use Rattle.qs_program.specs.Limits.{most_clients}
 use Rattle.qs_meaning.specs.Following.{reserves}
 use Rattle.qs_syncset.specs.Codes.{IsCodeOf}
 use Rattle.qs_syncset.specs.declared.mode.Mode.{Mode}
@@ -23,7 +24,7 @@ module _ {D : Type 0} where
     pub taken : s.tickets.taken ≡ []
     pub fresh : (c : ℕ) → handling.IsFresh (handling.lane_at s.lanes c)
     pub reached : (t : Ticket) → reserves p t s.tickets.handler ≡ true
-        → (t.client < 8) × IsSome (handling.lane_at s.lanes t.client)
+        → (t.client < most_clients) × IsSome (handling.lane_at s.lanes t.client)
 
   -- no block is booked, nothing has passed, and there is a lane to each handler that a block of the client reserves
   pub record IsClientReady (p : ProgramShape) (s : ClientSeat D) : Type 0 where

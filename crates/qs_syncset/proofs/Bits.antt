@@ -4,6 +4,7 @@ use Rattle.std.specs.Prelude.{◌&&◌, ◌==◌}
 use Rattle.std.specs.Int.{bit_at}
 use Rattle.std.proofs.lemmas.Bool.{cases_eq, cases_lt}
 use Rattle.std.proofs.lemmas.Nat.Bits.{bit_at_and, bit_at-lt, bit_at_set_same, bit_at_set_other, bit_at_clear_same, bit_at_clear_other, bit_at-zero, same_from_bits_below}
+use Rattle.qs_program.specs.Limits.{most_handlers}
 use Rattle.qs_meaning.specs.Solo.{put}
 use Rattle.qs_syncset.specs.Bytes.{in_set, size, total_below, truths}
 use Rattle.qs_syncset.proofs.Paths.{put_same, put_other}
@@ -24,7 +25,7 @@ in_both a b h =
     ∙ both_one (bit_at a h) (bit_at b h) (zero_or_one (bit_at a h) (bit_at-lt a h)) (zero_or_one (bit_at b h) (bit_at-lt b h))
 
 -- with handler h
-pub with_handler : (s h k : ℕ) → h < 8 → in_set (bit_or s (1 * 2 ^ h % 256)) k ≡ put (in_set s) h true k
+pub with_handler : (s h k : ℕ) → h < most_handlers → in_set (bit_or s (1 * 2 ^ h % 256)) k ≡ put (in_set s) h true k
 with_handler s h k below = elim (cases_eq h k) [
   | inl same ↦ subst (λ j. in_set (bit_or s (1 * 2 ^ h % 256)) j ≡ put (in_set s) h true j) same
       (ap (λ x. x == 1) (bit_at_set_same w8 s h below) ∙ sym (put_same (in_set s) h true))
@@ -32,14 +33,14 @@ with_handler s h k below = elim (cases_eq h k) [
 ]
 
 -- without handler h
-pub without_handler : (s h k : ℕ) → h < 8 → k < 8 → in_set (bit_and s (255 - 1 * 2 ^ h % 256)) k ≡ put (in_set s) h false k
+pub without_handler : (s h k : ℕ) → h < most_handlers → k < most_handlers → in_set (bit_and s (255 - 1 * 2 ^ h % 256)) k ≡ put (in_set s) h false k
 without_handler s h k below small = elim (cases_eq h k) [
   | inl same ↦ subst (λ j. in_set (bit_and s (255 - 1 * 2 ^ h % 256)) j ≡ put (in_set s) h false j) same
       (ap (λ x. x == 1) (bit_at_clear_same w8 s h below) ∙ sym (put_same (in_set s) h false))
   | inr other ↦ ap (λ x. x == 1) (bit_at_clear_other w8 s h below k small (λ e. other (sym e))) ∙ sym (put_other (in_set s) h k false other)
 ]
 
-pub truths_at : (s h : ℕ) → h < 8 → get_or (truths s) h true ≡ in_set s h
+pub truths_at : (s h : ℕ) → h < most_handlers → get_or (truths s) h true ≡ in_set s h
 truths_at s zero below = refl
 truths_at s (suc zero) below = refl
 truths_at s (suc (suc zero)) below = refl
@@ -81,14 +82,14 @@ min_less x y = omega arith
 bit_less : (a b i : ℕ) → bit_at (bit_and a b) i ≤ bit_at a i
 bit_less a b i = rw (bit_at_and a b i) (min_less (bit_at a i) (bit_at b i))
 
-pub at_most_8 : (s : ℕ) → size s ≤ 8
+pub at_most_8 : (s : ℕ) → size s ≤ most_handlers
 at_most_8 s = total_most 8 (bit_at s) (bit_at-lt s)
 
 pub none_in_0 : size 0 ≡ 0
 none_in_0 = total_none 8 (bit_at 0) bit_at-zero
 
 pub both_less : (a b : ℕ) → size (bit_and a b) ≤ size a
-both_less a b = total_less 8 (bit_at a) (bit_at (bit_and a b)) (bit_less a b)
+both_less a b = total_less most_handlers (bit_at a) (bit_at (bit_and a b)) (bit_less a b)
 
 -- a set that shrinks has fewer
 pub shrunk_less : (a b : ℕ) → a < 2 ^ 8 → bit_and a b < 2 ^ 8 → bit_and a b ≢ a → size (bit_and a b) < size a

@@ -13,6 +13,5 @@ pub mod CountedSyncs
 pub mod Tables
 pub mod WorkedGraphs
 pub mod WorkedSyncs
-pub mod CountRows
 pub mod QueryRuns
 pub mod ShortLists

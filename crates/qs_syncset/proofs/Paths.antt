@@ -3,6 +3,7 @@ use Rattle.std.proofs.Common.{◌≡◌, ◌≢◌, ℕ, ◌<◌, inl, inr, Bool
 use Rattle.std.proofs.lemmas.Bool.{cases_eq, eq-eqb, ne_eqb}
 use Rattle.std.specs.List.{AllByRecursion}
 use Rattle.std.specs.Prelude.{◌↔◌}
+use Rattle.qs_program.specs.Limits.{most_handlers}
 use Rattle.qs_meaning.specs.Solo.{put}
 use Rattle.qs_graph.specs.declared.node.Node.{Node}
 use Rattle.qs_graph.specs.declared.node.Node.TheVariants.{Entry, Local, Branch, Sync, Query, Call, Exit}
@@ -139,7 +140,7 @@ module _ (g : List Place) (reached : ℕ → Bool) (held : ℕ → Holding) wher
   reached_past w m n edge r = let x = w.reach m r in record { before = m ∷ x.before; path = (edge, x.path) }
 
   -- what does not go out of m is missed at each node that m leads to
-  pub missed_past : AreWitnessed g reached held → (m n h : ℕ) → HasEdge g m n → reached m ≡ true → h < 8
+  pub missed_past : AreWitnessed g reached held → (m n h : ℕ) → HasEdge g m n → reached m ≡ true → h < most_handlers
       → held_after (place_at g m).node (held m) h ≡ false → IsMissed g n h
   missed_past w m n h edge r below f =
       let x = missed_after g m h (place_at g m).node (held m) (w.reach m r) (w.miss m h below) f in
@@ -148,7 +149,7 @@ module _ (g : List Place) (reached : ℕ → Bool) (held : ℕ → Holding) wher
   -- what is known at a node is so along each path to it
   record IsBelow (before : List ℕ) (n : ℕ) : Type 0 where
     reach : reached n ≡ true
-    below : (h : ℕ) → h < 8 → held n h ≡ true → held_along g before h ≡ true
+    below : (h : ℕ) → h < most_handlers → held n h ≡ true → held_along g before h ≡ true
 
   below : IsAtEntry reached held → ((m : ℕ) → reached m ≡ true → IsPassedOn g reached held m)
       → (before : List ℕ) (n : ℕ) → IsPath g before n → IsBelow before n
@@ -170,7 +171,7 @@ module _ (g : List Place) (reached : ℕ → Bool) (held : ℕ → Holding) wher
 
   -- where nothing changes any more, what is known to be held is what is held
   pub held_is : AreWitnessed g reached held → IsAtEntry reached held → ((m : ℕ) → reached m ≡ true → IsPassedOn g reached held m)
-      → (n h : ℕ) → h < 8 → (held n h ≡ true) ↔ IsHeld g n h
+      → (n h : ℕ) → h < most_handlers → (held n h ≡ true) ↔ IsHeld g n h
   held_is w start closed n h l = (
     λ t before path. synced_from g h before ((below start closed before n path).below h l t),
     λ all. by_value (held n h) (λ f.

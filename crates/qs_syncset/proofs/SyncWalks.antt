@@ -2,9 +2,10 @@
 use Rattle.std.proofs.Common.{◌≡◌, inl, inr, ℕ, zero, suc, ◌+◌, ◌<◌, Bool, true, false, ◌==◌, ◌&&◌, if◌then◌else◌, List, [], ◌∷◌, length, refl, sym, ap, ◌∙◌, subst, arith}
 use Rattle.std.specs.Prelude.{not}
 use Rattle.qs_objects.specs.declared.held.Event.{Event}
+use Rattle.qs_objects.proofs.Elements.{AllByRecursion-get_or}
 use Rattle.qs_meaning.specs.Solo.{value_of}
 use Rattle.qs_program.specs.Values.{Locals}
-use Rattle.qs_program.proofs.Bounds.{AllByRecursion-get_or}
+use Rattle.qs_program.specs.Limits.{most_handlers}
 use Rattle.qs_graph.specs.declared.node.Node.{Node}
 use Rattle.qs_graph.specs.declared.node.Node.TheVariants.{Entry, Local, Branch, Sync, Query, Call, Exit}
 use Rattle.qs_graph.specs.declared.node.Action.TheVariants.{Nothing}
@@ -91,7 +92,7 @@ module _ (g new : List Place) (c : IsCoalesced g new) where
           subst (λ m. IsAsking (said (walk new n) s.locals m)) (sym now) (ih (beyond g s) (subst (EachNext (Within g n)) old within.1) there.1)
 
 -- a synchronisation is with one of 8 handlers
-pub in_range : (g : List Place) → IsGraph g → (n : ℕ) → n < length g → (j : ℕ) → (place_at g n).node ≡ Sync j → j < 8
+pub in_range : (g : List Place) → IsGraph g → (n : ℕ) → n < length g → (j : ℕ) → (place_at g n).node ≡ Sync j → j < most_handlers
 in_range g ok n inside j e =
     let here : IsPlace (length g) (place_at g n) = AllByRecursion-get_or (IsPlace (length g)) g n exit ok.places inside in
     subst IsInRange e here.in_range

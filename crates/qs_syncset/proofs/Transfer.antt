@@ -1,9 +1,10 @@
 -- What passing on along an edge keeps of what is known of the nodes.
 use Rattle.std.proofs.Common.{◌≡◌, ◌≢◌, ℕ, ◌<◌, ◌/◌, ◌^◌, inl, inr, Bool, true, false, List, [], length, get_or, set, sym, ap, subst, ◌∙◌, arith, bit_and}
-use Rattle.std.specs.Prelude.{◌&&◌, ◌||◌, ◌==◌}
-use Rattle.std.proofs.lemmas.Bool.{and_cases, and_parts, cases_eq, cases_lt, or_parts}
+use Rattle.std.specs.Prelude.{◌&&◌, ◌==◌}
+use Rattle.std.proofs.lemmas.Bool.{and_cases, and_parts, cases_eq, cases_lt}
 use Rattle.std.proofs.lemmas.List.{get_or-map, get_or-set_other, get_or-set_same, get_or_default, get_or_past, length-map}
 use Rattle.std.proofs.lemmas.Nat.Bits.{shr_and_one}
+use Rattle.qs_program.specs.Limits.{most_handlers}
 use Rattle.qs_graph.specs.Nodes.{Place, place_at}
 use Rattle.qs_graph.specs.declared.node.Node.{Node}
 use Rattle.qs_graph.specs.Paths.{HasEdge}
@@ -14,17 +15,10 @@ use Rattle.qs_syncset.specs.Table.{AreSetsOf, has}
 use Rattle.qs_syncset.proofs.Bits.{in_both, truths_at}
 use Rattle.qs_syncset.proofs.Paths.{held_is, missed_past, reached_past}
 
--- the two parts of a test that fails, which the proofs of the machines cite
-pub or_first : (a b : Bool) → (a || b) ≡ false → a ≡ false
-or_first a b e = (or_parts a b e).0
-
-pub or_second : (a b : Bool) → (a || b) ≡ false → b ≡ false
-or_second a b e = (or_parts a b e).1
-
 -- what goes to n lacks only what some path to n misses
 pub record IsFair (g : List Place) (n out : ℕ) : Type 0 where
   pub reached : IsReached g n
-  pub lacks : (h : ℕ) → h < 8 → in_set out h ≡ false → IsMissed g n h
+  pub lacks : (h : ℕ) → h < most_handlers → in_set out h ≡ false → IsMissed g n h
 
 -- what comes in has met the set of n, and nothing else has changed
 pub record IsMetAt (old new : State) (n out : ℕ) : Type 0 where
@@ -62,7 +56,7 @@ module _ (old new : State) (n out : ℕ) (m : IsMetAt old new n out) where
   ]
 
   missed_there : (g : List Place) → AreWitnessed g (reached_at old) (held_at old) → IsFair g n out
-      → (h : ℕ) → h < 8 → held_at new n h ≡ false → IsMissed g n h
+      → (h : ℕ) → h < most_handlers → held_at new n h ≡ false → IsMissed g n h
   missed_there g w f h below e = elim (and_cases (held_at old n h) (in_set out h) (sym (held_there h) ∙ e)) [
     | inl before ↦ w.miss n h below before
     | inr lacking ↦ f.lacks h below lacking
@@ -123,7 +117,7 @@ module _ (old new : State) (n out : ℕ) (m : IsMetAt old new n out) where
 
 -- what goes along an edge of a node that is reached is fair
 pub fair_edge : (g : List Place) (s : State) (m n out : ℕ) → AreWitnessed g (reached_at s) (held_at s) → HasEdge g m n
-    → reached_at s m ≡ true → ((h : ℕ) → h < 8 → in_set out h ≡ held_after (place_at g m).node (held_at s m) h) → IsFair g n out
+    → reached_at s m ≡ true → ((h : ℕ) → h < most_handlers → in_set out h ≡ held_after (place_at g m).node (held_at s m) h) → IsFair g n out
 fair_edge g s m n out w edge r is = record {
   reached = reached_past g (reached_at s) (held_at s) w m n edge r;
   lacks = λ h below e. missed_past g (reached_at s) (held_at s) w m n h edge r below (sym (is h below) ∙ e);
@@ -138,19 +132,19 @@ reached_inside s n r = elim (cases_lt n (length s.reached)) [
 
 -- what goes out of a node, by the byte that the code reads
 pub sent_from : (g : List Place) (v : Node) (out : ℕ) (s : State) (x d : ℕ) → v ≡ (place_at g x).node → x < length s.sets
-    → ((h : ℕ) → h < 8 → in_set out h ≡ held_after v (in_set (get_or s.sets x d)) h)
-    → (h : ℕ) → h < 8 → in_set out h ≡ held_after (place_at g x).node (held_at s x) h
+    → ((h : ℕ) → h < most_handlers → in_set out h ≡ held_after v (in_set (get_or s.sets x d)) h)
+    → (h : ℕ) → h < most_handlers → in_set out h ≡ held_after (place_at g x).node (held_at s x) h
 sent_from g v out s x d e inside is h below =
     let read : get_or s.sets x d ≡ set_at s x = get_or_default s.sets x d 255 inside in
     subst (λ (w : Node). in_set out h ≡ held_after w (held_at s x) h) e
     (is h below ∙ ap (λ n. held_after v (in_set n) h) read)
 
-has_byte : (sets : List ℕ) (n h d : ℕ) → n < length sets → h < 8 → has (truths_of sets) n h ≡ in_set (get_or sets n d) h
+has_byte : (sets : List ℕ) (n h d : ℕ) → n < length sets → h < most_handlers → has (truths_of sets) n h ≡ in_set (get_or sets n d) h
 has_byte sets n h d inside below =
     ap (λ r. get_or r h true) (get_or-map truths sets n d [] inside) ∙ truths_at (get_or sets n d) h below
 
 -- the bit that the code reads
-pub has_bit : (sets : List ℕ) (n h set : ℕ) → n < length (truths_of sets) → h < 8 → set ≡ get_or sets n set
+pub has_bit : (sets : List ℕ) (n h set : ℕ) → n < length (truths_of sets) → h < most_handlers → set ≡ get_or sets n set
     → (bit_and (set / 2 ^ h) 1 == 1) ≡ has (truths_of sets) n h
 has_bit sets n h set inside below read =
     let within : n < length sets = omega (arith, inside, length-map sets truths) in

@@ -7,6 +7,7 @@ use Rattle.std.proofs.lemmas.List.Elements.{All-nil, All-cons, All-replicate, Al
 use Rattle.std.proofs.lemmas.List.Sums.{sum_by-set, sum_by-le}
 use Rattle.std.proofs.lemmas.Nat.{and_le_l}
 use Rattle.std.proofs.lemmas.Nat.Bits.{bit_at_ones, bit_at-zero}
+use Rattle.qs_program.specs.Limits.{most_handlers}
 use Rattle.qs_graph.specs.Nodes.{Place, place_at}
 use Rattle.qs_graph.specs.Paths.{IsAmong, HasEdge}
 use Rattle.qs_syncset.specs.Bytes.{in_set, size, truths_of}
@@ -146,7 +147,7 @@ visit_passed g x first listed most old new to out inside v fair p =
 -- what goes out of x has come to each node that it leads to, unless x was put on the list again
 pub visit_done : (g : List Place) (x first listed most : ℕ) (s : State) (out : ℕ) → IsVisit g x first listed most s
     → ((n : ℕ) → HasEdge g x n → HasArrived (reached_at s) (held_at s) n (in_set out))
-    → ((h : ℕ) → h < 8 → in_set out h ≡ held_after (place_at g x).node (in_set first) h) → IsWork g s
+    → ((h : ℕ) → h < most_handlers → in_set out h ≡ held_after (place_at g x).node (in_set first) h) → IsWork g s
 visit_done g x first listed most s out v arrived is = record {
   known = v.known;
   settled = λ m r. elim (cases_eq m x) [
@@ -218,7 +219,7 @@ module _ (n : ℕ) (some : 0 < n) where
       get_or-set_other (replicate n false) 0 m true false other ∙ replicated false m in
       let never : false ≡ true = sym none ∙ r in cc
 
-  begun_full : (m h : ℕ) → m ≢ 0 → h < 8 → held_at (begun n) m h ≡ false → ⊥
+  begun_full : (m h : ℕ) → m ≢ 0 → h < most_handlers → held_at (begun n) m h ≡ false → ⊥
   begun_full m h other below missing =
       let full : set_at (begun n) m ≡ 255 = get_or-set_other (replicate n 255) 0 m 0 255 other ∙ replicated 255 m in
       let all : held_at (begun n) m h ≡ true = ap (λ s. in_set s h) full ∙ ap (λ x. x == 1) (bit_at_ones 8 h below) in
@@ -262,5 +263,5 @@ module _ (n : ℕ) (some : 0 < n) where
       let reached = sum_by-set unreached none 0 true false (rw (length-replicate {A = Bool} n false) some) in
       let sets = sum_by-set size full 0 0 255 (rw (length-replicate {A = ℕ} n 255) some) in
       let each_reached = sum_by-le unreached 1 none (All-replicate (λ r. unreached r ≤ 1) n false (omega arith)) in
-      let each_set = sum_by-le size 8 full (All-replicate (λ s. size s ≤ 8) n 255 (at_most_8 255)) in
+      let each_set = sum_by-le size 8 full (All-replicate (λ s. size s ≤ most_handlers) n 255 (at_most_8 255)) in
       omega (arith, first, reached, sets, each_reached, each_set, length-replicate {A = Bool} n false, length-replicate {A = ℕ} n 255, none_in_0)

@@ -1,6 +1,7 @@
 -- Sets of handlers as bytes.
 use Rattle.std.specs.Prelude.{ℕ, zero, suc, ◌+◌, ◌==◌, Bool, List, [], ◌∷◌, map}
 use Rattle.std.specs.Int.{bit_at}
+use Rattle.qs_program.specs.Limits.{most_handlers}
 use Rattle.qs_syncset.specs.Flow.{Holding}
 
 -- whether a set has handler h: bit h of its byte
@@ -20,4 +21,4 @@ total_below (suc n) f = f n + total_below n f
 
 -- how many handlers a set has
 abbrev pub size : ℕ → ℕ
-size set = total_below 8 (bit_at set)
+size set = total_below most_handlers (bit_at set)

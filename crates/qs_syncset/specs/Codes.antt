@@ -4,6 +4,7 @@ use Rattle.qs_program.specs.Loads.{load_of}
 use Rattle.qs_program.specs.Program.{BlockShape, ProgramShape, block_at, blocks_of}
 use Rattle.qs_program.specs.Sound.{IsSound}
 use Rattle.qs_program.specs.Statements.{Statements}
+use Rattle.qs_program.specs.Limits.{most_handlers}
 use Rattle.qs_graph.specs.Graphs.{block_graph}
 use Rattle.qs_graph.specs.Nodes.{Place}
 use Rattle.qs_syncset.specs.declared.mode.Mode.{Mode}
@@ -38,7 +39,7 @@ IsGraphOf true body g = IsCoalesced (block_graph body) g
 pub record IsBlockCode (static : Bool) (b : BlockShape) (code : BlockCode) : Type 0 where
   pub reserved : code.reserved ≡ b.reserved
   pub graph : IsGraphOf static b.body code.graph
-  pub loads : (h : ℕ) → h < 8 → load_at code h ≡ load_of b.body h
+  pub loads : (h : ℕ) → h < most_handlers → load_at code h ≡ load_of b.body h
 
 -- the code of a program's client: its blocks in their order, coalesced in the static modes alone, tested in the dynamic ones alone
 pub record IsCodeOf (p : ProgramShape) (mode : Mode) (client : ℕ) (code : ClientCode) : Type 0 where

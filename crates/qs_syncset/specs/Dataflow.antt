@@ -1,6 +1,7 @@
 -- What is known of the nodes while their sets are sought, and which nodes are left to visit.
 use Rattle.std.specs.Prelude.{◌≡◌, ◌≢◌, ℕ, ◌+◌, ◌<◌, ◌^◌, ◌⊎◌, Bool, true, false, cond, List, [], ◌∷◌, ◌++◌, length, slice_index_or, slice_set, bit_and, All, Contains}
 use Rattle.std.specs.List.{sum_by}
+use Rattle.qs_program.specs.Limits.{most_handlers}
 use Rattle.qs_graph.specs.Nodes.{Place}
 use Rattle.qs_syncset.specs.Bytes.{in_set, size}
 use Rattle.qs_syncset.specs.Flow.{Holding, AreWitnessed, IsAtEntry, IsPassedOn}
@@ -38,7 +39,7 @@ pub record IsKept (old new : State) (to out : ℕ) : Type 0 where
 
 -- a node is first reached or loses handlers, and is put on the list
 pub record IsPut (old new : State) (to out : ℕ) : Type 0 where
-  pub in_range : set_at old to < 2 ^ 8
+  pub in_range : set_at old to < 2 ^ most_handlers
   pub why : (reached_at old to ≡ false) ⊎ (bit_and (set_at old to) out ≢ set_at old to)
   pub reached : new.reached ≡ slice_set old.reached to true
   pub sets : new.sets ≡ slice_set old.sets to (bit_and (set_at old to) out)

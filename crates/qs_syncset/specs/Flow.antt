@@ -1,5 +1,6 @@
 -- How what is held goes along paths, and from node to node.
 use Rattle.std.specs.Prelude.{◌≡◌, ℕ, ◌<◌, Bool, true, false, List, [], ◌∷◌}
+use Rattle.qs_program.specs.Limits.{most_handlers}
 use Rattle.qs_meaning.specs.Solo.{put}
 use Rattle.qs_graph.specs.declared.node.Node.{Node}
 use Rattle.qs_graph.specs.declared.node.Node.TheVariants.{Sync, Call}
@@ -39,17 +40,17 @@ module _ (g : List Place) (reached : ℕ → Bool) (held : ℕ → Holding) wher
   -- each node that is reached has a path, and each handler that is not held a path that shows it
   pub record AreWitnessed : Type 0 where
     pub reach : (n : ℕ) → reached n ≡ true → IsReached g n
-    pub miss : (n h : ℕ) → h < 8 → held n h ≡ false → IsMissed g n h
+    pub miss : (n h : ℕ) → h < most_handlers → held n h ≡ false → IsMissed g n h
 
 -- Entry is reached, and nothing is held there
 pub record IsAtEntry (reached : ℕ → Bool) (held : ℕ → Holding) : Type 0 where
   pub reach : reached 0 ≡ true
-  pub none : (h : ℕ) → h < 8 → held 0 h ≡ false
+  pub none : (h : ℕ) → h < most_handlers → held 0 h ≡ false
 
 -- what goes out of a node has come to n
 pub record HasArrived (reached : ℕ → Bool) (held : ℕ → Holding) (n : ℕ) (out : Holding) : Type 0 where
   pub reach : reached n ≡ true
-  pub below : (h : ℕ) → h < 8 → held n h ≡ true → out h ≡ true
+  pub below : (h : ℕ) → h < most_handlers → held n h ≡ true → out h ≡ true
 
 -- what goes out of m has come to each node that m leads to
 abbrev pub IsPassedOn : List Place → (ℕ → Bool) → (ℕ → Holding) → ℕ → Type 0

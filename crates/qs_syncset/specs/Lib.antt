@@ -12,4 +12,3 @@ pub mod CodeLaws
 pub mod SyncCounts
 pub mod SyncExamples
 pub mod HeldExamples
-pub mod SyncRows

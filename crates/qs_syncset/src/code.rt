@@ -1,7 +1,7 @@
 //! What a client runs.
 
 ghost use Rattle.std.specs.Prelude.{◌≡◌, ◌<◌, ◌≤◌, ℕ, length, slice_index_or, IfOk, IsErr};
-ghost use Rattle.qs_program.specs.Limits.{most_requests};
+ghost use Rattle.qs_program.specs.Limits.{most_handlers, most_requests};
 ghost use Rattle.qs_program.specs.Program.{block_at, blocks_of};
 ghost use Rattle.qs_program.specs.Loads.{load_of};
 ghost use Rattle.qs_syncset.specs.Codes.{IsCode, IsCodeOf, IsBlockCode, IsGraphOf, code_at, load_at};
@@ -11,7 +11,7 @@ use crate::mode::Mode;
 use crate::removal::coalesce;
 use crate::sets::held_sets;
 use qs_graph::{Graph, graph};
-use qs_program::Program;
+use qs_program::{MOST_HANDLERS, Program};
 use std::alloc::{AllocError, Global};
 use std::marker::Model;
 
@@ -20,7 +20,7 @@ use std::marker::Model;
 pub(crate) struct BlockCode {
     reserved: Vec<u8>,
     graph: Graph,
-    loads: [u64; 8],
+    loads: [u64; MOST_HANDLERS],
 }
 
 impl Model for BlockCode {
@@ -52,7 +52,7 @@ impl BlockCode {
     }
 
     fn load(&self, handler: u8) -> u64
-        requires in_range { handler < 8 }
+        requires in_range { handler < most_handlers }
         ensures value { result ≡ load_at self.now handler }
         ensures limit { result ≤ most_requests }
     {
@@ -137,7 +137,7 @@ impl Code {
     /// How many requests a block can make on a handler's object; at most 100,000.
     pub fn load(&self, block: usize, handler: u8) -> u64
         requires block { block < length self.now.blocks }
-        requires handler { handler < 8 }
+        requires handler { handler < most_handlers }
         ensures value { result ≡ load_at (code_at self.now block) handler }
         ensures limit { result ≤ most_requests }
     {
@@ -166,13 +166,13 @@ fn block_graph_in(
 }
 
 // How many requests a block can make on each of 8 handlers' objects.
-fn loads_of(program: &Program, client: u8, block: u8) -> [u64; 8]
+fn loads_of(program: &Program, client: u8, block: u8) -> [u64; MOST_HANDLERS]
     requires client { client < length program.now.clients }
     requires block { block < blocks_of program.now client }
-    ensures value { (h : ℕ) → h < 8 → slice_index_or result h 0 ≡ load_of (block_at program.now client block).body h }
+    ensures value { (h : ℕ) → h < most_handlers → slice_index_or result h 0 ≡ load_of (block_at program.now client block).body h }
     ensures limit { (h : ℕ) → slice_index_or result h 0 ≤ most_requests }
 {
-    let mut loads = [0; 8];
+    let mut loads = [0; MOST_HANDLERS];
     for handler in 0..8u8 {
         loads[usize::from(handler)] = program.load_of(client, block, handler);
     }

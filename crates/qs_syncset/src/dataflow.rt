@@ -2,6 +2,7 @@
 //! keeps whether something came to it, and a byte with the handlers that no path yet shows to be missing, handler h in bit h.
 
 ghost use Rattle.std.specs.Prelude.{◌≡◌, ℕ, ◌+◌, ◌<◌, ◌≤◌, [], length, OnOk};
+ghost use Rattle.qs_program.specs.Limits.{most_handlers};
 ghost use Rattle.qs_graph.specs.WellFormed.{IsInRange};
 ghost use Rattle.qs_syncset.specs.Bytes.{in_set};
 ghost use Rattle.qs_syncset.specs.Dataflow.{IsPassed, IsTaken, IsWork, state, turns_left};
@@ -15,7 +16,7 @@ use std::sync::ledger::Ledger;
 // What is held after a node, from what is held before it.
 fn after(node: &Node, set: u8) -> u8
     requires in_range { IsInRange node.now }
-    ensures value { (h : ℕ) → h < 8 → in_set result h ≡ held_after node.now (in_set set) h }
+    ensures value { (h : ℕ) → h < most_handlers → in_set result h ≡ held_after node.now (in_set set) h }
 {
     match node {
         Node::Sync(handler) => set | (1 << *handler),

@@ -8,12 +8,10 @@ pub mod laws;
 mod mode;
 mod removal;
 mod sets;
-mod sync_counts;
 mod worklist;
 
 pub use code::{Code, compile};
 pub use mode::Mode;
 pub use removal::coalesce;
 pub use sets::{Sets, held_sets, held_sets_counted};
-pub use sync_counts::{SyncCount, SyncCounts};
 pub use worklist::Turns;

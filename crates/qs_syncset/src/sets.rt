@@ -1,6 +1,7 @@
 //! The held sets of a graph.
 
-ghost use Rattle.std.specs.Prelude.{◌≡◌, ◌+◌, ◌*◌, ◌<◌, ◌≤◌, length, IfOk, OnOk};
+ghost use Rattle.std.specs.Prelude.{◌≡◌, ◌+◌, ◌*◌, ◌<◌, ◌≤◌, length, suc, IfOk, OnOk};
+ghost use Rattle.qs_program.specs.Limits.{most_handlers};
 ghost use Rattle.qs_syncset.specs.Table.{AreSetsOf, has};
 
 use crate::dataflow::run;
@@ -34,7 +35,7 @@ impl Sets {
     /// Whether a handler is held as a node is reached; takes no memory.
     pub fn holds(&self, node: usize, handler: u8) -> bool
         requires node { node < length self.now }
-        requires handler { handler < 8 }
+        requires handler { handler < most_handlers }
         ensures value { result ≡ has self.now node handler }
     {
         (self.bytes[node] >> handler) & 1 == 1
@@ -51,7 +52,7 @@ pub fn held_sets_counted<L: Ledger>(
 ) -> Result<Sets, AllocError>
     ensures sets { IfOk result (λ sets. AreSetsOf graph.now.nodes sets) }
     ensures counted { OnOk result (turns.old < turns.new) }
-    ensures turns { turns.new ≤ turns.old + 9 * length graph.now.nodes }
+    ensures turns { turns.new ≤ turns.old + suc most_handlers * length graph.now.nodes }
 {
     graph.is_graph();
     let count = graph.len();

@@ -10,13 +10,14 @@ use Rattle.qs_objects.specs.declared.held.Entry.{Entry}
 use Rattle.qs_objects.specs.declared.held.Event.{Event}
 use Rattle.qs_objects.specs.declared.held.Ticket.{Ticket}
 use Rattle.qs_objects.proofs.Choices.{apart_eqb, ticket_cases}
+use Rattle.qs_objects.proofs.Elements.{AllByRecursion-get_or}
 use Rattle.qs_program.specs.Program.{ProgramShape, text_of}
 use Rattle.qs_program.specs.Sound.{IsSound}
 use Rattle.qs_program.specs.Values.{Locals}
 use Rattle.qs_meaning.specs.Alike.{HasValues, SameTrace, SameValues}
 use Rattle.qs_meaning.specs.Serial.{Place, declared, serial, serial_from, zeros}
 use Rattle.qs_meaning.specs.Solo.{States, put, solo}
-use Rattle.qs_meaning.proofs.AlikeTraces.{Alike, IsPlaceOf, places_of, solo_traces, within}
+use Rattle.qs_meaning.proofs.AlikeTraces.{Alike, IsPlaceOf, places_of, solo_traces}
 use Rattle.qs_played.specs.Isolation.{IsIsolated, IsPlace, entry_of, journal_of, no_place, place_of, queries_of, ticket_at, trace_of}
 use Rattle.qs_played.specs.Played.{Played, ticket}
 use Rattle.qs_played.proofs.ReservedObjects.{reserved_inside}
@@ -126,7 +127,7 @@ shown p sound r waits i less iso =
     let place : Place = place_of p r i in
     let is : place.ticket ≡ ticket_at r i = place_ticket p (λ _. zeros) (declared p) r.order i (ticket 0 0) no_place less in
     let many : length (serial p r.order).places ≡ length r.order = places_long p (λ _. zeros) (declared p) r.order in
-    let of : IsPlaceOf p place = within (IsPlaceOf p) (serial p r.order).places i no_place (places_of p sound r.order) (omega (arith, less, many)) in
+    let of : IsPlaceOf p place = AllByRecursion-get_or (IsPlaceOf p) (serial p r.order).places i no_place (places_of p sound r.order) (omega (arith, less, many)) in
     record {
       place = iso.places i less;
       alone = subst (λ t. HasValues p t place.entry × (place.trace ≡ (solo (text_of p t).body place.entry place.starts).trace)) is of;

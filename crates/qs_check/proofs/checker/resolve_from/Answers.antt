@@ -2,6 +2,7 @@ use Rattle.std.proofs.Common.{◌≡◌, ◌∙◌, ◌++◌, ◌≤◌, List, l
 use Rattle.std.specs.List.{AllByRecursion}
 use Rattle.qs_objects.specs.declared.object.Kind.{Kind}
 use Rattle.qs_program.specs.Numbering.{Name}
+use Rattle.qs_program.specs.Limits.{most_variables}
 use Rattle.qs_check.specs.Places.{met, start, script_places}
 use Rattle.qs_check.specs.Resolve.{clients_of, lists_of, names_of}
 use Rattle.qs_check.specs.Checked.{first_fault}
@@ -22,7 +23,7 @@ numbered-requires-clause-limit c =
     let w = walked c.args.items.now c.check_items.new.scope (rw c.requires.start at c.in_ok-check_items.ensures.meets) in
     let lists : c.check_items.new.variables.items ≡ lists_of c.args.items.now =
     c.in_ok-check_items.ensures.variables ∙ ap (λ (ls : List (List Name)). ls ++ lists_of c.args.items.now) c.requires.none in
-    let P : List (List Name) → Type 0 = λ ls. AllByRecursion (λ v. length v ≤ 16) ls in
+    let P : List (List Name) → Type 0 = λ ls. AllByRecursion (λ v. length v ≤ most_variables) ls in
     subst P (sym lists) w.few_variables
 
 pub returns : goal.returns

@@ -1,6 +1,7 @@
 use Rattle.std.proofs.Common.{◌≤◌, sym, subst}
+use Rattle.qs_core.specs.CoreShown.{most_syncs}
 use Rattle.qs_core.proofs.CoreShowing.{few_syncs}
 use Rattle.qs_core.proofs.core_showing.syncs_of.Goals as goal
 
 pub returns-clause-few : goal.returns-clause-few
-returns-clause-few c = subst (λ n. n ≤ 192000128) (sym c.syncs.ensures.value) (few_syncs c.args.client.now c.is_seat.ensures.seat c.is_seat.ensures.mind)
+returns-clause-few c = subst (λ n. n ≤ most_syncs) (sym c.syncs.ensures.value) (few_syncs c.args.client.now c.is_seat.ensures.seat c.is_seat.ensures.mind)

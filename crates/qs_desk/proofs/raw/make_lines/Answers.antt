@@ -1,5 +1,6 @@
 use Rattle.std.proofs.Common.{◌≡◌, ◌<◌, ◌++◌, ◌∷◌, [], ap, sym, subst, ◌∙◌, arith, length, map, set, Some, ◌+◌, List, ℕ}
 use Rattle.std.proofs.lemmas.List.{map-append, length-append}
+use Rattle.qs_program.specs.Limits.{most_handlers}
 use Rattle.qs_desk.specs.Lines.{LineView, line_at, line_name, new_end, new_line, end_at, IsNewLine}
 use Rattle.qs_desk.specs.Places.{places}
 use Rattle.qs_desk.proofs.Starts.{ends_more, at_end, names_len}
@@ -18,8 +19,8 @@ loop-handler-preserved c =
     let names = map line_name l.lines.items in
     let more : map line_name c.push.new.self.items ≡ names ++ name ∷ [] = ap (map line_name) items ∙ map-append line_name l.lines.items (line ∷ []) ∙ ap (λ (x : LineView). names ++ x.name ∷ []) is_line in
     let at : length names ≡ l.handler = names_len l.lines.items ∙ l.invariant.len in
-    let small : l.handler < 8 = omega (arith, c.loop-handler-test.true, c.objects-handler-end.ensures.value, c.is_sound.ensures.sound.objects) in
-    let room : length names < 8 = omega (arith, at, small) in
+    let small : l.handler < most_handlers = omega (arith, c.loop-handler-test.true, c.objects-handler-end.ensures.value, c.is_sound.ensures.sound.objects) in
+    let room : length names < most_handlers = omega (arith, at, small) in
     let new : IsNewLine p (length l.lines.items) line = subst (λ (n : ℕ). line ≡ new_line p line.name n) (sym l.invariant.len) (is_line ∙ ap (λ (x : LineView). new_line p x.name l.handler) (sym is_line)) in
     record {
       len = ap length items ∙ length-append l.lines.items (line ∷ []) ∙ ap (λ n. n + 1) l.invariant.len;

@@ -1,5 +1,5 @@
 use Rattle.std.proofs.Common.{◌≡◌, ◌≤◌, ◌*◌, sum_by, take}
-use Rattle.qs_syncset.specs.SyncRows.{syncs_of}
+use Rattle.qs_sync_counts.specs.SyncRows.{syncs_of}
 use Rattle.qs_joins.proofs.showing.all_syncs.Given as goal
 
 abbrev pub invariant-loop-place : goal.invariant-loop-place

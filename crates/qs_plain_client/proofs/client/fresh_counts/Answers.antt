@@ -1,9 +1,9 @@
 use Rattle.std.proofs.Common.{◌≡◌, ◌<◌, ℕ, suc, ◌+◌, List, [], ◌++◌, length, get_or, set, replicate, sym, ap, ◌∙◌, arith}
 use Rattle.std.proofs.lemmas.List.{get_or-map, length-map}
 use Rattle.qs_program.specs.Program.{BlockShape, ProgramShape, block_at, blocks_of, client_at, no_block}
-use Rattle.qs_syncset.specs.SyncRows.{CountsState, begun_rows, no_syncs}
-use Rattle.qs_syncset.specs.declared.sync_counts.SyncCount.{SyncCount}
-use Rattle.qs_syncset.proofs.CountRows.{begun_all, begun_beyond, begun_next, begun_none, length_begun, objects_end, objects_next}
+use Rattle.qs_sync_counts.specs.SyncRows.{CountsState, begun_rows, no_syncs}
+use Rattle.qs_sync_counts.specs.declared.sync_counts.SyncCount.{SyncCount}
+use Rattle.qs_sync_counts.proofs.CountRows.{begun_all, begun_beyond, begun_next, begun_none, length_begun, objects_end, objects_next}
 use Rattle.qs_syncset.proofs.ShortLists.{few_reserved}
 use Rattle.qs_plain_client.specs.PreparedBlock.{lists_of}
 use Rattle.qs_plain_client.proofs.client.fresh_counts.Goals as goal

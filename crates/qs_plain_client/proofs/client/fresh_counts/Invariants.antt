@@ -1,5 +1,5 @@
 use Rattle.std.proofs.Common.{◌≡◌, ◌≤◌, ◌+◌, ◌*◌, drop}
-use Rattle.qs_syncset.specs.SyncRows.{begun_rows, objects_in}
+use Rattle.qs_sync_counts.specs.SyncRows.{begun_rows, objects_in}
 use Rattle.qs_plain_client.specs.PreparedBlock.{lists_of}
 use Rattle.qs_plain_client.proofs.client.fresh_counts.Given as goal
 

@@ -2,8 +2,8 @@ use Rattle.std.proofs.Common.{◌∙◌, arith}
 use Rattle.qs_script.proofs.Lexemes.{front_name, name_too_long, name_short}
 use Rattle.qs_script.proofs.lex.front_word.Goals as goal
 
-pub returns-then-word-gt16-clause-exact : goal.returns-then-word-gt16-clause-exact
-returns-then-word-gt16-clause-exact c =
+pub returns-then-word-gt-LONGEST_NAME-clause-exact : goal.returns-then-word-gt-LONGEST_NAME-clause-exact
+returns-then-word-gt-LONGEST_NAME-clause-exact c =
     front_name c.args.text.now c.split_at.result.0.now c.split_at.result.1.now c.run_end.result c.requires.some c.requires.letter c.run_end.ensures.run c.split_at.ensures.front c.split_at.ensures.back
     ∙ name_too_long c.split_at.result.0.now c.split_at.result.1.now (omega arith)
 

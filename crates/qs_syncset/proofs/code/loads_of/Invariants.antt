@@ -1,12 +1,12 @@
 use Rattle.std.proofs.Common.{◌≡◌, ℕ, ◌<◌, ◌≤◌, length, slice_index_or}
-use Rattle.qs_program.specs.Limits.{most_requests}
+use Rattle.qs_program.specs.Limits.{most_handlers, most_requests}
 use Rattle.qs_program.specs.Loads.{load_of}
 use Rattle.qs_program.specs.Program.{block_at}
 use Rattle.qs_syncset.proofs.code.loads_of.Given as goal
 
 abbrev pub invariant-loop-handler : goal.invariant-loop-handler
 invariant-loop-handler l = record {
-  width : length l.loads ≡ 8;
+  width : length l.loads ≡ most_handlers;
   done : (h : ℕ) → h < l.handler → slice_index_or l.loads h 0 ≡ load_of (block_at l.program l.client l.block).body h;
   limit : (h : ℕ) → slice_index_or l.loads h 0 ≤ most_requests;
 }

@@ -1,5 +1,6 @@
 use Rattle.std.proofs.Common.{◌≡◌, ℕ, ◌<◌, length, get_or, take, sym, subst, ◌∙◌, arith}
 use Rattle.std.proofs.lemmas.List.{take_all}
+use Rattle.qs_program.specs.Limits.{most_handlers}
 use Rattle.qs_graph.specs.Nodes.{place_at}
 use Rattle.qs_graph.specs.Paths.{IsAmong, HasEdge}
 use Rattle.qs_graph.proofs.Inside.{edge_inside}
@@ -12,7 +13,7 @@ use Rattle.qs_syncset.proofs.dataflow.visit.Goals as goal
 use Rattle.qs_syncset.proofs.dataflow.visit.Goals.{After-after-out}
 
 -- what the loop passes on is what goes out of the node
-sent : (c : After-after-out) (h : ℕ) → h < 8
+sent : (c : After-after-out) (h : ℕ) → h < most_handlers
     → in_set c.after-out.result h
     ≡ held_after (place_at c.args.graph.now.nodes c.args.node).node (held_at (state c.args.reached.now c.args.sets.now c.args.list.now) c.args.node) h
 sent c =

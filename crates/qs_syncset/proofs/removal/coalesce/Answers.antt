@@ -1,11 +1,12 @@
 use Rattle.std.proofs.Common.{◌≡◌, ℕ, ◌+◌, ◌<◌, true, false, arith, sym, ap, ◌∙◌, length, subst, List}
 use Rattle.std.specs.Prelude.{◌↔◌}
+use Rattle.qs_objects.proofs.Elements.{AllByRecursion-get_or}
 use Rattle.qs_graph.specs.declared.node.Node.TheVariants.{Sync}
 use Rattle.qs_graph.specs.declared.node.Named.{Named}
 use Rattle.qs_graph.specs.Nodes.{ControlGraph, Place, place_at}
 use Rattle.qs_graph.specs.WellFormed.{IsInRange, IsPlace}
 use Rattle.qs_graph.specs.Nodes.{exit}
-use Rattle.qs_program.proofs.Bounds.{AllByRecursion-get_or}
+use Rattle.qs_program.specs.Limits.{most_handlers}
 use Rattle.qs_syncset.specs.Held.{IsHeld}
 use Rattle.qs_syncset.specs.Table.{has}
 use Rattle.qs_syncset.proofs.Removing.{IsDone, done_kept, done_set, removed, not_held, no_sync}
@@ -19,7 +20,7 @@ IsDoneWith g names n now = record { done : IsDone g now.nodes n; names : now.nam
 inside : (c : goal.Joined-node) → c.loop-n.n < length c.args.graph.nodes
 inside c = omega (arith, c.loop-n-test.true, c.len-n-end.ensures.value)
 
-handler_known : (c : goal.Joined-node) (h : ℕ) → (place_at c.args.graph.nodes c.loop-n.n).node ≡ Sync h → h < 8
+handler_known : (c : goal.Joined-node) (h : ℕ) → (place_at c.args.graph.nodes c.loop-n.n).node ≡ Sync h → h < most_handlers
 handler_known c h e =
     let here : IsPlace (length c.args.graph.nodes) (place_at c.args.graph.nodes c.loop-n.n) =
     AllByRecursion-get_or (IsPlace (length c.args.graph.nodes)) c.args.graph.nodes c.loop-n.n exit c.is_graph.ensures.graph.places (inside c) in

@@ -1,6 +1,6 @@
 use Rattle.std.proofs.Common.{◌≡◌, ◌<◌, ◌+◌, refl, sym, ap, ◌∙◌, subst, length, arith}
 use Rattle.qs_client.specs.Kept.{IsKept}
-use Rattle.qs_syncset.specs.SyncRows.{counts_state}
+use Rattle.qs_sync_counts.specs.SyncRows.{counts_state}
 use Rattle.qs_client.specs.Mind.{done, tallied}
 use Rattle.qs_client.specs.MindState.{MindState, mind_of, settings_in}
 use Rattle.qs_client.specs.contracts.mind.Mind.{the_view}

@@ -1,5 +1,6 @@
 use Rattle.std.proofs.Common.{◌≡◌, ◌<◌, Some, [], sym, ap, ◌∙◌, subst, arith, length, List}
 use Rattle.qs_objects.specs.declared.Request.{Request}
+use Rattle.qs_program.specs.Limits.{most_handlers}
 use Rattle.qs_graph.specs.WellFormed.{IsGraph}
 use Rattle.qs_graph.specs.Nodes as places
 use Rattle.qs_syncset.specs.Codes.{BlockCode, code_at}
@@ -46,7 +47,7 @@ resume-requires c =
     let node : c.node-2.result.now ≡ (places.place_at b.graph s.way.node).node =
     c.node-2.ensures.value ∙ (λ i. (places.place_at (graph i) (c.node.ensures.value i)).node) in
     let at = subst (IsStanding b w.0.size k w.3 s) (at_call b w.0 c.args.ticket w.1 w.2 w.3 s w.4 w.6).stands w.6.standing in
-    let eight : h < 8 = eight_here b.graph at.0 s c.in-Call.call (subst IsGraph graph c.is_graph.ensures.graph) at.2.within (sym node ∙ c.in-Call.is) in
+    let eight : h < most_handlers = eight_here b.graph at.0 s c.in-Call.call (subst IsGraph graph c.is_graph.ensures.graph) at.2.within (sym node ∙ c.in-Call.is) in
     let hands : c.put_chunk.new.self ≡ with_chunk s.hands h (Some (batch [] w.0.size)) =
     c.put_chunk.ensures.value ∙ (λ i. with_chunk s.hands (c.bound.ensures.object i) (Some (w.5 i))) in
     let some : 0 < w.0.size = omega (arith, c.requires.room, ap (λ (x : Batch Request). x.capacity) w.5) in
@@ -73,7 +74,7 @@ returns c =
       come = λ settings blocks begun most g dynamic chunk w.
           let call = at_call b settings u blocks begun most s g w in
           let at = subst (IsStanding b settings.size u.index most s) call.stands w.standing in
-          let eight : h < 8 = eight_here b.graph at.0 s c.in-Call.call (subst IsGraph graph c.is_graph.ensures.graph) at.2.within (sym node ∙ c.in-Call.is) in
+          let eight : h < most_handlers = eight_here b.graph at.0 s c.in-Call.call (subst IsGraph graph c.is_graph.ensures.graph) at.2.within (sym node ∙ c.in-Call.is) in
           let hands : c.put_chunk.new.self ≡ with_chunk s.hands h (Some (batch [] settings.size)) =
           c.put_chunk.ensures.value ∙ (λ i. with_chunk s.hands (c.bound.ensures.object i) (Some (chunk i))) in
           let some : 0 < settings.size = omega (arith, c.requires.room, ap (λ (x : Batch Request). x.capacity) chunk) in

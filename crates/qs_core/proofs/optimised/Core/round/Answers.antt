@@ -1,7 +1,7 @@
 use Rattle.std.proofs.Common.{◌≡◌, ◌++◌, ap, sym, subst, ◌∙◌, length, map, append_assoc, arith}
 use Rattle.std.specs.List.{range_with_len}
 use Rattle.qs_program.specs.Program.{ProgramShape}
-use Rattle.qs_syncset.proofs.Transfer.{or_first, or_second}
+use Rattle.std.proofs.lemmas.Bool.{or_parts}
 use Rattle.qs_played.specs.declared.actor.Actor.TheVariants as actors
 use Rattle.qs_core.specs.CoreState.{CoreState, IsPlayedOn}
 use Rattle.qs_core.proofs.CorePlaying.{played_more, row_more}
@@ -14,7 +14,7 @@ loop-client-preserved c =
       played = λ p mode size done on.
           subst (λ xs. IsPlayedOn p mode size xs it.new.self) (sym (row_more done (λ n. actors.Client n) c.loop-client.client))
           (played_more p mode size _ c.loop-client.self it.new.self (actors.Client c.loop-client.client) it.result (c.loop-client.invariant.played p mode size done on) it.ensures.steps it.ensures.none it.ensures.unchanged);
-      still = λ none. it.ensures.unchanged (or_second c.loop-client.stepped it.result none) ∙ c.loop-client.invariant.still (or_first c.loop-client.stepped it.result none);
+      still = λ none. it.ensures.unchanged (or_parts c.loop-client.stepped it.result none).1 ∙ c.loop-client.invariant.still (or_parts c.loop-client.stepped it.result none).0;
     }
 
 pub loop-handler-preserved : goal.loop-handler-preserved
@@ -24,7 +24,7 @@ loop-handler-preserved c =
       played = λ p mode size done on.
           subst (λ xs. IsPlayedOn p mode size xs it.new.self) (sym (row_more done (λ n. actors.Handler n) c.loop-handler.handler))
           (played_more p mode size _ c.loop-handler.self it.new.self (actors.Handler c.loop-handler.handler) it.result (c.loop-handler.invariant.played p mode size done on) it.ensures.steps it.ensures.none it.ensures.unchanged);
-      still = λ none. it.ensures.unchanged (or_second c.loop-handler.stepped it.result none) ∙ c.loop-handler.invariant.still (or_first c.loop-handler.stepped it.result none);
+      still = λ none. it.ensures.unchanged (or_parts c.loop-handler.stepped it.result none).1 ∙ c.loop-handler.invariant.still (or_parts c.loop-handler.stepped it.result none).0;
     }
 
 pub returns-clause-round : goal.returns-clause-round

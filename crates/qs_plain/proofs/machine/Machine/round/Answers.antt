@@ -1,7 +1,7 @@
 use Rattle.std.proofs.Common.{◌≡◌, ◌∙◌, ap, sym, map, length, ℕ, ◌+◌, arith}
 use Rattle.std.specs.List.{range_with_len}
 use Rattle.qs_program.specs.Program.{ProgramShape}
-use Rattle.qs_syncset.proofs.Transfer.{or_first, or_second}
+use Rattle.std.proofs.lemmas.Bool.{or_parts}
 use Rattle.qs_played.specs.declared.actor.Actor.{Actor}
 use Rattle.qs_played.specs.declared.actor.Actor.TheVariants as actors
 use Rattle.qs_plain_laws.specs.Plain.{Plain, step}
@@ -26,7 +26,7 @@ loop-client-preserved c =
     record {
       program = next.1 ∙ c.loop-client.invariant.program;
       value = one_more c.args.self.now c.loop-client.self it.new.self (λ n. actors.Client n) c.loop-client.client c.loop-client.invariant.program c.loop-client.invariant.value next.0;
-      still = λ none. it.ensures.unchanged (or_second c.loop-client.stepped it.result none) ∙ c.loop-client.invariant.still (or_first c.loop-client.stepped it.result none);
+      still = λ none. it.ensures.unchanged (or_parts c.loop-client.stepped it.result none).1 ∙ c.loop-client.invariant.still (or_parts c.loop-client.stepped it.result none).0;
     }
 
 pub loop-handler-preserved : goal.loop-handler-preserved
@@ -36,7 +36,7 @@ loop-handler-preserved c =
     record {
       program = next.1 ∙ c.loop-handler.invariant.program;
       value = one_more c.loop-client.self c.loop-handler.self it.new.self (λ n. actors.Handler n) c.loop-handler.handler c.loop-handler.invariant.program c.loop-handler.invariant.value next.0;
-      still = λ none. it.ensures.unchanged (or_second c.loop-handler.stepped it.result none) ∙ c.loop-handler.invariant.still (or_first c.loop-handler.stepped it.result none);
+      still = λ none. it.ensures.unchanged (or_parts c.loop-handler.stepped it.result none).1 ∙ c.loop-handler.invariant.still (or_parts c.loop-handler.stepped it.result none).0;
     }
 
 pub returns-clause-round : goal.returns-clause-round

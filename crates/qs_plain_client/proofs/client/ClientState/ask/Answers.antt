@@ -3,8 +3,8 @@ use Rattle.qs_objects.specs.Traces.{TraceState, noted_at, trace_at}
 use Rattle.qs_objects.specs.declared.Request.{Request}
 use Rattle.qs_objects.specs.declared.held.Event.{Event}
 use Rattle.qs_program.specs.Sound.{is_in}
-use Rattle.qs_syncset.specs.SyncRows.{AreFew, CountsState, with_sync}
-use Rattle.qs_syncset.proofs.CountRows.{few_in}
+use Rattle.qs_sync_counts.specs.SyncRows.{AreFew, CountsState, with_sync}
+use Rattle.qs_sync_counts.proofs.CountRows.{few_in}
 use Rattle.qs_plain_client.specs.Clients.{AreStored, ClientState, IsClient, client_from, current_block}
 use Rattle.qs_meaning.specs.Interaction.{Call, Query}
 use Rattle.qs_meaning.specs.Solo.{event}

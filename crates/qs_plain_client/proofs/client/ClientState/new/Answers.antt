@@ -11,7 +11,7 @@ use Rattle.qs_plain_client.specs.Queues.{QueueState}
 use Rattle.qs_plain_client.specs.declared.stage.Stage.TheVariants as stages
 use Rattle.qs_meaning.specs.Serial.{zeros}
 use Rattle.qs_objects.specs.Traces.{empty_trace}
-use Rattle.qs_syncset.specs.SyncRows.{fresh_rows}
+use Rattle.qs_sync_counts.specs.SyncRows.{fresh_rows}
 use Rattle.qs_plain_client.proofs.StoredClients.{client_fresh, many_prepared, stored_fresh}
 use Rattle.qs_plain_client.proofs.client.ClientState.new.Goals as goal
 

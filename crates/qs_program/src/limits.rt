@@ -1,0 +1,22 @@
+//! The limits of a program, as a checker and a machine use them.
+
+/// Objects of a program.
+pub const MOST_OBJECTS: usize = 8;
+
+/// Handlers of a program: each object has its own.
+pub const MOST_HANDLERS: usize = MOST_OBJECTS;
+
+/// Clients of a program.
+pub const MOST_CLIENTS: usize = 8;
+
+/// Blocks of a client.
+pub const MOST_BLOCKS: usize = 64;
+
+/// Tickets of a program: one for each block of each client.
+pub const MOST_TICKETS: usize = MOST_CLIENTS * MOST_BLOCKS;
+
+/// Variables of a client.
+pub const MOST_VARIABLES: usize = 16;
+
+/// Turns of a repeat.
+pub const MOST_TURNS: u64 = 1000;

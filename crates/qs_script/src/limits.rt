@@ -1,0 +1,10 @@
+//! The limits of a text.
+
+/// Bytes of a script.
+pub(crate) const LONGEST_TEXT: usize = 65_536;
+
+/// Bytes of a name.
+pub(crate) const LONGEST_NAME: usize = 16;
+
+/// Statements one inside another: each inside at most eight others.
+pub(crate) const MOST_LEVELS: u8 = 9;
