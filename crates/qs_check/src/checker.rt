@@ -15,7 +15,9 @@ use crate::fault::CheckFault;
 use crate::resolve::{resolve_clients, resolve_objects};
 use crate::scope::Scope;
 use crate::walk::{check_client, check_object};
-use qs_program::{Client, Declared, Names, Program, all_load, all_weight};
+use qs_program::{
+    Client, Declared, MOST_REQUESTS, MOST_STEPS, Names, Program, all_load, all_weight,
+};
 use qs_script::{Item, Script};
 use std::alloc::{AllocError, Global};
 use std::collections::VecDeque;
@@ -112,11 +114,11 @@ fn sized(resolved: Resolved) -> Result<Program, CheckFault>
         (λ fault. excess_of (shape_of resolved) ≡ Some fault) }
 {
     let load = all_load(resolved.clients.as_slice());
-    if load > 100_000 {
+    if load > MOST_REQUESTS {
         return Err(CheckFault::Load);
     }
     let weight = all_weight(resolved.clients.as_slice());
-    if weight > 1_000_000 {
+    if weight > MOST_STEPS {
         return Err(CheckFault::Weight);
     }
     Ok(Program::new(resolved.objects, resolved.clients, load, weight))

@@ -2,7 +2,7 @@
 
 use std::alloc::AllocError;
 use std::fmt;
-use std::fmt::{Display, Formatter, Write};
+use std::fmt::{Debug, Display, Formatter, Write};
 use thiserror::Error;
 
 /// The first fault of a script in text order; `Load` and `Weight` come after the whole text, in this order.
@@ -34,29 +34,10 @@ pub enum CheckFault {
     Memory,
 }
 
-impl CheckFault {
-    // What the fault says.
-    fn words(&self) -> &'static str {
-        match self {
-            CheckFault::Twice => "the name is taken",
-            CheckFault::UnknownObject => "no such object",
-            CheckFault::ReservedTwice => "the object is reserved twice",
-            CheckFault::NotReserved => "the object is not reserved",
-            CheckFault::UnknownOp => "no such operation",
-            CheckFault::Arity => "a wrong number of arguments",
-            CheckFault::LeaveOutside => "leave outside a repeat",
-            CheckFault::Limit => "too many",
-            CheckFault::Range => "a number out of its range",
-            CheckFault::Load => "too many requests",
-            CheckFault::Weight => "too many steps",
-            CheckFault::Memory => "out of memory",
-        }
-    }
-}
-
+/// A fault's text is the name of its variant; what the program prints of it is written by `qs_report`.
 impl Display for CheckFault {
     fn fmt<W: Write>(&self, f: &mut Formatter<W>) -> fmt::Result {
-        f.write_str(self.words())
+        Debug::fmt(self, f)
     }
 }
 

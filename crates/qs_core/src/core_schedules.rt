@@ -7,7 +7,7 @@ ghost use Rattle.qs_played.specs.SyncSums.{AreSyncsCounted};
 
 use crate::optimised::Core;
 use qs_chunk::ChunkSize;
-use qs_played::{Actor, PlayFault, Played, are_named};
+use qs_played::{Actor, MOST_ROUNDS, PlayFault, Played, are_named};
 use qs_program::Program;
 use qs_syncset::Mode;
 use std::alloc::{AllocError, Global};
@@ -30,7 +30,7 @@ pub fn play(
     ensures isolated { IfOk result (IsShownIsolated program.now mode size picks.now rounds) }
     ensures counted { IfOk result (AreSyncsCounted program.now mode) }
 {
-    if rounds > 1_000_000 {
+    if rounds > MOST_ROUNDS {
         return Err(PlayFault::Rounds);
     }
     if !are_named(program, picks) {

@@ -84,31 +84,16 @@ module _ (code : ℕ → ClientCode) (size : ℕ) where
 
   -- a client after an act, with what entered its block's trace
   abbrev pub settled : Core → ℕ → Ticket → Settled → Core
-  settled s c t r = record {
-    order = s.order;
+  settled s c t r = record s {
     client = put s.client c r.client;
-    syncs = s.syncs;
-    sync_counts = s.sync_counts;
-    down = s.down;
-    up = s.up;
-    spare = s.spare;
-    handler = s.handler;
-    tickets = s.tickets;
-    entry = s.entry;
     trace = put_ticket s.trace t (s.trace t ++ r.events);
   }
 
   -- Reserve: the ticket comes to the order, and to the queue of each handler of the block's list
   abbrev pub reserved : Core → ℕ → Ticket → Locals → Settled → Core
-  reserved s c t l r = record {
+  reserved s c t l r = record s {
     order = s.order ++ t ∷ [];
     client = put s.client c r.client;
-    syncs = s.syncs;
-    sync_counts = s.sync_counts;
-    down = s.down;
-    up = s.up;
-    spare = s.spare;
-    handler = s.handler;
     tickets = λ h. if may t h then s.tickets h ++ t ∷ [] else s.tickets h;
     entry = put_ticket s.entry t l;
     trace = put_ticket s.trace t r.events;
@@ -138,18 +123,10 @@ module _ (code : ℕ → ClientCode) (size : ℕ) where
   tallied counts t h End = counts
 
   abbrev pub lies : Core → ℕ → ℕ → Parcel → Core
-  lies s c h parcel = record {
-    order = s.order;
-    client = s.client;
+  lies s c h parcel = record s {
     syncs = synced s.syncs c parcel;
     sync_counts = tallied s.sync_counts (current c (s.client c)) h parcel;
     down = put_lane s.down c h (s.down c h ++ parcel ∷ []);
-    up = s.up;
-    spare = s.spare;
-    handler = s.handler;
-    tickets = s.tickets;
-    entry = s.entry;
-    trace = s.trace;
   }
 
   -- SendParcel
@@ -162,34 +139,10 @@ module _ (code : ℕ → ClientCode) (size : ℕ) where
       else None
 
   abbrev pub with_up : Core → ℕ → ℕ → Option HeldState → Core
-  with_up s c h x = record {
-    order = s.order;
-    client = s.client;
-    syncs = s.syncs;
-    sync_counts = s.sync_counts;
-    down = s.down;
-    up = put_lane s.up c h x;
-    spare = s.spare;
-    handler = s.handler;
-    tickets = s.tickets;
-    entry = s.entry;
-    trace = s.trace;
-  }
+  with_up s c h x = record s { up = put_lane s.up c h x }
 
   abbrev pub with_spare : Core → ℕ → ℕ → ℕ → Core
-  with_spare s c h n = record {
-    order = s.order;
-    client = s.client;
-    syncs = s.syncs;
-    sync_counts = s.sync_counts;
-    down = s.down;
-    up = s.up;
-    spare = put_lane s.spare c h n;
-    handler = s.handler;
-    tickets = s.tickets;
-    entry = s.entry;
-    trace = s.trace;
-  }
+  with_spare s c h n = record s { spare = put_lane s.spare c h n }
 
   -- GetObject
   abbrev pub gets : Core → ℕ → ℕ → Option HeldState → Option Core
@@ -215,49 +168,13 @@ module _ (code : ℕ → ClientCode) (size : ℕ) where
   client_step s c wants.Finished = None
 
   abbrev pub handles : Core → ℕ → Handler → Core
-  handles s h x = record {
-    order = s.order;
-    client = s.client;
-    syncs = s.syncs;
-    sync_counts = s.sync_counts;
-    down = s.down;
-    up = s.up;
-    spare = s.spare;
-    handler = put s.handler h x;
-    tickets = s.tickets;
-    entry = s.entry;
-    trace = s.trace;
-  }
+  handles s h x = record s { handler = put s.handler h x }
 
   abbrev pub with_tickets : Core → ℕ → List Ticket → Core
-  with_tickets s h ts = record {
-    order = s.order;
-    client = s.client;
-    syncs = s.syncs;
-    sync_counts = s.sync_counts;
-    down = s.down;
-    up = s.up;
-    spare = s.spare;
-    handler = s.handler;
-    tickets = put s.tickets h ts;
-    entry = s.entry;
-    trace = s.trace;
-  }
+  with_tickets s h ts = record s { tickets = put s.tickets h ts }
 
   abbrev pub with_down : Core → ℕ → ℕ → List Parcel → Core
-  with_down s c h ps = record {
-    order = s.order;
-    client = s.client;
-    syncs = s.syncs;
-    sync_counts = s.sync_counts;
-    down = put_lane s.down c h ps;
-    up = s.up;
-    spare = s.spare;
-    handler = s.handler;
-    tickets = s.tickets;
-    entry = s.entry;
-    trace = s.trace;
-  }
+  with_down s c h ps = record s { down = put_lane s.down c h ps }
 
   -- a handler that came to this with what it took, where that may come to it
   abbrev pub handled : Core → ℕ → Option Handler → Option Core

@@ -6,7 +6,7 @@ ghost use Rattle.qs_desk.specs.Lines.{whose, new_line, new_end, IsEndOf};
 
 use crate::name::DeskName;
 use qs_objects::Next;
-use qs_program::Program;
+use qs_program::{MOST_TICKETS, Program};
 use qs_queue::{Key, Protocol, Sender, Taker, make_ends};
 use std::alloc::{AllocError, Global};
 use std::marker::{Brand, Model, PhantomData};
@@ -58,6 +58,9 @@ impl Chosen for Brand {
     ghost handler = { 0 };
 }
 
+// A queue has room for the tickets of all blocks, and the closing mark.
+const QUEUE_ROOM: usize = MOST_TICKETS + 1;
+
 struct ChosenKey<N> {
     of: PhantomData<N>,
 }
@@ -79,7 +82,7 @@ fn make_chosen<N: Chosen>(
 {
     let _program = program;
     let _handler = handler;
-    make_ends::<Next, Whose, Reserving, ChosenKey<N>>(alloc, 513)
+    make_ends::<Next, Whose, Reserving, ChosenKey<N>>(alloc, QUEUE_ROOM)
 }
 
 /// Both ends of a handler's queue, with room for the tickets of all blocks that there can be, and the closing mark.

@@ -1,9 +1,7 @@
 -- The places of a sound program's block are a graph.
 use Rattle.std.proofs.Common.{◌≡◌, ℕ, zero, suc, ◌+◌, ◌<◌, ◌≤◌, Bool, true, false, ◌||◌, ◌==◌, List, [], ◌∷◌, ◌++◌, length, get_or, refl, arith, subst, length-append}
 use Rattle.std.specs.List.{AllByRecursion}
-use Rattle.qs_objects.specs.declared.Op.{Op}
-use Rattle.qs_objects.specs.declared.Op.TheVariants.{Deposit, Withdraw, Balance, Refused, Put, DropFirst, TakeFirst, First, Size, SetCell, AddCell, Fill, GetCell, RowSum}
-use Rattle.qs_objects.specs.Operations.{arity}
+use Rattle.qs_objects.proofs.Arities.{arity_small}
 use Rattle.qs_program.specs.declared.code.Call as calls
 use Rattle.qs_program.specs.declared.program.Declared.{Declared}
 use Rattle.qs_program.specs.Statements.{Statements, end, command, query, assign, choose, again, leave}
@@ -38,22 +36,6 @@ is_in-all P (y ∷ ys) x member each = by_test (y == x) (λ e. e) member (λ lat
     by_test : (b : Bool) → (b ≡ true → (y == x) ≡ true) → (b || is_in ys x) ≡ true → (is_in ys x ≡ true → P x) → P x
     by_test true same member later = let e : y ≡ x = grind (arith, same refl) in subst P e each.0
     by_test false same member later = later member
-
-arity_small : (op : Op) → arity op ≤ 3
-arity_small Deposit = omega arith
-arity_small Withdraw = omega arith
-arity_small Balance = omega arith
-arity_small Refused = omega arith
-arity_small Put = omega arith
-arity_small DropFirst = omega arith
-arity_small TakeFirst = omega arith
-arity_small First = omega arith
-arity_small Size = omega arith
-arity_small SetCell = omega arith
-arity_small AddCell = omega arith
-arity_small Fill = omega arith
-arity_small GetCell = omega arith
-arity_small RowSum = omega arith
 
 first_below : (at next n : ℕ) (b : Statements) → at + node_count b ≤ n → next < n → first_node at next b < n
 first_below at next n end h w = w

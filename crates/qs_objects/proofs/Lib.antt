@@ -1,3 +1,4 @@
+pub mod Arities
 pub mod Choices
 pub mod Elements
 pub mod Sums

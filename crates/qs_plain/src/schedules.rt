@@ -9,7 +9,7 @@ ghost use Rattle.qs_played.specs.Schedule.{actors_of, all_named, names_actor, re
 ghost use Rattle.qs_plain_laws.specs.PlainSchedule.{IsPlayed, played_of, plays, scheduled};
 
 use crate::machine::Machine;
-use qs_played::{Actor, PlayFault, Played, are_named};
+use qs_played::{Actor, MOST_ROUNDS, PlayFault, Played, are_named};
 use qs_program::Program;
 use std::alloc::{AllocError, Global};
 
@@ -30,7 +30,7 @@ pub fn play_plain(
     ensures isolated { IfOk result (λ played. IsIsolated program.now played (queued (scheduled program.now picks.now rounds))) }
     ensures counted { IfOk result (AreQueriesCounted program.now (scheduled program.now picks.now rounds)) }
 {
-    if rounds > 1_000_000 {
+    if rounds > MOST_ROUNDS {
         return Err(PlayFault::Rounds);
     }
     if !are_named(program, picks) {

@@ -4,9 +4,6 @@ use Rattle.std.specs.List.{list_any}
 use Rattle.std.proofs.lemmas.List.Sums.{sum_by-cons}
 use Rattle.std.proofs.lemmas.List.{length-append}
 use Rattle.std.proofs.Math.Seq.{get_or-append_seam}
-use Rattle.qs_objects.specs.Operations.{arity}
-use Rattle.qs_objects.specs.declared.Op.{Op}
-use Rattle.qs_objects.specs.declared.Op.TheVariants.{Deposit, Withdraw, Balance, Refused, Put, DropFirst, TakeFirst, First, Size, SetCell, AddCell, Fill, GetCell, RowSum}
 use Rattle.qs_objects.specs.declared.held.Event.{Event}
 use Rattle.qs_program.specs.Program.{BlockShape, blocks_of, block_load}
 use Rattle.qs_program.specs.Sound.{IsSound, IsSoundBody, is_in}
@@ -23,23 +20,6 @@ use Rattle.qs_sync_counts.proofs.CountRows.{few_in, few_more, few_none}
 use Rattle.qs_objects.specs.Traces.{TraceState}
 use Rattle.qs_plain_client.specs.declared.stage.Stage.{Stage}
 use Rattle.qs_plain_client.specs.declared.stage.Stage.TheVariants as stage
-
--- no operation takes more than three numbers
-pub arity_small : (op : Op) → arity op ≤ 3
-arity_small Deposit = omega arith
-arity_small Withdraw = omega arith
-arity_small Balance = omega arith
-arity_small Refused = omega arith
-arity_small Put = omega arith
-arity_small DropFirst = omega arith
-arity_small TakeFirst = omega arith
-arity_small First = omega arith
-arity_small Size = omega arith
-arity_small SetCell = omega arith
-arity_small AddCell = omega arith
-arity_small Fill = omega arith
-arity_small GetCell = omega arith
-arity_small RowSum = omega arith
 
 sum_by-mono : (f g : ℕ → ℕ) (xs : List ℕ) → ((k : ℕ) → f k ≤ g k) → sum_by f xs ≤ sum_by g xs
 sum_by-mono f g [] less = omega arith

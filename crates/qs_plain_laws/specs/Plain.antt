@@ -90,21 +90,11 @@ stands it stage = record { stage = stage; entries = it.entries; traces = it.trac
 
 -- an event at the end of the k-th trace
 abbrev pub traced : Client → ℕ → Event → Client
-traced it k e = record {
-  stage = it.stage;
-  entries = it.entries;
-  traces = slice_set it.traces k (slice_index_or it.traces k [] ++ e ∷ []);
-  counts = it.counts;
-}
+traced it k e = record it { traces = slice_set it.traces k (slice_index_or it.traces k [] ++ e ∷ []) }
 
 -- one query more for object h in the k-th block
 abbrev pub counted : Client → ℕ → ℕ → Client
-counted it k h = record {
-  stage = it.stage;
-  entries = it.entries;
-  traces = it.traces;
-  counts = slice_set it.counts k (with_sync h (slice_index_or it.counts k []));
-}
+counted it k h = record it { counts = slice_set it.counts k (with_sync h (slice_index_or it.counts k [])) }
 
 abbrev pub begins : Client → Locals → Interaction → List ℕ → Client
 begins it l rest reserved = record {
@@ -161,9 +151,7 @@ abbrev pub serves : Handler → Private → List Private → List QueueItem → 
 serves h q qs items held = record { queues = record { ticket = q.ticket; items = items } ∷ qs; held = held }
 
 abbrev pub runs_command : Plain → ℕ → Handler → Private → List Private → List QueueItem → Request → Plain
-runs_command s h it q qs items r = record {
-  order = s.order;
-  clients = s.clients;
+runs_command s h it q qs items r = record s {
   handlers = slice_set s.handlers h (serves it q qs items (ran it.held q.ticket r).0);
 }
 
@@ -186,11 +174,7 @@ runs_query s h it q qs items r =
     }
 
 abbrev pub leaves_queue : Plain → ℕ → Handler → List Private → Plain
-leaves_queue s h it qs = record {
-  order = s.order;
-  clients = s.clients;
-  handlers = slice_set s.handlers h (record { queues = qs; held = it.held });
-}
+leaves_queue s h it qs = record s { handlers = slice_set s.handlers h (record { queues = qs; held = it.held }) }
 
 abbrev pub item_step : Plain → ℕ → Handler → Private → List Private → List QueueItem → Option Plain
 item_step s h it q qs [] = None

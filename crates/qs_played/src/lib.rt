@@ -13,6 +13,6 @@ pub use actor::Actor;
 pub use fault::{PlayFault, RunFault};
 pub use journal_rooms::declared_held;
 pub use outcome::Outcome;
-pub use picks::are_named;
+pub use picks::{MOST_ROUNDS, are_named};
 pub use played::{ClientRows, Endings, Played};
 pub use row::Row;

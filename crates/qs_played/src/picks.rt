@@ -6,6 +6,9 @@ ghost use Rattle.qs_played.specs.Schedule.{all_named, names_actor};
 use crate::actor::Actor;
 use qs_program::Program;
 
+/// Rounds of a schedule.
+pub const MOST_ROUNDS: u32 = 1_000_000;
+
 /// Whether each pick names an actor of the program: a client or an object by its number in text order.
 pub fn are_named(program: &Program, picks: &[Actor]) -> bool
     ensures named { result ≡ all_named program.now picks.now }

@@ -10,8 +10,8 @@ mod values;
 
 pub use code::{Atom, Atoms, Body, Call, Expr, Stmt, Test};
 pub use limits::{
-    MOST_BLOCKS, MOST_CLIENTS, MOST_HANDLERS, MOST_OBJECTS, MOST_TICKETS, MOST_TURNS,
-    MOST_VARIABLES,
+    MOST_BLOCKS, MOST_CLIENTS, MOST_HANDLERS, MOST_OBJECTS, MOST_REQUESTS, MOST_STEPS,
+    MOST_TICKETS, MOST_TURNS, MOST_VARIABLES,
 };
 pub use names::Names;
 pub use program::{Block, Client, Declared, Program};

@@ -20,3 +20,9 @@ pub const MOST_VARIABLES: usize = 16;
 
 /// Turns of a repeat.
 pub const MOST_TURNS: u64 = 1000;
+
+/// Requests of a program, on all objects together: its load.
+pub const MOST_REQUESTS: u64 = 100_000;
+
+/// Steps of a program: its weight.
+pub const MOST_STEPS: u64 = 1_000_000;

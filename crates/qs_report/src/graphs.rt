@@ -2,6 +2,7 @@
 
 ghost use Rattle.std.specs.Prelude.{◌≡◌, ◌<◌, ◌++◌, decimal, length, IfOk, OnOk};
 ghost use Rattle.std.specs.List.{AllByRecursion, filter};
+ghost use Rattle.qs_program.specs.Limits.{most_handlers};
 ghost use Rattle.qs_program.specs.Program.{block_at, blocks_of};
 ghost use Rattle.qs_graph.specs.Nodes.{place_at};
 ghost use Rattle.qs_syncset.specs.Table.{has};
@@ -79,7 +80,7 @@ fn put_targets(out: &mut Vec<u8>, targets: &[usize]) -> Result<(), AllocError>
 // The objects of a block's list that are held at a node, in the list's order.
 fn held_at(alloc: Global, reserved: &[u8], sets: &Sets, n: usize) -> Result<Vec<u8>, AllocError>
     requires node { n < length sets.now }
-    requires handlers { AllByRecursion (λ h. h < 8) reserved.now }
+    requires handlers { AllByRecursion (λ h. h < most_handlers) reserved.now }
     ensures held { IfOk result (λ held. held.items ≡ filter (has sets.now n) reserved.now) }
 {
     let mut held = Vec::new(alloc);
@@ -133,7 +134,7 @@ fn put_held(
     n: usize,
 ) -> Result<(), AllocError>
     requires node { n < length sets.now }
-    requires handlers { AllByRecursion (λ h. h < 8) reserved.now }
+    requires handlers { AllByRecursion (λ h. h < most_handlers) reserved.now }
     ensures ok { OnOk result (out.new.items ≡ out.old.items ++ listed (name_of program.now) (filter (has sets.now n) reserved.now)) }
 {
     let held = held_at(alloc, reserved, sets, n)?;
@@ -153,7 +154,7 @@ fn put_node(
 ) -> Result<(), AllocError>
     requires node { n < length graph.now.nodes }
     requires sets { length sets.now ≡ length graph.now.nodes }
-    requires handlers { AllByRecursion (λ h. h < 8) reserved.now }
+    requires handlers { AllByRecursion (λ h. h < most_handlers) reserved.now }
     ensures ok { OnOk result (out.new.items ≡ out.old.items ++ node_line program.now reserved.now graph.now.nodes sets.now n) }
 {
     put_step(out, program, graph, sets, n)?;
@@ -171,7 +172,7 @@ fn put_nodes(
     sets: &Sets,
 ) -> Result<(), AllocError>
     requires sets { length sets.now ≡ length graph.now.nodes }
-    requires handlers { AllByRecursion (λ h. h < 8) reserved.now }
+    requires handlers { AllByRecursion (λ h. h < most_handlers) reserved.now }
     ensures ok { OnOk result (out.new.items ≡ out.old.items ++ nodes_text program.now reserved.now graph.now.nodes sets.now) }
 {
     for n in 0..graph.len() {
@@ -201,7 +202,7 @@ fn reserved_by(program: &Program, client: u8, block: u8) -> &[u8]
     requires client { client < length program.now.clients }
     requires block { block < blocks_of program.now client }
     ensures value { result.now ≡ (block_at program.now client block).reserved }
-    ensures handlers { AllByRecursion (λ h. h < 8) result.now }
+    ensures handlers { AllByRecursion (λ h. h < most_handlers) result.now }
 {
     program.is_sound();
     program.block(client, block).reserved()
@@ -215,7 +216,7 @@ fn put_graph(
     reserved: &[u8],
     graph: &Graph,
 ) -> Result<(), AllocError>
-    requires handlers { AllByRecursion (λ h. h < 8) reserved.now }
+    requires handlers { AllByRecursion (λ h. h < most_handlers) reserved.now }
     ensures ok { OnOk result (IsAdded (AreNodesText program.now reserved.now graph.now.nodes) out.old.items out.new.items) }
 {
     let sets = held_sets(alloc, graph)?;

@@ -6,7 +6,7 @@ use Rattle.qs_script.specs.declared.token.Token.{Token}
 use Rattle.qs_script.specs.declared.token.Token.TheVariants as t
 use Rattle.qs_script.specs.declared.lex.TokenFault.{TokenFault}
 use Rattle.qs_script.specs.declared.lex.TokenFault.TheVariants.{Byte, Number, Name}
-use Rattle.qs_script.specs.Limits.{longest_name}
+use Rattle.qs_script.specs.Limits.{longest_name, most_digits}
 
 abbrev pub between : ℕ → ℕ → ℕ → Bool
 between low b high = nat_le low b && nat_le b high
@@ -64,7 +64,7 @@ abbrev pub over : Pending → Result (List Token) TokenFault
 over nothing = Ok []
 over comment = Ok []
 over (word w) = if nat_lt longest_name (length w) then Err Name else Ok (word_token w ∷ [])
-over (digits ds) = if nat_lt 18 (length ds) then Err Number else Ok (t.Number (value_of ds) ∷ [])
+over (digits ds) = if nat_lt most_digits (length ds) then Err Number else Ok (t.Number (value_of ds) ∷ [])
 over (sign None with_equals) = Err Byte
 over (sign (Some alone) with_equals) = Ok (alone ∷ [])
 

@@ -6,7 +6,7 @@ use std::fmt::{Debug, Display, Formatter, Write};
 use thiserror::Error;
 
 /// Why a text is no script. A line is one more than the number of LF before the fault's place. A reading that fails leaves nothing.
-#[derive(Clone, Copy, PartialEq, Eq, Error)]
+#[derive(Clone, Copy, Debug, PartialEq, Eq, Error)]
 pub enum ReadFault {
     /// The text has more than 65,536 bytes. This is found before anything else.
     Size,
@@ -22,45 +22,10 @@ pub enum ReadFault {
     Memory,
 }
 
-impl ReadFault {
-    // The fault's number and name.
-    fn words(&self) -> &'static str {
-        match self {
-            ReadFault::Size => "1 Size",
-            ReadFault::Byte { .. } => "2 Byte",
-            ReadFault::Number { .. } => "3 Number",
-            ReadFault::Name { .. } => "4 Name",
-            ReadFault::Form { .. } => "5 Form",
-            ReadFault::Memory => "6 Memory",
-        }
-    }
-
-    // The line of the fault's place, where it has one.
-    fn line(&self) -> Option<u32> {
-        match self {
-            ReadFault::Size | ReadFault::Memory => None,
-            ReadFault::Byte { line }
-            | ReadFault::Number { line }
-            | ReadFault::Name { line }
-            | ReadFault::Form { line } => Some(*line),
-        }
-    }
-}
-
+/// A fault's text is the name of its variant, with its line; what the program prints of it is written by `qs_report`.
 impl Display for ReadFault {
     fn fmt<W: Write>(&self, f: &mut Formatter<W>) -> fmt::Result {
-        let words = self.words();
-        match self.line() {
-            Some(line) => write!(f, "{words} line {line}"),
-            None => f.write_str(words),
-        }
-    }
-}
-
-/// A fault's debug text is its text.
-impl Debug for ReadFault {
-    fn fmt<W: Write>(&self, f: &mut Formatter<W>) -> fmt::Result {
-        Display::fmt(self, f)
+        Debug::fmt(self, f)
     }
 }
 

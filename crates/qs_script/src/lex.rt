@@ -1,11 +1,12 @@
 // From bytes to tokens.
 
 ghost use Rattle.std.specs.Prelude.{◌≡◌, ℕ, ◌<◌, ◌≤◌, ◌≢◌, length, slice_index, IsTrue, IfOk, All, false};
+ghost use Rattle.qs_script.specs.Limits.{most_digits};
 ghost use Rattle.qs_script.specs.Tokens.{is_digit as digit, is_letter as letter, is_space as space, at, signs, equals_signs, value_of, word_token, tokens_of, tokens_from, going_on, single_sign, sign};
 ghost use Rattle.qs_script.specs.Cutting.{Cuts, in_run, run_of};
 ghost use Rattle.qs_script.specs.Limits.{longest_name};
 
-use crate::limits::LONGEST_NAME;
+use crate::limits::{LONGEST_NAME, MOST_DIGITS};
 use crate::name::Name;
 use crate::number::Number;
 use crate::token::Token;
@@ -132,7 +133,7 @@ fn front_number(text: &[u8]) -> Result<(Piece, &[u8]), TokenFault>
     ensures shorter { IfOk result (λ x. length x.1.now < length text.now) }
 {
     let (digits, rest) = text.split_at(run_end(Run::Digits, text));
-    if digits.len() > 18 {
+    if digits.len() > MOST_DIGITS {
         return Err(TokenFault::Number);
     }
     Ok((
@@ -218,7 +219,7 @@ fn sign_with_equals(b: u8) -> Option<(Option<Token>, Token)>
 
 // The number that at most eighteen digits write.
 fn number_of(digits: &[u8]) -> u64
-    requires short { length digits.now ≤ 18 }
+    requires short { length digits.now ≤ most_digits }
     requires digits { All (λ b. IsTrue (digit b)) digits.now }
     ensures value { result ≡ value_of digits.now }
     ensures small { result < 1000000000000000000 }

@@ -18,6 +18,7 @@ mod values;
 
 pub use fault::ReadFault;
 pub use lex::TokenFault;
+pub use limits::LONGEST_TEXT;
 pub use name::Name;
 pub use number::Number;
 pub use reader::read;

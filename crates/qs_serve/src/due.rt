@@ -15,7 +15,7 @@ use qs_report::{
     Fault, check_text, graph_text, report, report_counts, report_run, report_run_counts, status,
 };
 use qs_run::{FreeGate, execute};
-use qs_script::read;
+use qs_script::{LONGEST_TEXT, read};
 use qs_syncset::Mode;
 use std::alloc::{AllocError, Global};
 use std::io::Read;
@@ -191,7 +191,8 @@ fn due_of_script<T: Threads + Wait + Sync>(
     due_of_program(rt, alloc, settings, &program)
 }
 
-const LONGEST: usize = 65_537;
+// One byte more than a script may have shows that a text is longer.
+const LONGEST: usize = LONGEST_TEXT + 1;
 
 // What the input's text gives by settings.
 fn due_of_input<T: Threads + Wait + Sync, R: Read>(

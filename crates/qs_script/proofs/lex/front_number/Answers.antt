@@ -2,8 +2,8 @@ use Rattle.std.proofs.Common.{◌∙◌, arith}
 use Rattle.qs_script.proofs.Lexemes.{front_digits, front_passes, digits_too_long, digits_short}
 use Rattle.qs_script.proofs.lex.front_number.Goals as goal
 
-pub returns-then-digits-gt18-clause-exact : goal.returns-then-digits-gt18-clause-exact
-returns-then-digits-gt18-clause-exact c =
+pub returns-then-digits-gt-MOST_DIGITS-clause-exact : goal.returns-then-digits-gt-MOST_DIGITS-clause-exact
+returns-then-digits-gt-MOST_DIGITS-clause-exact c =
     front_digits c.args.text.now c.split_at.result.0.now c.split_at.result.1.now c.run_end.result c.requires.some c.requires.not_letter c.requires.digit c.run_end.ensures.run c.split_at.ensures.front c.split_at.ensures.back
     ∙ digits_too_long c.split_at.result.0.now c.split_at.result.1.now (omega arith)
 

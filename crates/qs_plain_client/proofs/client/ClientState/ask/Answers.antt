@@ -13,7 +13,8 @@ use Rattle.qs_plain_client.specs.declared.client.Asked.TheVariants as asked
 use Rattle.qs_plain_client.specs.ClientMoves.{Goes, moved}
 use Rattle.qs_plain_client.specs.TraceMoves.{no_trace, noted_in}
 use Rattle.qs_plain_client.specs.declared.stage.Stage.TheVariants as stages
-use Rattle.qs_plain_client.proofs.ClientPreserved.{arity_small, within_of, commanded, queried, ended, can_note, same_member}
+use Rattle.qs_objects.proofs.Arities.{arity_small}
+use Rattle.qs_plain_client.proofs.ClientPreserved.{within_of, commanded, queried, ended, can_note, same_member}
 use Rattle.qs_plain_client.proofs.StoredClients.{empty_later, last_begun, many_prepared, moved_counted, moved_noted, stored_counted, stored_noted}
 use Rattle.qs_plain_client.proofs.client.ClientState.ask.Goals as goal
 
