@@ -1,3 +1,3 @@
-//! What running threads do, for callers' proofs and for readers.
+//! What is so of all running threads, for callers' proofs and for readers.
 
-pub use qs_run_laws::laws::{outcomes, settled, settled_examples};
+pub use qs_run_laws::laws::{outcome_examples, outcomes};

@@ -1,9 +1,16 @@
-//! Runs of programs: each client and each handler on a thread of its own.
+//! Runs of programs on threads: each client and each handler has a thread of its own.
+//!
+//! `execution` has the public call, `execute`. It prepares what the run begins with (`prepare`), has all workers run on threads of their own
+//! (`start`), and collects what they gave back into the outcome that is shown (`collect`). What a worker is says `worker`.
 #![tactic(auto)]
 
-mod executing;
+mod collect;
+mod execution;
 pub mod laws;
+mod prepare;
+mod start;
+mod worker;
 
-pub use executing::execute;
+pub use execution::execute;
 pub use qs_handler_thread::{FreeGate, Gate};
 pub use qs_played::{Outcome, RunFault};

@@ -4,6 +4,6 @@ pub mod JournalFlows
 pub mod ThreadTales
 pub mod LanesMeet
 pub mod ThreadsIsolated
-pub mod Settling
-pub mod SettledSample
-pub mod Outcomes
+pub mod RunOutcomes
+pub mod OutcomeSample
+pub mod ClientRowsEnd

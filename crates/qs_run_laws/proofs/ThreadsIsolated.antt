@@ -27,8 +27,7 @@ use Rattle.qs_played.proofs.AbstractRun.{IsRun, run_isolated}
 use Rattle.qs_played.proofs.JournalRooms.{all_left, cost, leads_within, no_block_beyond, order_fits, total_less}
 use Rattle.qs_played.proofs.Orders.{legal_among}
 use Rattle.qs_core_laws.specs.Core.{AreCodes}
-use Rattle.qs_run_laws.specs.Settled.{counts_by, entry_by, shown_by, trace_by}
-use Rattle.qs_run_laws.specs.ThreadRuns.{IsThreadRun, ThreadRun}
+use Rattle.qs_run_laws.specs.ThreadRuns.{IsThreadRun, ThreadRun, counts_by, entry_by, shown_by, trace_by}
 use Rattle.qs_run_laws.proofs.ClientLines.{legal_counts}
 use Rattle.qs_run_laws.proofs.JournalFlows.{Goes, IsOver, goes, size_of}
 use Rattle.qs_run_laws.proofs.LanesMeet.{all_counted, got_for, sent_for, served_whole}

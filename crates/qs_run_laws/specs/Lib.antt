@@ -1,4 +1,3 @@
 pub mod ThreadRuns
-pub mod Settled
-pub mod SettledExamples
 pub mod Outcomes
+pub mod OutcomeExamples

@@ -1,7 +1,9 @@
--- What comes of a program that is run on threads: what the serial run of its blocks shows, along a legal order of them.
-use Rattle.std.specs.Prelude.{◌≡◌, ◌<◌, ℕ, true, [], filter, flat_map, length, map}
+-- What comes of a program that is run on threads: what the serial run of its blocks shows, along a legal order of them. `IsOutcome` alone says
+-- it, and each of its promises can be read by itself.
+use Rattle.std.specs.Prelude.{◌≡◌, ◌<◌, ℕ, true, List, [], filter, flat_map, length, map}
 use Rattle.std.specs.List.{range_with_len}
-use Rattle.qs_objects.specs.Parts.{same}
+use Rattle.qs_objects.specs.Parts.{part, same, stamp}
+use Rattle.qs_objects.specs.declared.held.Entry.{Entry}
 use Rattle.qs_objects.specs.declared.held.Ticket.{Ticket}
 use Rattle.qs_program.specs.Program.{ProgramShape, blocks_of}
 use Rattle.qs_program.specs.Sound.{IsSound}
@@ -12,8 +14,11 @@ use Rattle.qs_played.specs.Isolation.{IsIsolated}
 use Rattle.qs_played.specs.Played.{Played}
 use Rattle.qs_played.specs.SyncSums.{AreSyncsCounted}
 use Rattle.qs_core_laws.specs.Core.{AreCodes}
-use Rattle.qs_run_laws.specs.Settled.{part_at, shown_by}
-use Rattle.qs_run_laws.specs.ThreadRuns.{IsThreadRun, ThreadRun}
+use Rattle.qs_run_laws.specs.ThreadRuns.{IsThreadRun, ThreadRun, shown_by}
+
+-- a ticket's part on an object, as it stands in the object's journal
+abbrev pub part_at : ℕ → Place → List Entry
+part_at h q = map (stamp q.ticket) (part h q.trace)
 
 -- The order is legal, and each block of the program stands in it exactly once. The variables at entry and the traces are those of the serial
 -- run of that order; each object's journal is the serial run's requests on it, one ticket after another, and its state is the one that
@@ -31,7 +36,8 @@ pub record IsOutcome (p : ProgramShape) (mode : Mode) (o : Played) : Type 0 wher
   pub isolated : IsIsolated p o (λ h t. [])
   pub counted : AreSyncsCounted p mode o
 
--- for every checked program, mode, chunk size and run
+-- The law of running threads, for every checked program, mode, chunk size and run: what the threads did is what the blocks do alone, one
+-- after another along the order of reservations.
 abbrev pub ThreadRunsHaveOutcomes : Type 0
 ThreadRunsHaveOutcomes =
     (p : ProgramShape) → IsSound p → (mode : Mode) (code : ℕ → ClientCode) → AreCodes p mode code → (size : ℕ) (r : ThreadRun)

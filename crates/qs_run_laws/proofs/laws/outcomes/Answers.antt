@@ -1,5 +1,5 @@
-use Rattle.qs_run_laws.proofs.Outcomes.{settled_outcome}
+use Rattle.qs_run_laws.proofs.RunOutcomes.{runs_have_outcomes}
 use Rattle.qs_run_laws.proofs.laws.outcomes.Goals as goal
 
 pub returns : goal.returns
-returns c = record { outcomes = settled_outcome }
+returns c = record { outcomes = runs_have_outcomes }

@@ -1,8 +1,0 @@
-use Rattle.std.proofs.Common.{◌≡◌, true, map, take, vec_capacity}
-use Rattle.qs_joins.proofs.showing.all_ended.Given as goal
-
-abbrev pub invariant-loop-ticket : goal.invariant-loop-ticket
-invariant-loop-ticket l = record {
-  ended : l.ended.items ≡ map (λ t. true) (take l._ticket-index l.order);
-  room : vec_capacity l.ended ≡ vec_capacity l.initial.ended;
-}

@@ -1,0 +1,168 @@
+-- What all workers gave back, once they have met, is a run of threads: each client's deeds and mind and each handler's tasks and object are
+-- looked up in the lists of what each did.
+use Rattle.std.proofs.Common.{◌≡◌, ◌<◌, ℕ, true, false, List, [], Option, Some, None, length, slice_get, sym, ap, ◌∙◌, subst, arith, IsSome}
+use Rattle.std.proofs.lemmas.Option.{slice_get_past}
+use Rattle.std.specs.List.{AllByRecursion}
+use Rattle.qs_objects.specs.Journals.{HeldState}
+use Rattle.qs_objects.specs.declared.held.Ticket.{Ticket}
+use Rattle.qs_program.specs.Program.{ProgramShape, blocks_of}
+use Rattle.qs_program.specs.Sound.{IsSound}
+use Rattle.qs_meaning.specs.Following.{reserves}
+use Rattle.qs_meaning.specs.Serial.{IsLegal}
+use Rattle.qs_syncset.specs.Codes.{ClientCode, IsCodeOf}
+use Rattle.qs_syncset.specs.declared.mode.Mode.{Mode}
+use Rattle.qs_chunk.specs.LaneRun.{IsLaneRun}
+use Rattle.qs_chunk.specs.declared.parcel.Parcel.{Parcel}
+use Rattle.qs_handler.specs.Handler.{free, closed}
+use Rattle.qs_handler.specs.HandlerRuns.{Task, TasksLead, given_to, received_from, taken_by}
+use Rattle.qs_handler.proofs.RunTurns.{handlers_take_turns}
+use Rattle.qs_client.specs.ClientRuns.{Deed, RunsTo, got_from, reservations, sent_to}
+use Rattle.qs_client.specs.Mind.{Mind, fresh_mind}
+use Rattle.qs_client.specs.MindState.{mind_of}
+use Rattle.qs_client_thread.specs.ClientThreads as running
+use Rattle.qs_desk.specs.Tickets.{of_client, pushed_to}
+use Rattle.qs_desk.specs.Views.{ShareView, TicketsView}
+use Rattle.qs_handler_thread.specs.HandlerThreads as handling
+use Rattle.qs_lane.specs.Views.{InView, OutView}
+use Rattle.qs_played.specs.Played.{ticket}
+use Rattle.qs_played.specs.JournalRooms.{fresh_held}
+use Rattle.qs_played.proofs.JournalRooms.{no_block_beyond}
+use Rattle.qs_played.proofs.ReservedObjects.{reserved_inside}
+use Rattle.qs_core_laws.specs.Core.{AreCodes}
+use Rattle.qs_run_laws.specs.ThreadRuns.{IsThreadRun, ThreadRun}
+use Rattle.qs_run.specs.Workers.{AreOneLane, ClientHasRun, HandlerHasServed, HaveRun}
+use Rattle.qs_run.specs.declared.worker.ClientWorker.{ClientWorker}
+use Rattle.qs_run.specs.declared.worker.HandlerWorker.{HandlerWorker}
+use Rattle.qs_run.specs.Collected.{HasTakenAll, AreEndsJoined, IsBooked}
+use Rattle.qs_run.proofs.ListPlaces.{IsBothAt, all_at, both_at, there}
+
+-- all that the workers know together once they have met
+module _ {D : Type 0} where
+  pub record IsCollected (p : ProgramShape) (order : List Ticket) (handlers : List (HandlerWorker D)) (clients : List (ClientWorker D)) : Type 0 where
+    pub legal : IsLegal p order
+    pub booked : AllByRecursion (IsBooked order) clients
+    pub taken_all : AllByRecursion (HasTakenAll p order) handlers
+    pub lanes : (c h : ℕ) (s : ClientWorker D) (r : HandlerWorker D) → slice_get clients c ≡ Some s → slice_get handlers h ≡ Some r
+        → AreEndsJoined (running.lane_at s.lanes h) (handling.lane_at r.lanes c)
+
+abbrev pub no_code : ClientCode
+no_code = record { dynamic = false; blocks = [] }
+
+-- a lane that a client may need, from both its ends before and after
+pub lane_run : (size c h : ℕ) (deeds : List Deed) (tasks : List Task) (a b : Option OutView) (u v : Option InView)
+    → IsSome a → running.IsFresh size a → running.HasDone h deeds a b → AreOneLane a u → handling.HasServed c tasks u v → AreEndsJoined b v
+    → IsLaneRun size (sent_to h deeds) (received_from c tasks) (given_to c tasks) (got_from h deeds)
+lane_run size c h deeds tasks None b u v some fresh done one served met = cc
+lane_run size c h deeds tasks (Some a) None u v some fresh done one served met = absurd done
+lane_run size c h deeds tasks (Some a) (Some b) None v some fresh done one served met = absurd one
+lane_run size c h deeds tasks (Some a) (Some b) (Some u) None some fresh done one served met = absurd served
+lane_run size c h deeds tasks (Some a) (Some b) (Some u) (Some v) some fresh done one served met =
+    subst (λ (q : ℕ × (List Parcel × (List Parcel × (List HeldState × List HeldState)))). IsLaneRun q.0 q.1.0 q.1.1.0 q.1.1.1.0 q.1.1.1.1)
+    (λ i. ((done.1 ∙ fresh.0) i, (done.2 i, (served.2 i, (served.3 i, done.3 i))))) met
+
+module _ {D : Type 0} where
+  abbrev pub code_in : Option (ClientWorker D) → ClientCode
+  code_in None = no_code
+  code_in (Some s) = (mind_of s.mind).code
+
+  abbrev pub mind_in : Option (ClientWorker D) → Mind
+  mind_in None = fresh_mind no_code 0
+  mind_in (Some s) = mind_of s.mind
+
+  abbrev pub held_in : HeldState → Option (HandlerWorker D) → HeldState
+  held_in x None = x
+  held_in x (Some s) = s.held
+
+  abbrev pub deeds_in : Option ((x : ClientWorker D) × (y : ClientWorker D) × ClientHasRun x y) → List Deed
+  deeds_in None = []
+  deeds_in (Some b) = b.2.deeds
+
+  abbrev pub tasks_in : {p : ProgramShape} → Option ((x : HandlerWorker D) × (y : HandlerWorker D) × HandlerHasServed p x y) → List Task
+  tasks_in None = []
+  tasks_in (Some b) = b.2.tasks
+
+module _ {D : Type 0} (p : ProgramShape) (sound : IsSound p) (mode : Mode) (size : ℕ) (order : List Ticket) (handlers : List (HandlerWorker D))
+    (clients : List (ClientWorker D)) (ran : HaveRun p mode size handlers clients) (met : IsCollected p order handlers clients) where
+  abbrev pub code : ℕ → ClientCode
+  code c = code_in (slice_get ran.before_clients c)
+
+  abbrev pub threads : ThreadRun
+  threads = record {
+    order = order;
+    deeds = λ c. deeds_in (both_at ClientHasRun ran.before_clients clients ran.ran c);
+    mind = λ c. mind_in (slice_get clients c);
+    tasks = λ h. tasks_in (both_at (HandlerHasServed p) ran.before_handlers handlers ran.served h);
+    held = λ h. held_in (fresh_held p h) (slice_get handlers h);
+  }
+
+  client_at : (c : ℕ) → c < length p.clients → IsBothAt ClientHasRun ran.before_clients clients ran.ran c
+  client_at c own = there ClientHasRun ran.before_clients clients ran.ran c (let all = ran.ready.all_clients in omega (arith, own, all))
+
+  handler_at : (h : ℕ) → h < length p.objects → IsBothAt (HandlerHasServed p) ran.before_handlers handlers ran.served h
+  handler_at h own = there (HandlerHasServed p) ran.before_handlers handlers ran.served h (let all = ran.ready.all_handlers in omega (arith, own, all))
+
+  client_runs : (c : ℕ) → c < length p.clients → RunsTo c (fresh_mind (code c) size) (threads.deeds c) (threads.mind c)
+  client_runs c own =
+      let a = client_at c own in
+      let ready = ran.ready.client c a.first a.first_is in
+      let begins : mind_of a.first.mind ≡ fresh_mind (code c) size = ready.mind.begins ∙ ap (λ k. fresh_mind k size) (sym (ap code_in a.first_is)) in
+      let did = sym (ap deeds_in a.is) in
+      let ends = sym (ap mind_in a.second_is) in
+      subst (λ (q : ℕ × (Mind × (List Deed × Mind))). RunsTo q.0 q.1.0 q.1.1.0 q.1.1.1) (λ i. (ready.number i, (begins i, (did i, ends i)))) a.related.ran
+
+  handler_runs : (h : ℕ) → h < length p.objects → TasksLead (free (fresh_held p h)) (threads.tasks h) (closed (threads.held h))
+  handler_runs h own =
+      let a = handler_at h own in
+      let ready = ran.ready.handler h a.first a.first_is in
+      let did = sym (ap tasks_in a.is) in
+      let ends = sym (ap (held_in (fresh_held p h)) a.second_is) in
+      subst (λ (q : HeldState × (List Task × HeldState)). TasksLead (free q.0) q.1.0 (closed q.1.1)) (λ i. (ready.object i, (did i, ends i))) a.related.served.lead
+
+  booked : (c : ℕ) → c < length p.clients → length (of_client c order) ≡ reservations (threads.deeds c)
+  booked c own =
+      let a = client_at c own in
+      let ready = ran.ready.client c a.first a.first_is in
+      let share = a.related.done.booked in
+      let here = all_at (IsBooked order) clients c a.second met.booked a.second_is in
+      ap (λ n. length (of_client n order)) (sym (ap (λ (s : ShareView). s.client) share ∙ ready.number))
+      ∙ (here ∙ (ap (λ (s : ShareView). s.count) share ∙ ap reservations (sym (ap deeds_in a.is))))
+
+  -- it took the closing mark at last, as it ended closed
+  taken : (h : ℕ) → h < length p.objects → pushed_to p h order true ≡ taken_by (threads.tasks h)
+  taken h own =
+      let a = handler_at h own in
+      let ready = ran.ready.handler h a.first a.first_is in
+      let queue = a.related.served.queue in
+      let turns = handlers_take_turns a.first.held a.second.held a.related.tasks a.related.served.lead in
+      let took = ap (λ (s : TicketsView). s.taken) queue in
+      let here = all_at (HasTakenAll p order) handlers h a.second met.taken_all a.second_is _ (took ∙ turns.taken) in
+      ap (λ n. pushed_to p n order true) (sym (ap (λ (s : TicketsView). s.handler) queue ∙ ready.number))
+      ∙ (here ∙ (took ∙ ap taken_by (sym (ap tasks_in a.is))))
+
+  lanes : (c k h : ℕ) → k < blocks_of p c → reserves p (ticket c k) h ≡ true
+      → IsLaneRun size (sent_to h (threads.deeds c)) (received_from c (threads.tasks h)) (given_to c (threads.tasks h)) (got_from h (threads.deeds c))
+  lanes c k h few own =
+      let a = client_at c (no_block_beyond p c (omega (arith, few))) in
+      let b = handler_at h (reserved_inside p sound (ticket c k) h own) in
+      let start = ran.ready.client c a.first a.first_is in
+      let ready = ran.ready.client_ready c a.first a.first_is in
+      let same = sym start.number in
+      let some = ready.reached k h (subst (λ n. k < blocks_of p n) same few) (subst (λ n. reserves p (ticket n k) h ≡ true) same own) in
+      let fresh = subst (λ n. running.IsFresh n (running.lane_at a.first.lanes h)) (ap (λ (m : Mind). m.size) start.mind.begins) (ready.fresh h) in
+      let run = lane_run size c h a.related.deeds b.related.tasks (running.lane_at a.first.lanes h) (running.lane_at a.second.lanes h)
+      (handling.lane_at b.first.lanes c) (handling.lane_at b.second.lanes c) some fresh (a.related.done.ends h)
+      (ran.ready.lanes c h a.first b.first a.first_is b.first_is) (b.related.served.ends c) (met.lanes c h a.second b.second a.second_is b.second_is) in
+      subst (λ (q : List Deed × List Task). IsLaneRun size (sent_to h q.0) (received_from c q.1) (given_to c q.1) (got_from h q.0))
+      (λ i. (sym (ap deeds_in a.is) i, sym (ap tasks_in b.is) i)) run
+
+  pub codes : AreCodes p mode code
+  codes = record {
+    own = λ c own.
+        let a = client_at c own in
+        subst (λ k. IsCodeOf p mode c k) (sym (ap code_in a.first_is)) (ran.ready.client c a.first a.first_is).mind.code;
+    none = λ c out. ap (λ (s : Option (ClientWorker D)). (code_in s).blocks)
+        (slice_get_past ran.before_clients c (let all = ran.ready.all_clients in omega (arith, out, all)));
+  }
+
+  pub threads_run : IsThreadRun p code size threads
+  threads_run = record { legal = met.legal; booked = booked; taken = taken; lanes = lanes; clients = client_runs; handlers = handler_runs }

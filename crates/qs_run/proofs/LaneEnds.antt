@@ -1,0 +1,72 @@
+-- Ends of lanes in their places, as clients and handlers are gone through.
+use Rattle.std.proofs.Common.{◌≡◌, ℕ, ◌+◌, ◌<◌, ◌≤◌, Bool, false, List, Option, None, length, sym, subst, ◌∙◌, inl, inr, below_more, arith}
+use Rattle.std.proofs.lemmas.Bool.{cases_lt}
+use Rattle.qs_program.specs.Program.{ProgramShape}
+use Rattle.qs_program.specs.Sound.{IsSound}
+use Rattle.qs_lane.specs.Views.{InView, OutView}
+use Rattle.qs_run.specs.Prepared.{AreNewEnds, ever_reserves, in_at, out_at}
+use Rattle.qs_run.proofs.EverReserved.{past_clients, past_handlers}
+
+-- the ends at two places are those that were put there
+ends_moved : (size : ℕ) (wanted : Bool) (out placed_out : Option OutView) (inside placed_in : Option InView) → AreNewEnds size wanted out inside
+    → placed_out ≡ out → placed_in ≡ inside → AreNewEnds size wanted placed_out placed_in
+ends_moved size wanted out placed_out inside placed_in ends is_out is_in =
+    subst (λ o. AreNewEnds size wanted o placed_in) (sym is_out) (subst (λ i. AreNewEnds size wanted out i) (sym is_in) ends)
+
+-- no ends, where there is to be no lane
+no_ends : (size : ℕ) (wanted : Bool) (out : Option OutView) (inside : Option InView) → wanted ≡ false → out ≡ None → inside ≡ None
+    → AreNewEnds size wanted out inside
+no_ends size wanted out inside unwanted no_out no_in =
+    ends_moved size wanted None out None inside
+    (record { sending = record { there = sym unwanted; fresh = tt }; taking = record { there = sym unwanted; fresh = tt }; one = tt })
+    no_out no_in
+
+module _ (p : ProgramShape) (size : ℕ) (outs : List (List (Option OutView))) (ins : List (List (Option InView))) where
+  -- the ends between client c and handler h are in their places
+  abbrev pub Between : ℕ → ℕ → Type 0
+  Between c h = AreNewEnds size (ever_reserves p c h) (out_at outs c h) (in_at ins c h)
+
+  -- or there are none yet
+  abbrev pub NoneAt : ℕ → ℕ → Type 0
+  NoneAt c h = (out_at outs c h ≡ None) × (in_at ins c h ≡ None)
+
+  -- with the lanes to the handlers of the program a client has all of its lanes
+  pub all_handlers : IsSound p → (c n : ℕ) → length p.objects ≤ n → ((h : ℕ) → h < n → Between c h) → ((h : ℕ) → n ≤ h → NoneAt c h) → (h : ℕ) → Between c h
+  all_handlers sound c n many done rest h = elim (cases_lt h n) [
+    | inl less ↦ done h less
+    | inr past ↦ no_ends size (ever_reserves p c h) (out_at outs c h) (in_at ins c h) (past_handlers p sound c h (omega (arith, many, past))) (rest h past).0 (rest h past).1
+  ]
+
+  -- with the lanes of the clients of the program all lanes are there
+  pub all_clients : (n : ℕ) → length p.clients ≤ n → ((c h : ℕ) → c < n → Between c h) → ((c h : ℕ) → n ≤ c → NoneAt c h) → (c h : ℕ) → Between c h
+  all_clients n many done rest c h = elim (cases_lt c n) [
+    | inl less ↦ done c h less
+    | inr past ↦ no_ends size (ever_reserves p c h) (out_at outs c h) (in_at ins c h) (past_clients p c h (omega (arith, many, past))) (rest c h past).0 (rest c h past).1
+  ]
+
+  module _ (outs_before : List (List (Option OutView))) (ins_before : List (List (Option InView))) where
+    -- the places of a client are as they were before
+    abbrev pub SameAt : ℕ → ℕ → Type 0
+    SameAt c h = (out_at outs c h ≡ out_at outs_before c h) × (in_at ins c h ≡ in_at ins_before c h)
+
+-- the lanes of one client more
+pub one_client_more : (p : ProgramShape) (size : ℕ) (outs outs_before : List (List (Option OutView))) (ins ins_before : List (List (Option InView))) (n : ℕ)
+    → ((c h : ℕ) → c < n → Between p size outs_before ins_before c h) → ((h : ℕ) → Between p size outs ins n h)
+    → ((c h : ℕ) → (c ≡ n → ⊥) → SameAt p size outs ins outs_before ins_before c h)
+    → (c h : ℕ) → c < n + 1 → Between p size outs ins c h
+one_client_more p size outs outs_before ins ins_before n done here others = λ c h less.
+    below_more (λ k. (h : ℕ) → Between p size outs ins k h) n
+    (λ k below h.
+    let same = others k h (λ (e : k ≡ n). omega (arith, e, below)) in
+    ends_moved size (ever_reserves p k h) (out_at outs_before k h) (out_at outs k h) (in_at ins_before k h) (in_at ins k h) (done k h below) same.0 same.1)
+    here c less h
+
+-- and the places of those after it are as free as before
+pub rest_free : (p : ProgramShape) (size : ℕ) (outs outs_before : List (List (Option OutView))) (ins ins_before : List (List (Option InView))) (n : ℕ)
+    → ((c h : ℕ) → n ≤ c → NoneAt p size outs_before ins_before c h)
+    → ((c h : ℕ) → (c ≡ n → ⊥) → SameAt p size outs ins outs_before ins_before c h)
+    → (c h : ℕ) → n + 1 ≤ c → NoneAt p size outs ins c h
+rest_free p size outs outs_before ins ins_before n rest others c h past =
+    let same = others c h (λ (e : c ≡ n). omega (arith, e, past)) in
+    let free = rest c h (omega (arith, past)) in
+    (same.0 ∙ free.0, same.1 ∙ free.1)

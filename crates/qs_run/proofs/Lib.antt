@@ -1,0 +1,11 @@
+pub mod ListPlaces
+pub mod EverReserved
+pub mod LaneEnds
+pub mod DeskStart
+pub mod ReadyWorkers
+pub mod NextReadyWorker
+pub mod LanesTaken
+pub mod CollectedWorkers
+pub mod CollectedRun
+pub mod ShownOutcome
+pub mod CollectedOutcome

@@ -1,0 +1,125 @@
+-- What is shown of a run, by the rows of its clients and the objects of its handlers, is what the law of running threads shows of it.
+use Rattle.std.proofs.Common.{◌≡◌, ◌<◌, ◌≤◌, ℕ, zero, suc, true, List, [], ◌∷◌, length, map, get_or, slice_get, refl, sym, ap, ◌∙◌, subst, arith}
+use Rattle.std.proofs.lemmas.List.{get_or-map, length-map}
+use Rattle.std.proofs.lemmas.List.Elements.{length_all_zip}
+use Rattle.std.proofs.lemmas.List.FromFn.{fill_by_all}
+use Rattle.std.specs.List.{AllByRecursion, range_with_len}
+use Rattle.std.specs.Prelude.{sum_by}
+use Rattle.qs_objects.specs.Journals.{HeldState}
+use Rattle.qs_objects.specs.declared.held.Ticket.{Ticket}
+use Rattle.qs_objects.proofs.Elements.{AllByRecursion-get_or}
+use Rattle.qs_program.specs.Program.{ProgramShape, blocks_of}
+use Rattle.qs_program.specs.Sound.{IsSound}
+use Rattle.qs_program.specs.Limits.{most_objects}
+use Rattle.qs_meaning.specs.Serial.{no_state}
+use Rattle.qs_sync_counts.specs.SyncRows.{object_of, syncs_of}
+use Rattle.qs_syncset.specs.declared.mode.Mode.{Mode}
+use Rattle.qs_syncset.proofs.ShortLists.{few_reserved}
+use Rattle.qs_client.specs.Mind.{Mind}
+use Rattle.qs_played.specs.Isolation.{ticket_at}
+use Rattle.qs_played.specs.JournalRooms.{fresh_held}
+use Rattle.qs_played.specs.Played.{ClientRows, HaveRows, counts_in, rows_at, ticket}
+use Rattle.qs_played.specs.SyncSums.{AreSyncsCounted, counts_at}
+use Rattle.qs_played.proofs.JournalRooms.{no_block_beyond}
+use Rattle.qs_played.proofs.SyncLists.{legal_blocks}
+use Rattle.qs_run_laws.specs.Outcomes.{IsOutcome}
+use Rattle.qs_run_laws.specs.ThreadRuns.{ThreadRun, counts_by, shown_by}
+use Rattle.qs_run_laws.proofs.ClientRowsEnd.{HasRow, rows_there}
+use Rattle.qs_run_laws.proofs.RunOutcomes.{runs_have_outcomes}
+use Rattle.qs_run.specs.Workers.{ClientHasRun, HandlerHasServed, HaveRun}
+use Rattle.qs_run.specs.declared.worker.ClientWorker.{ClientWorker}
+use Rattle.qs_run.specs.declared.worker.HandlerWorker.{HandlerWorker}
+use Rattle.qs_run.specs.Collected.{AreCountsShort, journal_of, shown_when_over, rows_of, state_of}
+use Rattle.qs_run.proofs.ListPlaces.{from_places}
+use Rattle.qs_run.proofs.CollectedRun.{IsCollected, code, codes, held_in, mind_in, threads, threads_run}
+
+abbrev pub mind_rows : Mind → ClientRows
+mind_rows m = record { traces = m.traces; entries = m.entries; counts = m.counts }
+
+module _ {D : Type 0} where
+  rows_are : (cs : List (ClientWorker D)) (c : ℕ) → rows_at (map rows_of cs) c ≡ mind_rows (mind_in (slice_get cs c))
+  rows_are [] c = refl
+  rows_are (s ∷ cs) zero = refl
+  rows_are (s ∷ cs) (suc c) = rows_are cs c
+
+  held_at : {X : Type 0} (f : HeldState → X) (d : X) (x : HeldState) (hs : List (HandlerWorker D)) (h : ℕ) → h < length hs
+      → get_or (map (λ (s : HandlerWorker D). f s.held) hs) h d ≡ f (held_in x (slice_get hs h))
+  held_at f d x [] h lt = absurd (omega (arith, lt))
+  held_at f d x (s ∷ hs) zero lt = refl
+  held_at f d x (s ∷ hs) (suc h) lt = held_at f d x hs h (omega (arith, lt))
+
+module _ {D : Type 0} (p : ProgramShape) (sound : IsSound p) (mode : Mode) (size : ℕ) (order : List Ticket) (handlers : List (HandlerWorker D))
+    (clients : List (ClientWorker D)) (ran : HaveRun p mode size handlers clients) (met : IsCollected p order handlers clients) where
+  abbrev r : ThreadRun
+  r = threads p sound mode size order handlers clients ran met
+
+  abbrev rows : List ClientRows
+  rows = map rows_of clients
+
+  all_handlers : length handlers ≡ length p.objects
+  all_handlers = sym (length_all_zip (HandlerHasServed p) ran.before_handlers handlers ran.served) ∙ ran.ready.all_handlers
+
+  all_clients : length clients ≡ length p.clients
+  all_clients = sym (length_all_zip ClientHasRun ran.before_clients clients ran.ran) ∙ ran.ready.all_clients
+
+  helds_are : {X : Type 0} (f : HeldState → X) (d : X)
+      → map (λ (s : HandlerWorker D). f s.held) handlers ≡ map (λ h. f (r.held h)) (range_with_len 0 (length p.objects))
+  helds_are f d =
+      fill_by_all (λ h. f (r.held h)) (map (λ (s : HandlerWorker D). f s.held) handlers) (length p.objects) d
+      (length-map handlers (λ (s : HandlerWorker D). f s.held) ∙ all_handlers)
+      (λ h own. held_at f d (fresh_held p h) handlers h (let all = all_handlers in omega (arith, own, all)))
+
+  shown_are : shown_when_over order rows (map journal_of handlers) (map state_of handlers) ≡ shown_by p r
+  shown_are =
+      let journals = helds_are (λ x. x.journal) [] in
+      let states = helds_are (λ x. x.object) no_state in
+      λ k. record {
+        order = order;
+        ended = map (λ t. true) order;
+        entries = map (λ (t : Ticket). get_or (rows_are clients t.client k).entries t.index []) order;
+        traces = map (λ (t : Ticket). get_or (rows_are clients t.client k).traces t.index []) order;
+        sync_counts = map (λ (t : Ticket). get_or (rows_are clients t.client k).counts t.index []) order;
+        journals = journals k;
+        states = states k;
+        syncs = sum_by syncs_of (map (λ (t : Ticket). get_or (rows_are clients t.client k).counts t.index []) order);
+        finished = true;
+      }
+
+  law : IsOutcome p mode (shown_by p r)
+  law =
+      runs_have_outcomes p sound mode (code p sound mode size order handlers clients ran met) (codes p sound mode size order handlers clients ran met) size r
+      (threads_run p sound mode size order handlers clients ran met)
+
+  pub outcome : IsOutcome p mode (shown_when_over order rows (map journal_of handlers) (map state_of handlers))
+  outcome = subst (IsOutcome p mode) (sym shown_are) law
+
+  pub have_rows : HaveRows rows order
+  have_rows i d few =
+      let t = get_or order i d in
+      let all = rows_there p sound mode (code p sound mode size order handlers clients ran met) (codes p sound mode size order handlers clients ran met) size r
+      (threads_run p sound mode size order handlers clients ran met) in
+      let here = AllByRecursion-get_or (λ (t : Ticket). (t.client < length p.clients) × HasRow (r.mind t.client) t.index) order i d all few in
+      let own = here.0 in
+      let many = length-map clients rows_of in
+      let same = all_clients in
+      record {
+        client = omega (arith, own, many, same);
+        entry = subst (λ (w : ClientRows). t.index < length w.entries) (sym (rows_are clients t.client)) here.1.entry;
+        trace = subst (λ (w : ClientRows). t.index < length w.traces) (sym (rows_are clients t.client)) here.1.trace;
+        counts = subst (λ (w : ClientRows). t.index < length w.counts) (sym (rows_are clients t.client)) here.1.counts;
+      }
+
+  -- a block counts for the objects of its list alone, of which there are few
+  pub short : AreCountsShort rows order
+  unfolding AreSyncsCounted
+  short = from_places (λ (t : Ticket). length (counts_in rows t) ≤ most_objects) (ticket 0 0) order (λ i few.
+      let t = ticket_at (shown_by p r) i in
+      let inside = AllByRecursion-get_or (λ (t : Ticket). t.index < blocks_of p t.client) order i (ticket 0 0) (legal_blocks p (λ _. 0) order met.legal) few in
+      let client = no_block_beyond p t.client (omega (arith, inside)) in
+      let same : counts_in rows t ≡ counts_at (shown_by p r) i =
+      ap (λ (w : ClientRows). get_or w.counts t.index []) (rows_are clients t.client) ∙ sym (get_or-map (counts_by r) order i (ticket 0 0) [] few) in
+      let listed = ap length ((law.counted.each i few).listed) in
+      let objects = length-map (counts_at (shown_by p r) i) object_of in
+      let here = ap length same in
+      let least = few_reserved p t.client t.index sound client inside in
+      omega (arith, listed, objects, here, least))

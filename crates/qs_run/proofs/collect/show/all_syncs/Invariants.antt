@@ -1,0 +1,9 @@
+use Rattle.std.proofs.Common.{◌≡◌, ◌≤◌, ◌*◌, sum_by, take}
+use Rattle.qs_sync_counts.specs.SyncRows.{syncs_of}
+use Rattle.qs_run.proofs.collect.show.all_syncs.Given as goal
+
+abbrev pub invariant-loop-place : goal.invariant-loop-place
+invariant-loop-place l = record {
+  syncs : l.syncs ≡ sum_by syncs_of (take l.place l.played.sync_counts);
+  limit : l.syncs ≤ 34359738360 * l.place;
+}

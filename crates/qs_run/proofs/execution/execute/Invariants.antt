@@ -1,0 +1,5 @@
+-- The desk's name: that of the desk which was made.
+use Rattle.qs_run.proofs.execution.execute.Given as goal
+
+abbrev pub ghosts-run_parts : goal.ghosts-run_parts
+ghosts-run_parts g a = record { program = a.raw.program; queues = a.raw.queues; ledgers = a.raw.ledgers }

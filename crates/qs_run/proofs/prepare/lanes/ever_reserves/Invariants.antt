@@ -1,0 +1,8 @@
+use Rattle.std.proofs.Common.{◌≡◌, false, take}
+use Rattle.std.specs.List.{list_any}
+use Rattle.qs_program.specs.Program.{BlockShape, client_at}
+use Rattle.qs_program.specs.Sound.{is_in}
+use Rattle.qs_run.proofs.prepare.lanes.ever_reserves.Given as goal
+
+abbrev pub invariant-loop-block : goal.invariant-loop-block
+invariant-loop-block l = list_any (λ (b : BlockShape). is_in b.reserved l.handler) (take l.block (client_at l.program l.client).blocks) ≡ false

@@ -1,0 +1,14 @@
+use Rattle.std.proofs.Common.{◌≡◌, ℕ, ◌≤◌, None, drop}
+use Rattle.std.specs.Prelude.{slice_index_or, vec_capacity}
+use Rattle.std.specs.Vec.Iter.{into_iter_items}
+use Rattle.qs_run.specs.Prepared.{AreHandlersOf}
+use Rattle.qs_run.proofs.prepare.workers.add_handlers.Given as goal
+
+abbrev pub invariant-loop-handler : goal.invariant-loop-handler
+invariant-loop-handler g l = record {
+  room : l.count ≤ vec_capacity l.workers;
+  helds : into_iter_items l.helds_left ≡ drop l.handler l.fn.helds.items;
+  ins : into_iter_items l.lanes_left ≡ drop l.handler l.fn.ins.items;
+  tickets : (h : ℕ) → l.handler ≤ h → slice_index_or l.tickets_left h None ≡ slice_index_or l.fn.tickets h None;
+  added : AreHandlersOf g.D.DeskName.program l.fn.ins.items l.handler l.workers.items;
+}

@@ -1,0 +1,3 @@
+pub mod Workers
+pub mod Prepared
+pub mod Collected

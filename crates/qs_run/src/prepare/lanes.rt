@@ -1,0 +1,149 @@
+//! The lanes between clients and handlers.
+
+ghost use Rattle.std.specs.Prelude.{◌≡◌, ℕ, ◌<◌, None, length, IfOk};
+ghost use Rattle.qs_program.specs.Limits.{most_handlers};
+ghost use Rattle.qs_run.specs.Prepared.{AreNewEnds, end_at, ever_reserves, in_at, out_at};
+
+use qs_chunk::ChunkSize;
+use qs_client_thread::Lanes as ClientLanes;
+use qs_handler_thread::Lanes as HandlerLanes;
+use qs_lane::{LaneIn, LaneOut, lane};
+use qs_program::{MOST_HANDLERS, Program};
+use std::alloc::{AllocError, Global};
+use std::sync::Wait;
+
+// Whether some block of a client reserves a handler.
+fn ever_reserves(program: &Program, client: u8, handler: u8) -> bool
+    requires client { client < length program.now.clients }
+    ensures value { result ≡ ever_reserves program.now client handler }
+{
+    program.is_sound();
+    for block in 0..program.blocks_of(client) as u8 {
+        if program.block(client, block).reserved().contains(&handler) {
+            return true;
+        }
+    }
+    false
+}
+
+// Both ends of a new lane, if some block of the client reserves the handler, and none otherwise.
+fn new_ends<R: Wait>(
+    rt: &R,
+    alloc: Global,
+    program: &Program,
+    size: ChunkSize,
+    client: u8,
+    handler: u8,
+) -> Result<(Option<LaneOut>, Option<LaneIn>), AllocError>
+    requires client { client < length program.now.clients }
+    ensures ends { IfOk result (λ ends. AreNewEnds size (ever_reserves program.now client handler) ends.0 ends.1) }
+{
+    if !ever_reserves(program, client, handler) {
+        return Ok((None, None));
+    }
+    let (out, inside) = lane(rt, alloc, size)?;
+    Ok((Some(out), Some(inside)))
+}
+
+// How many ends a row has: one for each handler, or one for each client, at most.
+const MOST_ENDS: usize = MOST_HANDLERS;
+
+// So many rows, each without an end.
+fn empty_rows<T: Drop>(
+    alloc: Global,
+    count: usize,
+) -> Result<Vec<[Option<T>; MOST_ENDS]>, AllocError>
+    ensures len { IfOk result (λ rows. length rows.items ≡ count) }
+    ensures none { IfOk result (λ rows. (row place : ℕ) → end_at rows.items row place ≡ None) }
+{
+    let mut rows = Vec::with_capacity(alloc, count)?;
+    for _row in 0..count {
+        rows.push_reserved([None, None, None, None, None, None, None, None]);
+    }
+    Ok(rows)
+}
+
+// Puts an end into its place, and changes no other place.
+fn put_end<T: Drop>(rows: &mut Vec<[Option<T>; MOST_ENDS]>, row: u8, place: u8, end: Option<T>)
+    requires row { row < length rows.old.items }
+    requires place { place < most_handlers }
+    ensures len { length rows.new.items ≡ length rows.old.items }
+    ensures here { end_at rows.new.items row place ≡ end }
+    ensures other_rows { (r k : ℕ) → (r ≡ row → ⊥) → end_at rows.new.items r k ≡ end_at rows.old.items r k }
+    ensures other_places { (r k : ℕ) → (k ≡ place → ⊥) → end_at rows.new.items r k ≡ end_at rows.old.items r k }
+{
+    rows[usize::from(row)][usize::from(place)] = end;
+}
+
+// Adds the lanes of one client, which has none yet. The lanes of the others stay.
+fn add_client_lanes<R: Wait>(
+    rt: &R,
+    alloc: Global,
+    program: &Program,
+    size: ChunkSize,
+    client: u8,
+    outs: &mut Vec<ClientLanes>,
+    ins: &mut Vec<HandlerLanes>,
+) -> Result<(), AllocError>
+    requires client { client < length program.now.clients }
+    requires outs { length outs.old.items ≡ length program.now.clients }
+    requires ins { length ins.old.items ≡ length program.now.objects }
+    requires none { (h : ℕ) → (out_at outs.old.items client h ≡ None) × (in_at ins.old.items client h ≡ None) }
+    ensures outs { length outs.new.items ≡ length outs.old.items }
+    ensures ins { length ins.new.items ≡ length ins.old.items }
+    ensures lanes { IfOk result (λ _. (h : ℕ)
+        → AreNewEnds size (ever_reserves program.now client h) (out_at outs.new.items client h) (in_at ins.new.items client h)) }
+    ensures others { (c h : ℕ) → (c ≡ client → ⊥)
+        → (out_at outs.new.items c h ≡ out_at outs.old.items c h) × (in_at ins.new.items c h ≡ in_at ins.old.items c h) }
+{
+    program.is_sound();
+    for handler in 0..program.objects() as u8 {
+        let (out, inside) = new_ends(rt, alloc, program, size, client, handler)?;
+        put_end(outs, client, handler, out);
+        put_end(ins, handler, client, inside);
+    }
+    Ok(())
+}
+
+// Adds the lanes of all clients, none of which has a lane yet.
+fn add_lanes<R: Wait>(
+    rt: &R,
+    alloc: Global,
+    program: &Program,
+    size: ChunkSize,
+    outs: &mut Vec<ClientLanes>,
+    ins: &mut Vec<HandlerLanes>,
+) -> Result<(), AllocError>
+    requires outs { length outs.old.items ≡ length program.now.clients }
+    requires ins { length ins.old.items ≡ length program.now.objects }
+    requires none { (c h : ℕ) → (out_at outs.old.items c h ≡ None) × (in_at ins.old.items c h ≡ None) }
+    ensures outs { length outs.new.items ≡ length outs.old.items }
+    ensures ins { length ins.new.items ≡ length ins.old.items }
+    ensures lanes { IfOk result (λ _. (c h : ℕ)
+        → AreNewEnds size (ever_reserves program.now c h) (out_at outs.new.items c h) (in_at ins.new.items c h)) }
+{
+    program.is_sound();
+    for client in 0..program.clients() as u8 {
+        add_client_lanes(rt, alloc, program, size, client, outs, ins)?;
+    }
+    Ok(())
+}
+
+/// Makes a lane for each client and each handler that some block of the client reserves. It gives the ends of each client, by handler, and
+/// those of each handler, by client.
+pub(crate) fn make_lanes<R: Wait>(
+    rt: &R,
+    alloc: Global,
+    program: &Program,
+    size: ChunkSize,
+) -> Result<(Vec<ClientLanes>, Vec<HandlerLanes>), AllocError>
+    ensures outs { IfOk result (λ lanes. length lanes.0.items ≡ length program.now.clients) }
+    ensures ins { IfOk result (λ lanes. length lanes.1.items ≡ length program.now.objects) }
+    ensures lanes { IfOk result (λ lanes. (c h : ℕ)
+        → AreNewEnds size (ever_reserves program.now c h) (out_at lanes.0.items c h) (in_at lanes.1.items c h)) }
+{
+    let mut outs = empty_rows(alloc, program.clients())?;
+    let mut ins = empty_rows(alloc, program.objects())?;
+    add_lanes(rt, alloc, program, size, &mut outs, &mut ins)?;
+    Ok((outs, ins))
+}

@@ -1,0 +1,181 @@
+-- The law of running threads: what is shown of a run of threads is an outcome. The run is an abstract run, so the serial run of its order has
+-- the same blocks, one place for each ticket; from that follow entries, traces, journals and states. The synchronisations of a block
+-- follow from its trace, by the lemma that the optimised machine uses too.
+use Rattle.std.proofs.Common.{◌≡◌, ◌<◌, ◌≤◌, ◌+◌, arith, ℕ, zero, suc, false, List, [], ◌∷◌, ◌++◌, map, flat_map, length, get_or, refl, sym, ap, ap₂, ◌∙◌, subst, inl}
+use Rattle.std.proofs.lemmas.List.{get_or-map}
+use Rattle.std.specs.List.{AllByRecursion, AllZip, range_with_len}
+use Rattle.qs_objects.specs.Journals.{HeldState}
+use Rattle.qs_objects.specs.Parts.{part, stamp}
+use Rattle.qs_objects.specs.declared.held.Entry.{Entry}
+use Rattle.qs_objects.specs.declared.held.Ticket.{Ticket}
+use Rattle.qs_program.specs.Program.{ProgramShape, blocks_of}
+use Rattle.qs_program.specs.Sound.{IsSound}
+use Rattle.qs_meaning.specs.Following.{Leads, block_tree}
+use Rattle.qs_meaning.specs.Serial.{Place, serial}
+use Rattle.qs_meaning.proofs.SerialRuns.{Agrees, legal_apart, runs_serially}
+use Rattle.qs_syncset.specs.Codes.{ClientCode}
+use Rattle.qs_syncset.specs.SyncCounts.{syncs_along}
+use Rattle.qs_sync_counts.specs.SyncRows.{object_of, syncs_for}
+use Rattle.qs_syncset.specs.declared.mode.Mode.{Mode}
+use Rattle.qs_client.specs.Mind.{Mind}
+use Rattle.qs_played.specs.Isolation.{ended_of, entry_of, ticket_at, trace_of}
+use Rattle.qs_played.specs.Played.{ticket}
+use Rattle.qs_played.specs.SyncSums.{AreSent, AreSyncsCounted, IsCounted, counts_at, syncs_at}
+use Rattle.qs_played.proofs.JournalRooms.{no_block_beyond}
+use Rattle.qs_played.proofs.Orders.{among_once}
+use Rattle.qs_protocol.proofs.ClientInvariants.{listed}
+use Rattle.qs_protocol.proofs.TaleCounts.{IsTallied}
+use Rattle.qs_core_laws.specs.Core.{AreCodes, tree_of}
+use Rattle.qs_core_laws.proofs.CountedTraces.{trace_counted, tree_count}
+use Rattle.qs_run_laws.specs.Outcomes.{IsOutcome, ThreadRunsHaveOutcomes, part_at}
+use Rattle.qs_run_laws.specs.ThreadRuns.{IsThreadRun, ThreadRun, counts_by, entry_by, shown_by, trace_by}
+use Rattle.qs_run_laws.proofs.ThreadTales.{block_told, inside, tale, tale_counts}
+use Rattle.qs_run_laws.proofs.ThreadsIsolated.{abstract_run, end, end_is, entry_is, every, isolated, mind_is, object_goes, page, shown, ticket_inside, trace_is}
+
+-- the same for each number of a range
+same_range : {A : Type 0} (f g : ℕ → A) (a n : ℕ) → ((i : ℕ) → a ≤ i → i < a + n → f i ≡ g i) → map f (range_with_len a n) ≡ map g (range_with_len a n)
+same_range f g a zero each = refl
+same_range f g a (suc n) each =
+    ap₂ (λ x xs. x ∷ xs) (each a (omega arith) (omega arith))
+    (same_range f g (a + 1) n (λ i low high. each i (omega (arith, low)) (omega (arith, high))))
+
+-- what holds of all tickets, and of each with its place
+zip_both : {X Y : Type 0} {P : X → Type 0} {R S : X → Y → Type 0} → ((x : X) (y : Y) → P x → R x y → S x y) → (xs : List X) (ys : List Y)
+    → AllByRecursion P xs → AllZip R xs ys → AllZip S xs ys
+zip_both f [] [] all zip = tt
+zip_both f [] (y ∷ ys) all zip = absurd zip
+zip_both f (x ∷ xs) [] all zip = absurd zip
+zip_both f (x ∷ xs) (y ∷ ys) all zip = (f x y all.0 zip.0, zip_both f xs ys all.1 zip.1)
+
+zip_map : {X Y Z : Type 0} (f : X → Z) (g : Y → Z) (xs : List X) (ys : List Y) → AllZip (λ x y. f x ≡ g y) xs ys → map f xs ≡ map g ys
+zip_map f g [] [] zip = refl
+zip_map f g [] (y ∷ ys) zip = absurd zip
+zip_map f g (x ∷ xs) [] zip = absurd zip
+zip_map f g (x ∷ xs) (y ∷ ys) zip = ap₂ (λ z zs. z ∷ zs) zip.0 (zip_map f g xs ys zip.1)
+
+zip_flat : {X Y Z : Type 0} (f : X → List Z) (g : Y → List Z) (xs : List X) (ys : List Y) → AllZip (λ x y. f x ≡ g y) xs ys → flat_map f xs ≡ flat_map g ys
+zip_flat f g [] [] zip = refl
+zip_flat f g [] (y ∷ ys) zip = absurd zip
+zip_flat f g (x ∷ xs) [] zip = absurd zip
+zip_flat f g (x ∷ xs) (y ∷ ys) zip = ap₂ (λ z zs. z ++ zs) zip.0 (zip_flat f g xs ys zip.1)
+
+module _ (p : ProgramShape) (sound : IsSound p) (mode : Mode) (code : ℕ → ClientCode) (codes : AreCodes p mode code) (size : ℕ) (r : ThreadRun)
+    (run : IsThreadRun p code size r) where
+  -- each ticket's page is its place of the serial run
+  record IsAt (t : Ticket) (q : Place) : Type 0 where
+    pub ticket : q.ticket ≡ t
+    pub entry : entry_by r t ≡ q.entry
+    pub trace : trace_by r t ≡ q.trace
+    pub page : (page p sound mode code codes size r run t).trace ≡ q.trace
+
+  serially : AllZip (Agrees p (λ h. (end p sound mode code codes size r run h).journal) (page p sound mode code codes size r run)) r.order (serial p r.order).places
+      × ((h : ℕ) → (⊥ → ⊥) → (serial p r.order).states h ≡ (end p sound mode code codes size r run h).object)
+  serially =
+      let a = abstract_run p sound mode code codes size r run in
+      runs_serially p sound (page p sound mode code codes size r run) (λ h t. []) (λ h. (end p sound mode code codes size r run h).object) (λ h. ⊥)
+      (λ h. (end p sound mode code codes size r run h).journal) r.order a.legal a.pages a.begins a.flows
+
+  places : AllZip IsAt r.order (serial p r.order).places
+  places = zip_both (λ (t : Ticket) (q : Place) (few : t.index < blocks_of p t.client) (a : Agrees p (λ h. (end p sound mode code codes size r run h).journal) (page p sound mode code codes size r run) t q).
+      let done = ((tale p sound mode code codes size r run t.client).blocks t.index (block_told p sound mode code codes size r run t few)).done in
+      record {
+        ticket = a.ticket;
+        entry = entry_is p sound mode code codes size r run t few ∙ a.entry;
+        trace = trace_is p sound mode code codes size r run t few ∙ a.whole done;
+        page = a.whole done;
+      }) r.order (serial p r.order).places (inside p sound mode code codes size r run) serially.0
+
+  always : AllByRecursion (λ (t : Ticket). Unit {0}) r.order
+  always = all r.order
+    where
+      all : (ts : List Ticket) → AllByRecursion (λ (t : Ticket). Unit {0}) ts
+      all [] = tt
+      all (t ∷ ts) = (tt, all ts)
+
+  entries : map (entry_by r) r.order ≡ map (λ (q : Place). q.entry) (serial p r.order).places
+  entries = zip_map (entry_by r) (λ (q : Place). q.entry) r.order (serial p r.order).places
+      (zip_both (λ (t : Ticket) (q : Place) (k : Unit {0}) (is : IsAt t q). is.entry) r.order (serial p r.order).places always places)
+
+  traces : map (trace_by r) r.order ≡ map (λ (q : Place). q.trace) (serial p r.order).places
+  traces = zip_map (trace_by r) (λ (q : Place). q.trace) r.order (serial p r.order).places
+      (zip_both (λ (t : Ticket) (q : Place) (k : Unit {0}) (is : IsAt t q). is.trace) r.order (serial p r.order).places always places)
+
+  -- what a ticket enters into an object's journal
+  abbrev entered : ℕ → Ticket → List Entry
+  entered h t = map (stamp t) (part h (page p sound mode code codes size r run t).trace)
+
+  journals : (h : ℕ) → h < length p.objects → (r.held h).journal ≡ flat_map (part_at h) (serial p r.order).places
+  journals h own =
+      let g = object_goes p sound mode code codes size r run h in
+      ap (λ (o : HeldState). o.journal) (end_is p sound mode code codes size r run h own)
+      ∙ (g.journal ∙ (g.by_tickets
+      ∙ zip_flat (entered h) (part_at h) r.order (serial p r.order).places
+      (zip_both (λ (t : Ticket) (q : Place) (k : Unit {0}) (is : IsAt t q). ap₂ (λ (u : Ticket) es. map (stamp u) (part h es)) (sym is.ticket) is.page)
+      r.order (serial p r.order).places always places)))
+
+  states : (h : ℕ) → h < length p.objects → (r.held h).object ≡ (serial p r.order).states h
+  states h own = ap (λ (o : HeldState). o.object) (end_is p sound mode code codes size r run h own) ∙ sym (serially.1 h (λ none. none))
+
+  -- the i-th reservation's synchronisations
+  module _ (i : ℕ) (few : i < length r.order) where
+    abbrev t : Ticket
+    t = ticket_at (shown p sound mode code codes size r run) i
+
+    own : t.index < blocks_of p t.client
+    own = ticket_inside p sound mode code codes size r run i few
+
+    entry_at : entry_of (shown p sound mode code codes size r run) i ≡ (page p sound mode code codes size r run t).entry
+    entry_at = get_or-map (entry_by r) r.order i (ticket 0 0) [] few ∙ entry_is p sound mode code codes size r run t own
+
+    trace_at : trace_of (shown p sound mode code codes size r run) i ≡ (page p sound mode code codes size r run t).trace
+    trace_at = get_or-map (trace_by r) r.order i (ticket 0 0) [] few ∙ trace_is p sound mode code codes size r run t own
+
+    counts_are : counts_at (shown p sound mode code codes size r run) i ≡ counts_by r t
+    counts_are = get_or-map (counts_by r) r.order i (ticket 0 0) [] few
+
+    tallied : IsTallied (listed p t) (counts_by r t) ((tale_counts p sound mode code codes size r run t.client).syncs t.index)
+    tallied =
+        let client = no_block_beyond p t.client (let o = own in omega (arith, o)) in
+        subst (λ (m : Mind). IsTallied (listed p t) (get_or m.counts t.index []) ((tale_counts p sound mode code codes size r run t.client).syncs t.index))
+        (sym (mind_is p sound mode code codes size r run t.client client))
+        ((tale_counts p sound mode code codes size r run t.client).tallied t.index (block_told p sound mode code codes size r run t own))
+
+    leads : Leads (block_tree p t (entry_of (shown p sound mode code codes size r run) i)) (trace_of (shown p sound mode code codes size r run) i) (page p sound mode code codes size r run t).rest
+    leads =
+        let path = ((tale p sound mode code codes size r run t.client).blocks t.index (block_told p sound mode code codes size r run t own)).page.path in
+        subst (λ l. Leads (block_tree p t l) (trace_of (shown p sound mode code codes size r run) i) (page p sound mode code codes size r run t).rest) (sym entry_at)
+        (subst (λ es. Leads (block_tree p t (page p sound mode code codes size r run t).entry) es (page p sound mode code codes size r run t).rest) (sym trace_at) path)
+
+    sent : AreSent (ended_of (shown p sound mode code codes size r run) i) (syncs_at (shown p sound mode code codes size r run) i)
+        (tree_count p sound mode code codes size (shown p sound mode code codes size r run) i)
+    sent = inl (λ h.
+        ap (λ xs. syncs_for xs h) counts_are
+        ∙ (tallied.numbers h
+        ∙ ((tale_counts p sound mode code codes size r run t.client).counted t.index (block_told p sound mode code codes size r run t own) h
+        ∙ sym (ap₂ (λ l es. syncs_along (code t.client).dynamic h false (tree_of code size t l) es) entry_at trace_at))))
+
+    reservation_counted : IsCounted p mode (shown p sound mode code codes size r run) i
+    reservation_counted =
+        trace_counted p sound mode code codes size (shown p sound mode code codes size r run) i own (page p sound mode code codes size r run t).rest leads sent
+        (ap (map object_of) counts_are ∙ tallied.objects_are)
+
+  counted : AreSyncsCounted p mode (shown p sound mode code codes size r run)
+  unfolding AreSyncsCounted
+  counted = record { all = refl; each = reservation_counted }
+
+  pub has_outcome : IsOutcome p mode (shown_by p r)
+  has_outcome = record {
+    legal = run.legal;
+    once = λ t few. among_once t r.order (legal_apart p (λ _. 0) r.order run.legal) (every p sound mode code codes size r run t few);
+    entries = entries;
+    traces = traces;
+    journals = same_range _ _ 0 _ (λ h low high. journals h (omega (arith, high)));
+    states = same_range _ _ 0 _ (λ h low high. states h (omega (arith, high)));
+    ended = refl;
+    finished = refl;
+    isolated = isolated p sound mode code codes size r run;
+    counted = counted;
+  }
+
+pub runs_have_outcomes : ThreadRunsHaveOutcomes
+runs_have_outcomes p sound mode code codes size r run = has_outcome p sound mode code codes size r run
