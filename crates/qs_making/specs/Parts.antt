@@ -4,7 +4,7 @@ use Rattle.qs_objects.specs.Journals.{HeldState}
 use Rattle.qs_program.specs.Program.{ProgramShape}
 use Rattle.qs_syncset.specs.Codes.{IsCodeOf}
 use Rattle.qs_syncset.specs.declared.mode.Mode.{Mode}
-use Rattle.qs_client.specs.Mind.{fresh_mind}
+use Rattle.qs_client.specs.ClientModel.{fresh_mind}
 use Rattle.qs_client.specs.MindState.{MindState, mind_of}
 use Rattle.qs_played.specs.JournalRooms.{fresh_held}
 use Rattle.qs_making.specs.Ends.{AreEnds, ever_reserves, in_at, out_at}

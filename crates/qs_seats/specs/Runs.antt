@@ -4,7 +4,7 @@ use Rattle.std.specs.List.{AllZip}
 use Rattle.qs_program.specs.Program.{ProgramShape}
 use Rattle.qs_syncset.specs.Codes.{IsCodeOf}
 use Rattle.qs_syncset.specs.declared.mode.Mode.{Mode}
-use Rattle.qs_client.specs.Mind.{fresh_mind}
+use Rattle.qs_client.specs.ClientModel.{fresh_mind}
 use Rattle.qs_client.specs.MindState.{mind_of}
 use Rattle.qs_client_thread.specs.ClientThreads as running
 use Rattle.qs_handler_thread.specs.HandlerThreads as handling
