@@ -14,21 +14,21 @@ use Rattle.qs_chunk.specs.Lanes.{MayFollow, is_asked, is_sync}
 use Rattle.qs_chunk.proofs.LaneFronts.{asked_last}
 use Rattle.qs_chunk.specs.declared.parcel.Parcel.{Parcel}
 use Rattle.qs_chunk.specs.declared.parcel.Parcel.TheVariants as parcels
-use Rattle.qs_client_run.specs.Client.{Client, Place, Settings, Settled, between, runs, full, awaits, leaves, act_at, call_act, clears, rest_act, work, stays, holds, fills, leaving, calls, queries, settle, sent, sent_home, sent_work, sent_sync, sent_end, got, took_chunk}
-use Rattle.qs_client_run.specs.Acting.{IsQuiet}
+use Rattle.qs_client_run.specs.Client.{Client, ClientStage, Settings, Settlement, between, runs, full, awaits, leaves, act_at, call_act, clear, rest_act, work, stop_at, set_held, set_chunk, leave, call, query, settle, after_parcel, after_home, after_work, after_sync, after_end, take_object, take_chunk}
+use Rattle.qs_client_run.specs.NextActs.{SendsNothing}
 use Rattle.qs_client_run.specs.declared.act.Act.{Act}
 use Rattle.qs_client_run.specs.declared.act.Act.TheVariants as acts
-use Rattle.qs_client_run.proofs.Parting.{sends_are_parted}
+use Rattle.qs_client_run.proofs.CarriedValues.{sends_are_parted}
 use Rattle.qs_client.specs.ClientLanes.{is_awaited, IsFree, StandsAt, BeginsAtLanes, SendsMayFollow, SendsKeepOtherLanes, QuietActsKeepLanes, TicketsKeepLanes, ObjectsKeepLanes, ChunksKeepLanes, ClientLaneLaws}
-use Rattle.qs_client.specs.Mind.{Asks, Mind, done, locals_at, next_act, next_mind, reserved_by, settings_of, tree_at}
-use Rattle.qs_client_run.specs.Standing.{after_send, gave, handed_of}
+use Rattle.qs_client.specs.ClientModel.{Asks, ClientModel, finish, locals_at, next_act, next_mind, reserved_by, settings_of, tree_at}
+use Rattle.qs_client_run.specs.BetweenActs.{after_send, without_act, outgoing_of}
 use Rattle.qs_syncset.specs.Codes.{code_at}
 
 -- the object of h is held or not, nothing is awaited, and a full chunk is for an object that is not held
 record Rests (m : Client) (h : ℕ) (held : Bool) : Type 0 where
   pub held_is : is_some (m.held h) ≡ held
-  pub nothing : is_awaited m.place h ≡ false
-  pub free : IsFree m.place m h
+  pub nothing : is_awaited m.stage h ≡ false
+  pub free : IsFree m.stage m h
 
 rests_as : (m : Client) (h : ℕ) (b c : Bool) → b ≡ c → Rests m h b → Rests m h c
 rests_as m h b c is rests = record { held_is = rests.held_is ∙ is; nothing = rests.nothing; free = rests.free }
@@ -42,16 +42,16 @@ held_stays f g h x y is =
     (num_cases g h)
 
 module _ (settings : Settings) (ticket : Ticket) (reserved : List ℕ) (h : ℕ) where
-  rests_leaving : (m : Client) (hs : List ℕ) (l : Locals) → Rests (leaving settings ticket reserved m hs l).client h (is_some (m.held h))
+  rests_leaving : (m : Client) (hs : List ℕ) (l : Locals) → Rests (leave settings ticket reserved m hs l).client h (is_some (m.held h))
   rests_leaving m [] l = record { held_is = refl; nothing = refl; free = tt }
   rests_leaving m (g ∷ hs) l = record { held_is = refl; nothing = refl; free = tt }
 
   -- all quiet work does so
-  abbrev Quiet : (Client → Settled) → Type 0
+  abbrev Quiet : (Client → Settlement) → Type 0
   Quiet go = (m : Client) → Rests (go m).client h (is_some (m.held h))
 
-  rests_full : (m m' : Client) (g : ℕ) (next : Synced) (go : Client → Settled) (b : Bool) → m.held g ≡ None → m'.held ≡ m.held → Quiet go
-      → Rests (if b then stays m' (full g next) else go m').client h (is_some (m.held h))
+  rests_full : (m m' : Client) (g : ℕ) (next : Synced) (go : Client → Settlement) (b : Bool) → m.held g ≡ None → m'.held ≡ m.held → Quiet go
+      → Rests (if b then stop_at m' (full g next) else go m').client h (is_some (m.held h))
   rests_full m m' g next go true none same quiet = record {
     held_is = ap (λ f. is_some (f h)) same;
     nothing = refl;
@@ -59,24 +59,24 @@ module _ (settings : Settings) (ticket : Ticket) (reserved : List ℕ) (h : ℕ)
   }
   rests_full m m' g next go false none same quiet = rests_as (go m').client h (is_some (m'.held h)) (is_some (m.held h)) (ap (λ f. is_some (f h)) same) (quiet m')
 
-  rests_calls : (m : Client) (r : Request) (next : Synced) (go : Client → Settled) (x : Option HeldState) (c : Option (List Request)) → m.held r.object ≡ x → Quiet go
-      → Rests (calls settings ticket reserved m r next go x c).client h (is_some (m.held h))
+  rests_calls : (m : Client) (r : Request) (next : Synced) (go : Client → Settlement) (x : Option HeldState) (c : Option (List Request)) → m.held r.object ≡ x → Quiet go
+      → Rests (call settings ticket reserved m r next go x c).client h (is_some (m.held h))
   rests_calls m r next go (Some x) c is quiet = record { held_is = refl; nothing = refl; free = tt }
   rests_calls m r next go None None is quiet = record { held_is = refl; nothing = refl; free = tt }
   rests_calls m r next go None (Some rs) is quiet =
       let more = rs ++ r ∷ [] in
-      rests_full m (fills m r.object (Some more)) r.object next go (length more == settings.size) is refl quiet
+      rests_full m (set_chunk m r.object (Some more)) r.object next go (length more == settings.size) is refl quiet
 
-  rests_queries : (m : Client) (r : Request) (next : ℤ → Synced) (go : ℤ → Client → Settled) (x : Option HeldState) → m.held r.object ≡ x → ((v : ℤ) → Quiet (go v))
-      → Rests (queries settings ticket reserved m r next go x).client h (is_some (m.held h))
+  rests_queries : (m : Client) (r : Request) (next : ℤ → Synced) (go : ℤ → Client → Settlement) (x : Option HeldState) → m.held r.object ≡ x → ((v : ℤ) → Quiet (go v))
+      → Rests (query settings ticket reserved m r next go x).client h (is_some (m.held h))
   rests_queries m r next go None is quiet = record { held_is = refl; nothing = refl; free = tt }
   rests_queries m r next go (Some x) is quiet =
       let o = ran x ticket r in
-      let new = holds m r.object (Some o.0) in
+      let new = set_held m r.object (Some o.0) in
       rests_as (go (value_of o.1) new).client h (is_some (new.held h)) (is_some (m.held h)) (held_stays m.held r.object h x o.0 is) (quiet (value_of o.1) new)
 
-  rests_sync : (m : Client) (g : ℕ) (next : Synced) (go : Settled) (b : Bool) → Rests go.client h (is_some (m.held h))
-      → Rests (if b then go else stays m (runs (Sync g next))).client h (is_some (m.held h))
+  rests_sync : (m : Client) (g : ℕ) (next : Synced) (go : Settlement) (b : Bool) → Rests go.client h (is_some (m.held h))
+      → Rests (if b then go else stop_at m (runs (Sync g next))).client h (is_some (m.held h))
   rests_sync m g next go true rests = rests
   rests_sync m g next go false rests = record { held_is = refl; nothing = refl; free = tt }
 
@@ -86,42 +86,42 @@ module _ (settings : Settings) (ticket : Ticket) (reserved : List ℕ) (h : ℕ)
   rests_settle (Sync g next) m = rests_sync m g next (settle settings ticket reserved next m) (settings.dynamic && is_some (m.held g)) (rests_settle next m)
   rests_settle (Query r next) m = rests_queries m r next (λ v m. settle settings ticket reserved (next v) m) (m.held r.object) refl (λ v. rests_settle (next v))
 
-settles : (m : Client) (h : ℕ) (b : Bool) → Rests m h b → (is_awaited m.place h || is_some (m.held h)) ≡ b
+settles : (m : Client) (h : ℕ) (b : Bool) → Rests m h b → (is_awaited m.stage h || is_some (m.held h)) ≡ b
 settles m h b rests = rw rests.nothing rests.held_is
 
 module _ (settings : Settings) (ticket : Ticket) (reserved : List ℕ) where
-  abbrev sent_at : Client → ℕ → Parcel → Place → Settled
-  sent_at m g (parcels.Home x) p = sent_home settings ticket reserved m g p
-  sent_at m g (parcels.Work c) p = sent_work settings ticket reserved m g p
-  sent_at m g parcels.Sync p = sent_sync settings ticket reserved m p
-  sent_at m g parcels.End p = sent_end settings ticket reserved m p
+  abbrev sent_at : Client → ℕ → Parcel → ClientStage → Settlement
+  sent_at m g (parcels.Home x) p = after_home settings ticket reserved m g p
+  sent_at m g (parcels.Work c) p = after_work settings ticket reserved m g p
+  sent_at m g parcels.Sync p = after_sync settings ticket reserved m p
+  sent_at m g parcels.End p = after_end settings ticket reserved m p
 
   -- what holds where a client at a place sends a parcel to g
-  record Sends (m : Client) (g : ℕ) (p : Place) (parcel : Parcel) : Type 0 where
+  record Sends (m : Client) (g : ℕ) (p : ClientStage) (parcel : Parcel) : Type 0 where
     pub quiet : (h : ℕ) → is_awaited p h ≡ false
     pub may : IsFree p m g → MayFollow settings.size (is_some (m.held g)) parcel
-    pub own : IsFree p m g → let new = (sent_at m g parcel p).client in ((is_awaited new.place g || is_some (new.held g)) ≡ is_sync parcel) × IsFree new.place new g
+    pub own : IsFree p m g → let new = (sent_at m g parcel p).client in ((is_awaited new.stage g || is_some (new.held g)) ≡ is_sync parcel) × IsFree new.stage new g
     pub others : (h : ℕ) → g ≢ h → let new = (sent_at m g parcel p).client in
-        ((is_awaited new.place h || is_some (new.held h)) ≡ is_some (m.held h)) × IsFree new.place new h
+        ((is_awaited new.stage h || is_some (new.held h)) ≡ is_some (m.held h)) × IsFree new.stage new h
 
-  stood : (m : Client) (h : ℕ) (b : Bool) → Rests m h b → ((is_awaited m.place h || is_some (m.held h)) ≡ b) × IsFree m.place m h
+  stood : (m : Client) (h : ℕ) (b : Bool) → Rests m h b → ((is_awaited m.stage h || is_some (m.held h)) ≡ b) × IsFree m.stage m h
   stood m h b rests = (settles m h b rests, rests.free)
 
   -- the object goes home
-  home_sends : (m : Client) (g : ℕ) (x : HeldState) (p : Place) → m.held g ≡ Some x → ((h : ℕ) → is_awaited p h ≡ false)
-      → ((h : ℕ) → Rests (sent_home settings ticket reserved m g p).client h (is_some (put m.held g None h)))
+  home_sends : (m : Client) (g : ℕ) (x : HeldState) (p : ClientStage) → m.held g ≡ Some x → ((h : ℕ) → is_awaited p h ≡ false)
+      → ((h : ℕ) → Rests (after_home settings ticket reserved m g p).client h (is_some (put m.held g None h)))
       → Sends m g p (parcels.Home x)
   home_sends m g x p is quiet rests = record {
     quiet = quiet;
     may = λ free. subst (λ y. MayFollow settings.size (is_some y) (parcels.Home x)) (sym is) (refl, tt);
-    own = λ free. let new = (sent_home settings ticket reserved m g p).client in stood new g false (rests_as new g (is_some (put m.held g None g)) false (ap is_some (put_here m.held g None)) (rests g));
+    own = λ free. let new = (after_home settings ticket reserved m g p).client in stood new g false (rests_as new g (is_some (put m.held g None g)) false (ap is_some (put_here m.held g None)) (rests g));
     others = λ h apart.
-        let new = (sent_home settings ticket reserved m g p).client in
+        let new = (after_home settings ticket reserved m g p).client in
         stood new h (is_some (m.held h)) (rests_as new h (is_some (put m.held g None h)) (is_some (m.held h)) (ap is_some (put_there m.held g None h (eqb_apart g h apart))) (rests h));
   }
 
   -- another parcel goes, while the object is not held
-  other_sends : (m : Client) (g : ℕ) (parcel : Parcel) (p : Place) → (IsFree p m g → m.held g ≡ None) → is_sync parcel ≡ false → MayFollow settings.size false parcel
+  other_sends : (m : Client) (g : ℕ) (parcel : Parcel) (p : ClientStage) → (IsFree p m g → m.held g ≡ None) → is_sync parcel ≡ false → MayFollow settings.size false parcel
       → ((h : ℕ) → is_awaited p h ≡ false) → ((h : ℕ) → Rests (sent_at m g parcel p).client h (is_some (m.held h)))
       → Sends m g p parcel
   other_sends m g parcel p none silent may quiet rests = record {
@@ -140,35 +140,35 @@ module _ (settings : Settings) (ticket : Ticket) (reserved : List ℕ) where
   }
 
   module _ (blocks : ℕ) (m : Client) (g : ℕ) (parcel : Parcel) where
-    work_of : (p : Place) (k : ℕ) (rs : List Request) → acts.Send k (work settings rs) ≡ acts.Send g parcel → (k ≡ g → IsFree p m g → m.held g ≡ None) → ((h : ℕ) → is_awaited p h ≡ false)
-        → ((h : ℕ) → Rests (sent_work settings ticket reserved m g p).client h (is_some (m.held h))) → Sends m g p parcel
+    work_of : (p : ClientStage) (k : ℕ) (rs : List Request) → acts.Send k (work settings rs) ≡ acts.Send g parcel → (k ≡ g → IsFree p m g → m.held g ≡ None) → ((h : ℕ) → is_awaited p h ≡ false)
+        → ((h : ℕ) → Rests (after_work settings ticket reserved m g p).client h (is_some (m.held h))) → Sends m g p parcel
     work_of p k rs is none quiet rests =
         let at : k ≡ g = cc is in
         let same : work settings rs ≡ parcel = cc is in
         subst (Sends m g p) same (other_sends m g (work settings rs) p (none at) refl (refl, refl) quiet rests)
 
-    home_of : (p : Place) (k : ℕ) (x : HeldState) → acts.Send k (parcels.Home x) ≡ acts.Send g parcel → m.held k ≡ Some x → ((h : ℕ) → is_awaited p h ≡ false)
-        → ((h : ℕ) → Rests (sent_home settings ticket reserved m g p).client h (is_some (put m.held g None h))) → Sends m g p parcel
+    home_of : (p : ClientStage) (k : ℕ) (x : HeldState) → acts.Send k (parcels.Home x) ≡ acts.Send g parcel → m.held k ≡ Some x → ((h : ℕ) → is_awaited p h ≡ false)
+        → ((h : ℕ) → Rests (after_home settings ticket reserved m g p).client h (is_some (put m.held g None h))) → Sends m g p parcel
     home_of p k x is held quiet rests =
         let at : k ≡ g = cc is in
         let same : parcels.Home x ≡ parcel = cc is in
         subst (Sends m g p) same (home_sends m g x p (subst (λ n. m.held n ≡ Some x) at held) quiet rests)
 
     -- it goes home first, then its chunk, and then what is left
-    clearing : (p : Place) (k : ℕ) (x : Option HeldState) (c : Option (List Request)) (last : Parcel) → m.held k ≡ x → clears settings k x c (acts.Send k last) ≡ acts.Send g parcel
+    clearing : (p : ClientStage) (k : ℕ) (x : Option HeldState) (c : Option (List Request)) (last : Parcel) → m.held k ≡ x → clear settings k x c (acts.Send k last) ≡ acts.Send g parcel
         → ((h : ℕ) → is_awaited p h ≡ false)
-        → ((h : ℕ) → Rests (sent_home settings ticket reserved m g p).client h (is_some (put m.held g None h)))
-        → ((h : ℕ) → Rests (sent_work settings ticket reserved m g p).client h (is_some (m.held h)))
+        → ((h : ℕ) → Rests (after_home settings ticket reserved m g p).client h (is_some (put m.held g None h)))
+        → ((h : ℕ) → Rests (after_work settings ticket reserved m g p).client h (is_some (m.held h)))
         → (k ≡ g → last ≡ parcel → m.held g ≡ None → Sends m g p parcel) → Sends m g p parcel
     clearing p k (Some x) c last held is quiet home sent_it left = home_of p k x is held quiet home
     clearing p k None (Some rs) last held is quiet home sent_it left = work_of p k rs is (λ at free. subst (λ n. m.held n ≡ None) at held) quiet sent_it
     clearing p k None None last held is quiet home sent_it left = let at : k ≡ g = cc is in left at (cc is) (subst (λ n. m.held n ≡ None) at held)
 
-    home_runs : (rest : Synced) (h : ℕ) → Rests (settle settings ticket reserved rest (holds m g None)).client h (is_some (put m.held g None h))
-    home_runs rest h = rests_settle settings ticket reserved h rest (holds m g None)
+    home_runs : (rest : Synced) (h : ℕ) → Rests (settle settings ticket reserved rest (set_held m g None)).client h (is_some (put m.held g None h))
+    home_runs rest h = rests_settle settings ticket reserved h rest (set_held m g None)
 
-    work_runs : (rest : Synced) (h : ℕ) → Rests (settle settings ticket reserved rest (fills m g None)).client h (is_some (m.held h))
-    work_runs rest h = rests_settle settings ticket reserved h rest (fills m g None)
+    work_runs : (rest : Synced) (h : ℕ) → Rests (settle settings ticket reserved rest (set_chunk m g None)).client h (is_some (m.held h))
+    work_runs rest h = rests_settle settings ticket reserved h rest (set_chunk m g None)
 
     calls_send : (r : Request) (next : Synced) (x : Option HeldState) (c : Option (List Request)) → m.held r.object ≡ x → call_act settings r.object x c ≡ acts.Send g parcel → Sends m g (runs (Call r next)) parcel
     calls_send r next (Some x) c held is = home_of (runs (Call r next)) r.object x is held (λ h. refl) (home_runs (Call r next))
@@ -187,11 +187,11 @@ module _ (settings : Settings) (ticket : Ticket) (reserved : List ℕ) where
     no_send true is = cc is
     no_send false is = cc is
 
-    full_sends : (k : ℕ) (rest : Synced) (c : Option (List Request)) → clears settings k None c acts.Finished ≡ acts.Send g parcel → Sends m g (full k rest) parcel
+    full_sends : (k : ℕ) (rest : Synced) (c : Option (List Request)) → clear settings k None c acts.Finished ≡ acts.Send g parcel → Sends m g (full k rest) parcel
     full_sends k rest (Some rs) is = work_of (full k rest) k rs is (λ at free. free at) (λ h. refl) (work_runs rest)
     full_sends k rest None is = absurd (cc is)
 
-    sends_at : (p : Place) → act_at settings blocks m p ≡ acts.Send g parcel → Sends m g p parcel
+    sends_at : (p : ClientStage) → act_at settings blocks m p ≡ acts.Send g parcel → Sends m g p parcel
     sends_at (between l) is = absurd (no_send (nat_lt m.begun blocks) is)
     sends_at (runs rest) is = rest_sends rest is
     sends_at (full k rest) is = full_sends k rest (m.chunk k) is
@@ -202,29 +202,29 @@ module _ (settings : Settings) (ticket : Ticket) (reserved : List ℕ) where
         (λ at same none. subst (Sends m g (leaves k hs l)) same (other_sends m g parcels.End (leaves k hs l) (λ free. none) refl (refl, tt) (λ h. refl) (λ h. rests_leaving settings ticket reserved h m hs l)))
 
 -- the client of a mind whose last act was done
-abbrev client_of : Mind → Client
-client_of m = (done m).client
+abbrev client_of : ClientModel → Client
+client_of m = (finish m).client
 
 -- once the parcel that it handed out was sent
 sent_is : (settings : Settings) (ticket : Ticket) (reserved : List ℕ) (m : Client) (g : ℕ) (parcel : Parcel)
-    → sent_at settings ticket reserved m g parcel m.place ≡ sent settings ticket reserved m g parcel
+    → sent_at settings ticket reserved m g parcel m.stage ≡ after_parcel settings ticket reserved m g parcel
 sent_is settings ticket reserved m g (parcels.Home x) = refl
 sent_is settings ticket reserved m g (parcels.Work c) = refl
 sent_is settings ticket reserved m g parcels.Sync = refl
 sent_is settings ticket reserved m g parcels.End = refl
 
-sent_done : (m : Mind) (g : ℕ) (parcel : Parcel) → next_act m ≡ acts.Send g parcel
-    → (sent_at (settings_of m) m.ticket (reserved_by m) (client_of m) g parcel (client_of m).place).client ≡ client_of (next_mind m)
+sent_done : (m : ClientModel) (g : ℕ) (parcel : Parcel) → next_act m ≡ acts.Send g parcel
+    → (sent_at (settings_of m) m.ticket (reserved_by m) (client_of m) g parcel (client_of m).stage).client ≡ client_of (next_mind m)
 sent_done m g parcel is =
     let c = client_of m in
-    ap (λ (s : Settled). s.client)
+    ap (λ (s : Settlement). s.client)
     (sent_is (settings_of m) m.ticket (reserved_by m) c g parcel
     ∙ sends_are_parted (settings_of m) m.ticket (reserved_by m) (length m.code.blocks) c g parcel is
-    ∙ ap (λ a. after_send (settings_of m) m.ticket (reserved_by m) (handed_of a) (gave c a)) (sym is))
+    ∙ ap (λ a. after_send (settings_of m) m.ticket (reserved_by m) (outgoing_of a) (without_act c a)) (sym is))
 
 -- an act that sends nothing leaves nothing to be done
-quiet_done : (settings : Settings) (ticket : Ticket) (reserved : List ℕ) (c : Client) (a : Act) → IsQuiet a
-    → c ≡ (after_send settings ticket reserved (handed_of a) (gave c a)).client
+quiet_done : (settings : Settings) (ticket : Ticket) (reserved : List ℕ) (c : Client) (a : Act) → SendsNothing a
+    → c ≡ (after_send settings ticket reserved (outgoing_of a) (without_act c a)).client
 quiet_done settings ticket reserved c (acts.Send h p) quiet = absurd quiet
 quiet_done settings ticket reserved c acts.Reserve quiet = refl
 quiet_done settings ticket reserved c (acts.Await h) quiet = refl
@@ -232,11 +232,11 @@ quiet_done settings ticket reserved c (acts.NeedChunk h) quiet = refl
 quiet_done settings ticket reserved c acts.Finished quiet = refl
 
 -- nothing is left to be done of an act that was asked for
-asked_client : (m : Mind) (a : Act) → Asks m a → client_of m ≡ m.client
+asked_client : (m : ClientModel) (a : Act) → Asks m a → client_of m ≡ m.client
 asked_client m a asks = ap (λ d. (after_send (settings_of m) m.ticket (reserved_by m) d m.client).client) asks.0
 
 -- only where it waits for an object it asks for one
-not_awaited : (settings : Settings) (blocks : ℕ) (m : Client) (p : Place) (h : ℕ) (a : Act) → ((g : ℕ) → acts.Await g ≢ a) → act_at settings blocks m p ≡ a → is_awaited p h ≡ false
+not_awaited : (settings : Settings) (blocks : ℕ) (m : Client) (p : ClientStage) (h : ℕ) (a : Act) → ((g : ℕ) → acts.Await g ≢ a) → act_at settings blocks m p ≡ a → is_awaited p h ≡ false
 not_awaited settings blocks m (between l) h a other is = refl
 not_awaited settings blocks m (runs rest) h a other is = refl
 not_awaited settings blocks m (full g rest) h a other is = refl
@@ -244,15 +244,15 @@ not_awaited settings blocks m (awaits g rest) h a other is = absurd (other g is)
 not_awaited settings blocks m (leaves g hs l) h a other is = refl
 
 -- a client that has come to rest
-stands_at : (c new : Client) (h : ℕ) (sent : List Parcel) → StandsAt c h sent → is_awaited c.place h ≡ false → Rests new h (is_some (c.held h)) → StandsAt new h sent
+stands_at : (c new : Client) (h : ℕ) (sent : List Parcel) → StandsAt c h sent → is_awaited c.stage h ≡ false → Rests new h (is_some (c.held h)) → StandsAt new h sent
 stands_at c new h sent stands quiet rests = record {
   last = stands.last ∙ (ap (λ b. b || is_some (c.held h)) quiet ∙ sym (settles new h (is_some (c.held h)) rests));
   free = rests.free;
 }
 
-chunk_rests : (settings : Settings) (ticket : Ticket) (reserved : List ℕ) (m : Client) (g h : ℕ) (p : Place) → is_awaited p h ≡ false → IsFree p m h
-    → Rests (took_chunk settings ticket reserved m g p).client h (is_some (m.held h))
-chunk_rests settings ticket reserved m g h (runs rest) quiet free = rests_settle settings ticket reserved h rest (fills m g (Some []))
+chunk_rests : (settings : Settings) (ticket : Ticket) (reserved : List ℕ) (m : Client) (g h : ℕ) (p : ClientStage) → is_awaited p h ≡ false → IsFree p m h
+    → Rests (take_chunk settings ticket reserved m g p).client h (is_some (m.held h))
+chunk_rests settings ticket reserved m g h (runs rest) quiet free = rests_settle settings ticket reserved h rest (set_chunk m g (Some []))
 chunk_rests settings ticket reserved m g h (between l) quiet free = record { held_is = refl; nothing = quiet; free = free }
 chunk_rests settings ticket reserved m g h (full k rest) quiet free = record { held_is = refl; nothing = quiet; free = free }
 chunk_rests settings ticket reserved m g h (awaits k rest) quiet free = record { held_is = refl; nothing = quiet; free = free }
@@ -262,11 +262,11 @@ now_held : (b : Bool) (x : HeldState) (y : Option HeldState) → (b || is_some y
 now_held true x y = refl
 now_held false x y = refl
 
-got_stands : (settings : Settings) (ticket : Ticket) (reserved : List ℕ) (m : Client) (x : HeldState) (h : ℕ) (sent : List Parcel) (p : Place)
-    → is_asked false sent ≡ (is_awaited p h || is_some (m.held h)) → IsFree p m h → StandsAt (got settings ticket reserved m x p).client h sent
+got_stands : (settings : Settings) (ticket : Ticket) (reserved : List ℕ) (m : Client) (x : HeldState) (h : ℕ) (sent : List Parcel) (p : ClientStage)
+    → is_asked false sent ≡ (is_awaited p h || is_some (m.held h)) → IsFree p m h → StandsAt (take_object settings ticket reserved m x p).client h sent
 got_stands settings ticket reserved m x h sent (awaits k rest) last free =
-    let new = (settle settings ticket reserved rest (holds m k (Some x))).client in
-    let rests = rests_settle settings ticket reserved h rest (holds m k (Some x)) in
+    let new = (settle settings ticket reserved rest (set_held m k (Some x))).client in
+    let rests = rests_settle settings ticket reserved h rest (set_held m k (Some x)) in
     record { last = last ∙ (now_held (k == h) x (m.held h) ∙ sym (settles new h (is_some (put m.held k (Some x) h)) rests)); free = rests.free }
 got_stands settings ticket reserved m x h sent (between l) last free = record { last = last; free = free }
 got_stands settings ticket reserved m x h sent (runs rest) last free = record { last = last; free = free }
@@ -276,9 +276,9 @@ got_stands settings ticket reserved m x h sent (leaves k hs l) last free = recor
 begins_at_lanes : BeginsAtLanes
 begins_at_lanes code size h = record { last = refl; free = tt }
 
-sends_of : (m : Mind) (g : ℕ) (parcel : Parcel) → next_act m ≡ acts.Send g parcel
-    → Sends (settings_of m) m.ticket (reserved_by m) (client_of m) g (client_of m).place parcel
-sends_of m g parcel is = sends_at (settings_of m) m.ticket (reserved_by m) (length m.code.blocks) (client_of m) g parcel (client_of m).place is
+sends_of : (m : ClientModel) (g : ℕ) (parcel : Parcel) → next_act m ≡ acts.Send g parcel
+    → Sends (settings_of m) m.ticket (reserved_by m) (client_of m) g (client_of m).stage parcel
+sends_of m g parcel is = sends_at (settings_of m) m.ticket (reserved_by m) (length m.code.blocks) (client_of m) g parcel (client_of m).stage is
 
 sends_may_follow : SendsMayFollow
 sends_may_follow m h parcel sent is stands =
@@ -306,23 +306,23 @@ tickets_keep_lanes : TicketsKeepLanes
 tickets_keep_lanes m t h sent asks stands =
     let at : StandsAt m.client h sent = subst (λ c. StandsAt c h sent) (asked_client m acts.Reserve asks) stands in
     let reserved = (code_at m.code t.index).reserved in
-    let begun : Client = record { begun = suc m.client.begun; place = m.client.place; held = m.client.held; chunk = m.client.chunk } in
-    let tree = tree_at m.code t.index (locals_at m.client.place) in
+    let begun : Client = record { begun = suc m.client.begun; stage = m.client.stage; held = m.client.held; chunk = m.client.chunk } in
+    let tree = tree_at m.code t.index (locals_at m.client.stage) in
     stands_at m.client (settle (settings_of m) t reserved tree begun).client h sent at
-    (not_awaited (settings_of m) (length m.code.blocks) m.client m.client.place h acts.Reserve (λ g is. cc is) asks.1)
+    (not_awaited (settings_of m) (length m.code.blocks) m.client m.client.stage h acts.Reserve (λ g is. cc is) asks.1)
     (rests_settle (settings_of m) t reserved h tree begun)
 
 objects_keep_lanes : ObjectsKeepLanes
 objects_keep_lanes m g x h sent asks stands =
     let at : StandsAt m.client h sent = subst (λ c. StandsAt c h sent) (asked_client m (acts.Await g) asks) stands in
-    got_stands (settings_of m) m.ticket (reserved_by m) m.client x h sent m.client.place at.last at.free
+    got_stands (settings_of m) m.ticket (reserved_by m) m.client x h sent m.client.stage at.last at.free
 
 chunks_keep_lanes : ChunksKeepLanes
 chunks_keep_lanes m g h sent asks stands =
     let at : StandsAt m.client h sent = subst (λ c. StandsAt c h sent) (asked_client m (acts.NeedChunk g) asks) stands in
-    let quiet = not_awaited (settings_of m) (length m.code.blocks) m.client m.client.place h (acts.NeedChunk g) (λ k is. cc is) asks.1 in
-    stands_at m.client (took_chunk (settings_of m) m.ticket (reserved_by m) m.client g m.client.place).client h sent at quiet
-    (chunk_rests (settings_of m) m.ticket (reserved_by m) m.client g h m.client.place quiet at.free)
+    let quiet = not_awaited (settings_of m) (length m.code.blocks) m.client m.client.stage h (acts.NeedChunk g) (λ k is. cc is) asks.1 in
+    stands_at m.client (take_chunk (settings_of m) m.ticket (reserved_by m) m.client g m.client.stage).client h sent at quiet
+    (chunk_rests (settings_of m) m.ticket (reserved_by m) m.client g h m.client.stage quiet at.free)
 
 pub client_lane_laws : ClientLaneLaws
 client_lane_laws = record {

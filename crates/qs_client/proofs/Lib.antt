@@ -1,4 +1,4 @@
-pub mod Booking
-pub mod Fresh
-pub mod Keeping
+pub mod BlockBeginnings
+pub mod FreshMinds
+pub mod MindRefinement
 pub mod LaneSends

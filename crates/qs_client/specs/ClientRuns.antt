@@ -4,7 +4,7 @@ use Rattle.qs_objects.specs.Journals.{HeldState}
 use Rattle.qs_objects.specs.declared.held.Ticket.{Ticket}
 use Rattle.qs_chunk.specs.declared.parcel.Parcel.{Parcel}
 use Rattle.qs_client_run.specs.declared.act.Act.TheVariants as acts
-use Rattle.qs_client.specs.Mind.{Mind, booked_mind, chunk_mind, got_mind, next_act, next_mind}
+use Rattle.qs_client.specs.ClientModel.{ClientModel, mind_after_begin, mind_after_chunk, mind_after_object, next_act, next_mind}
 
 -- it reserved its next block, sent a parcel to a handler, got the object of a handler, or took an empty chunk of the lane to a handler
 pub data Deed : Type 0 where
@@ -14,21 +14,21 @@ pub data Deed : Type 0 where
   takes_chunk : (handler : ℕ) → Deed
 
 -- the ticket that client c reserves next
-abbrev pub next_ticket : ℕ → Mind → Ticket
+abbrev pub next_ticket : ℕ → ClientModel → Ticket
 next_ticket c m = record { client = c; index = m.client.begun }
 
 -- these deeds, each of which the mind of client c asked for, lead from one mind to another
-abbrev pub DeedsLead : ℕ → Mind → List Deed → Mind → Type 0
+abbrev pub DeedsLead : ℕ → ClientModel → List Deed → ClientModel → Type 0
 DeedsLead c m [] end = m ≡ end
 DeedsLead c m (reserves ∷ deeds) end =
-    (next_act m ≡ acts.Reserve) × DeedsLead c (booked_mind (next_mind m) (next_ticket c (next_mind m))) deeds end
+    (next_act m ≡ acts.Reserve) × DeedsLead c (mind_after_begin (next_mind m) (next_ticket c (next_mind m))) deeds end
 DeedsLead c m (sends h parcel ∷ deeds) end = (next_act m ≡ acts.Send h parcel) × DeedsLead c (next_mind m) deeds end
-DeedsLead c m (gets h x ∷ deeds) end = (next_act m ≡ acts.Await h) × DeedsLead c (got_mind (next_mind m) x) deeds end
-DeedsLead c m (takes_chunk h ∷ deeds) end = (next_act m ≡ acts.NeedChunk h) × DeedsLead c (chunk_mind (next_mind m) h) deeds end
+DeedsLead c m (gets h x ∷ deeds) end = (next_act m ≡ acts.Await h) × DeedsLead c (mind_after_object (next_mind m) x) deeds end
+DeedsLead c m (takes_chunk h ∷ deeds) end = (next_act m ≡ acts.NeedChunk h) × DeedsLead c (mind_after_chunk (next_mind m) h) deeds end
 
 -- and after them the mind asks for nothing more
-pub record RunsTo (c : ℕ) (m : Mind) (deeds : List Deed) (end : Mind) : Type 0 where
-  pub last : Mind
+pub record RunsTo (c : ℕ) (m : ClientModel) (deeds : List Deed) (end : ClientModel) : Type 0 where
+  pub last : ClientModel
   pub deeds_lead : DeedsLead c m deeds last
   pub finished : next_act last ≡ acts.Finished
   pub end_is : end ≡ next_mind last

@@ -1,5 +1,5 @@
-pub mod Kept
-pub mod Mind
+pub mod SoundMind
+pub mod ClientModel
 pub mod MindState
 pub mod ClientLanes
 pub mod ClientRuns

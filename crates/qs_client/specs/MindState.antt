@@ -6,12 +6,12 @@ use Rattle.qs_graph.specs.Steps.{limit}
 use Rattle.qs_sync_counts.specs.SyncRows.{CountsState}
 use Rattle.qs_syncset.specs.Codes.{BlockCode, ClientCode, IsCode, code_at}
 use Rattle.qs_client_run.specs.Client.{Client, Settings}
-use Rattle.qs_client_run.specs.Minds.{client_of}
+use Rattle.qs_client_run.specs.ClientOfRun.{client_of}
 use Rattle.qs_objects.specs.Traces.{events_of}
 use Rattle.qs_chunk.specs.Limits.{largest_chunk}
 use Rattle.qs_client_run.specs.declared.run.Run.{Run}
-use Rattle.qs_client_run.specs.declared.stage.Handed.{Handed}
-use Rattle.qs_client.specs.Mind.{Mind, is_between}
+use Rattle.qs_client_run.specs.declared.stage.Outgoing.{Outgoing}
+use Rattle.qs_client.specs.ClientModel.{ClientModel, is_between}
 
 -- the code and the chunks' size; the ticket of the block that was begun last, and where the client stands in it; the variables at entry of
 -- the blocks that were begun; the Syncs that were sent, all and for each block and each object of its list; and what the last act carried
@@ -23,7 +23,7 @@ pub record MindState : Type 0 where
   pub entries : List Locals
   pub syncs : ℕ
   pub counts : CountsState
-  pub handed : Handed
+  pub outgoing : Outgoing
 
 -- the code of the block that was begun last
 abbrev pub block_of : MindState → BlockCode
@@ -37,7 +37,7 @@ abbrev pub client_in : MindState → Client
 client_in m = client_of (block_of m).graph (block_of m).reserved (length m.entries) m.run
 
 -- a mind as its acts are defined
-unfoldable pub mind_of : MindState → Mind
+unfoldable pub mind_of : MindState → ClientModel
 mind_of m = record {
   code = m.code;
   size = m.size;
@@ -47,11 +47,11 @@ mind_of m = record {
   traces = events_of m.run.traces;
   syncs = m.syncs;
   counts = m.counts.rows;
-  handed = m.handed;
+  outgoing = m.outgoing;
 }
 
 -- what holds of every mind
-pub record IsMind (m : Mind) : Type 0 where
+pub record IsMind (m : ClientModel) : Type 0 where
   pub code : IsCode m.code
   pub size : (1 ≤ m.size) × (m.size ≤ largest_chunk)
   pub entries : length m.entries ≡ m.client.begun
@@ -61,4 +61,4 @@ pub record IsMind (m : Mind) : Type 0 where
   pub ticket : 0 < m.client.begun → m.ticket.index + 1 ≡ m.client.begun
   pub syncs : m.syncs ≤ m.client.begun * limit
   -- before its first block it stands between blocks
-  pub first : m.client.begun ≡ 0 → is_between m.client.place ≡ true
+  pub first : m.client.begun ≡ 0 → is_between m.client.stage ≡ true

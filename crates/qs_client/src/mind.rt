@@ -2,16 +2,16 @@
 
 ghost use Rattle.std.specs.Prelude.{◌≡◌, ◌<◌, ℕ, [], IfOk, IsErr, length, option_copied, slice_index_or};
 ghost use Rattle.qs_chunk.specs.Batch.{batch};
-ghost use Rattle.qs_client.specs.Mind.{Asks, lists_of, tallied, booked_mind, chunk_mind, done, ended_by, fresh_mind, got_mind, is_between, next_act, next_mind};
+ghost use Rattle.qs_client.specs.ClientModel.{Asks, lists_of, tally, mind_after_begin, mind_after_chunk, finish, blocks_ended, fresh_mind, mind_after_object, is_between, next_act, next_mind};
 ghost use Rattle.qs_sync_counts.specs.SyncRows.{AreFew, all_counts, counts_state, fresh_rows, greatest_count};
-ghost use Rattle.qs_client_run.specs.Acting.{IsQuiet};
+ghost use Rattle.qs_client_run.specs.NextActs.{SendsNothing};
 ghost use Rattle.qs_client.specs.MindState.{IsMind, mind_of};
 ghost use Rattle.qs_objects.specs.Rows.{joined};
 ghost use Rattle.qs_objects.specs.Traces.{events_of};
 ghost use Rattle.qs_program.specs.Limits.{most_handlers};
 
 use qs_chunk::{Chunk, ChunkSize};
-use qs_client_run::{Act, Handed, Run, Stage};
+use qs_client_run::{Act, Outgoing, Run, Stage};
 use qs_objects::{Event, Held, Request, Ticket, Traces};
 use qs_program::Locals;
 use qs_sync_counts::SyncCounts;
@@ -28,7 +28,7 @@ pub struct Mind {
     entries: Vec<Locals>,
     syncs: u64,
     counts: SyncCounts,
-    handed: Handed,
+    outgoing: Outgoing,
 }
 
 impl Drop for Mind {
@@ -41,7 +41,7 @@ impl Drop for Mind {
             entries: _,
             syncs: _,
             counts: _,
-            handed: _,
+            outgoing: _,
         } = self;
     }
 }
@@ -49,7 +49,7 @@ impl Drop for Mind {
 impl Model for Mind {
     ghost use Rattle.std.specs.Prelude.{◌≤◌, length, vec_capacity};
     ghost use Rattle.qs_client.specs.MindState.{MindState};
-    ghost use Rattle.qs_client.specs.Kept.{IsKept};
+    ghost use Rattle.qs_client.specs.SoundMind.{IsSoundMind};
 
     ghost Value = { MindState };
 
@@ -61,10 +61,10 @@ impl Model for Mind {
       entries = m.entries.items;
       syncs = m.syncs;
       counts = m.counts;
-      handed = m.handed;
+      outgoing = m.outgoing;
     } };
 
-    ghost invariant = { λ m. (length m.code.blocks ≤ vec_capacity m.entries) × IsKept (record {
+    ghost invariant = { λ m. (length m.code.blocks ≤ vec_capacity m.entries) × IsSoundMind (record {
       code = m.code;
       size = m.size;
       ticket = m.ticket;
@@ -72,7 +72,7 @@ impl Model for Mind {
       entries = m.entries.items;
       syncs = m.syncs;
       counts = m.counts;
-      handed = m.handed;
+      outgoing = m.outgoing;
     }) };
 }
 
@@ -95,12 +95,12 @@ fn fresh_counts(alloc: Global, code: &Code) -> Result<SyncCounts, AllocError>
 }
 
 // A Sync that was sent is counted.
-fn tally(counts: &mut SyncCounts, handed: Handed, block: usize)
+fn tally(counts: &mut SyncCounts, outgoing: Outgoing, block: usize)
     requires block { block < length counts.old.rows }
     requires few { AreFew greatest_count (slice_index_or counts.old.rows block []) }
-    ensures counted { counts.new ≡ counts_state (tallied handed block counts.old.rows) counts.old.room }
+    ensures counted { counts.new ≡ counts_state (tally outgoing block counts.old.rows) counts.old.room }
 {
-    if let Handed::Sync(handler) = handed {
+    if let Outgoing::Sync(handler) = outgoing {
         counts.add(block, handler);
     }
 }
@@ -128,7 +128,7 @@ impl Mind {
             entries,
             syncs: 0,
             counts,
-            handed: Handed::Nothing,
+            outgoing: Outgoing::Nothing,
         })
     }
 
@@ -141,58 +141,58 @@ impl Mind {
 
     // What is left to be done for the last act, once it was done.
     fn finish(&mut self)
-        ensures done { mind_of self.new ≡ done (mind_of self.old) }
+        ensures done { mind_of self.new ≡ finish (mind_of self.old) }
     {
-        if let Handed::Nothing = self.handed {
+        if let Outgoing::Nothing = self.outgoing {
             return;
         }
-        self.syncs += self.handed.syncs();
+        self.syncs += self.outgoing.syncs();
         tally(
             &mut self.counts,
-            self.handed,
+            self.outgoing,
             usize::from(self.ticket.index),
         );
-        self.run.sent(&self.code, self.ticket, self.handed);
-        self.handed = Handed::Nothing;
+        self.run.after_send(&self.code, self.ticket, self.outgoing);
+        self.outgoing = Outgoing::Nothing;
     }
 
     /// What the client does next, to be called once the last act was done. An object or a chunk that it sends goes out of the mind.
     pub fn next(&mut self) -> Act
         ensures act { result ≡ next_act (mind_of self.old) }
         ensures rest { mind_of self.new ≡ next_mind (mind_of self.old) }
-        ensures asked { IsQuiet result → Asks (mind_of self.new) result }
+        ensures asked { SendsNothing result → Asks (mind_of self.new) result }
     {
         self.finish();
         let act = self.run.act(&self.code, self.ticket, self.entries.len());
-        self.handed = act.leaves();
+        self.outgoing = act.outgoing();
         act
     }
 
     /// The client's next block was reserved, with this ticket.
-    pub fn booked(&mut self, ticket: Ticket)
+    pub fn begin(&mut self, ticket: Ticket)
         requires asked { Asks (mind_of self.old) Act.Reserve }
         requires next { ticket.index ≡ (mind_of self.old).client.begun }
-        ensures booked { mind_of self.new ≡ booked_mind (mind_of self.old) ticket }
+        ensures begun { mind_of self.new ≡ mind_after_begin (mind_of self.old) ticket }
     {
-        let locals = *self.run.way.locals();
+        let locals = *self.run.position.locals();
         self.entries.push_reserved(locals);
         self.ticket = ticket;
         self.run.begin(&self.code, ticket);
     }
 
     /// The object came that the client waited for.
-    pub fn got(&mut self, held: Held)
+    pub fn take_object(&mut self, held: Held)
         requires asked { (h : ℕ) × Asks (mind_of self.old) (Act.Await h) }
-        ensures got { mind_of self.new ≡ got_mind (mind_of self.old) held }
+        ensures object { mind_of self.new ≡ mind_after_object (mind_of self.old) held }
     {
         self.run.take_object(&self.code, self.ticket, held);
     }
 
     /// An empty chunk of the lane that the client asked for.
-    pub fn chunk(&mut self, chunk: Chunk<Request>)
+    pub fn take_chunk(&mut self, chunk: Chunk<Request>)
         requires asked { (h : ℕ) × Asks (mind_of self.old) (Act.NeedChunk h) }
         requires empty { chunk ≡ batch [] (mind_of self.old).size }
-        ensures chunk { (h : ℕ) → Asks (mind_of self.old) (Act.NeedChunk h) → mind_of self.new ≡ chunk_mind (mind_of self.old) h }
+        ensures chunk { (h : ℕ) → Asks (mind_of self.old) (Act.NeedChunk h) → mind_of self.new ≡ mind_after_chunk (mind_of self.old) h }
     {
         self.run.take_chunk(&self.code, self.ticket, chunk);
     }
@@ -232,15 +232,15 @@ impl Mind {
     /// Whether the client stands between blocks.
     #[tactic(auto, unfolding(crate::specs::MindState::mind_of))]
     pub fn is_between(&self) -> bool
-        ensures value { result ≡ is_between (mind_of self.now).client.place }
+        ensures value { result ≡ is_between (mind_of self.now).client.stage }
     {
         matches!(self.run.stage, Stage::Between)
     }
 
     /// How many blocks have ended, as the act after a block's last End comes.
     #[tactic(auto, unfolding(crate::specs::MindState::mind_of))]
-    pub fn ended(&self) -> usize
-        ensures value { result ≡ ended_by (mind_of self.now).client }
+    pub fn blocks_ended(&self) -> usize
+        ensures value { result ≡ blocks_ended (mind_of self.now).client }
     {
         let begun = self.entries.len();
         if self.is_between() { begun } else { begun - 1 }
@@ -292,7 +292,7 @@ impl Mind {
         requires handler { handler < most_handlers }
         ensures value { option_copied result ≡ (mind_of self.now).client.held handler }
     {
-        self.run.hands.held(handler)
+        self.run.holdings.held(handler)
     }
 
     /// The traces of all blocks, the variables at entry of those that were begun, and the counts of Syncs.
@@ -310,7 +310,7 @@ impl Mind {
             entries,
             syncs: _,
             counts,
-            handed: _,
+            outgoing: _,
         } = self;
         (run.into_traces(), entries, counts)
     }

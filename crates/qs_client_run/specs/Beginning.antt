@@ -3,19 +3,19 @@ use Rattle.std.specs.Prelude.{List, replicate}
 use Rattle.qs_meaning.specs.Serial.{zeros}
 use Rattle.qs_graph.specs.Walk.{entry}
 use Rattle.qs_syncset.specs.Codes.{BlockCode}
-use Rattle.qs_client_run.specs.Hand.{no_hands}
+use Rattle.qs_client_run.specs.Holdings.{no_holdings}
 use Rattle.qs_client_run.specs.BlockSizes.{empty_rows, longest}
-use Rattle.qs_client_run.specs.Restart.{restarted}
+use Rattle.qs_client_run.specs.Restart.{restart}
 use Rattle.qs_client_run.specs.declared.run.Run.{Run}
 use Rattle.qs_client_run.specs.declared.stage.Stage.TheVariants as stages
 
 abbrev pub fresh_run : List BlockCode → Run
 fresh_run blocks = record {
-  way = entry zeros (replicate (longest blocks) 0);
-  hands = no_hands;
+  position = entry zeros (replicate (longest blocks) 0);
+  holdings = no_holdings;
   traces = empty_rows blocks;
   stage = stages.Between;
 }
 
-abbrev pub begins_at : Run → Run
-begins_at s = record { way = restarted s.way; hands = s.hands; traces = s.traces; stage = s.stage }
+abbrev pub at_beginning : Run → Run
+at_beginning s = record { position = restart s.position; holdings = s.holdings; traces = s.traces; stage = s.stage }

@@ -16,17 +16,17 @@ use Rattle.qs_client_run.specs.declared.act.Act.TheVariants.{Reserve, Send, Awai
 
 -- where a client stands: between blocks; in a block, with the rest of it; there with a full chunk; waiting for an object; at a block's end,
 -- leaving this object and then the others
-pub data Place : Type 0 where
-  between : (locals : Locals) → Place
-  runs : (rest : Synced) → Place
-  full : (object : ℕ) → (rest : Synced) → Place
-  awaits : (object : ℕ) → (rest : Synced) → Place
-  leaves : (object : ℕ) → (others : List ℕ) → (locals : Locals) → Place
+pub data ClientStage : Type 0 where
+  between : (locals : Locals) → ClientStage
+  runs : (rest : Synced) → ClientStage
+  full : (object : ℕ) → (rest : Synced) → ClientStage
+  awaits : (object : ℕ) → (rest : Synced) → ClientStage
+  leaves : (object : ℕ) → (others : List ℕ) → (locals : Locals) → ClientStage
 
 -- the blocks that it has begun, where it stands, the objects that it holds, and its open chunks
 pub record Client : Type 0 where
   pub begun : ℕ
-  pub place : Place
+  pub stage : ClientStage
   pub held : ℕ → Option HeldState
   pub chunk : ℕ → Option (List Request)
 
@@ -35,24 +35,24 @@ pub record Settings : Type 0 where
   pub dynamic : Bool
   pub size : ℕ
 
-abbrev pub stands : Client → Place → Client
-stands m p = record { begun = m.begun; place = p; held = m.held; chunk = m.chunk }
+abbrev pub set_stage : Client → ClientStage → Client
+set_stage m p = record { begun = m.begun; stage = p; held = m.held; chunk = m.chunk }
 
-abbrev pub holds : Client → ℕ → Option HeldState → Client
-holds m h x = record { begun = m.begun; place = m.place; held = put m.held h x; chunk = m.chunk }
+abbrev pub set_held : Client → ℕ → Option HeldState → Client
+set_held m h x = record { begun = m.begun; stage = m.stage; held = put m.held h x; chunk = m.chunk }
 
-abbrev pub fills : Client → ℕ → Option (List Request) → Client
-fills m h rs = record { begun = m.begun; place = m.place; held = m.held; chunk = put m.chunk h rs }
+abbrev pub set_chunk : Client → ℕ → Option (List Request) → Client
+set_chunk m h rs = record { begun = m.begun; stage = m.stage; held = m.held; chunk = put m.chunk h rs }
 
 -- a client with what entered its block's trace meanwhile
-pub record Settled : Type 0 where
+pub record Settlement : Type 0 where
   pub client : Client
   pub events : List Event
 
-abbrev pub stays : Client → Place → Settled
-stays m p = record { client = stands m p; events = [] }
+abbrev pub stop_at : Client → ClientStage → Settlement
+stop_at m p = record { client = set_stage m p; events = [] }
 
-abbrev pub with_event : Event → Settled → Settled
+abbrev pub with_event : Event → Settlement → Settlement
 with_event e s = record { client = s.client; events = e ∷ s.events }
 
 module _ (settings : Settings) where
@@ -60,10 +60,10 @@ module _ (settings : Settings) where
   work rs = parcels.Work (batch rs settings.size)
 
   -- with the object, it goes home; else with an open chunk, the chunk goes; else this
-  abbrev pub clears : ℕ → Option HeldState → Option (List Request) → Act → Act
-  clears h (Some x) c other = Send h (parcels.Home x)
-  clears h None (Some rs) other = Send h (work rs)
-  clears h None None other = other
+  abbrev pub clear : ℕ → Option HeldState → Option (List Request) → Act → Act
+  clear h (Some x) c other = Send h (parcels.Home x)
+  clear h None (Some rs) other = Send h (work rs)
+  clear h None None other = other
 
   -- before a command: the object goes home, a chunk is taken, or a full one goes
   abbrev pub call_act : ℕ → Option HeldState → Option (List Request) → Act
@@ -74,88 +74,88 @@ module _ (settings : Settings) where
   abbrev pub rest_act : Client → Synced → Act
   rest_act m (Done l) = Finished
   rest_act m (Call r next) = call_act r.object (m.held r.object) (m.chunk r.object)
-  rest_act m (Sync h next) = clears h (m.held h) (m.chunk h) (Send h parcels.Sync)
+  rest_act m (Sync h next) = clear h (m.held h) (m.chunk h) (Send h parcels.Sync)
   rest_act m (Query r next) = Await r.object
 
-  abbrev pub act_at : ℕ → Client → Place → Act
+  abbrev pub act_at : ℕ → Client → ClientStage → Act
   act_at blocks m (between l) = if nat_lt m.begun blocks then Reserve else Finished
   act_at blocks m (runs rest) = rest_act m rest
-  act_at blocks m (full h rest) = clears h None (m.chunk h) Finished
+  act_at blocks m (full h rest) = clear h None (m.chunk h) Finished
   act_at blocks m (awaits h rest) = Await h
-  act_at blocks m (leaves h hs l) = clears h (m.held h) (m.chunk h) (Send h parcels.End)
+  act_at blocks m (leaves h hs l) = clear h (m.held h) (m.chunk h) (Send h parcels.End)
 
   -- the next act of a client that has settled and has so many blocks
   abbrev pub act_of : ℕ → Client → Act
-  act_of blocks m = act_at blocks m m.place
+  act_of blocks m = act_at blocks m m.stage
 
   -- all that a client does to its own values up to its next act, in the block of this ticket that reserves these objects
   module _ (ticket : Ticket) (reserved : List ℕ) where
-    abbrev pub leaving : Client → List ℕ → Locals → Settled
-    leaving m [] l = stays m (between l)
-    leaving m (h ∷ hs) l = stays m (leaves h hs l)
+    abbrev pub leave : Client → List ℕ → Locals → Settlement
+    leave m [] l = stop_at m (between l)
+    leave m (h ∷ hs) l = stop_at m (leaves h hs l)
 
     -- a command goes into an open chunk where the object is not held; a full chunk goes at once
-    abbrev pub calls : Client → Request → Synced → (Client → Settled) → Option HeldState → Option (List Request) → Settled
-    calls m r next go (Some x) c = stays m (runs (Call r next))
-    calls m r next go None None = stays m (runs (Call r next))
-    calls m r next go None (Some rs) =
+    abbrev pub call : Client → Request → Synced → (Client → Settlement) → Option HeldState → Option (List Request) → Settlement
+    call m r next go (Some x) c = stop_at m (runs (Call r next))
+    call m r next go None None = stop_at m (runs (Call r next))
+    call m r next go None (Some rs) =
         let more = rs ++ r ∷ [] in
-        let m' = fills m r.object (Some more) in
-        with_event (logged r) (if length more == settings.size then stays m' (full r.object next) else go m')
+        let m' = set_chunk m r.object (Some more) in
+        with_event (logged r) (if length more == settings.size then stop_at m' (full r.object next) else go m')
 
     -- a query is run on the object that is held
-    abbrev pub queries : Client → Request → (ℤ → Synced) → (ℤ → Client → Settled) → Option HeldState → Settled
-    queries m r next go (Some x) =
+    abbrev pub query : Client → Request → (ℤ → Synced) → (ℤ → Client → Settlement) → Option HeldState → Settlement
+    query m r next go (Some x) =
         let o = ran x ticket r in
-        with_event (event r o.1) (go (value_of o.1) (holds m r.object (Some o.0)))
-    queries m r next go None = stays m (runs (Query r next))
+        with_event (event r o.1) (go (value_of o.1) (set_held m r.object (Some o.0)))
+    query m r next go None = stop_at m (runs (Query r next))
 
-    abbrev pub settle : Synced → Client → Settled
-    settle (Done l) m = leaving m reserved l
-    settle (Call r next) m = calls m r next (λ m. settle next m) (m.held r.object) (m.chunk r.object)
-    settle (Sync h next) m = if settings.dynamic && is_some (m.held h) then settle next m else stays m (runs (Sync h next))
-    settle (Query r next) m = queries m r next (λ v m. settle (next v) m) (m.held r.object)
+    abbrev pub settle : Synced → Client → Settlement
+    settle (Done l) m = leave m reserved l
+    settle (Call r next) m = call m r next (λ m. settle next m) (m.held r.object) (m.chunk r.object)
+    settle (Sync h next) m = if settings.dynamic && is_some (m.held h) then settle next m else stop_at m (runs (Sync h next))
+    settle (Query r next) m = query m r next (λ v m. settle (next v) m) (m.held r.object)
 
     -- once a parcel was sent
 
-    abbrev pub sent_home : Client → ℕ → Place → Settled
-    sent_home m h (runs rest) = settle rest (holds m h None)
-    sent_home m h (leaves g hs l) = stays (holds m h None) (leaves g hs l)
-    sent_home m h p = stays m p
+    abbrev pub after_home : Client → ℕ → ClientStage → Settlement
+    after_home m h (runs rest) = settle rest (set_held m h None)
+    after_home m h (leaves g hs l) = stop_at (set_held m h None) (leaves g hs l)
+    after_home m h p = stop_at m p
 
-    abbrev pub sent_work : Client → ℕ → Place → Settled
-    sent_work m h (full g rest) = settle rest (fills m h None)
-    sent_work m h (runs rest) = settle rest (fills m h None)
-    sent_work m h (leaves g hs l) = stays (fills m h None) (leaves g hs l)
-    sent_work m h p = stays m p
+    abbrev pub after_work : Client → ℕ → ClientStage → Settlement
+    after_work m h (full g rest) = settle rest (set_chunk m h None)
+    after_work m h (runs rest) = settle rest (set_chunk m h None)
+    after_work m h (leaves g hs l) = stop_at (set_chunk m h None) (leaves g hs l)
+    after_work m h p = stop_at m p
 
-    abbrev pub sent_sync : Client → Place → Settled
-    sent_sync m (runs (Sync h next)) = stays m (awaits h next)
-    sent_sync m p = stays m p
+    abbrev pub after_sync : Client → ClientStage → Settlement
+    after_sync m (runs (Sync h next)) = stop_at m (awaits h next)
+    after_sync m p = stop_at m p
 
-    abbrev pub sent_end : Client → Place → Settled
-    sent_end m (leaves h hs l) = leaving m hs l
-    sent_end m p = stays m p
+    abbrev pub after_end : Client → ClientStage → Settlement
+    after_end m (leaves h hs l) = leave m hs l
+    after_end m p = stop_at m p
 
-    abbrev pub sent : Client → ℕ → Parcel → Settled
-    sent m h (parcels.Home x) = sent_home m h m.place
-    sent m h (parcels.Work chunk) = sent_work m h m.place
-    sent m h parcels.Sync = sent_sync m m.place
-    sent m h parcels.End = sent_end m m.place
+    abbrev pub after_parcel : Client → ℕ → Parcel → Settlement
+    after_parcel m h (parcels.Home x) = after_home m h m.stage
+    after_parcel m h (parcels.Work chunk) = after_work m h m.stage
+    after_parcel m h parcels.Sync = after_sync m m.stage
+    after_parcel m h parcels.End = after_end m m.stage
 
     -- once the object came, or an empty chunk
-    abbrev pub got : Client → HeldState → Place → Settled
-    got m x (awaits h rest) = settle rest (holds m h (Some x))
-    got m x p = stays m p
+    abbrev pub take_object : Client → HeldState → ClientStage → Settlement
+    take_object m x (awaits h rest) = settle rest (set_held m h (Some x))
+    take_object m x p = stop_at m p
 
-    abbrev pub took_chunk : Client → ℕ → Place → Settled
-    took_chunk m h (runs rest) = settle rest (fills m h (Some []))
-    took_chunk m h p = stays m p
+    abbrev pub take_chunk : Client → ℕ → ClientStage → Settlement
+    take_chunk m h (runs rest) = settle rest (set_chunk m h (Some []))
+    take_chunk m h p = stop_at m p
 
     -- once the block was reserved
-    abbrev pub booked : Client → Synced → Settled
-    booked m rest = settle rest (record { begun = suc m.begun; place = m.place; held = m.held; chunk = m.chunk })
+    abbrev pub begin : Client → Synced → Settlement
+    begin m rest = settle rest (record { begun = suc m.begun; stage = m.stage; held = m.held; chunk = m.chunk })
 
 -- before its first block
 abbrev pub first_client : Locals → Client
-first_client l = record { begun = 0; place = between l; held = λ h. None; chunk = λ h. None }
+first_client l = record { begun = 0; stage = between l; held = λ h. None; chunk = λ h. None }

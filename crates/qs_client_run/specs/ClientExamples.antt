@@ -8,7 +8,7 @@ use Rattle.qs_objects.specs.declared.Request.{Request}
 use Rattle.qs_graph.specs.Synced.{Synced, Done, Call, Sync, Query}
 use Rattle.qs_chunk.specs.Batch.{batch}
 use Rattle.qs_chunk.specs.declared.parcel.Parcel.TheVariants as parcels
-use Rattle.qs_client_run.specs.Client.{Client, Settings, act_of, booked, first_client, got, sent, took_chunk}
+use Rattle.qs_client_run.specs.Client.{Client, Settings, act_of, begin, first_client, take_object, after_parcel, take_chunk}
 use Rattle.qs_client_run.specs.declared.act.Act.{Act}
 use Rattle.qs_client_run.specs.declared.act.Act.TheVariants.{Reserve, Send, Await, NeedChunk}
 
@@ -41,14 +41,14 @@ chunks_of n = record { dynamic = false; size = n }
 
 -- the client once its first block of this tree was reserved, which reserves object 0
 abbrev pub begins : Settings → Synced → Client
-begins s tree = (booked s (block 0) (0 ∷ []) (first_client []) tree).client
+begins s tree = (begin s (block 0) (0 ∷ []) (first_client []) tree).client
 
 -- once it took an empty chunk for object 0, and once it sent what it sends next
 abbrev pub takes : Settings → Client → Client
-takes s m = (took_chunk s (block 0) (0 ∷ []) m 0 m.place).client
+takes s m = (take_chunk s (block 0) (0 ∷ []) m 0 m.stage).client
 
 abbrev pub sends_by : Settings → Client → Act → Client
-sends_by s m (Send h p) = (sent s (block 0) (0 ∷ []) m h p).client
+sends_by s m (Send h p) = (after_parcel s (block 0) (0 ∷ []) m h p).client
 sends_by s m act = m
 
 abbrev pub sends : Settings → Client → Client
@@ -56,14 +56,14 @@ sends s m = sends_by s m (act_of s 2 m)
 
 -- once the object came
 abbrev pub gets : Settings → HeldState → Client → Client
-gets s x m = (got s (block 0) (0 ∷ []) m x m.place).client
+gets s x m = (take_object s (block 0) (0 ∷ []) m x m.stage).client
 
 -- the object after one query, and after two
-abbrev pub asked_once : HeldState → HeldState
-asked_once x = (ran x (block 0) (balance 0)).0
+abbrev pub after_one_query : HeldState → HeldState
+after_one_query x = (ran x (block 0) (balance 0)).0
 
-abbrev pub asked_twice : HeldState → HeldState
-asked_twice x = asked_once (asked_once x)
+abbrev pub after_two_queries : HeldState → HeldState
+after_two_queries x = after_one_query (after_one_query x)
 
 -- a command, with chunks of 8: the chunk goes at the block's end
 pub record CommandActs : Type 0 where
@@ -72,7 +72,7 @@ pub record CommandActs : Type 0 where
   pub third : act_of (chunks_of 8) 2 (takes (chunks_of 8) (begins (chunks_of 8) one_deposit)) ≡ Send 0 (parcels.Work (batch (deposit 0 ∷ []) 8))
   pub fourth : act_of (chunks_of 8) 2 (sends (chunks_of 8) (takes (chunks_of 8) (begins (chunks_of 8) one_deposit))) ≡ Send 0 parcels.End
   pub fifth : act_of (chunks_of 8) 2 (sends (chunks_of 8) (sends (chunks_of 8) (takes (chunks_of 8) (begins (chunks_of 8) one_deposit)))) ≡ Reserve
-  pub trace : (took_chunk (chunks_of 8) (block 0) (0 ∷ []) (begins (chunks_of 8) one_deposit) 0 (begins (chunks_of 8) one_deposit).place).events
+  pub trace : (take_chunk (chunks_of 8) (block 0) (0 ∷ []) (begins (chunks_of 8) one_deposit) 0 (begins (chunks_of 8) one_deposit).stage).events
       ≡ logged (deposit 0) ∷ []
 
 -- two commands, with chunks of 1: a full chunk goes at once, and the second command takes the next one
@@ -84,9 +84,9 @@ pub record FullChunkActs : Type 0 where
 pub record QueryActs (x : HeldState) : Type 0 where
   pub sync : act_of (chunks_of 8) 2 (begins (chunks_of 8) two_queries) ≡ Send 0 parcels.Sync
   pub await : act_of (chunks_of 8) 2 (sends (chunks_of 8) (begins (chunks_of 8) two_queries)) ≡ Await 0
-  pub home : act_of (chunks_of 8) 2 (gets (chunks_of 8) x (sends (chunks_of 8) (begins (chunks_of 8) two_queries))) ≡ Send 0 (parcels.Home (asked_once x))
+  pub home : act_of (chunks_of 8) 2 (gets (chunks_of 8) x (sends (chunks_of 8) (begins (chunks_of 8) two_queries))) ≡ Send 0 (parcels.Home (after_one_query x))
   pub again : act_of (chunks_of 8) 2 (sends (chunks_of 8) (gets (chunks_of 8) x (sends (chunks_of 8) (begins (chunks_of 8) two_queries)))) ≡ Send 0 parcels.Sync
-  pub kept : act_of by_test 2 (gets by_test x (sends by_test (begins by_test two_queries))) ≡ Send 0 (parcels.Home (asked_twice x))
+  pub kept : act_of by_test 2 (gets by_test x (sends by_test (begins by_test two_queries))) ≡ Send 0 (parcels.Home (after_two_queries x))
   pub end : act_of by_test 2 (sends by_test (gets by_test x (sends by_test (begins by_test two_queries)))) ≡ Send 0 parcels.End
 
 pub record ClientExamples : Type 0 where

@@ -1,11 +1,11 @@
-pub mod Acting
+pub mod NextActs
 pub mod Beginning
 pub mod Client
 pub mod ClientExamples
 pub mod ClientLaws
-pub mod Hand
+pub mod Holdings
 pub mod BlockSizes
-pub mod Standing
-pub mod Minds
+pub mod BetweenActs
+pub mod ClientOfRun
 pub mod Restart
 pub mod Running

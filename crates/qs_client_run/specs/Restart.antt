@@ -3,5 +3,5 @@ use Rattle.std.specs.Prelude.{length, replicate}
 use Rattle.qs_graph.specs.Walk.{Spot, entry}
 
 -- at the first node with all counts 0
-abbrev pub restarted : Spot → Spot
-restarted s = entry s.locals (replicate (length s.counts) 0)
+abbrev pub restart : Spot → Spot
+restart s = entry s.locals (replicate (length s.counts) 0)

@@ -5,16 +5,16 @@ ghost use Rattle.qs_program.specs.Limits.{most_handlers};
 ghost use Rattle.qs_chunk.specs.Batch.{batch};
 ghost use Rattle.qs_graph.specs.Walk.{move};
 ghost use Rattle.qs_syncset.specs.Codes.{code_at};
-ghost use Rattle.qs_client_run.specs.Acting.{HasActed, IsInside, Wants, act_by, cleared, full_by, hands_by, with_hands, without};
+ghost use Rattle.qs_client_run.specs.NextActs.{HasActed, IsInside, Wants, act_by, clear, send_full, holdings_by, with_holdings, without};
 ghost use Rattle.qs_client_run.specs.Client.{Settings};
-ghost use Rattle.qs_client_run.specs.Hand.{chunk_at, with_chunk};
+ghost use Rattle.qs_client_run.specs.Holdings.{chunk_at, with_chunk};
 ghost use Rattle.qs_client_run.specs.Running.{IsLoud};
-ghost use Rattle.qs_client_run.specs.Standing.{HasGot, HasTaken, IsStanding, handed_of};
+ghost use Rattle.qs_client_run.specs.BetweenActs.{HasGot, HasTaken, IsStanding, outgoing_of};
 
 use crate::act::Act;
-use crate::hands::Hands;
+use crate::holdings::Holdings;
 use crate::run::Run;
-use crate::stage::{Handed, Stage};
+use crate::stage::{Outgoing, Stage};
 use qs_chunk::{Chunk, Parcel};
 use qs_graph::{Graph, Node, bound};
 use qs_objects::{Held, Request, Ticket};
@@ -22,26 +22,26 @@ use qs_syncset::Code;
 
 impl Act {
     /// What is left to be done once the act was done.
-    pub fn leaves(&self) -> Handed
-        ensures value { result ≡ handed_of self.now }
+    pub fn outgoing(&self) -> Outgoing
+        ensures value { result ≡ outgoing_of self.now }
     {
         let Act::Send(handler, parcel) = self else {
-            return Handed::Nothing;
+            return Outgoing::Nothing;
         };
         match parcel {
-            Parcel::Home(_) => Handed::Value,
-            Parcel::Work(_) => Handed::Value,
-            Parcel::Sync => Handed::Sync(*handler),
-            Parcel::End => Handed::End,
+            Parcel::Home(_) => Outgoing::Value,
+            Parcel::Work(_) => Outgoing::Value,
+            Parcel::Sync => Outgoing::Sync(*handler),
+            Parcel::End => Outgoing::End,
         }
     }
 }
 
-impl Hands {
+impl Holdings {
     // With the object, it goes home; else with an open chunk, the chunk goes; else this act is next.
     fn clear(&mut self, handler: u8, other: Act) -> Act
         requires handler { handler < most_handlers }
-        ensures act { result ≡ cleared self.old handler other }
+        ensures act { result ≡ clear self.old handler other }
         ensures rest { self.new ≡ without self.old handler }
     {
         if let Some(held) = self.take_held(handler) {
@@ -56,7 +56,7 @@ impl Hands {
     // A full chunk goes.
     fn send_full(&mut self, handler: u8) -> Act
         requires handler { handler < most_handlers }
-        ensures act { result ≡ full_by handler (chunk_at self.old handler) }
+        ensures act { result ≡ send_full handler (chunk_at self.old handler) }
         ensures rest { self.new ≡ with_chunk self.old handler None }
     {
         match self.take_chunk(handler) {
@@ -69,20 +69,20 @@ impl Hands {
 impl Run {
     // At a call or a synchronisation.
     fn act_at_node(&mut self, graph: &Graph) -> Act
-        requires inside { self.old.way.node < length graph.now.nodes }
-        requires loud { IsLoud (move graph.now.nodes self.old.way) }
-        ensures act { result ≡ act_by self.old.hands (move graph.now.nodes self.old.way) }
-        ensures rest { self.new ≡ with_hands self.old (hands_by self.old.hands (move graph.now.nodes self.old.way)) }
+        requires inside { self.old.position.node < length graph.now.nodes }
+        requires loud { IsLoud (move graph.now.nodes self.old.position) }
+        ensures act { result ≡ act_by self.old.holdings (move graph.now.nodes self.old.position) }
+        ensures rest { self.new ≡ with_holdings self.old (holdings_by self.old.holdings (move graph.now.nodes self.old.position)) }
     {
         graph.is_graph();
-        match graph.node(self.way.node()) {
+        match graph.node(self.position.node()) {
             Node::Call(call) => {
                 let object = bound(call.object);
-                self.hands.clear(object, Act::NeedChunk(object))
+                self.holdings.clear(object, Act::NeedChunk(object))
             }
             Node::Sync(name) => {
                 let handler = bound(*name);
-                self.hands.clear(handler, Act::Send(handler, Parcel::Sync))
+                self.holdings.clear(handler, Act::Send(handler, Parcel::Sync))
             }
             _ => unreachable!(),
         }
@@ -111,11 +111,11 @@ impl Run {
                 graph.is_graph();
                 self.act_at_node(graph)
             }
-            Stage::Full(handler) => self.hands.send_full(handler),
+            Stage::Full(handler) => self.holdings.send_full(handler),
             Stage::Awaits(handler) => Act::Await(handler),
             Stage::Leaves(place) => {
                 let handler = code.reserved(block)[place];
-                self.hands.clear(handler, Act::Send(handler, Parcel::End))
+                self.holdings.clear(handler, Act::Send(handler, Parcel::End))
             }
         }
     }
@@ -132,7 +132,7 @@ impl Run {
         let Stage::Awaits(handler) = self.stage else {
             unreachable!();
         };
-        self.hands.put_held(handler, held);
+        self.holdings.put_held(handler, held);
         self.resume(code, ticket);
     }
 
@@ -148,10 +148,10 @@ impl Run {
     {
         let graph = code.graph(usize::from(ticket.index));
         graph.is_graph();
-        let Node::Call(call) = graph.node(self.way.node()) else {
+        let Node::Call(call) = graph.node(self.position.node()) else {
             unreachable!();
         };
-        self.hands.put_chunk(bound(call.object), chunk);
+        self.holdings.put_chunk(bound(call.object), chunk);
         self.resume(code, ticket);
     }
 }

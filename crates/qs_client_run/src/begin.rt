@@ -2,17 +2,17 @@
 
 ghost use Rattle.std.specs.Prelude.{◌≡◌, ◌<◌, ◌≤◌, ℕ, IfOk, IsErr, length, replicate};
 ghost use Rattle.qs_syncset.specs.Codes.{code_at};
-ghost use Rattle.qs_client_run.specs.Beginning.{begins_at, fresh_run};
-ghost use Rattle.qs_client_run.specs.Client.{Place, Settings};
+ghost use Rattle.qs_client_run.specs.Beginning.{at_beginning, fresh_run};
+ghost use Rattle.qs_client_run.specs.Client.{ClientStage, Settings};
 ghost use Rattle.qs_client_run.specs.BlockSizes.{empty_rows, room_for};
 ghost use Rattle.qs_client_run.specs.BlockSizes.{longest};
-ghost use Rattle.qs_client_run.specs.Minds.{HasSettled};
+ghost use Rattle.qs_client_run.specs.ClientOfRun.{HasSettled};
 ghost use Rattle.qs_client_run.specs.Running.{IsRunning};
 
-use crate::hands::Hands;
+use crate::holdings::Holdings;
 use crate::run::Run;
 use crate::stage::Stage;
-use crate::way::Way;
+use crate::position::Position;
 use qs_objects::{Ticket, Traces};
 use qs_program::MOST_VARIABLES;
 use qs_syncset::Code;
@@ -79,8 +79,8 @@ impl Run {
     {
         let counts = repeat_counts(alloc, code)?;
         Ok(Run {
-            way: Way::new(0, [0; MOST_VARIABLES], counts),
-            hands: Hands::new(),
+            position: Position::new(0, [0; MOST_VARIABLES], counts),
+            holdings: Holdings::new(),
             traces: empty_traces(alloc, code)?,
             stage: Stage::Between,
         })
@@ -89,13 +89,13 @@ impl Run {
     /// A block begins, at its first node with all counts 0.
     pub fn begin(&mut self, code: &Code, ticket: Ticket)
         requires block { ticket.index < length code.now.blocks }
-        requires running { (size : ℕ) × (n : ℕ) × IsRunning (code_at code.now ticket.index).graph size ticket.index n (begins_at self.old) }
-        ensures settled { (settings : Settings) (begun : ℕ) (p : Place) (n : ℕ) → settings.dynamic ≡ code.now.dynamic
-            → IsRunning (code_at code.now ticket.index).graph settings.size ticket.index n (begins_at self.old)
+        requires running { (size : ℕ) × (n : ℕ) × IsRunning (code_at code.now ticket.index).graph size ticket.index n (at_beginning self.old) }
+        ensures settled { (settings : Settings) (begun : ℕ) (p : ClientStage) (n : ℕ) → settings.dynamic ≡ code.now.dynamic
+            → IsRunning (code_at code.now ticket.index).graph settings.size ticket.index n (at_beginning self.old)
             → HasSettled (code_at code.now ticket.index).graph settings ticket (code_at code.now ticket.index).reserved begun p n
-            (begins_at self.old) self.new }
+            (at_beginning self.old) self.new }
     {
-        self.way.restart();
+        self.position.restart();
         self.resume(code, ticket);
     }
 }

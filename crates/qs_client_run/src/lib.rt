@@ -5,15 +5,15 @@
 mod act;
 mod acts;
 mod begin;
-mod hands;
+mod holdings;
 pub mod laws;
 mod run;
 mod stage;
-mod turn;
-mod way;
+mod after_send;
+mod position;
 
 pub use act::Act;
-pub use hands::Hands;
+pub use holdings::Holdings;
 pub use run::Run;
-pub use stage::{Handed, Stage};
-pub use way::Way;
+pub use stage::{Outgoing, Stage};
+pub use position::Position;

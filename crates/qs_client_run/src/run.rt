@@ -3,25 +3,25 @@
 ghost use Rattle.std.specs.Prelude.{◌≡◌, ◌<◌, ◌≤◌, ℕ, IsSome, length};
 ghost use Rattle.qs_program.specs.Values.{request_of};
 ghost use Rattle.qs_graph.specs.Walk.{at_node, with_value};
-ghost use Rattle.qs_client_run.specs.Hand.{chunk_at, held_at};
-ghost use Rattle.qs_client_run.specs.Running.{IsOpen, IsRunning, asked, called, ended, moved, synced};
+ghost use Rattle.qs_client_run.specs.Holdings.{chunk_at, held_at};
+ghost use Rattle.qs_client_run.specs.Running.{IsOpen, IsRunning, query, call, leave, step, sync};
 ghost use Rattle.qs_objects.specs.Traces.{AreEmptyAfter, trace_at};
 ghost use Rattle.qs_program.specs.Limits.{most_handlers, most_objects};
-ghost use Rattle.qs_client_run.specs.Client.{Settings, Place};
-ghost use Rattle.qs_client_run.specs.Minds.{HasSettled};
+ghost use Rattle.qs_client_run.specs.Client.{Settings, ClientStage};
+ghost use Rattle.qs_client_run.specs.ClientOfRun.{HasSettled};
 ghost use Rattle.qs_client_run.specs.declared.stage.Stage.TheVariants as stages;
 
-use crate::hands::Hands;
+use crate::holdings::Holdings;
 use crate::stage::Stage;
-use crate::way::Way;
+use crate::position::Position;
 use qs_graph::{Graph, Node, bound};
 use qs_objects::{Event, Ticket, Traces};
 use qs_program::Call;
 
 /// A client's place in its block's graph, its objects and open chunks, its traces, and where it stands.
 pub struct Run {
-    pub way: Way,
-    pub hands: Hands,
+    pub position: Position,
+    pub holdings: Holdings,
     pub traces: Traces,
     pub stage: Stage,
 }
@@ -29,8 +29,8 @@ pub struct Run {
 impl Drop for Run {
     fn drop(self) {
         let Run {
-            way: _,
-            hands: _,
+            position: _,
+            holdings: _,
             traces: _,
             stage: _,
         } = self;
@@ -42,7 +42,7 @@ const LIMIT: u32 = 3_000_002;
 
 /// What a client goes by in a block: whether it tests what it holds as it comes to a synchronisation, and the block's ticket.
 #[derive(Clone, Copy)]
-pub struct Terms {
+pub struct BlockContext {
     pub dynamic: bool,
     pub ticket: Ticket,
 }
@@ -53,8 +53,8 @@ impl Run {
         ensures value { result ≡ self.traces }
     {
         let Run {
-            way: _,
-            hands: _,
+            position: _,
+            holdings: _,
             traces,
             stage: _,
         } = self;
@@ -62,24 +62,24 @@ impl Run {
     }
 
     // A command: into the open chunk, where the object is not held.
-    fn call(&mut self, block: usize, call: &Call, next: usize) -> bool
-        requires object { call.now.object < most_objects }
-        requires few { length call.now.args ≤ 3 }
+    fn call(&mut self, block: usize, command: &Call, next: usize) -> bool
+        requires object { command.now.object < most_objects }
+        requires few { length command.now.args ≤ 3 }
         requires block { block < length self.old.traces }
         requires last { AreEmptyAfter self.old.traces block }
         requires room { 0 < (trace_at self.old.traces block).room }
-        requires opened { (size : ℕ) × IsOpen size (chunk_at self.old.hands call.now.object) }
-        ensures new { self.new ≡ (called block (request_of self.old.way.locals call.now) (at_node self.old.way next) self.old).0 }
-        ensures on { result ≡ (called block (request_of self.old.way.locals call.now) (at_node self.old.way next) self.old).1 }
+        requires opened { (size : ℕ) × IsOpen size (chunk_at self.old.holdings command.now.object) }
+        ensures new { self.new ≡ (call block (request_of self.old.position.locals command.now) (at_node self.old.position next) self.old).0 }
+        ensures on { result ≡ (call block (request_of self.old.position.locals command.now) (at_node self.old.position next) self.old).1 }
     {
-        let object = bound(call.object);
-        if self.hands.holds(object) {
+        let object = bound(command.object);
+        if self.holdings.holds(object) {
             return false;
         }
-        let Some(mut chunk) = self.hands.take_chunk(object) else {
+        let Some(mut chunk) = self.holdings.take_chunk(object) else {
             return false;
         };
-        let request = self.way.request(call);
+        let request = self.position.request(command);
         let event = Event {
             request: request.copied(),
             reply: None,
@@ -88,9 +88,9 @@ impl Run {
             unreachable!();
         };
         let is_full = chunk.len() == chunk.capacity();
-        self.hands.put_chunk(object, chunk);
+        self.holdings.put_chunk(object, chunk);
         self.traces.note(block, event);
-        self.way.go_to(next);
+        self.position.go_to(next);
         if is_full {
             self.stage = Stage::Full(object);
         }
@@ -104,31 +104,31 @@ impl Run {
         requires block { ticket.index < length self.old.traces }
         requires last { AreEmptyAfter self.old.traces ticket.index }
         requires room { 0 < (trace_at self.old.traces ticket.index).room }
-        requires held { IsSome (held_at self.old.hands call.now.object) }
+        requires held { IsSome (held_at self.old.holdings call.now.object) }
         ensures new { self.new
-            ≡ (asked ticket (request_of self.old.way.locals call.now) (λ v. at_node (with_value self.old.way variable v) next) self.old).0 }
+            ≡ (query ticket (request_of self.old.position.locals call.now) (λ v. at_node (with_value self.old.position variable v) next) self.old).0 }
     {
         let object = bound(call.object);
-        let Some(mut held) = self.hands.take_held(object) else {
+        let Some(mut held) = self.holdings.take_held(object) else {
             unreachable!();
         };
-        let request = self.way.request(call);
+        let request = self.position.request(call);
         let reply = held.run(ticket, request.copied());
-        self.hands.put_held(object, held);
+        self.holdings.put_held(object, held);
         self.traces
             .note(usize::from(ticket.index), Event { request, reply });
-        self.way.assign(variable, reply.unwrap_or(0));
-        self.way.go_to(next);
+        self.position.assign(variable, reply.unwrap_or(0));
+        self.position.go_to(next);
     }
 
     // A synchronisation, skipped where the object is held and the client tests that.
     fn sync(&mut self, dynamic: bool, handler: u8, next: usize) -> bool
         requires handler { handler < most_handlers }
-        ensures new { self.new ≡ (synced dynamic handler (at_node self.old.way next) self.old).0 }
-        ensures on { result ≡ (synced dynamic handler (at_node self.old.way next) self.old).1 }
+        ensures new { self.new ≡ (sync dynamic handler (at_node self.old.position next) self.old).0 }
+        ensures on { result ≡ (sync dynamic handler (at_node self.old.position next) self.old).1 }
     {
-        if dynamic && self.hands.holds(handler) {
-            self.way.go_to(next);
+        if dynamic && self.holdings.holds(handler) {
+            self.position.go_to(next);
             return true;
         }
         false
@@ -136,7 +136,7 @@ impl Run {
 
     // The end of the block.
     fn leave(&mut self, reserved: &[u8])
-        ensures new { self.new ≡ (ended reserved.now self.old).0 }
+        ensures new { self.new ≡ (leave reserved.now self.old).0 }
     {
         self.stage = if reserved.is_empty() {
             Stage::Between
@@ -146,52 +146,52 @@ impl Run {
     }
 
     /// One quiet move; answers whether another may follow.
-    fn step(&mut self, graph: &Graph, reserved: &[u8], terms: Terms) -> bool
-        requires running { (size : ℕ) × (n : ℕ) × IsRunning graph.now.nodes size terms.ticket.index n self.old }
-        ensures new { self.new ≡ (moved graph.now.nodes terms reserved.now self.old).0 }
-        ensures on { result ≡ (moved graph.now.nodes terms reserved.now self.old).1 }
+    fn step(&mut self, graph: &Graph, reserved: &[u8], context: BlockContext) -> bool
+        requires running { (size : ℕ) × (n : ℕ) × IsRunning graph.now.nodes size context.ticket.index n self.old }
+        ensures new { self.new ≡ (step graph.now.nodes context reserved.now self.old).0 }
+        ensures on { result ≡ (step graph.now.nodes context reserved.now self.old).1 }
     {
         graph.is_graph();
-        self.hands.are_8();
-        let node = self.way.node();
+        self.holdings.are_8();
+        let node = self.position.node();
         let next = graph.first_target(node);
         match graph.node(node) {
-            Node::Call(call) => self.call(usize::from(terms.ticket.index), call, next),
+            Node::Call(call) => self.call(usize::from(context.ticket.index), call, next),
             Node::Query(variable, call) => {
-                self.query(terms.ticket, *variable, call, next);
+                self.query(context.ticket, *variable, call, next);
                 true
             }
-            Node::Sync(name) => self.sync(terms.dynamic, bound(*name), next),
+            Node::Sync(name) => self.sync(context.dynamic, bound(*name), next),
             Node::Exit => {
                 self.leave(reserved);
                 false
             }
             Node::Entry => {
-                self.way.go_to(next);
+                self.position.go_to(next);
                 true
             }
             Node::Local(action) => {
-                self.way.act(*action, next);
+                self.position.act(*action, next);
                 true
             }
             Node::Branch(choice) => {
-                self.way.choose(*choice, next, graph.second_target(node));
+                self.position.choose(*choice, next, graph.second_target(node));
                 true
             }
         }
     }
 
     /// All quiet moves, up to the next act.
-    pub fn settle(&mut self, graph: &Graph, reserved: &[u8], terms: Terms)
+    pub fn settle(&mut self, graph: &Graph, reserved: &[u8], context: BlockContext)
         requires stands { self.old.stage ≡ stages.Runs }
-        requires running { (size : ℕ) × (n : ℕ) × IsRunning graph.now.nodes size terms.ticket.index n self.old }
-        ensures settled { (settings : Settings) (begun : ℕ) (p : Place) (n : ℕ) → settings.dynamic ≡ terms.dynamic
-            → IsRunning graph.now.nodes settings.size terms.ticket.index n self.old
-            → HasSettled graph.now.nodes settings terms.ticket reserved.now begun p n self.old self.new }
+        requires running { (size : ℕ) × (n : ℕ) × IsRunning graph.now.nodes size context.ticket.index n self.old }
+        ensures settled { (settings : Settings) (begun : ℕ) (p : ClientStage) (n : ℕ) → settings.dynamic ≡ context.dynamic
+            → IsRunning graph.now.nodes settings.size context.ticket.index n self.old
+            → HasSettled graph.now.nodes settings context.ticket reserved.now begun p n self.old self.new }
     {
         graph.is_graph();
         for _turn in 0..LIMIT {
-            if !self.step(graph, reserved, terms) {
+            if !self.step(graph, reserved, context) {
                 return;
             }
         }

@@ -1,7 +1,7 @@
 //! Where a client stands.
 
 ghost use Rattle.std.specs.Prelude.{◌≡◌};
-ghost use Rattle.qs_client_run.specs.Standing.{count_sync};
+ghost use Rattle.qs_client_run.specs.BetweenActs.{count_sync};
 
 /// Between blocks; in a block; there with a full chunk for a handler; waiting for an object; or at the block's end, leaving the handler
 /// at this place of the block's list.
@@ -16,21 +16,21 @@ pub enum Stage {
 
 /// What the last act carried: nothing that is sent, an object or a chunk, a wish for this handler's object, or the end of the block.
 #[derive(Clone, Copy)]
-pub enum Handed {
+pub enum Outgoing {
     Nothing,
     Value,
     Sync(u8),
     End,
 }
 
-impl Handed {
+impl Outgoing {
     /// How many Syncs were sent.
     pub fn syncs(self) -> u64
         ensures value { result ≡ count_sync self }
     {
         match self {
-            Handed::Sync(_) => 1,
-            Handed::Nothing | Handed::Value | Handed::End => 0,
+            Outgoing::Sync(_) => 1,
+            Outgoing::Nothing | Outgoing::Value | Outgoing::End => 0,
         }
     }
 }

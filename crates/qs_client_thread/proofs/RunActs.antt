@@ -16,7 +16,7 @@ use Rattle.qs_client_run.specs.BlockSizes.{longest}
 use Rattle.qs_client_run.specs.declared.act.Act.{Act}
 use Rattle.qs_client_run.specs.declared.act.Act.TheVariants as acts
 use Rattle.qs_client.specs.ClientRuns.{Deed, reservations, sent_to}
-use Rattle.qs_client.specs.Mind.{Mind, done, fresh_mind, next_act, tree_at}
+use Rattle.qs_client.specs.ClientModel.{ClientModel, finish, fresh_mind, next_act, tree_at}
 use Rattle.qs_client.proofs.LaneSends.{client_lane_laws}
 use Rattle.qs_desk.specs.Tickets.{ticket}
 use Rattle.qs_protocol.proofs.ClientInvariants.{listed}
@@ -24,10 +24,10 @@ use Rattle.qs_protocol.proofs.ClientTales.{InTale, in_tale, reserves_between}
 use Rattle.qs_protocol.proofs.DeedLanes.{stands_along}
 use Rattle.qs_protocol.proofs.ReservedActs.{await_reserved, need_reserved, send_reserved}
 use Rattle.qs_protocol.proofs.ReservedLists.{lined}
-use Rattle.qs_client_run.proofs.Codes.{longest_covers}
+use Rattle.qs_client_run.proofs.CodeBounds.{longest_covers}
 use Rattle.qs_client_thread.specs.RunActs.{IsMidRun, RunActLaws, lane_of}
 
-module _ (p : ProgramShape) (c : ℕ) (code : ClientCode) (size : ℕ) (deeds : List Deed) (m : Mind) (run : IsMidRun p c code size deeds m) where
+module _ (p : ProgramShape) (c : ℕ) (code : ClientCode) (size : ℕ) (deeds : List Deed) (m : ClientModel) (run : IsMidRun p c code size deeds m) where
   inside : (k : ℕ) → k < length code.blocks → k < blocks_of p c
   inside k few = let n = run.of.count in omega (arith, few, n)
 
@@ -44,7 +44,7 @@ module _ (p : ProgramShape) (c : ℕ) (code : ClientCode) (size : ℕ) (deeds : 
       (w.tree, w.sound, w.reserved)
 
   -- what it did so far, block by block
-  tale : InTale p (blocks_ask_only p run.sound) (lined p run.sound) c code size own_list own_walk deeds (done m)
+  tale : InTale p (blocks_ask_only p run.sound) (lined p run.sound) c code size own_list own_walk deeds (finish m)
   tale = in_tale p (blocks_ask_only p run.sound) (lined p run.sound) c code size own_list own_walk deeds m run.lead
 
   abbrev IsOwn : ℕ → Type 0
@@ -56,11 +56,11 @@ module _ (p : ProgramShape) (c : ℕ) (code : ClientCode) (size : ℕ) (deeds : 
   pub act_reserved : (h : ℕ) (act : Act) → next_act m ≡ act → lane_of act ≡ Some h → IsOwn h
   act_reserved h acts.Reserve is uses = absurd (cc)
   act_reserved h (acts.Send g parcel) is uses =
-      own_of g h uses (send_reserved p (blocks_ask_only p run.sound) (lined p run.sound) c code size own_list own_walk deeds (done m) tale g parcel is)
+      own_of g h uses (send_reserved p (blocks_ask_only p run.sound) (lined p run.sound) c code size own_list own_walk deeds (finish m) tale g parcel is)
   act_reserved h (acts.Await g) is uses =
-      own_of g h uses (await_reserved p (blocks_ask_only p run.sound) (lined p run.sound) c code size own_list own_walk deeds (done m) tale g is)
+      own_of g h uses (await_reserved p (blocks_ask_only p run.sound) (lined p run.sound) c code size own_list own_walk deeds (finish m) tale g is)
   act_reserved h (acts.NeedChunk g) is uses =
-      own_of g h uses (need_reserved p (blocks_ask_only p run.sound) (lined p run.sound) c code size own_list own_walk deeds (done m) tale g is)
+      own_of g h uses (need_reserved p (blocks_ask_only p run.sound) (lined p run.sound) c code size own_list own_walk deeds (finish m) tale g is)
   act_reserved h acts.Finished is uses = absurd (cc)
 
   -- its chunks' size stays
@@ -73,14 +73,14 @@ module _ (p : ProgramShape) (c : ℕ) (code : ClientCode) (size : ℕ) (deeds : 
       subst (λ n. MayFollow n (is_asked false (sent_to h deeds)) parcel) size_is (client_lane_laws.sends m h parcel (sent_to h deeds) is stands).0
 
   -- it has begun as many blocks as it reserved
-  pub begun_is : (done m).client.begun ≡ reservations deeds
+  pub begun_is : (finish m).client.begun ≡ reservations deeds
   begun_is = tale.reserved
 
   pub block_left : next_act m ≡ acts.Reserve → reservations deeds < blocks_of p c
   block_left is =
-      let found = reserves_between p (blocks_ask_only p run.sound) (lined p run.sound) c code size own_list own_walk deeds (done m) tale is in
+      let found = reserves_between p (blocks_ask_only p run.sound) (lined p run.sound) c code size own_list own_walk deeds (finish m) tale is in
       let begun = begun_is in
-      omega (arith, inside (done m).client.begun found.2, begun)
+      omega (arith, inside (finish m).client.begun found.2, begun)
 
 pub run_act_laws : RunActLaws
 run_act_laws = record {

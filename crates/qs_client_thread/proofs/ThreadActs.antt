@@ -19,7 +19,7 @@ use Rattle.qs_client_run.specs.declared.act.Act.{Act}
 use Rattle.qs_client_run.specs.declared.act.Act.TheVariants as acts
 use Rattle.qs_client.specs.ClientRuns.{Deed, DeedsLead, RunsTo, next_ticket, reservations, sent_to}
 use Rattle.qs_client.specs.ClientRuns as deeds
-use Rattle.qs_client.specs.Mind.{Mind, booked_mind, chunk_mind, done, fresh_mind, got_mind, hands_out, next_act, next_mind}
+use Rattle.qs_client.specs.ClientModel.{ClientModel, mind_after_begin, mind_after_chunk, finish, fresh_mind, mind_after_object, hands_out, next_act, next_mind}
 use Rattle.qs_desk.specs.Tickets.{ticket}
 use Rattle.qs_desk.specs.Views.{ShareView}
 use Rattle.qs_lane.specs.Views.{OutView}
@@ -54,9 +54,9 @@ nothing_done size h (Some lane) fresh = (refl, refl, fresh.1, fresh.2, sym (add-
 share_path : (s : ShareView) (c n : ℕ) → s.client ≡ c → s.count ≡ n → s ≡ record { client = c; count = n }
 share_path s c n a b = λ i. record { client = a i; count = b i }
 
-module _ (p : ProgramShape) (c : ℕ) (first : Mind) (start : List (Option OutView)) where
+module _ (p : ProgramShape) (c : ℕ) (first : ClientModel) (start : List (Option OutView)) where
   -- what the thread has done so far, whatever it was
-  abbrev pub Kept : Mind → ShareView → List (Option OutView) → Type 0
+  abbrev pub Kept : ClientModel → ShareView → List (Option OutView) → Type 0
   Kept m share lanes = (done : List Deed) × DeedsLead c first done m × AreDone c start done share lanes
 
   -- before its first block
@@ -67,9 +67,9 @@ module _ (p : ProgramShape) (c : ℕ) (first : Mind) (start : List (Option OutVi
   module _ (sound : IsSound p) (code : (mode : Mode) × IsCodeOf p mode c first.code) (at_first : first ≡ fresh_mind first.code first.size)
       (fresh : (h : ℕ) → IsFresh first.size (lane_at start h))
       (reached : (k h : ℕ) → k < blocks_of p c → reserves p (ticket c k) h ≡ true → IsSome (lane_at start h))
-      (m n : Mind) (share : ShareView) (lanes : List (Option OutView)) (kept : Kept m share lanes) (at : n ≡ next_mind m) where
+      (m n : ClientModel) (share : ShareView) (lanes : List (Option OutView)) (kept : Kept m share lanes) (at : n ≡ next_mind m) where
     mid : IsMidRun p c first.code first.size kept.0 m
-    mid = record { sound = sound; mode = code.0; of = code.1; lead = subst (λ (x : Mind). DeedsLead c x kept.0 m) at_first kept.1 }
+    mid = record { sound = sound; mode = code.0; of = code.1; lead = subst (λ (x : ClientModel). DeedsLead c x kept.0 m) at_first kept.1 }
 
     -- a lane is there for what the mind asks for
     pub reaches : (h : ℕ) (act : Act) → next_act m ≡ act → lane_of act ≡ Some h → (h < most_handlers) × IsSome (lane_at lanes h)
@@ -91,16 +91,16 @@ module _ (p : ProgramShape) (c : ℕ) (first : Mind) (start : List (Option OutVi
     pub count_is : next_act m ≡ acts.Reserve → share.count ≡ n.client.begun
     count_is is =
         ap (λ (s : ShareView). s.count) kept.2.booked ∙ (sym (begun_is p c first.code first.size kept.0 m mid)
-        ∙ (ap (λ act. (hands_out (done m) act).client.begun) (sym is) ∙ ap (λ (n : Mind). n.client.begun) (sym at)))
+        ∙ (ap (λ act. (hands_out (finish m) act).client.begun) (sym is) ∙ ap (λ (n : ClientModel). n.client.begun) (sym at)))
 
-    pub kept_by_ticket : (m' : Mind) (t : Ticket) (share' : ShareView) → next_act m ≡ acts.Reserve → t ≡ ticket share.client share.count
-        → share' ≡ record share { count = share.count + 1 } → m' ≡ booked_mind n t → Kept m' share' lanes
+    pub kept_by_ticket : (m' : ClientModel) (t : Ticket) (share' : ShareView) → next_act m ≡ acts.Reserve → t ≡ ticket share.client share.count
+        → share' ≡ record share { count = share.count + 1 } → m' ≡ mind_after_begin n t → Kept m' share' lanes
     kept_by_ticket m' t share' is ticket_is share_is books =
         let d = deeds.reserves in
         let mine : t ≡ next_ticket c n =
         ticket_is ∙ (λ i. ticket ((ap (λ (s : ShareView). s.client) kept.2.booked) i) (count_is is i)) in
-        let lead : booked_mind (next_mind m) (next_ticket c (next_mind m)) ≡ m' =
-        sym (books ∙ (ap (booked_mind n) mine ∙ ap (λ (n : Mind). booked_mind n (next_ticket c n)) at)) in (
+        let lead : mind_after_begin (next_mind m) (next_ticket c (next_mind m)) ≡ m' =
+        sym (books ∙ (ap (mind_after_begin n) mine ∙ ap (λ (n : ClientModel). mind_after_begin n (next_ticket c n)) at)) in (
           kept.0 ++ d ∷ [],
           deeds_join c kept.0 (d ∷ []) first m m' kept.1 (is, lead),
           record {
@@ -148,7 +148,7 @@ module _ (p : ProgramShape) (c : ℕ) (first : Mind) (start : List (Option OutVi
           },
         )
 
-    pub kept_by_object : (m' : Mind) (h : ℕ) (x : HeldState) (lanes' : List (Option OutView)) → next_act m ≡ acts.Await h → m' ≡ got_mind n x
+    pub kept_by_object : (m' : ClientModel) (h : ℕ) (x : HeldState) (lanes' : List (Option OutView)) → next_act m ≡ acts.Await h → m' ≡ mind_after_object n x
         → ((lane : OutView) → lane_at lanes h ≡ Some lane → lanes' ≡ slice_set lanes h (Some (record lane { got = lane.got ++ x ∷ [] })))
         → Kept m' share lanes'
     kept_by_object m' h x lanes' is gets did =
@@ -156,7 +156,7 @@ module _ (p : ProgramShape) (c : ℕ) (first : Mind) (start : List (Option OutVi
         let found = some_lane (lane_at lanes h) (reaches h (acts.Await h) is refl).1 in
         let lane = found.0 in (
           kept.0 ++ d ∷ [],
-          deeds_join c kept.0 (d ∷ []) first m m' kept.1 (is, sym (gets ∙ ap (λ (n : Mind). got_mind n x) at)),
+          deeds_join c kept.0 (d ∷ []) first m m' kept.1 (is, sym (gets ∙ ap (λ (n : ClientModel). mind_after_object n x) at)),
           record {
             booked = same_share d refl;
             ends = at_one_lane start lanes lanes' kept.0 d h lane (record lane { got = lane.got ++ x ∷ [] }) kept.2.ends found.1 (did lane found.1)
@@ -183,16 +183,16 @@ module _ (p : ProgramShape) (c : ℕ) (first : Mind) (start : List (Option OutVi
         let found = some_lane (lane_at lanes h) (reaches h (acts.NeedChunk h) is refl).1 in
         (took found.0 found.1).1
         ∙ ap (batch [])
-        ((shows h found.0 found.1).0 ∙ (sym (size_is p c first.code first.size kept.0 m mid) ∙ ap (λ (n : Mind). n.size) (sym at)))
+        ((shows h found.0 found.1).0 ∙ (sym (size_is p c first.code first.size kept.0 m mid) ∙ ap (λ (n : ClientModel). n.size) (sym at)))
 
-    pub kept_by_chunk : (m' : Mind) (h : ℕ) (chunk : Batch Request) (lanes' : List (Option OutView)) → next_act m ≡ acts.NeedChunk h
-        → m' ≡ chunk_mind n h → Took h chunk lanes' → Kept m' share lanes'
+    pub kept_by_chunk : (m' : ClientModel) (h : ℕ) (chunk : Batch Request) (lanes' : List (Option OutView)) → next_act m ≡ acts.NeedChunk h
+        → m' ≡ mind_after_chunk n h → Took h chunk lanes' → Kept m' share lanes'
     kept_by_chunk m' h chunk lanes' is takes took =
         let d = deeds.takes_chunk h in
         let found = some_lane (lane_at lanes h) (reaches h (acts.NeedChunk h) is refl).1 in
         let lane = found.0 in (
           kept.0 ++ d ∷ [],
-          deeds_join c kept.0 (d ∷ []) first m m' kept.1 (is, sym (takes ∙ ap (λ (n : Mind). chunk_mind n h) at)),
+          deeds_join c kept.0 (d ∷ []) first m m' kept.1 (is, sym (takes ∙ ap (λ (n : ClientModel). mind_after_chunk n h) at)),
           record {
             booked = same_share d refl;
             ends = at_one_lane start lanes lanes' kept.0 d h lane (record lane { taken = lane.taken + 1 }) kept.2.ends found.1 (took lane found.1).0

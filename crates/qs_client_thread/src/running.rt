@@ -4,7 +4,7 @@ ghost use Rattle.std.specs.Prelude.{◌≡◌, ◌<◌, ℕ, List, IsSome, true}
 ghost use Rattle.qs_program.specs.Program.{blocks_of};
 ghost use Rattle.qs_program.specs.Sound.{IsSound};
 ghost use Rattle.qs_client.specs.ClientRuns.{Deed, RunsTo};
-ghost use Rattle.qs_client.specs.Mind.{fresh_mind};
+ghost use Rattle.qs_client.specs.ClientModel.{fresh_mind};
 ghost use Rattle.qs_client.specs.MindState.{mind_of};
 ghost use Rattle.qs_client_thread.specs.ClientThreads.{AreDone, IsFresh, lane_at};
 ghost use Rattle.qs_desk.specs.Tickets.{ticket};
@@ -42,10 +42,10 @@ pub fn run<D: DeskName, R: Wait>(
     let mut lanes = lanes;
     for _ in rt.forever() {
         match mind.next() {
-            Act::Reserve => mind.booked(front.reserve(rt, &mut share)),
+            Act::Reserve => mind.begin(front.reserve(rt, &mut share)),
             Act::Send(handler, parcel) => send(rt, &mut lanes, handler, parcel),
-            Act::Await(handler) => mind.got(get(rt, &mut lanes, handler)),
-            Act::NeedChunk(handler) => mind.chunk(empty(rt, &mut lanes, handler)),
+            Act::Await(handler) => mind.take_object(get(rt, &mut lanes, handler)),
+            Act::NeedChunk(handler) => mind.take_chunk(empty(rt, &mut lanes, handler)),
             Act::Finished => return (mind, share, lanes),
         }
     }

@@ -15,11 +15,11 @@ use Rattle.qs_chunk.specs.declared.parcel.Parcel.{Parcel}
 use Rattle.qs_chunk.specs.declared.parcel.Parcel.TheVariants as parcels
 use Rattle.qs_chunk.specs.Limits.{lane_room}
 use Rattle.qs_handler.specs.Handler.{Handler}
-use Rattle.qs_client_run.specs.Client.{Settled, got, sent, took_chunk}
-use Rattle.qs_client.specs.Mind.{Mind, asked_of, chunk_mind, done, extended, got_mind, hands_out, settings_of}
-use Rattle.qs_client_run.specs.Standing.{after_send, gave, handed_of}
+use Rattle.qs_client_run.specs.Client.{Settlement, take_object, after_parcel, take_chunk}
+use Rattle.qs_client.specs.ClientModel.{ClientModel, act_due, mind_after_chunk, finish, extend, mind_after_object, hands_out, settings_of}
+use Rattle.qs_client_run.specs.BetweenActs.{after_send, without_act, outgoing_of}
 use Rattle.qs_client_run.specs.declared.act.Act.{Act}
-use Rattle.qs_client_run.proofs.Hold.{put_same, put_set_at}
+use Rattle.qs_client_run.proofs.HoldingsAsFunctions.{put_same, put_set_at}
 use Rattle.qs_client_run.specs.ClientLaws.{SendsAreParted}
 use Rattle.qs_client_run.specs.declared.act.Act.TheVariants as acts
 use Rattle.qs_played.specs.declared.actor.Actor.TheVariants as actor
@@ -41,11 +41,11 @@ abbrev pub counts_in : Side → ℕ → List SyncCount
 counts_in s k = get_or s.mind.counts k []
 
 abbrev pub with_events : List (List Event) → ℕ → List Event → ℕ → List Event
-with_events ts k es n = get_or (extended ts k es) n []
+with_events ts k es n = get_or (extend ts k es) n []
 
 -- a client that came to this by an act at its lane to handler h
 module _ (order : List Ticket) (sides : ℕ → Side) (handler : ℕ → Handler) (tickets : ℕ → List Ticket) (c : ℕ) where
-  abbrev pub own : Mind
+  abbrev pub own : ClientModel
   own = (sides c).mind
 
   abbrev pub code : ℕ → ClientCode
@@ -62,10 +62,10 @@ module _ (order : List Ticket) (sides : ℕ → Side) (handler : ℕ → Handler
     lane = lane_at (sides c).lanes h
 
     -- the client's side with this lane
-    abbrev pub side_with : Mind → LaneState → Side
+    abbrev pub side_with : ClientModel → LaneState → Side
     side_with n l = record { mind = n; lanes = set (sides c).lanes h l }
 
-    abbrev pub after : Mind → LaneState → Core
+    abbrev pub after : ClientModel → LaneState → Core
     after n l = core_from order (put sides c (side_with n l)) handler tickets
 
     -- the machine with these lanes and counts of Syncs
@@ -85,8 +85,8 @@ module _ (order : List Ticket) (sides : ℕ → Side) (handler : ℕ → Handler
     }
 
     -- all of it, where the client has come to this
-    pub comes : (r : Settled) (n : Mind) (l : LaneState) (syncs : ℕ → ℕ) (tallies : Ticket → List SyncCount) (down : ℕ → ℕ → List Parcel) (up : ℕ → ℕ → Option HeldState) (spare : ℕ → ℕ → ℕ)
-        → n.client ≡ r.client → n.traces ≡ extended own.traces now.index r.events → n.entries ≡ own.entries
+    pub comes : (r : Settlement) (n : ClientModel) (l : LaneState) (syncs : ℕ → ℕ) (tallies : Ticket → List SyncCount) (down : ℕ → ℕ → List Parcel) (up : ℕ → ℕ → Option HeldState) (spare : ℕ → ℕ → ℕ)
+        → n.client ≡ r.client → n.traces ≡ extend own.traces now.index r.events → n.entries ≡ own.entries
         → put (each (λ (s : Side). s.mind.syncs) sides) c n.syncs ≡ syncs
         → by_ticket counts_in (put sides c (side_with n l)) ≡ tallies
         → in_lanes (λ (k : LaneState). k.down) (put sides c (side_with n l)) ≡ down
@@ -116,22 +116,22 @@ module _ (order : List Ticket) (sides : ℕ → Side) (handler : ℕ → Handler
             ∙ (λ k m. put_set_at own.traces now.index (traces_in (sides c) now.index ++ r.events) [] traced m k)
 
     -- a parcel was sent
-    module _ (parted : SendsAreParted) (p : Parcel) (asked : asked_of own ≡ acts.Send h p) where
-      abbrev pub sent_on : Mind
-      sent_on = done (hands_out own (acts.Send h p))
+    module _ (parted : SendsAreParted) (p : Parcel) (asked : act_due own ≡ acts.Send h p) where
+      abbrev pub sent_on : ClientModel
+      sent_on = finish (hands_out own (acts.Send h p))
 
-      abbrev by_parcel : Settled
-      by_parcel = sent (settings_of own) now (code_at own.code now.index).reserved own.client h p
+      abbrev by_parcel : Settlement
+      by_parcel = after_parcel (settings_of own) now (code_at own.code now.index).reserved own.client h p
 
-      settled_as : after_send (settings_of own) own.ticket (code_at own.code own.ticket.index).reserved (handed_of (acts.Send h p)) (gave own.client (acts.Send h p)) ≡ by_parcel
+      settled_as : after_send (settings_of own) own.ticket (code_at own.code own.ticket.index).reserved (outgoing_of (acts.Send h p)) (without_act own.client (acts.Send h p)) ≡ by_parcel
       settled_as =
-          ap (λ (t : Ticket). after_send (settings_of own) t (code_at own.code t.index).reserved (handed_of (acts.Send h p)) (gave own.client (acts.Send h p))) ticket_is
+          ap (λ (t : Ticket). after_send (settings_of own) t (code_at own.code t.index).reserved (outgoing_of (acts.Send h p)) (without_act own.client (acts.Send h p))) ticket_is
           ∙ sym (parted (settings_of own) now (code_at own.code now.index).reserved (length own.code.blocks) own.client h p asked)
 
       pub sends_steps : nat_lt (length lane.down) lane_room ≡ true → core_step code own.size before (actor.Client c) ≡ Some (after sent_on (with_down lane (lane.down ++ p ∷ [])))
       sends_steps room = rw asked (rw room (ap Some (comes by_parcel sent_on (with_down lane (lane.down ++ p ∷ [])) _ _ _ _ _
-          (ap (λ (r : Settled). r.client) settled_as)
-          (ap (λ (r : Settled). extended own.traces own.ticket.index r.events) settled_as ∙ ap (λ (t : Ticket). extended own.traces t.index by_parcel.events) ticket_is)
+          (ap (λ (r : Settlement). r.client) settled_as)
+          (ap (λ (r : Settlement). extend own.traces own.ticket.index r.events) settled_as ∙ ap (λ (t : Ticket). extend own.traces t.index by_parcel.events) ticket_is)
           refl
           (syncs_are p)
           (tallies_are p)
@@ -139,14 +139,14 @@ module _ (order : List Ticket) (sides : ℕ → Side) (handler : ℕ → Handler
           (lanes_kept (λ (k : LaneState). k.up) sides c _ h _ inside refl refl)
           (lanes_kept (λ (k : LaneState). length k.spare) sides c _ h _ inside refl refl))))
         where
-          syncs_are : (q : Parcel) → put (each (λ (s : Side). s.mind.syncs) sides) c (done (hands_out own (acts.Send h q))).syncs ≡ (lies code own.size before c h q).syncs
+          syncs_are : (q : Parcel) → put (each (λ (s : Side). s.mind.syncs) sides) c (finish (hands_out own (acts.Send h q))).syncs ≡ (lies code own.size before c h q).syncs
           syncs_are (parcels.Work b) = put_same _ c _ (sym (add-zero own.syncs))
           syncs_are parcels.Sync = ap (put (each (λ (s : Side). s.mind.syncs) sides) c) (omega arith)
           syncs_are (parcels.Home x) = put_same _ c _ (sym (add-zero own.syncs))
           syncs_are parcels.End = put_same _ c _ (sym (add-zero own.syncs))
 
           side_after : Parcel → Side
-          side_after q = side_with (done (hands_out own (acts.Send h q))) (with_down lane (lane.down ++ p ∷ []))
+          side_after q = side_with (finish (hands_out own (acts.Send h q))) (with_down lane (lane.down ++ p ∷ []))
 
           more : List SyncCount
           more = with_sync h (get_or own.counts now.index [])
@@ -166,11 +166,11 @@ module _ (order : List Ticket) (sides : ℕ → Side) (handler : ℕ → Handler
       sends_stay full = rw asked (rw full refl)
 
     -- the object came
-    module _ (asked : asked_of own ≡ acts.Await h) where
-      pub gets_steps : (x : HeldState) → lane.up ≡ Some x → core_step code own.size before (actor.Client c) ≡ Some (after (got_mind own x) (lanes.with_up lane None))
-      gets_steps x lies_there = rw asked (rw lies_there (ap Some (comes _ (got_mind own x) (lanes.with_up lane None) _ _ _ _ _
+    module _ (asked : act_due own ≡ acts.Await h) where
+      pub gets_steps : (x : HeldState) → lane.up ≡ Some x → core_step code own.size before (actor.Client c) ≡ Some (after (mind_after_object own x) (lanes.with_up lane None))
+      gets_steps x lies_there = rw asked (rw lies_there (ap Some (comes _ (mind_after_object own x) (lanes.with_up lane None) _ _ _ _ _
           (ap (λ (t : Ticket). (came t).client) ticket_is)
-          (ap (λ (t : Ticket). extended own.traces t.index (came t).events) ticket_is)
+          (ap (λ (t : Ticket). extend own.traces t.index (came t).events) ticket_is)
           refl
           (put_same _ c _ refl)
           (tickets_kept counts_in sides c _ refl)
@@ -178,18 +178,18 @@ module _ (order : List Ticket) (sides : ℕ → Side) (handler : ℕ → Handler
           (lanes_put (λ (k : LaneState). k.up) sides c _ h _ inside refl)
           (lanes_kept (λ (k : LaneState). length k.spare) sides c _ h _ inside refl refl))))
         where
-          came : Ticket → Settled
-          came t = got (settings_of own) t (code_at own.code t.index).reserved own.client x own.client.place
+          came : Ticket → Settlement
+          came t = take_object (settings_of own) t (code_at own.code t.index).reserved own.client x own.client.stage
 
       pub gets_stay : lane.up ≡ None → core_step code own.size before (actor.Client c) ≡ None
       gets_stay none = rw asked (rw none refl)
 
     -- an empty chunk came
-    module _ (asked : asked_of own ≡ acts.NeedChunk h) where
-      pub takes_steps : (b : Batch Request) (bs : List (Batch Request)) → lane.spare ≡ b ∷ bs → core_step code own.size before (actor.Client c) ≡ Some (after (chunk_mind own h) (lanes.with_spare lane bs))
-      takes_steps b bs lies_there = rw asked (rw lies_there (ap Some (comes _ (chunk_mind own h) (lanes.with_spare lane bs) _ _ _ _ _
+    module _ (asked : act_due own ≡ acts.NeedChunk h) where
+      pub takes_steps : (b : Batch Request) (bs : List (Batch Request)) → lane.spare ≡ b ∷ bs → core_step code own.size before (actor.Client c) ≡ Some (after (mind_after_chunk own h) (lanes.with_spare lane bs))
+      takes_steps b bs lies_there = rw asked (rw lies_there (ap Some (comes _ (mind_after_chunk own h) (lanes.with_spare lane bs) _ _ _ _ _
           (ap (λ (t : Ticket). (came t).client) ticket_is)
-          (ap (λ (t : Ticket). extended own.traces t.index (came t).events) ticket_is)
+          (ap (λ (t : Ticket). extend own.traces t.index (came t).events) ticket_is)
           refl
           (put_same _ c _ refl)
           (tickets_kept counts_in sides c _ refl)
@@ -197,14 +197,14 @@ module _ (order : List Ticket) (sides : ℕ → Side) (handler : ℕ → Handler
           (lanes_kept (λ (k : LaneState). k.up) sides c _ h _ inside refl refl)
           (lanes_put (λ (k : LaneState). length k.spare) sides c _ h _ inside refl))))
         where
-          came : Ticket → Settled
-          came t = took_chunk (settings_of own) t (code_at own.code t.index).reserved own.client h own.client.place
+          came : Ticket → Settlement
+          came t = take_chunk (settings_of own) t (code_at own.code t.index).reserved own.client h own.client.stage
 
       pub takes_stay : lane.spare ≡ [] → core_step code own.size before (actor.Client c) ≡ None
       takes_stay none = rw asked (rw none refl)
 
     -- after a step at the lane, where there is one
-    abbrev pub result_of : Option (Mind × LaneState) → Option Core
+    abbrev pub result_of : Option (ClientModel × LaneState) → Option Core
     result_of None = None
     result_of (Some q) = Some (after q.0 q.1)
 
@@ -216,19 +216,19 @@ module _ (order : List Ticket) (sides : ℕ → Side) (handler : ℕ → Handler
       abbrev stepped : Act → Type 0
       stepped act = core_step code own.size before (actor.Client c) ≡ result_of (lane_step own act lane)
 
-      sent_or_not : (p : Parcel) (room : Bool) → nat_lt (length lane.down) lane_room ≡ room → asked_of own ≡ acts.Send h p → stepped (acts.Send h p)
+      sent_or_not : (p : Parcel) (room : Bool) → nat_lt (length lane.down) lane_room ≡ room → act_due own ≡ acts.Send h p → stepped (acts.Send h p)
       sent_or_not p true e asked = sends_steps parted p asked e ∙ sym (rw e refl)
       sent_or_not p false e asked = sends_stay parted p asked e ∙ sym (rw e refl)
 
-      got_or_not : (o : Option HeldState) → lane.up ≡ o → asked_of own ≡ acts.Await h → stepped (acts.Await h)
+      got_or_not : (o : Option HeldState) → lane.up ≡ o → act_due own ≡ acts.Await h → stepped (acts.Await h)
       got_or_not (Some x) e asked = gets_steps asked x e ∙ sym (rw e refl)
       got_or_not None e asked = gets_stay asked e ∙ sym (rw e refl)
 
-      taken_or_not : (bs : List (Batch Request)) → lane.spare ≡ bs → asked_of own ≡ acts.NeedChunk h → stepped (acts.NeedChunk h)
+      taken_or_not : (bs : List (Batch Request)) → lane.spare ≡ bs → act_due own ≡ acts.NeedChunk h → stepped (acts.NeedChunk h)
       taken_or_not (b ∷ bs) e asked = takes_steps asked b bs e ∙ sym (rw e refl)
       taken_or_not [] e asked = takes_stay asked e ∙ sym (rw e refl)
 
-      pub at_lane : (act : Act) → asked_of own ≡ act → turns_to act ≡ Some h → stepped act
+      pub at_lane : (act : Act) → act_due own ≡ act → turns_to act ≡ Some h → stepped act
       at_lane acts.Reserve asked e = cc
       at_lane (acts.Send g p) asked e =
           let same : g ≡ h = ap handler_or_none e in

@@ -20,8 +20,8 @@ use Rattle.qs_chunk.specs.declared.parcel.Parcel.TheVariants as parcels
 use Rattle.qs_handler.specs.Handler.{Handler, act_of, taken, serving}
 use Rattle.qs_handler.proofs.Turns.{acts_lose_nothing}
 use Rattle.qs_handler.specs.declared.mind.Act.TheVariants as acts
-use Rattle.qs_client_run.specs.Client.{Place, act_at, between, runs, full, awaits, leaves, call_act, clears}
-use Rattle.qs_client.specs.Mind.{Mind, asked_of, booked_mind, booked_with, locals_at, settings_of}
+use Rattle.qs_client_run.specs.Client.{ClientStage, act_at, between, runs, full, awaits, leaves, call_act, clear}
+use Rattle.qs_client.specs.ClientModel.{ClientModel, act_due, mind_after_begin, mind_after_begin_with, locals_at, settings_of}
 use Rattle.qs_client.specs.MindState.{IsMind, mind_of}
 use Rattle.qs_client_run.specs.declared.act.Act.{Act}
 use Rattle.qs_client_run.specs.declared.act.Act.TheVariants as wants
@@ -65,24 +65,24 @@ member_of (x ∷ rs) h {n} member all = by_test (x == h) refl member (λ m. memb
     by_test false e m later = later m
 
 -- a client that wants to reserve stands between blocks, with one to come
-pub reserving_at : (n : Mind) → asked_of n ≡ wants.Reserve → (l : Locals) × (n.client.place ≡ between l) × (n.client.begun < length n.code.blocks)
-reserving_at n asked = by_place n.client.place refl asked
+pub reserving_at : (n : ClientModel) → act_due n ≡ wants.Reserve → (l : Locals) × (n.client.stage ≡ between l) × (n.client.begun < length n.code.blocks)
+reserving_at n asked = by_place n.client.stage refl asked
   where
-    not_cleared : (h : ℕ) (x : Option HeldState) (k : Option (List Request)) (other : Act) → (other ≡ wants.Reserve → ⊥) → clears (settings_of n) h x k other ≡ wants.Reserve → ⊥
+    not_cleared : (h : ℕ) (x : Option HeldState) (k : Option (List Request)) (other : Act) → (other ≡ wants.Reserve → ⊥) → clear (settings_of n) h x k other ≡ wants.Reserve → ⊥
     not_cleared h (Some x) k other differs is = cc
     not_cleared h None (Some rs) other differs is = cc
     not_cleared h None None other differs is = differs is
 
-    by_place : (p : Place) → n.client.place ≡ p → act_at (settings_of n) (length n.code.blocks) n.client p ≡ wants.Reserve → (l : Locals) × (n.client.place ≡ between l) × (n.client.begun < length n.code.blocks)
+    by_place : (p : ClientStage) → n.client.stage ≡ p → act_at (settings_of n) (length n.code.blocks) n.client p ≡ wants.Reserve → (l : Locals) × (n.client.stage ≡ between l) × (n.client.begun < length n.code.blocks)
     by_place (between l) e a = by_count (nat_lt n.client.begun (length n.code.blocks)) refl a
       where
-        by_count : (b : Bool) → nat_lt n.client.begun (length n.code.blocks) ≡ b → (if b then wants.Reserve else wants.Finished) ≡ wants.Reserve → (l : Locals) × (n.client.place ≡ between l) × (n.client.begun < length n.code.blocks)
+        by_count : (b : Bool) → nat_lt n.client.begun (length n.code.blocks) ≡ b → (if b then wants.Reserve else wants.Finished) ≡ wants.Reserve → (l : Locals) × (n.client.stage ≡ between l) × (n.client.begun < length n.code.blocks)
         by_count true less is = (l, e, grind (arith, less))
         by_count false less is = cc
     by_place (runs (Done l)) e a = cc
     by_place (runs (Call r next)) e a = by_hands (n.client.held r.object) (n.client.chunk r.object) a
       where
-        by_hands : (x : Option HeldState) (k : Option (List Request)) → call_act (settings_of n) r.object x k ≡ wants.Reserve → (l : Locals) × (n.client.place ≡ between l) × (n.client.begun < length n.code.blocks)
+        by_hands : (x : Option HeldState) (k : Option (List Request)) → call_act (settings_of n) r.object x k ≡ wants.Reserve → (l : Locals) × (n.client.stage ≡ between l) × (n.client.begun < length n.code.blocks)
         by_hands (Some x) k is = cc
         by_hands None None is = cc
         by_hands None (Some rs) is = cc
@@ -96,10 +96,10 @@ module _ (s : CoreState) (kept : IsCoreState s) (sound : IsSound s.program) (kee
     (keeps_on : (a : Actor) (x : Core) → core_step (codes_of s) s.size (core_of s) a ≡ Some x → ReachedCore s.program (codes_of s) s.size x)
     (c : ℕ) (inside : c < length s.clients) (old : CoreClientState) (here : side_at s.clients c ≡ side_of old)
     (seat : IsCoreClient old) (stocked : AreStocked old) (ok : IsMind (mind_of old.mind)) (asked : old.act ≡ wants.Reserve) where
-  abbrev own : Mind
+  abbrev own : ClientModel
   own = whole_of old
 
-  abbrev host : Mind
+  abbrev host : ClientModel
   host = (side_at s.clients c).mind
 
   own_ok : IsMind own
@@ -114,14 +114,14 @@ module _ (s : CoreState) (kept : IsCoreState s) (sound : IsSound s.program) (kee
   abbrev pub list : List ℕ
   list = (block_at s.program c own.client.begun).reserved
 
-  wants_it : asked_of host ≡ wants.Reserve
-  wants_it = ap asked_of host_is ∙ sym seat.act ∙ asked
+  wants_it : act_due host ≡ wants.Reserve
+  wants_it = ap act_due host_is ∙ sym seat.act ∙ asked
 
-  room : (l : Locals) × (host.client.place ≡ between l) × (host.client.begun < length host.code.blocks)
+  room : (l : Locals) × (host.client.stage ≡ between l) × (host.client.begun < length host.code.blocks)
   room = reserving_at host wants_it
 
   k_less : own.client.begun < length own.code.blocks
-  k_less = subst (λ (m : Mind). m.client.begun < length m.code.blocks) host_is room.2
+  k_less = subst (λ (m : ClientModel). m.client.begun < length m.code.blocks) host_is room.2
 
   size_is : host.size ≡ s.size
   size_is = (kept.sides c inside).size
@@ -133,7 +133,7 @@ module _ (s : CoreState) (kept : IsCoreState s) (sound : IsSound s.program) (kee
   is_code = kept.codes.own c in_program
 
   pub in_blocks : own.client.begun < blocks_of s.program c
-  in_blocks = let code_is : host.code ≡ own.code = ap (λ (m : Mind). m.code) host_is in let m : length own.code.blocks ≡ blocks_of s.program c = ap (λ (x : ClientCode). length x.blocks) (sym code_is) ∙ is_code.count in omega (arith, k_less, m)
+  in_blocks = let code_is : host.code ≡ own.code = ap (λ (m : ClientModel). m.code) host_is in let m : length own.code.blocks ≡ blocks_of s.program c = ap (λ (x : ClientCode). length x.blocks) (sym code_is) ∙ is_code.count in omega (arith, k_less, m)
 
   list_is : (code_at host.code own.client.begun).reserved ≡ list
   list_is = (is_code.blocks own.client.begun in_blocks).reserved
@@ -191,7 +191,7 @@ module _ (s : CoreState) (kept : IsCoreState s) (sound : IsSound s.program) (kee
   longer h member =
       let few : length (before_it next h) ≤ all_blocks s.program = then.tickets.few h in
       let mine : is_in (code_at host.code host.client.begun).reserved h ≡ true =
-      subst (λ n. is_in (code_at host.code n).reserved h ≡ true) (ap (λ (m : Mind). m.client.begun) (sym host_is)) (ap (λ rs. is_in rs h) list_is ∙ member) in
+      subst (λ n. is_in (code_at host.code n).reserved h ≡ true) (ap (λ (m : ClientModel). m.client.begun) (sym host_is)) (ap (λ rs. is_in rs h) list_is ∙ member) in
       let has : next.tickets h ≡ tickets_at s.handlers h ++ ticket c host.client.begun ∷ [] = rw mine refl in
       let all : length (serving (handler_at s.program s.handlers h) ++ (tickets_at s.handlers h ++ ticket c host.client.begun ∷ [])) ≤ all_blocks s.program =
       subst (λ ts. length (serving (handler_at s.program s.handlers h) ++ ts) ≤ all_blocks s.program) has few in
@@ -208,23 +208,23 @@ module _ (s : CoreState) (kept : IsCoreState s) (sound : IsSound s.program) (kee
           let roomy : all_blocks s.program ≤ (seat_at s.handlers h).room = AllByRecursion-get_or (λ (x : CoreHandlerState). all_blocks s.program ≤ x.room) s.handlers h no_seat kept.rooms less in
           omega (arith, longer h member, ap length queue, roomy)
 
-  module _ (new : CoreClientState) (came : IsSeatOf (booked_mind own now) new) (lanes_stay : new.lanes ≡ old.lanes) where
+  module _ (new : CoreClientState) (came : IsSeatOf (mind_after_begin own now) new) (lanes_stay : new.lanes ≡ old.lanes) where
     abbrev pub booked_after : CoreState
     booked_after = record { program = s.program; size = s.size; order = s.order ++ now ∷ []; clients = set s.clients c new; handlers = entered_all now s.handlers list }
 
-    place_is : own.client.place ≡ between room.0
-    place_is = subst (λ (m : Mind). m.client.place ≡ between room.0) host_is room.1
+    place_is : own.client.stage ≡ between room.0
+    place_is = subst (λ (m : ClientModel). m.client.stage ≡ between room.0) host_is room.1
 
     now_is : ticket c host.client.begun ≡ now
-    now_is = ap (λ (m : Mind). ticket c m.client.begun) host_is
+    now_is = ap (λ (m : ClientModel). ticket c m.client.begun) host_is
 
-    new_is : whole_of new ≡ booked_with own now room.0
-    new_is = came.whole_is ∙ ap (λ (p : Place). booked_with own now (locals_at p)) place_is
+    new_is : whole_of new ≡ mind_after_begin_with own now room.0
+    new_is = came.whole_is ∙ ap (λ (p : ClientStage). mind_after_begin_with own now (locals_at p)) place_is
 
-    sides_then : put (side_at s.clients) c (record { mind = booked_with host (ticket c host.client.begun) room.0; lanes = (side_at s.clients c).lanes }) ≡ side_at (set s.clients c new)
+    sides_then : put (side_at s.clients) c (record { mind = mind_after_begin_with host (ticket c host.client.begun) room.0; lanes = (side_at s.clients c).lanes }) ≡ side_at (set s.clients c new)
     sides_then =
         (λ i. put (side_at s.clients) c (record {
-          mind = (ap (λ (m : Mind). booked_with m (ticket c m.client.begun) room.0) host_is ∙ sym new_is) i;
+          mind = (ap (λ (m : ClientModel). mind_after_begin_with m (ticket c m.client.begun) room.0) host_is ∙ sym new_is) i;
           lanes = (ap (λ (x : Side). x.lanes) here ∙ sym lanes_stay) i;
         }))
         ∙ sym (side_put s.clients c new inside)
@@ -238,7 +238,7 @@ module _ (s : CoreState) (kept : IsCoreState s) (sound : IsSound s.program) (kee
     codes_then : codes_of booked_after ≡ codes_of s
     codes_then =
         ap (each (λ (x : Side). x.mind.code)) (side_put s.clients c new inside)
-        ∙ field_kept (λ (x : Side). x.mind.code) (side_at s.clients) c (side_of new) (ap (λ (m : Mind). m.code) new_is ∙ sym (ap (λ (m : Mind). m.code) host_is))
+        ∙ field_kept (λ (x : Side). x.mind.code) (side_at s.clients) c (side_of new) (ap (λ (m : ClientModel). m.code) new_is ∙ sym (ap (λ (m : ClientModel). m.code) host_is))
 
     pub reserve_steps : CoreSteps s (actor.Client c) booked_after
     unfolding core_of
@@ -255,8 +255,8 @@ module _ (s : CoreState) (kept : IsCoreState s) (sound : IsSound s.program) (kee
     new_side : IsSide s.program s.size c (side_of new)
     new_side = record {
       lanes = ap length lanes_stay ∙ is_side.lanes;
-      size = ap (λ (m : Mind). m.size) new_is ∙ is_side.size;
-      owner = λ less. ap (λ (m : Mind). m.ticket.client) new_is;
+      size = ap (λ (m : ClientModel). m.size) new_is ∙ is_side.size;
+      owner = λ less. ap (λ (m : ClientModel). m.ticket.client) new_is;
     }
 
     pub reserve_kept : IsCoreState booked_after
@@ -266,7 +266,7 @@ module _ (s : CoreState) (kept : IsCoreState s) (sound : IsSound s.program) (kee
       sides = λ n less. subst (IsSide s.program s.size n) (λ i. sym (side_put s.clients c new inside) i n)
           (all_put (IsSide s.program s.size) (length s.clients) (side_at s.clients) c (side_of new) new_side kept.sides n (subst (λ m. n < m) (length-set s.clients c new) less));
       stocked = all_set AreStocked s.clients c new
-          (subst (λ (m : Mind). AllByRecursion (IsStocked m.size) new.lanes) (sym new_is) (subst (AllByRecursion (IsStocked own.size)) (sym lanes_stay) stocked))
+          (subst (λ (m : ClientModel). AllByRecursion (IsStocked m.size) new.lanes) (sym new_is) (subst (AllByRecursion (IsStocked own.size)) (sym lanes_stay) stocked))
           kept.stocked;
       rooms = rooms_entered now (all_blocks s.program) s.handlers list in_hall kept.rooms;
       mode = kept.mode;

@@ -8,7 +8,7 @@ use Rattle.qs_objects.proofs.Elements.{AllByRecursion-get_or}
 use Rattle.qs_program.specs.Program.{ProgramShape}
 use Rattle.qs_meaning.specs.Solo.{put}
 use Rattle.qs_program.specs.Sound.{is_in}
-use Rattle.qs_client_run.proofs.Hold.{put_same}
+use Rattle.qs_client_run.proofs.HoldingsAsFunctions.{put_same}
 use Rattle.qs_played.proofs.Lists.{sum_by-range_more}
 use Rattle.qs_core_parts.specs.CoreHandlers.{CanEnterAll, CoreHandlerState, entered, entered_all, entered_at, handler_of, no_seat, seat_at}
 use Rattle.qs_core.specs.CoreState.{handler_at, tickets_at}

@@ -8,7 +8,7 @@ use Rattle.qs_objects.proofs.Elements.{AllByRecursion-get_or}
 use Rattle.qs_program.specs.Program.{block_at, blocks_of}
 use Rattle.qs_program.specs.Sound.{IsSound}
 use Rattle.qs_client_run.specs.Client.{act_of as client_act}
-use Rattle.qs_client.specs.Mind.{asked_of, booked_mind}
+use Rattle.qs_client.specs.ClientModel.{act_due, mind_after_begin}
 use Rattle.qs_client.specs.MindState.{IsMind, mind_of}
 use Rattle.qs_client_run.specs.declared.act.Act.{Act}
 use Rattle.qs_client_run.specs.declared.act.Act.TheVariants as wants
@@ -46,7 +46,7 @@ module _ (r s : CoreState) (view : r ≡ s) (kept : IsCoreState r) (keeps : Core
   unfolding core_of
   machine_act =
       (λ k. client_act (record { dynamic = (side_at r.clients c).mind.code.dynamic; size = sym (kept.sides c inside).size k }) (length (side_at r.clients c).mind.code.blocks) (side_at r.clients c).mind.client)
-      ∙ ap (λ (x : Side). asked_of x.mind) here
+      ∙ ap (λ (x : Side). act_due x.mind) here
       ∙ sym seat.act
 
   lanes_are : length d.lanes ≡ length r.program.objects
@@ -117,8 +117,8 @@ module _ (r s : CoreState) (view : r ≡ s) (kept : IsCoreState r) (keeps : Core
     enters = booking.can_enter_all r kept sound keeps_here on_here c inside d here seat stocked ok asked
 
     -- once it did
-    module _ (new : CoreClientState) (booked : whole_of new ≡ booked_mind (whole_of d) now) (seated : IsCoreClient new) (lanes : new.lanes ≡ d.lanes) where
-      came : IsSeatOf (booked_mind (whole_of d) now) new
+    module _ (new : CoreClientState) (booked : whole_of new ≡ mind_after_begin (whole_of d) now) (seated : IsCoreClient new) (lanes : new.lanes ≡ d.lanes) where
+      came : IsSeatOf (mind_after_begin (whole_of d) now) new
       came = record { whole_is = booked; seat = seated }
 
       abbrev pub booked_state : CoreState
@@ -132,13 +132,13 @@ module _ (r s : CoreState) (view : r ≡ s) (kept : IsCoreState r) (keeps : Core
 
     -- as the code says it
     module _ (n' : ℕ) (number' : n' ≡ c) (d' : CoreClientState) (value' : d' ≡ get_or r.clients n' d') (u : Ticket) (u_is : u ≡ now) (xs : List ℕ) (xs_are : xs ≡ list)
-        (new : CoreClientState) (booked : whole_of new ≡ booked_mind (whole_of d') u) (seated : IsCoreClient new) (lanes : new.lanes ≡ d'.lanes)
+        (new : CoreClientState) (booked : whole_of new ≡ mind_after_begin (whole_of d') u) (seated : IsCoreClient new) (lanes : new.lanes ≡ d'.lanes)
         (order : List Ticket) (longer : order ≡ r.order ++ u ∷ []) (hs : List CoreHandlerState) (entered : hs ≡ entered_all u r.handlers xs) where
       same_seat : d' ≡ d
       same_seat = value' ∙ ap (λ m. get_or r.clients m d') number' ∙ get_or-any r.clients c d' d inside ∙ sym (value ∙ ap (λ m. get_or r.clients m d) number)
 
-      booked_here : whole_of new ≡ booked_mind (whole_of d) now
-      booked_here = booked ∙ (λ k. booked_mind (whole_of (same_seat k)) (u_is k))
+      booked_here : whole_of new ≡ mind_after_begin (whole_of d) now
+      booked_here = booked ∙ (λ k. mind_after_begin (whole_of (same_seat k)) (u_is k))
 
       lanes_here : new.lanes ≡ d.lanes
       lanes_here = lanes ∙ ap (λ (x : CoreClientState). x.lanes) same_seat

@@ -4,7 +4,7 @@ use Rattle.std.proofs.Math.ListN.{set}
 use Rattle.std.proofs.Math.Path.{fun_ext}
 use Rattle.qs_objects.specs.declared.held.Ticket.{Ticket}
 use Rattle.qs_meaning.specs.Solo.{put}
-use Rattle.qs_client_run.proofs.Hold.{put_field, put_same, put_set_at}
+use Rattle.qs_client_run.proofs.HoldingsAsFunctions.{put_field, put_same, put_set_at}
 use Rattle.qs_played.specs.Played.{ticket}
 use Rattle.qs_core_laws.specs.Core.{put_lane, put_ticket}
 use Rattle.qs_core_parts.specs.LaneStates.{LaneState, fresh_lane, lane_at}

@@ -12,7 +12,7 @@ use Rattle.qs_syncset.specs.declared.mode.Mode.{Mode}
 use Rattle.qs_syncset.specs.Codes.{BlockCode, ClientCode, IsCodeOf, code_at, no_code}
 use Rattle.qs_sync_counts.specs.SyncRows.{fresh_rows, no_syncs}
 use Rattle.qs_handler.specs.Handler.{free}
-use Rattle.qs_client.specs.Mind.{Mind, fresh_mind, lists_of}
+use Rattle.qs_client.specs.ClientModel.{ClientModel, fresh_mind, lists_of}
 use Rattle.qs_played.specs.JournalRooms.{fresh_held}
 use Rattle.qs_core_laws.specs.Core.{AreCodes, core_begin}
 use Rattle.qs_core_laws.proofs.CoreCodes.{reserved_is}
@@ -109,7 +109,7 @@ module _ (p : ProgramShape) (mode : Mode) (chunk room : ℕ) (cs : List CoreClie
   codes_inside : (c : ℕ) → c < length p.clients → IsCodeOf p mode c (codes_of made c)
   codes_inside c less =
       let f = clients.each c (seat_of c less) less in
-      subst (IsCodeOf p mode c) (sym (ap (λ (x : Side). x.mind.code) (in_list c (seat_of c less) less) ∙ ap (λ (m : Mind). m.code) f.mind)) f.of
+      subst (IsCodeOf p mode c) (sym (ap (λ (x : Side). x.mind.code) (in_list c (seat_of c less) less) ∙ ap (λ (m : ClientModel). m.code) f.mind)) f.of
 
   pub codes_are : AreCodes p mode (codes_of made)
   codes_are = record { own = codes_inside; none = λ c out. ap (λ (x : Side). x.mind.code.blocks) (beyond c out) }
@@ -141,24 +141,24 @@ module _ (p : ProgramShape) (mode : Mode) (chunk room : ℕ) (cs : List CoreClie
 
   counts_are : (t : Ticket) → get_or (side_at cs t.client).mind.counts t.index [] ≡ no_syncs (text_of p t).reserved
   counts_are t =
-      ap (λ (m : Mind). get_or m.counts t.index []) (fresh_side t.client).mind
+      ap (λ (m : ClientModel). get_or m.counts t.index []) (fresh_side t.client).mind
       ∙ (none_counted (fresh_side t.client).code.blocks t.index
-      ∙ ap no_syncs (ap (λ (m : Mind). (code_at m.code t.index).reserved) (sym (fresh_side t.client).mind) ∙ reserved_is p sound mode (codes_of made) codes_are chunk t))
+      ∙ ap no_syncs (ap (λ (m : ClientModel). (code_at m.code t.index).reserved) (sym (fresh_side t.client).mind) ∙ reserved_is p sound mode (codes_of made) codes_are chunk t))
 
   pub begins : core_of made ≡ core_begin p
   unfolding core_of
   begins = λ k. record {
     order = [];
-    client = fun_ext (λ c. ap (λ (m : Mind). m.client) (fresh_side c).mind) k;
-    syncs = fun_ext (λ c. ap (λ (m : Mind). m.syncs) (fresh_side c).mind) k;
+    client = fun_ext (λ c. ap (λ (m : ClientModel). m.client) (fresh_side c).mind) k;
+    syncs = fun_ext (λ c. ap (λ (m : ClientModel). m.syncs) (fresh_side c).mind) k;
     sync_counts = fun_ext counts_are k;
     down = fun_ext (λ c. fun_ext (λ h. (λ i. (lane_at ((fresh_side c).lanes i) h).down) ∙ lane_field (λ (l : LaneState). l.down) [] (λ n. refl) (fresh_side c).chunk (fresh_side c).lanes_of h)) k;
     up = fun_ext (λ c. fun_ext (λ h. (λ i. (lane_at ((fresh_side c).lanes i) h).up) ∙ lane_field (λ (l : LaneState). l.up) None (λ n. refl) (fresh_side c).chunk (fresh_side c).lanes_of h)) k;
     spare = fun_ext (λ c. fun_ext (λ h. (λ i. length (lane_at ((fresh_side c).lanes i) h).spare) ∙ lane_field (λ (l : LaneState). length l.spare) 4 (λ n. refl) (fresh_side c).chunk (fresh_side c).lanes_of h)) k;
     handler = fun_ext handlers_are k;
     tickets = fun_ext tickets_are k;
-    entry = fun_ext (λ (t : Ticket). ap (λ (m : Mind). get_or m.entries t.index []) (fresh_side t.client).mind) k;
-    trace = fun_ext (λ (t : Ticket). ap (λ (m : Mind). get_or m.traces t.index []) (fresh_side t.client).mind ∙ none_at (length (fresh_side t.client).code.blocks) t.index) k;
+    entry = fun_ext (λ (t : Ticket). ap (λ (m : ClientModel). get_or m.entries t.index []) (fresh_side t.client).mind) k;
+    trace = fun_ext (λ (t : Ticket). ap (λ (m : ClientModel). get_or m.traces t.index []) (fresh_side t.client).mind ∙ none_at (length (fresh_side t.client).code.blocks) t.index) k;
   }
 
   replicate_stocked : (size n : ℕ) → AllByRecursion (IsStocked size) (replicate n (fresh_lane size))
@@ -183,12 +183,12 @@ module _ (p : ProgramShape) (mode : Mode) (chunk room : ℕ) (cs : List CoreClie
         let f = clients.each c d inside in
         subst (IsSide p chunk c) (sym (in_list c d inside)) (record {
           lanes = ap length f.lanes ∙ length_replicate (length p.objects) (fresh_lane chunk);
-          size = ap (λ (m : Mind). m.size) f.mind;
-          owner = λ some. let none : (whole_of (get_or cs c d)).client.begun ≡ 0 = ap (λ (m : Mind). m.client.begun) f.mind in absurd (omega (arith, some, none));
+          size = ap (λ (m : ClientModel). m.size) f.mind;
+          owner = λ some. let none : (whole_of (get_or cs c d)).client.begun ≡ 0 = ap (λ (m : ClientModel). m.client.begun) f.mind in absurd (omega (arith, some, none));
         });
     stocked = each_of AreStocked cs (λ d c less.
         let f = clients.each c d (omega (arith, less, clients.many)) in
-        subst (λ n. AllByRecursion (IsStocked n) (get_or cs c d).lanes) (sym (ap (λ (m : Mind). m.size) f.mind)) (subst (AllByRecursion (IsStocked chunk)) (sym f.lanes) (replicate_stocked chunk (length p.objects))));
+        subst (λ n. AllByRecursion (IsStocked n) (get_or cs c d).lanes) (sym (ap (λ (m : ClientModel). m.size) f.mind)) (subst (AllByRecursion (IsStocked chunk)) (sym f.lanes) (replicate_stocked chunk (length p.objects))));
     rooms = each_of (λ (x : CoreHandlerState). all_blocks p ≤ x.room) hs (λ d h less.
         let is = handlers.each h d (omega (arith, less, handlers.many)) in
         let rooms_is : (get_or hs h d).room ≡ room = ap (λ (x : CoreHandlerState). x.room) is in omega (arith, rooms_is, enough));

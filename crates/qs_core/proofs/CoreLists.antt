@@ -7,7 +7,7 @@ use Rattle.std.proofs.lemmas.List.{length-map, map-set, get_or-set_same, get_or-
 use Rattle.qs_program.specs.Program.{ProgramShape}
 use Rattle.qs_meaning.specs.Solo.{put}
 use Rattle.qs_handler.specs.Handler.{Handler, free}
-use Rattle.qs_client_run.proofs.Hold.{put_same, put_set_at}
+use Rattle.qs_client_run.proofs.HoldingsAsFunctions.{put_same, put_set_at}
 use Rattle.qs_played.specs.JournalRooms.{fresh_held}
 use Rattle.qs_core_parts.specs.CoreClients.{CoreClientState}
 use Rattle.qs_core_parts.specs.CoreHandlers.{CoreHandlerState, handler_of}

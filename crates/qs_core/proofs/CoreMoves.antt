@@ -11,10 +11,10 @@ use Rattle.qs_chunk.specs.Batch.{Batch, batch}
 use Rattle.qs_handler.specs.Handler.{Handler, act_of}
 use Rattle.qs_handler.proofs.Turns.{acts_lose_nothing}
 use Rattle.qs_handler.specs.declared.mind.Act.TheVariants as acts
-use Rattle.qs_client.specs.Mind.{Mind, asked_of}
+use Rattle.qs_client.specs.ClientModel.{ClientModel, act_due}
 use Rattle.qs_client.specs.MindState.{IsMind, mind_of}
 use Rattle.qs_client_run.specs.declared.act.Act.{Act}
-use Rattle.qs_client_run.proofs.Parting.{sends_are_parted}
+use Rattle.qs_client_run.proofs.CarriedValues.{sends_are_parted}
 use Rattle.qs_client_run.specs.declared.act.Act.TheVariants as wants
 use Rattle.qs_played.specs.Played.{ticket}
 use Rattle.qs_played.specs.declared.actor.Actor.TheVariants as actor
@@ -48,7 +48,7 @@ all_put P n g c a here others m less = by_test (c == m) refl
 
 module _ (s : CoreState) (kept : IsCoreState s) (c : ℕ) (inside : c < length s.clients) (old : CoreClientState) (here : side_at s.clients c ≡ side_of old)
     (seat : IsCoreClient old) (stocked : AreStocked old) (ok : IsMind (mind_of old.mind)) (has_lane : HasLane old) (new : CoreClientState) (moves : LaneSteps old new) where
-  abbrev own : Mind
+  abbrev own : ClientModel
   own = whole_of old
 
   abbrev pub after : CoreState
@@ -89,14 +89,14 @@ module _ (s : CoreState) (kept : IsCoreState s) (c : ℕ) (inside : c < length s
   abbrev sides : ℕ → Side
   sides = side_at s.clients
 
-  abbrev result_of : Option (Mind × LaneState) → Option Core
+  abbrev result_of : Option (ClientModel × LaneState) → Option Core
   result_of = clients.result_of s.order sides (handler_at s.program s.handlers) (tickets_at s.handlers) c owned traced counted moves.handler lane_here
 
   stepped : core_step (codes_of s) (sides c).mind.size (core_from s.order sides (handler_at s.program s.handlers) (tickets_at s.handlers)) (actor.Client c)
       ≡ result_of (lane_step (sides c).mind old.act (lane_at (sides c).lanes moves.handler))
   stepped =
       clients.at_lane s.order sides (handler_at s.program s.handlers) (tickets_at s.handlers) c owned traced counted moves.handler lane_here sends_are_parted old.act
-      (ap asked_of own_here ∙ sym seat.act) moves.turned
+      (ap act_due own_here ∙ sym seat.act) moves.turned
 
   sides_are : put sides c (record { mind = whole_of new; lanes = set (sides c).lanes moves.handler moves.lane }) ≡ side_at (set s.clients c new)
   sides_are =
@@ -151,8 +151,8 @@ module _ (s : CoreState) (kept : IsCoreState s) (c : ℕ) (inside : c < length s
   abbrev at_rest : Type 0
   at_rest = core_step (codes_of s) s.size (core_of s) (actor.Client c) ≡ None
 
-  asked : asked_of (side_at s.clients c).mind ≡ old.act
-  asked = ap (λ (x : Side). asked_of x.mind) here ∙ sym seat.act
+  asked : act_due (side_at s.clients c).mind ≡ old.act
+  asked = ap (λ (x : Side). act_due x.mind) here ∙ sym seat.act
 
   size_is : (side_at s.clients c).mind.size ≡ s.size
   size_is = (kept.sides c inside).size
@@ -243,7 +243,7 @@ module _ (s : CoreState) (kept : IsCoreState s) (h : ℕ) (inside : h < length s
     codes_then : codes_of met_after ≡ codes_of s
     codes_then =
         ap (each (λ (x : Side). x.mind.code)) (side_put s.clients c visited there)
-        ∙ field_kept (λ (x : Side). x.mind.code) (side_at s.clients) c (side_of visited) (ap (λ (m : Mind). m.code) (same_mind ∙ sym (ap (λ (x : Side). x.mind) found)))
+        ∙ field_kept (λ (x : Side). x.mind.code) (side_at s.clients) c (side_of visited) (ap (λ (m : ClientModel). m.code) (same_mind ∙ sym (ap (λ (x : Side). x.mind) found)))
 
     pub handler_steps : CoreSteps s (actor.Handler h) met_after
     unfolding core_of
@@ -269,8 +269,8 @@ module _ (s : CoreState) (kept : IsCoreState s) (h : ℕ) (inside : h < length s
     visited_side : IsSide s.program s.size c (side_of visited)
     visited_side = record {
       lanes = length-set guest.lanes h k ∙ guest_side.lanes;
-      size = ap (λ (m : Mind). m.size) same_mind ∙ guest_side.size;
-      owner = subst (λ (m : Mind). 0 < m.client.begun → m.ticket.client ≡ c) (sym same_mind) guest_side.owner;
+      size = ap (λ (m : ClientModel). m.size) same_mind ∙ guest_side.size;
+      owner = subst (λ (m : ClientModel). 0 < m.client.begun → m.ticket.client ≡ c) (sym same_mind) guest_side.owner;
     }
 
     lane_stocked : IsStocked (whole_of guest).size k
@@ -285,7 +285,7 @@ module _ (s : CoreState) (kept : IsCoreState s) (h : ℕ) (inside : h < length s
       sides = λ n less. subst (IsSide s.program s.size n) (λ i. sym (side_put s.clients c visited there) i n)
           (all_put (IsSide s.program s.size) (length s.clients) (side_at s.clients) c (side_of visited) visited_side kept.sides n (subst (λ m. n < m) (length-set s.clients c visited) less));
       stocked = all_set AreStocked s.clients c visited
-          (subst (λ (m : Mind). AllByRecursion (IsStocked m.size) visited.lanes) (sym same_mind) (all_set (IsStocked (whole_of guest).size) guest.lanes h k lane_stocked stocked))
+          (subst (λ (m : ClientModel). AllByRecursion (IsStocked m.size) visited.lanes) (sym same_mind) (all_set (IsStocked (whole_of guest).size) guest.lanes h k lane_stocked stocked))
           kept.stocked;
       rooms = all_set (λ (x : CoreHandlerState). all_blocks s.program ≤ x.room) s.handlers h new (subst (λ (x : CoreHandlerState). all_blocks s.program ≤ x.room) (sym moves.2) roomy) kept.rooms;
       mode = kept.mode;

@@ -9,7 +9,7 @@ use Rattle.qs_chunk.specs.Batch.{Batch}
 use Rattle.qs_handler.specs.Handler.{Handler, free, serves, spares, gives, away, closed, act_of, is_free}
 use Rattle.qs_handler.specs.declared.mind.Act.{Act}
 use Rattle.qs_handler.specs.declared.mind.Act.TheVariants as acts
-use Rattle.qs_client.specs.Mind.{is_between}
+use Rattle.qs_client.specs.ClientModel.{is_between}
 use Rattle.qs_played.specs.JournalRooms.{fresh_held}
 use Rattle.qs_core_laws.specs.CoreReached.{IsBegun, ReachedCore}
 use Rattle.qs_core_laws.specs.CoreSchedule.{all_of, core_played, found_by, held_now, held_or_none, is_done, is_finished, is_idle}
@@ -95,7 +95,7 @@ showable s is keeps sound = record {
 
 done_is : (s : CoreState) → IsCoreState s → (c : ℕ) → c < length s.program.clients → is_done s.program (core_of s) c ≡ is_through (side_at s.clients c).mind
 unfolding core_of
-done_is s is c inside = let m = (side_at s.clients c).mind in ap (λ n. is_between m.client.place && nat_eq m.client.begun n) (sym (is.codes.own c inside).count)
+done_is s is c inside = let m = (side_at s.clients c).mind in ap (λ n. is_between m.client.stage && nat_eq m.client.begun n) (sym (is.codes.own c inside).count)
 
 pub finished_is : (s : CoreState) → IsCoreState s → is_finished s.program (core_of s) ≡ (shown_by s.order s.clients s.handlers).finished
 unfolding shown_by

@@ -7,9 +7,9 @@ use Rattle.qs_meaning.specs.Solo.{put}
 use Rattle.qs_program.specs.Values.{Locals}
 use Rattle.qs_syncset.specs.Codes.{ClientCode, code_at}
 use Rattle.qs_handler.specs.Handler.{Handler}
-use Rattle.qs_client_run.specs.Client.{Settled, between, booked}
-use Rattle.qs_client.specs.Mind.{Mind, asked_of, booked_with, settings_of, tree_at}
-use Rattle.qs_client_run.proofs.Hold.{put_set_at}
+use Rattle.qs_client_run.specs.Client.{Settlement, between, begin}
+use Rattle.qs_client.specs.ClientModel.{ClientModel, act_due, mind_after_begin_with, settings_of, tree_at}
+use Rattle.qs_client_run.proofs.HoldingsAsFunctions.{put_set_at}
 use Rattle.qs_client_run.specs.declared.act.Act.TheVariants as acts
 use Rattle.qs_played.specs.Played.{ticket}
 use Rattle.qs_played.specs.declared.actor.Actor.TheVariants as actor
@@ -27,7 +27,7 @@ last_put (y ∷ xs) x d zero = let other : (suc (length xs) == 0) ≡ false = gr
 last_put (y ∷ xs) x d (suc n) = let next : (suc (length xs) == suc n) ≡ (length xs == n) = grind arith in rw next (last_put xs x d n)
 
 module _ (order : List Ticket) (sides : ℕ → Side) (handler : ℕ → Handler) (tickets : ℕ → List Ticket) (c : ℕ) (l : Locals) where
-  abbrev own : Mind
+  abbrev own : ClientModel
   own = (sides c).mind
 
   abbrev code : ℕ → ClientCode
@@ -38,16 +38,16 @@ module _ (order : List Ticket) (sides : ℕ → Side) (handler : ℕ → Handler
 
   -- the client's side once its block was reserved
   abbrev pub reserved_side : Side
-  reserved_side = record { mind = booked_with own next_of l; lanes = (sides c).lanes }
+  reserved_side = record { mind = mind_after_begin_with own next_of l; lanes = (sides c).lanes }
 
   -- each handler of the block's list has one more ticket
   abbrev pub more_tickets : ℕ → List Ticket
   more_tickets h = if may code own.size next_of h then tickets h ++ next_of ∷ [] else tickets h
 
-  abbrev by_block : Settled
-  by_block = booked (settings_of own) next_of (code_at own.code own.client.begun).reserved own.client (tree_at own.code own.client.begun l)
+  abbrev by_block : Settlement
+  by_block = begin (settings_of own) next_of (code_at own.code own.client.begun).reserved own.client (tree_at own.code own.client.begun l)
 
-  pub reserve_steps : own.client.place ≡ between l → asked_of own ≡ acts.Reserve → length own.entries ≡ own.client.begun → own.client.begun < length own.traces
+  pub reserve_steps : own.client.stage ≡ between l → act_due own ≡ acts.Reserve → length own.entries ≡ own.client.begun → own.client.begun < length own.traces
       → get_or own.traces own.client.begun [] ≡ []
       → core_step code own.size (core_from order sides handler tickets) (actor.Client c) ≡ Some (core_from (order ++ next_of ∷ []) (put sides c reserved_side) handler more_tickets)
   reserve_steps place_is asked counted traced empty = rw asked (ap (reserves_from code own.size (core_from order sides handler tickets) c) place_is ∙ (λ k. Some (record {

@@ -5,7 +5,7 @@ use Rattle.qs_objects.specs.Journals.{HeldState}
 use Rattle.qs_graph.specs.Steps.{limit}
 use Rattle.qs_chunk.specs.LaneParts.{away_at}
 use Rattle.qs_handler.specs.Handler.{Handler, free, serves, spares, gives, away, closed, act_of, held_of}
-use Rattle.qs_client_run.proofs.Codes.{few_blocks}
+use Rattle.qs_client_run.proofs.CodeBounds.{few_blocks}
 use Rattle.qs_client.specs.MindState.{IsMind, mind_of}
 use Rattle.qs_played.proofs.Lists.{range_more}
 use Rattle.qs_core_laws.specs.Core.{Core}

@@ -5,7 +5,7 @@ use Rattle.qs_objects.specs.Journals.{HeldState}
 use Rattle.qs_objects.specs.declared.held.Ticket.{Ticket}
 use Rattle.qs_program.specs.Limits.{most_clients, most_handlers}
 use Rattle.qs_handler.specs.Handler.{act_of}
-use Rattle.qs_client.specs.Mind.{Mind, is_between, has_ended}
+use Rattle.qs_client.specs.ClientModel.{ClientModel, is_between, has_ended}
 use Rattle.qs_played.specs.Played.{ClientRows, Played}
 use Rattle.qs_played.specs.declared.played.Endings.{Endings}
 use Rattle.qs_client.specs.MindState.{IsMind}
@@ -28,8 +28,8 @@ abbrev pub AreBegunBy : List CoreClientState → List Ticket → Type 0
 AreBegunBy cs order = (i : ℕ) (d : Ticket) → i < length order → IsBegunBy cs (slice_index_or order i d)
 
 -- a client is between two blocks, with none to come
-abbrev pub is_through : Mind → Bool
-is_through m = is_between m.client.place && nat_eq m.client.begun (length m.code.blocks)
+abbrev pub is_through : ClientModel → Bool
+is_through m = is_between m.client.stage && nat_eq m.client.begun (length m.code.blocks)
 
 -- so does each client
 abbrev pub are_through : List CoreClientState → Bool

@@ -8,7 +8,7 @@ use Rattle.qs_program.specs.Program.{ProgramShape, blocks_of}
 use Rattle.qs_syncset.specs.declared.mode.Mode.{Mode}
 use Rattle.qs_syncset.specs.Codes.{ClientCode, IsCodeOf}
 use Rattle.qs_handler.specs.Handler.{Handler, free}
-use Rattle.qs_client.specs.Mind.{Mind, fresh_mind}
+use Rattle.qs_client.specs.ClientModel.{ClientModel, fresh_mind}
 use Rattle.qs_played.specs.Isolation.{IsIsolated}
 use Rattle.qs_played.specs.declared.actor.Actor.{Actor}
 use Rattle.qs_played.specs.Played.{Played}
@@ -31,7 +31,7 @@ pub record CoreState : Type 0 where
 
 -- a client's mind with what its act carries, and its lanes
 pub record Side : Type 0 where
-  pub mind : Mind
+  pub mind : ClientModel
   pub lanes : List LaneState
 
 abbrev pub side_of : CoreClientState → Side

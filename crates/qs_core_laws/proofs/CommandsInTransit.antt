@@ -20,7 +20,7 @@ use Rattle.qs_chunk.specs.declared.parcel.Parcel.{Parcel}
 use Rattle.qs_chunk.specs.LaneParts.{commands_in, lane_of}
 use Rattle.qs_chunk.specs.LaneViews as views
 use Rattle.qs_handler.specs.Handler.{Handler, free, serves, spares, gives, away, closed, serving}
-use Rattle.qs_client_run.specs.Client.{Client, Place, between, runs, full, awaits, leaves}
+use Rattle.qs_client_run.specs.Client.{Client, ClientStage, between, runs, full, awaits, leaves}
 use Rattle.qs_played.proofs.Orders.{each_among, apart_kept, apart_both}
 use Rattle.qs_protocol.proofs.ClientInvariants.{in_hand, PlaceOk, standing_at}
 use Rattle.qs_protocol.proofs.ObjectViews.{stance, Rising, HandlerLog, ahead}
@@ -56,7 +56,7 @@ leaves_chunk : (a b : Bool) (o : Option HeldState) (c : Option (List Request)) �
 leaves_chunk true b o c e n = hand_chunk o c n
 leaves_chunk false b o c e n = gone_chunk b ∙ sym (ap or_none (e refl))
 
-open_chunk : (program : ProgramShape) (t : Ticket) (snt : ℕ → List Parcel) (got : ℕ → List HeldState) (m : Client) (pg : _) (pl : Place) → PlaceOk program t snt got m pg pl
+open_chunk : (program : ProgramShape) (t : Ticket) (snt : ℕ → List Parcel) (got : ℕ → List HeldState) (m : Client) (pg : _) (pl : ClientStage) → PlaceOk program t snt got m pg pl
     → (h : ℕ) → chunk_of (standing_at program t m pl h) ≡ or_none (m.chunk h)
 open_chunk program t snt got m pg (between l) k h = leaves_chunk false (reserves program t h) (m.held h) (m.chunk h) (λ e. (k.empty h refl).1) (k.not_both h)
 open_chunk program t snt got m pg (runs code) k h = hand_chunk (m.held h) (m.chunk h) (k.0.not_both h)
@@ -126,7 +126,7 @@ module _ (program : ProgramShape) (sound : IsSound program) (s : Core) (y : Lane
   chunk_last : (t : Ticket) → (s.client t.client).begun ≡ suc t.index → chunk_of (y.stands t h) ≡ in_chunk (s.client t.client) t.index h
   chunk_last t is =
       ap chunk_of (k.stands t.client t.index is h)
-      ∙ (open_chunk program t (y.sent t) (y.got t) (s.client t.client) (y.page t) (s.client t.client).place (k.places t.client t.index is) h
+      ∙ (open_chunk program t (y.sent t) (y.got t) (s.client t.client) (y.page t) (s.client t.client).stage (k.places t.client t.index is) h
       ∙ ap (λ b. if b then or_none ((s.client t.client).chunk h) else []) (sym (eqb_self (suc t.index)) ∙ ap (λ n. n == suc t.index) (sym is)))
 
   chunk_none : (t : Ticket) → ((s.client t.client).begun == suc t.index) ≡ false → in_chunk (s.client t.client) t.index h ≡ []

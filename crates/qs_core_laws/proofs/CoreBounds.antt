@@ -24,7 +24,7 @@ use Rattle.qs_chunk.specs.declared.parcel.Parcel.{Parcel}
 use Rattle.qs_chunk.specs.declared.parcel.Parcel.TheVariants as parcels
 use Rattle.qs_handler.specs.Handler.{Handler, free, serves, spares, gives, away, closed, taken, received, gave}
 use Rattle.qs_handler.specs.Handler as handlers
-use Rattle.qs_client_run.specs.Client.{Client, Place, Settings, Settled, act_at, act_of, between, runs, full, awaits, leaves, booked, call_act, clears, first_client, got, sent, took_chunk, work}
+use Rattle.qs_client_run.specs.Client.{Client, ClientStage, Settings, Settlement, act_at, act_of, between, runs, full, awaits, leaves, begin, call_act, clear, first_client, take_object, after_parcel, take_chunk, work}
 use Rattle.qs_client_run.specs.declared.act.Act.{Act}
 use Rattle.qs_client_run.specs.declared.act.Act.TheVariants.{Reserve, Send, Await, NeedChunk, Finished}
 use Rattle.qs_played.specs.Played.{ticket}
@@ -50,7 +50,7 @@ call_sizes settings g None None h parcel e = absurd (cc)
 call_sizes settings g None (Some rs) h parcel e = let is : work settings rs ≡ parcel = cc in subst (HasSize settings.size) is refl
 
 clears_sizes : (settings : Settings) (g : ℕ) (hd : Option HeldState) (ck : Option (List Request)) (other : Act) (h : ℕ) (parcel : Parcel)
-    → (other ≡ Send h parcel → HasSize settings.size parcel) → clears settings g hd ck other ≡ Send h parcel → HasSize settings.size parcel
+    → (other ≡ Send h parcel → HasSize settings.size parcel) → clear settings g hd ck other ≡ Send h parcel → HasSize settings.size parcel
 clears_sizes settings g (Some x) ck other h parcel more e = let is : parcels.Home x ≡ parcel = cc in subst (HasSize settings.size) is tt
 clears_sizes settings g None (Some rs) other h parcel more e = let is : work settings rs ≡ parcel = cc in subst (HasSize settings.size) is refl
 clears_sizes settings g None None other h parcel more e = more e
@@ -61,7 +61,7 @@ sync_sizes settings g h parcel e = let is : parcels.Sync ≡ parcel = cc in subs
 end_sizes : (settings : Settings) (g h : ℕ) (parcel : Parcel) → Send g parcels.End ≡ Send h parcel → HasSize settings.size parcel
 end_sizes settings g h parcel e = let is : parcels.End ≡ parcel = cc in subst (HasSize settings.size) is tt
 
-sends_sizes : (settings : Settings) (n : ℕ) (m : Client) (pl : Place) (h : ℕ) (parcel : Parcel) → act_at settings n m pl ≡ Send h parcel → HasSize settings.size parcel
+sends_sizes : (settings : Settings) (n : ℕ) (m : Client) (pl : ClientStage) (h : ℕ) (parcel : Parcel) → act_at settings n m pl ≡ Send h parcel → HasSize settings.size parcel
 sends_sizes settings n m (between l) h parcel e = absurd (outside_not_send (nat_lt m.begun n) h parcel e)
 sends_sizes settings n m (runs (Done l)) h parcel e = absurd (cc)
 sends_sizes settings n m (runs (Call r next)) h parcel e = call_sizes settings r.object (m.held r.object) (m.chunk r.object) h parcel e
@@ -167,39 +167,39 @@ module _ (program : ProgramShape) (sound : IsSound program) (mode : Mode) (code 
     abbrev now : ℕ → Ticket
     now c = ticket c ((s.client c).begun - 1)
 
-    begun_of : (c : ℕ) (act : Act) → asks_for c ≡ act → ((l : Locals) → (s.client c).place ≡ between l → asks_for c ≡ act → ⊥) → (s.client c).begun ≡ suc ((s.client c).begun - 1)
+    begun_of : (c : ℕ) (act : Act) → asks_for c ≡ act → ((l : Locals) → (s.client c).stage ≡ between l → asks_for c ≡ act → ⊥) → (s.client c).begun ≡ suc ((s.client c).begun - 1)
     begun_of c act e non = begun_by program sound mode code codes size s k.0 k.1 k.2 c act e non
 
     send_bounded : (c h : ℕ) (parcel : Parcel) (s' : Core) → asks_for c ≡ Send h parcel → core.sends code size s c h parcel ≡ Some s' → CoreBounded s'
     send_bounded c h parcel s' act e =
         one_of (nat_lt (length (s.down c h)) lane_room) _ s' e
-        (client_bounded c ((s.client c).begun - 1) (sent (settings_of code size c) (now c) (reserved_of code size (now c)) (s.client c) h parcel).client
-        (sent (settings_of code size c) (now c) (reserved_of code size (now c)) (s.client c) h parcel).events
+        (client_bounded c ((s.client c).begun - 1) (after_parcel (settings_of code size c) (now c) (reserved_of code size (now c)) (s.client c) h parcel).client
+        (after_parcel (settings_of code size c) (now c) (reserved_of code size (now c)) (s.client c) h parcel).events
         (put_lane s.down c h (s.down c h ++ parcel ∷ [])) s.up s.spare (core.synced code size s.syncs c parcel) (core.tallied code size s.sync_counts (now c) h parcel)
         (begun_of c (Send h parcel) act (λ l i a. not_send (settings_of code size c) (blocks code size c) (s.client c) l h parcel i a))
         (sent_begun (settings_of code size c) (now c) (reserved_of code size (now c)) (s.client c) h parcel)
         (lane_holds (AllByRecursion (HasSize size)) s.down c h (s.down c h ++ parcel ∷ [])
-        (each_snoc (HasSize size) (s.down c h) parcel (b.sizes c h) (sends_sizes (settings_of code size c) (blocks code size c) (s.client c) (s.client c).place h parcel act)) b.sizes))
+        (each_snoc (HasSize size) (s.down c h) parcel (b.sizes c h) (sends_sizes (settings_of code size c) (blocks code size c) (s.client c) (s.client c).stage h parcel act)) b.sizes))
 
     get_bounded : (c h : ℕ) (o : Option HeldState) (s' : Core) → asks_for c ≡ Await h → gets code size s c h o ≡ Some s' → CoreBounded s'
     get_bounded c h None s' act e = absurd (cc)
     get_bounded c h (Some x) s' act e =
         subst CoreBounded (some_is _ s' e)
-        (client_bounded c ((s.client c).begun - 1) (got (settings_of code size c) (now c) (reserved_of code size (now c)) (s.client c) x (s.client c).place).client
-        (got (settings_of code size c) (now c) (reserved_of code size (now c)) (s.client c) x (s.client c).place).events
+        (client_bounded c ((s.client c).begun - 1) (take_object (settings_of code size c) (now c) (reserved_of code size (now c)) (s.client c) x (s.client c).stage).client
+        (take_object (settings_of code size c) (now c) (reserved_of code size (now c)) (s.client c) x (s.client c).stage).events
         s.down (put_lane s.up c h None) s.spare s.syncs s.sync_counts
         (begun_of c (Await h) act (λ l i a. not_await (settings_of code size c) (blocks code size c) (s.client c) l h i a))
-        (got_begun (settings_of code size c) (now c) (reserved_of code size (now c)) (s.client c) h x (s.client c).place) b.sizes)
+        (got_begun (settings_of code size c) (now c) (reserved_of code size (now c)) (s.client c) h x (s.client c).stage) b.sizes)
 
     chunk_bounded : (c h n : ℕ) (s' : Core) → asks_for c ≡ NeedChunk h → takes_chunk code size s c h n ≡ Some s' → CoreBounded s'
     chunk_bounded c h zero s' act e = absurd (cc)
     chunk_bounded c h (suc n) s' act e =
         subst CoreBounded (some_is _ s' e)
-        (client_bounded c ((s.client c).begun - 1) (took_chunk (settings_of code size c) (now c) (reserved_of code size (now c)) (s.client c) h (s.client c).place).client
-        (took_chunk (settings_of code size c) (now c) (reserved_of code size (now c)) (s.client c) h (s.client c).place).events
+        (client_bounded c ((s.client c).begun - 1) (take_chunk (settings_of code size c) (now c) (reserved_of code size (now c)) (s.client c) h (s.client c).stage).client
+        (take_chunk (settings_of code size c) (now c) (reserved_of code size (now c)) (s.client c) h (s.client c).stage).events
         s.down s.up (put_lane s.spare c h n) s.syncs s.sync_counts
         (begun_of c (NeedChunk h) act (λ l i a. not_need (settings_of code size c) (blocks code size c) (s.client c) l h i a))
-        (chunk_begun (settings_of code size c) (now c) (reserved_of code size (now c)) (s.client c) h (s.client c).place) b.sizes)
+        (chunk_begun (settings_of code size c) (now c) (reserved_of code size (now c)) (s.client c) h (s.client c).stage) b.sizes)
 
     -- a client beyond the program has ended
     pub beyond_acts : (c : ℕ) → length program.clients ≤ c → asks_for c ≡ Finished
@@ -213,7 +213,7 @@ module _ (program : ProgramShape) (sound : IsSound program) (mode : Mode) (code 
     reserve_bounded : (c : ℕ) (l : Locals) (s' : Core) → asks_for c ≡ Reserve → reserves_from code size s c (between l) ≡ Some s' → CoreBounded s'
     reserve_bounded c l s' act e =
         let t : Ticket = ticket c (s.client c).begun in
-        let r : Settled = booked (settings_of code size c) t (reserved_of code size t) (s.client c) (tree_of code size t l) in
+        let r : Settlement = begin (settings_of code size c) t (reserved_of code size t) (s.client c) (tree_of code size t l) in
         let more : r.client.begun ≡ suc (s.client c).begun =
         settle_begun (settings_of code size c) t (reserved_of code size t) (tree_of code size t l) (record (s.client c) { begun = suc (s.client c).begun }) in
         subst CoreBounded (some_is _ s' e) (record {

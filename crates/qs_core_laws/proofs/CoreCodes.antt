@@ -12,7 +12,7 @@ use Rattle.qs_syncset.specs.Codes.{BlockCode, ClientCode, no_code}
 use Rattle.qs_syncset.specs.SoundSynced.{IsSoundSynced, IsOnReserved}
 use Rattle.qs_syncset.proofs.CodeWalks.{walks_are_sound}
 use Rattle.qs_client_run.specs.BlockSizes.{longest}
-use Rattle.qs_client_run.proofs.Codes.{longest_covers}
+use Rattle.qs_client_run.proofs.CodeBounds.{longest_covers}
 use Rattle.qs_played.proofs.ReservedObjects.{none_beyond, no_text}
 use Rattle.qs_protocol.proofs.ClientInvariants.{listed}
 use Rattle.qs_core_laws.specs.Core.{AreCodes, blocks, reserved_of, tree_of}

@@ -29,7 +29,7 @@ use Rattle.qs_handler.specs.Handler.{Handler, gave, received, taken}
 use Rattle.qs_handler.specs.Handler as handlers
 use Rattle.qs_handler.specs.declared.mind.Act as handler_acts
 use Rattle.qs_handler.specs.declared.mind.Act.TheVariants as acts
-use Rattle.qs_client_run.specs.Client.{Client, Settled, between, booked, got, sent, took_chunk}
+use Rattle.qs_client_run.specs.Client.{Client, Settlement, between, begin, take_object, after_parcel, take_chunk}
 use Rattle.qs_client_run.specs.BlockSizes.{longest}
 use Rattle.qs_client_run.specs.declared.act.Act.{Act}
 use Rattle.qs_client_run.specs.declared.act.Act.TheVariants.{Reserve, Send, Await, NeedChunk, Finished}
@@ -49,7 +49,7 @@ use Rattle.qs_protocol.proofs.ObjectViews.{HandlerLog}
 use Rattle.qs_chunk.specs.Limits.{lane_room, spare_room}
 use Rattle.qs_core_laws.specs.Core.{Core, AreCodes, blocks, client_step, core_begin, core_step, gets, gives, gives_chunk, handled, handler_step, handles, lies, put_ticket, reserved, reserved_of, reserves_from, sends, settings_of, settled, takes_chunk, takes_parcel, takes_ticket, tree_of, with_down, with_spare, with_tickets, with_up}
 use Rattle.qs_core_laws.specs.CoreSchedule.{core_or_stay, core_plays}
-use Rattle.qs_client_run.proofs.Codes.{longest_covers}
+use Rattle.qs_client_run.proofs.CodeBounds.{longest_covers}
 use Rattle.qs_core_laws.proofs.CoreInvariant.{LaneHistory, CoreInvariant}
 use Rattle.qs_core_laws.proofs.CoreSteps.{Kept, begin_kept, begun_by, has_more, is_between, next_of, step_kept}
 use Rattle.qs_core_laws.proofs.HandlerSteps.{some_is}
@@ -57,7 +57,7 @@ use Rattle.qs_core_laws.proofs.HandlerSteps.{some_is}
 module _ (program : ProgramShape) (sound : IsSound program) (mode : Mode) (code : ℕ → ClientCode) (codes : AreCodes program mode code) (size : ℕ) where
   -- what a client sent in its block so far
   abbrev pub At : Ticket → Locals → List Event → (ℕ → ℕ) → Client → Type 0
-  At t l tr n m = CountAt (settings_of code size t.client) t (reserved_of code size t) (tree_of code size t l) tr n m m.place
+  At t l tr n m = CountAt (settings_of code size t.client) t (reserved_of code size t) (tree_of code size t l) tr n m m.stage
 
   -- and in a block that has ended
   abbrev pub Past : Ticket → Locals → List Event → (ℕ → ℕ) → Type 0
@@ -72,7 +72,7 @@ module _ (program : ProgramShape) (sound : IsSound program) (mode : Mode) (code 
     pub total : total_of program n order ≡ sum_by syncs (range_with_len 0 (length program.clients))
 
   -- what a client has come to in its block, by these numbers
-  abbrev CountsOf : Core → Ticket → (ℕ → ℕ) → Settled → Type 0
+  abbrev CountsOf : Core → Ticket → (ℕ → ℕ) → Settlement → Type 0
   CountsOf s t f r = Counts (settings_of code size t.client) t (reserved_of code size t) (tree_of code size t (s.entry t)) (s.trace t) f r
 
   abbrev pub CountedBy : Core → (Ticket → ℕ → ℕ) → Type 0
@@ -95,7 +95,7 @@ module _ (program : ProgramShape) (sound : IsSound program) (mode : Mode) (code 
 
   module _ (s : Core) (n : Ticket → ℕ → ℕ) (k : CountedBy s n) (given : AreTold n s.sync_counts) where
     -- what a client does in its block, where this is counted of it then and others stay
-    in_block : (c j : ℕ) → (s.client c).begun ≡ suc j → (r : Settled) → r.client.begun ≡ (s.client c).begun → (syncs : ℕ → ℕ) (m : Ticket → ℕ → ℕ)
+    in_block : (c j : ℕ) → (s.client c).begun ≡ suc j → (r : Settlement) → r.client.begun ≡ (s.client c).begun → (syncs : ℕ → ℕ) (m : Ticket → ℕ → ℕ)
         → CountsOf s (ticket c j) (m (ticket c j)) r
         → ((u : Ticket) → same (ticket c j) u ≡ false → m u ≡ n u) → total_of program m s.order ≡ sum_by syncs (range_with_len 0 (length program.clients))
         → Counted s.order (put s.client c r.client) syncs s.entry (put_ticket s.trace (ticket c j) (s.trace (ticket c j) ++ r.events)) m
@@ -137,7 +137,7 @@ module _ (program : ProgramShape) (sound : IsSound program) (mode : Mode) (code 
             (subst (λ f. Past u (s.entry u) (s.trace u) f) (sym (others u apart)) past)
 
     -- where no Sync is sent
-    without_sync : (c j : ℕ) → (s.client c).begun ≡ suc j → (r : Settled) → r.client.begun ≡ (s.client c).begun
+    without_sync : (c j : ℕ) → (s.client c).begun ≡ suc j → (r : Settlement) → r.client.begun ≡ (s.client c).begun
         → CountsOf s (ticket c j) (n (ticket c j)) r
         → Counted s.order (put s.client c r.client) s.syncs s.entry (put_ticket s.trace (ticket c j) (s.trace (ticket c j) ++ r.events)) n
     without_sync c j b r rb now = in_block c j b r rb s.syncs n now (λ u apart. refl) k.total
@@ -173,7 +173,7 @@ module _ (program : ProgramShape) (sound : IsSound program) (mode : Mode) (code 
           let old = k.total in
           omega (arith, all, once, client, old)
 
-      begun_at : (c : ℕ) (act : Act) → asks_for c ≡ act → ((l : Locals) → (s.client c).place ≡ between l → asks_for c ≡ act → ⊥)
+      begun_at : (c : ℕ) (act : Act) → asks_for c ≡ act → ((l : Locals) → (s.client c).stage ≡ between l → asks_for c ≡ act → ⊥)
           → (s.client c).begun ≡ suc ((s.client c).begun - 1)
       begun_at c act e other = begun_by program sound mode code codes size s y g kept c act e other
 
@@ -181,8 +181,8 @@ module _ (program : ProgramShape) (sound : IsSound program) (mode : Mode) (code 
       now c = ticket c ((s.client c).begun - 1)
 
       -- what the client did once it sent this
-      abbrev after_sent : ℕ → ℕ → Parcel → Settled
-      after_sent c h parcel = sent (settings_of code size c) (now c) (reserved_of code size (now c)) (s.client c) h parcel
+      abbrev after_sent : ℕ → ℕ → Parcel → Settlement
+      after_sent c h parcel = after_parcel (settings_of code size c) (now c) (reserved_of code size (now c)) (s.client c) h parcel
 
       sent_counts : (c h : ℕ) (parcel : Parcel) → asks_for c ≡ Send h parcel → (s.client c).begun ≡ suc ((s.client c).begun - 1)
           → CountsOf s (now c) (count_up (settings_of code size c) (now c) (reserved_of code size (now c)) (tree_of code size (now c) (s.entry (now c)))
@@ -197,7 +197,7 @@ module _ (program : ProgramShape) (sound : IsSound program) (mode : Mode) (code 
           → reserves program (now c) h ≡ true
       asked_of c h parcel act b =
           let t = now c in
-          (send_at program t (y.sent t) (y.got t) (settings_of code size c) (blocks code size c) (s.client c) (y.page t) (s.client c).place
+          (send_at program t (y.sent t) (y.got t) (settings_of code size c) (blocks code size c) (s.client c) (y.page t) (s.client c).stage
           (kept.places c ((s.client c).begun - 1) b) h parcel act).0
 
       -- the count that is kept is one more for h
@@ -263,12 +263,12 @@ module _ (program : ProgramShape) (sound : IsSound program) (mode : Mode) (code 
           let t = now c in
           let j = (s.client c).begun - 1 in
           let b = begun_at c (Await h) act (λ l i a. not_await (settings_of code size c) (blocks code size c) (s.client c) l h i a) in
-          let r : Settled = got (settings_of code size c) t (reserved_of code size t) (s.client c) x (s.client c).place in
+          let r : Settlement = take_object (settings_of code size c) t (reserved_of code size t) (s.client c) x (s.client c).stage in
           subst AreCounted (some_is (settled code size (with_up code size s c h None) c t r) s' e) (
             n,
-            without_sync c j b r (got_begun (settings_of code size c) t (reserved_of code size t) (s.client c) h x (s.client c).place)
+            without_sync c j b r (got_begun (settings_of code size c) t (reserved_of code size t) (s.client c) h x (s.client c).stage)
                 (got_counts (settings_of code size c) t (reserved_of code size t) (tree_of code size t (s.entry t)) (s.trace t) (n t) (s.client c) x
-                (s.client c).place (k.newest c j b)),
+                (s.client c).stage (k.newest c j b)),
             given,
           )
 
@@ -278,17 +278,17 @@ module _ (program : ProgramShape) (sound : IsSound program) (mode : Mode) (code 
           let t = now c in
           let j = (s.client c).begun - 1 in
           let b = begun_at c (NeedChunk h) act (λ l i a. not_need (settings_of code size c) (blocks code size c) (s.client c) l h i a) in
-          let r : Settled = took_chunk (settings_of code size c) t (reserved_of code size t) (s.client c) h (s.client c).place in
+          let r : Settlement = take_chunk (settings_of code size c) t (reserved_of code size t) (s.client c) h (s.client c).stage in
           subst AreCounted (some_is (settled code size (with_spare code size s c h m) c t r) s' e) (
             n,
-            without_sync c j b r (chunk_begun (settings_of code size c) t (reserved_of code size t) (s.client c) h (s.client c).place)
+            without_sync c j b r (chunk_begun (settings_of code size c) t (reserved_of code size t) (s.client c) h (s.client c).stage)
                 (chunk_counts (settings_of code size c) t (reserved_of code size t) (tree_of code size t (s.entry t)) (s.trace t) (n t) (s.client c) h
-                (s.client c).place (k.newest c j b)),
+                (s.client c).stage (k.newest c j b)),
             given,
           )
 
       -- a client between blocks holds nothing
-      none_held : (c m : ℕ) (l : Locals) → (s.client c).begun ≡ m → (s.client c).place ≡ between l → (h : ℕ) → (s.client c).held h ≡ None
+      none_held : (c m : ℕ) (l : Locals) → (s.client c).begun ≡ m → (s.client c).stage ≡ between l → (h : ℕ) → (s.client c).held h ≡ None
       none_held c zero l b at h = ((kept.idle c b).1 h).0
       none_held c (suc j) l b at h =
           let t = ticket c j in
@@ -297,7 +297,7 @@ module _ (program : ProgramShape) (sound : IsSound program) (mode : Mode) (code 
           (ok.empty h refl).0
 
       -- and all its blocks have ended
-      all_past : (c m i : ℕ) (l : Locals) → (s.client c).begun ≡ m → (s.client c).place ≡ between l → suc i < suc m
+      all_past : (c m i : ℕ) (l : Locals) → (s.client c).begun ≡ m → (s.client c).stage ≡ between l → suc i < suc m
           → Past (ticket c i) (s.entry (ticket c i)) (s.trace (ticket c i)) (n (ticket c i))
       all_past c m i l b at less = ⊎_elim
           (λ (is : m ≡ suc i).
@@ -308,15 +308,15 @@ module _ (program : ProgramShape) (sound : IsSound program) (mode : Mode) (code 
           (num_cases m (suc i))
 
       -- the block that the client reserves next
-      abbrev after_booked : ℕ → ℕ → Locals → Settled
-      after_booked c m l = booked (settings_of code size c) (ticket c m) (reserved_of code size (ticket c m)) (s.client c) (tree_of code size (ticket c m) l)
+      abbrev after_booked : ℕ → ℕ → Locals → Settlement
+      after_booked c m l = begin (settings_of code size c) (ticket c m) (reserved_of code size (ticket c m)) (s.client c) (tree_of code size (ticket c m) l)
 
-      reserved_counts : (c m : ℕ) (l : Locals) → (s.client c).begun ≡ m → (s.client c).place ≡ between l → IsAsking (tree_of code size (ticket c m) l)
+      reserved_counts : (c m : ℕ) (l : Locals) → (s.client c).begun ≡ m → (s.client c).stage ≡ between l → IsAsking (tree_of code size (ticket c m) l)
           → Counted (s.order ++ ticket c m ∷ []) (put s.client c (after_booked c m l).client) s.syncs (put_ticket s.entry (ticket c m) l)
           (put_ticket s.trace (ticket c m) (after_booked c m l).events) n
       reserved_counts c m l b at asking =
           let t : Ticket = ticket c m in
-          let r : Settled = after_booked c m l in
+          let r : Settlement = after_booked c m l in
           let tree = tree_of code size t l in
           let settings = settings_of code size c in
           let names = reserved_of code size t in
@@ -365,7 +365,7 @@ module _ (program : ProgramShape) (sound : IsSound program) (mode : Mode) (code 
           let own = no_block_beyond program c (omega (arith, inside)) in
           code_asks program mode c (code c) sound (codes.own c own) m (longest (code c).blocks) l inside (longest_covers (code c).blocks m)
 
-      reserve_does : (c : ℕ) (s' : Core) → asks_for c ≡ Reserve → reserves_from code size s c (s.client c).place ≡ Some s' → AreCounted s'
+      reserve_does : (c : ℕ) (s' : Core) → asks_for c ≡ Reserve → reserves_from code size s c (s.client c).stage ≡ Some s' → AreCounted s'
       reserve_does c s' act e =
           let at = is_between program sound mode code codes size s y g kept c (s.client c).begun refl act in
           let m = (s.client c).begun in

@@ -45,10 +45,10 @@ pub record CoreInvariant (program : ProgramShape) (s : Core) (y : LaneHistory) (
   pub told : AllByRecursion (TicketOk program y) s.order
   pub entry : (t : Ticket) → (y.page t).entry ≡ s.entry t
   pub trace : (t : Ticket) → (y.page t).trace ≡ s.trace t
-  pub idle : (c : ℕ) → (s.client c).begun ≡ 0 → ((s.client c).place ≡ between zeros) × ((h : ℕ) → HasNone (s.client c) h)
+  pub idle : (c : ℕ) → (s.client c).begun ≡ 0 → ((s.client c).stage ≡ between zeros) × ((h : ℕ) → HasNone (s.client c) h)
   pub places : (c k : ℕ) → (s.client c).begun ≡ suc k
-      → PlaceOk program (ticket c k) (y.sent (ticket c k)) (y.got (ticket c k)) (s.client c) (y.page (ticket c k)) (s.client c).place
-  pub stands : (c k : ℕ) → (s.client c).begun ≡ suc k → (h : ℕ) → y.stands (ticket c k) h ≡ standing_at program (ticket c k) (s.client c) (s.client c).place h
+      → PlaceOk program (ticket c k) (y.sent (ticket c k)) (y.got (ticket c k)) (s.client c) (y.page (ticket c k)) (s.client c).stage
+  pub stands : (c k : ℕ) → (s.client c).begun ≡ suc k → (h : ℕ) → y.stands (ticket c k) h ≡ standing_at program (ticket c k) (s.client c) (s.client c).stage h
   pub older : (c k : ℕ) → suc k < (s.client c).begun → (h : ℕ) → reserves program (ticket c k) h ≡ true → y.stands (ticket c k) h ≡ gone
   -- nothing passes between a block and an object that it doesn't reserve
   pub outside : (t : Ticket) (h : ℕ) → reserves program t h ≡ false → (y.sent t h ≡ []) × (y.got t h ≡ [])

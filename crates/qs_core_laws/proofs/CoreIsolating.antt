@@ -16,8 +16,8 @@ use Rattle.qs_meaning.proofs.Histories.{Among, Flow, IsDone, Line, done_of, part
 use Rattle.qs_meaning.proofs.SerialRuns.{line}
 use Rattle.qs_meaning.specs.Interaction as tree
 use Rattle.qs_handler.specs.Handler.{Handler, free, serves, spares, gives, away, closed, is_free, serving}
-use Rattle.qs_client_run.specs.Client.{Place, between, runs, full, awaits, leaves}
-use Rattle.qs_client.specs.Mind.{is_between, has_ended}
+use Rattle.qs_client_run.specs.Client.{ClientStage, between, runs, full, awaits, leaves}
+use Rattle.qs_client.specs.ClientModel.{is_between, has_ended}
 use Rattle.qs_played.specs.Isolation.{IsIsolated, journal_of, state_of, ticket_at, trace_of}
 use Rattle.qs_played.specs.Played.{ticket}
 use Rattle.qs_played.specs.Played.{Played}
@@ -105,14 +105,14 @@ module _ (program : ProgramShape) (sound : IsSound program) (s : Core) (y : Lane
   ended_done : (t : Ticket) → has_ended (s.client t.client) t.index ≡ true → IsDone (y.page t).rest
   ended_done t e = by_test (nat_lt (suc t.index) (s.client t.client).begun) refl e
     where
-      by_place : (pl : Place) → PlaceOk program t (y.sent t) (y.got t) (s.client t.client) (y.page t) pl → is_between pl ≡ true → IsDone (y.page t).rest
+      by_place : (pl : ClientStage) → PlaceOk program t (y.sent t) (y.got t) (s.client t.client) (y.page t) pl → is_between pl ≡ true → IsDone (y.page t).rest
       by_place (between l) ok b = subst IsDone (sym ok.rest) tt
       by_place (runs code) ok b = absurd (cc)
       by_place (full h code) ok b = absurd (cc)
       by_place (awaits h code) ok b = absurd (cc)
       by_place (leaves h hs l) ok b = absurd (cc)
 
-      by_test : (b : Bool) → nat_lt (suc t.index) (s.client t.client).begun ≡ b → (b || (nat_eq (suc t.index) (s.client t.client).begun && is_between (s.client t.client).place)) ≡ true → IsDone (y.page t).rest
+      by_test : (b : Bool) → nat_lt (suc t.index) (s.client t.client).begun ≡ b → (b || (nat_eq (suc t.index) (s.client t.client).begun && is_between (s.client t.client).stage)) ≡ true → IsDone (y.page t).rest
       by_test true less e =
           let lt : suc t.index < (s.client t.client).begun = grind (arith, less) in
           let many = k.counts t.client in
@@ -122,9 +122,9 @@ module _ (program : ProgramShape) (sound : IsSound program) (s : Core) (y : Lane
           let b : (y.page t).rest ≡ tree.Done (y.page (ticket t.client (suc t.index))).entry = next.begins in
           subst IsDone (sym b) tt
       by_test false less e =
-          let both = and_cases (nat_eq (suc t.index) (s.client t.client).begun) (is_between (s.client t.client).place) e in
+          let both = and_cases (nat_eq (suc t.index) (s.client t.client).begun) (is_between (s.client t.client).stage) e in
           let last : (s.client t.client).begun ≡ suc t.index = (let b = both.0 in grind (arith, b)) in
-          by_place (s.client t.client).place (k.places t.client t.index last) both.1
+          by_place (s.client t.client).stage (k.places t.client t.index last) both.1
 
   -- where an object shows an entry, it is one of the program
   written : (h : ℕ) (t : Ticket) (b : Bool) → nat_lt h (length program.objects) ≡ b → HasEntry t (journal_of r h) → journal_of r h ≡ (shown h).journal
@@ -137,7 +137,7 @@ module _ (program : ProgramShape) (sound : IsSound program) (s : Core) (y : Lane
       let both = and_cases (all_of (is_done program s) (range_with_len 0 (length program.clients))) (all_of (is_idle program s) (range_with_len 0 (length program.objects))) e in
       let inside = no_block_beyond program u.client (omega (arith, some)) in
       let done = all_of_at (is_done program s) 0 (length program.clients) u.client both.0 (omega arith) (omega (arith, inside)) in
-      let b = (and_cases (is_between (s.client u.client).place) (nat_eq (s.client u.client).begun (blocks_of program u.client)) done).1 in
+      let b = (and_cases (is_between (s.client u.client).stage) (nat_eq (s.client u.client).begun (blocks_of program u.client)) done).1 in
       let all_begun : (s.client u.client).begun ≡ blocks_of program u.client = grind (arith, b) in
       let many = k.counts u.client in
       legal_among program (λ _. 0) s.order u.client u.index k.legal (omega arith) (omega (arith, many, all_begun, some))

@@ -16,7 +16,7 @@ use Rattle.qs_chunk.specs.LaneParts.{away_at}
 use Rattle.qs_chunk.specs.LaneViews as views
 use Rattle.qs_chunk.specs.declared.parcel.Parcel.TheVariants as parcels
 use Rattle.qs_handler.specs.Handler.{Handler, free, serves, spares, gives, away, closed, serving}
-use Rattle.qs_client_run.specs.Client.{Client, Place, between, runs, full, awaits, leaves}
+use Rattle.qs_client_run.specs.Client.{Client, ClientStage, between, runs, full, awaits, leaves}
 use Rattle.qs_protocol.proofs.ObjectViews.{stance, as_list, HandlerLog, ahead}
 use Rattle.qs_protocol.proofs.ClientInvariants.{in_hand, listed, Lined, standing_at}
 use Rattle.qs_protocol.proofs.LaneWays.{LastOf, none_of}
@@ -88,7 +88,7 @@ leaves_holds : (a b : Bool) (o : Option HeldState) (c : Option (List Request)) (
 leaves_holds true b o c y e = hand_holds o c y e
 leaves_holds false b o c y e = absurd (gone_holds b y e)
 
-place_holds : (program : ProgramShape) (t : Ticket) (m : Client) (pl : Place) (h : ℕ) (y : HeldState) → standing_at program t m pl h ≡ holds y → m.held h ≡ Some y
+place_holds : (program : ProgramShape) (t : Ticket) (m : Client) (pl : ClientStage) (h : ℕ) (y : HeldState) → standing_at program t m pl h ≡ holds y → m.held h ≡ Some y
 place_holds program t m (between l) h y e = absurd (gone_holds (reserves program t h) y e)
 place_holds program t m (runs code) h y e = hand_holds (m.held h) (m.chunk h) y e
 place_holds program t m (full g code) h y e = hand_holds (m.held h) (m.chunk h) y e
@@ -153,7 +153,7 @@ module _ (program : ProgramShape) (lined : (t : Ticket) → Lined (reserves prog
       by_case t m lt down last (inr (inl w)) =
           let non = λ (e : y.stands t h ≡ gone). holds_gone w.2.0 (sym w.2.1 ∙ e) in
           let b = in_block t h m lt non in
-          let held : (s.client t.client).held h ≡ Some w.2.0 = place_holds program t (s.client t.client) (s.client t.client).place h w.2.0 (sym (k.stands t.client t.index b h) ∙ w.2.1) in
+          let held : (s.client t.client).held h ≡ Some w.2.0 = place_holds program t (s.client t.client) (s.client t.client).stage h w.2.0 (sym (k.stands t.client t.index b h) ∙ w.2.1) in
           let none : s.down t.client h ≡ [] = down ∙ ap₂ (λ a b. a ++ b) w.0 (none_of t.client (g h).way (s.tickets h) (same_no t (s.tickets h) (last b non))) in
           ap₂ (λ u d. away_at u d ((s.client t.client).held h)) (list_none (s.up t.client h) w.1) none ∙ (held ∙ ap₂ (λ c way. Some (object_of (views.lent (g h).lent) c way)) (sym w.2.1) (sym w.0))
       by_case t m lt down last (inr (inr w)) =

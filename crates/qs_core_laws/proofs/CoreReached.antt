@@ -246,22 +246,22 @@ module _ (program : ProgramShape) (sound : IsSound program) (mode : Mode) (code 
   abbrev asks_for : ℕ → Act
   asks_for c = act_of (settings_of code size c) (blocks code size c) (s.client c)
 
-  begun_of : (c : ℕ) (act : Act) → asks_for c ≡ act → ((l : Locals) → (s.client c).place ≡ between l → asks_for c ≡ act → ⊥) → (s.client c).begun ≡ suc (n_of c)
+  begun_of : (c : ℕ) (act : Act) → asks_for c ≡ act → ((l : Locals) → (s.client c).stage ≡ between l → asks_for c ≡ act → ⊥) → (s.client c).begun ≡ suc (n_of c)
   begun_of c act e non = begun_by program sound mode code codes size s y g k c act e non
 
   clients_ask : ClientsAsk program code size s
   clients_ask = record {
     sends = λ c h parcel a.
         reserved_inside program sound (ticket c (n_of c)) h
-        (send_at program (ticket c (n_of c)) (y.sent (ticket c (n_of c))) (y.got (ticket c (n_of c))) (settings_of code size c) (blocks code size c) (s.client c) (y.page (ticket c (n_of c))) (s.client c).place
+        (send_at program (ticket c (n_of c)) (y.sent (ticket c (n_of c))) (y.got (ticket c (n_of c))) (settings_of code size c) (blocks code size c) (s.client c) (y.page (ticket c (n_of c))) (s.client c).stage
         (k.places c (n_of c) (begun_of c (wants.Send h parcel) a (λ l i a. not_send (settings_of code size c) (blocks code size c) (s.client c) l h parcel i a))) h parcel a).0;
     awaits = λ c h a.
         reserved_inside program sound (ticket c (n_of c)) h
-        (await_at program (ticket c (n_of c)) (y.sent (ticket c (n_of c))) (y.got (ticket c (n_of c))) (settings_of code size c) (blocks code size c) (s.client c) (y.page (ticket c (n_of c))) (s.client c).place
+        (await_at program (ticket c (n_of c)) (y.sent (ticket c (n_of c))) (y.got (ticket c (n_of c))) (settings_of code size c) (blocks code size c) (s.client c) (y.page (ticket c (n_of c))) (s.client c).stage
         (k.places c (n_of c) (begun_of c (wants.Await h) a (λ l i a. not_await (settings_of code size c) (blocks code size c) (s.client c) l h i a))) h a).0;
     needs = λ c h a.
         reserved_inside program sound (ticket c (n_of c)) h
-        (need_at program (ticket c (n_of c)) (y.sent (ticket c (n_of c))) (y.got (ticket c (n_of c))) (settings_of code size c) (blocks code size c) (s.client c) (y.page (ticket c (n_of c))) (s.client c).place
+        (need_at program (ticket c (n_of c)) (y.sent (ticket c (n_of c))) (y.got (ticket c (n_of c))) (settings_of code size c) (blocks code size c) (s.client c) (y.page (ticket c (n_of c))) (s.client c).stage
         (k.places c (n_of c) (begun_of c (wants.NeedChunk h) a (λ l i a. not_need (settings_of code size c) (blocks code size c) (s.client c) l h i a))) h a);
   }
 

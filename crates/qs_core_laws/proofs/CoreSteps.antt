@@ -16,7 +16,7 @@ use Rattle.qs_chunk.specs.LaneViews.{sends}
 use Rattle.qs_chunk.specs.declared.parcel.Parcel.{Parcel}
 use Rattle.qs_handler.specs.Handler.{Handler, free, serves, spares, gives, away, closed, taken, received, gave}
 use Rattle.qs_handler.specs.Handler as handlers
-use Rattle.qs_client_run.specs.Client.{Settled, act_of, act_at, between, sent, got, took_chunk, booked}
+use Rattle.qs_client_run.specs.Client.{Settlement, act_of, act_at, between, after_parcel, take_object, take_chunk, begin}
 use Rattle.qs_client_run.specs.declared.act.Act.{Act}
 use Rattle.qs_client_run.specs.declared.act.Act.TheVariants.{Reserve, Send, Await, NeedChunk, Finished}
 use Rattle.qs_played.specs.Played.{ticket}
@@ -58,7 +58,7 @@ module _ (program : ProgramShape) (sound : IsSound program) (mode : Mode) (code 
     abbrev pub next_of : ℕ → Act
     next_of c = act_of (settings_of code size c) (blocks code size c) (s.client c)
 
-    pub begun_by : (c : ℕ) (act : Act) → next_of c ≡ act → ((l : Locals) → (s.client c).place ≡ between l → next_of c ≡ act → ⊥) → (s.client c).begun ≡ suc ((s.client c).begun - 1)
+    pub begun_by : (c : ℕ) (act : Act) → next_of c ≡ act → ((l : Locals) → (s.client c).stage ≡ between l → next_of c ≡ act → ⊥) → (s.client c).begun ≡ suc ((s.client c).begun - 1)
     begun_by c act e non = positive (s.client c).begun (λ z. non zeros (k.idle c z).0 e)
 
     abbrev now : ℕ → Ticket
@@ -67,7 +67,7 @@ module _ (program : ProgramShape) (sound : IsSound program) (mode : Mode) (code 
     send_does : (c h : ℕ) (parcel : Parcel) (s' : Core) → next_of c ≡ Send h parcel → core.sends code size s c h parcel ≡ Some s' → Kept s'
     send_does c h parcel s' act e =
         one_of (nat_lt (length (s.down c h)) lane_room) _ s' e
-        (subst (λ names. Kept (settled code size (lies code size s c h parcel) c (now c) (sent (settings_of code size c) (now c) names (s.client c) h parcel))) (sym (reserved_is program sound mode code codes size (now c)))
+        (subst (λ names. Kept (settled code size (lies code size s c h parcel) c (now c) (after_parcel (settings_of code size c) (now c) names (s.client c) h parcel))) (sym (reserved_is program sound mode code codes size (now c)))
         (send_kept program (lined program sound) (settings_of code size c) (blocks code size c) s y g k c ((s.client c).begun - 1) h parcel (synced code size s.syncs c parcel)
         (core.tallied code size s.sync_counts (now c) h parcel)
         (begun_by c (Send h parcel) act (λ l i a. not_send (settings_of code size c) (blocks code size c) (s.client c) l h parcel i a)) act))
@@ -76,7 +76,7 @@ module _ (program : ProgramShape) (sound : IsSound program) (mode : Mode) (code 
     get_does c h None s' up act e = absurd (cc)
     get_does c h (Some x) s' up act e =
         subst Kept (some_is _ s' e)
-        (subst (λ names. Kept (settled code size (with_up code size s c h None) c (now c) (got (settings_of code size c) (now c) names (s.client c) x (s.client c).place))) (sym (reserved_is program sound mode code codes size (now c)))
+        (subst (λ names. Kept (settled code size (with_up code size s c h None) c (now c) (take_object (settings_of code size c) (now c) names (s.client c) x (s.client c).stage))) (sym (reserved_is program sound mode code codes size (now c)))
         (get_kept program (lined program sound) (settings_of code size c) (blocks code size c) s y g k c ((s.client c).begun - 1) h x
         (begun_by c (Await h) act (λ l i a. not_await (settings_of code size c) (blocks code size c) (s.client c) l h i a)) act up))
 
@@ -84,16 +84,16 @@ module _ (program : ProgramShape) (sound : IsSound program) (mode : Mode) (code 
     chunk_does c h zero s' act e = absurd (cc)
     chunk_does c h (suc n) s' act e =
         subst Kept (some_is _ s' e)
-        (subst (λ names. Kept (settled code size (with_spare code size s c h n) c (now c) (took_chunk (settings_of code size c) (now c) names (s.client c) h (s.client c).place))) (sym (reserved_is program sound mode code codes size (now c)))
+        (subst (λ names. Kept (settled code size (with_spare code size s c h n) c (now c) (take_chunk (settings_of code size c) (now c) names (s.client c) h (s.client c).stage))) (sym (reserved_is program sound mode code codes size (now c)))
         (chunk_kept program (lined program sound) (settings_of code size c) (blocks code size c) s y g k c ((s.client c).begun - 1) h (put_lane s.spare c h n)
         (begun_by c (NeedChunk h) act (λ l i a. not_need (settings_of code size c) (blocks code size c) (s.client c) l h i a)) act))
 
-    pub is_between : (c n : ℕ) → (s.client c).begun ≡ n → next_of c ≡ Reserve → (l : Locals) × ((s.client c).place ≡ between l)
+    pub is_between : (c n : ℕ) → (s.client c).begun ≡ n → next_of c ≡ Reserve → (l : Locals) × ((s.client c).stage ≡ between l)
     is_between c zero b act = (zeros, (k.idle c b).0)
     is_between c (suc n) b act =
-        reserve_at program (ticket c n) (y.sent (ticket c n)) (y.got (ticket c n)) (settings_of code size c) (blocks code size c) (s.client c) (y.page (ticket c n)) (s.client c).place (k.places c n b) act
+        reserve_at program (ticket c n) (y.sent (ticket c n)) (y.got (ticket c n)) (settings_of code size c) (blocks code size c) (s.client c) (y.page (ticket c n)) (s.client c).stage (k.places c n b) act
 
-    pub has_more : (c : ℕ) (l : Locals) → (s.client c).place ≡ between l → next_of c ≡ Reserve → (s.client c).begun < blocks_of program c
+    pub has_more : (c : ℕ) (l : Locals) → (s.client c).stage ≡ between l → next_of c ≡ Reserve → (s.client c).begun < blocks_of program c
     has_more c l at act =
         let b = reserves_more (nat_lt (s.client c).begun (blocks code size c)) (sym (ap (act_at (settings_of code size c) (blocks code size c) (s.client c)) at) ∙ act) in
         let long = blocks_are program sound mode code codes size c in
@@ -103,7 +103,7 @@ module _ (program : ProgramShape) (sound : IsSound program) (mode : Mode) (code 
     -- the machine's own reservation, by the list that the program's text has
     abbrev booked_core : ℕ → Ticket → Locals → List ℕ → Core
     booked_core c t l names =
-        let r : Settled = booked (settings_of code size c) t names (s.client c) (tree_of code size t l) in
+        let r : Settlement = begin (settings_of code size c) t names (s.client c) (tree_of code size t l) in
         record {
           order = s.order ++ t ∷ [];
           client = put s.client c r.client;
@@ -118,7 +118,7 @@ module _ (program : ProgramShape) (sound : IsSound program) (mode : Mode) (code 
           trace = core.put_ticket s.trace t r.events;
         }
 
-    reserve_does : (c : ℕ) (s' : Core) → next_of c ≡ Reserve → reserves_from code size s c (s.client c).place ≡ Some s' → Kept s'
+    reserve_does : (c : ℕ) (s' : Core) → next_of c ≡ Reserve → reserves_from code size s c (s.client c).stage ≡ Some s' → Kept s'
     reserve_does c s' act e =
         let at = is_between c (s.client c).begun refl act in
         let t : Ticket = ticket c (s.client c).begun in

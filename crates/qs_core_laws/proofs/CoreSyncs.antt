@@ -18,9 +18,9 @@ use Rattle.qs_syncset.proofs.CountedSyncs.{syncs_are_counted}
 use Rattle.qs_syncset.specs.SyncCounts as counts
 use Rattle.qs_sync_counts.specs.SyncRows.{object_of, syncs_for, syncs_of}
 use Rattle.qs_syncset.proofs.QueryRuns.{runs_within}
-use Rattle.qs_client_run.specs.Client.{Client, Place, between, runs, full, awaits, leaves}
+use Rattle.qs_client_run.specs.Client.{Client, ClientStage, between, runs, full, awaits, leaves}
 use Rattle.qs_client_run.specs.BlockSizes.{longest}
-use Rattle.qs_client.specs.Mind.{is_between, has_ended}
+use Rattle.qs_client.specs.ClientModel.{is_between, has_ended}
 use Rattle.qs_played.specs.Isolation.{ended_of, entry_of, ticket_at, trace_of}
 use Rattle.qs_played.specs.Played.{ticket}
 use Rattle.qs_played.specs.SyncSums.{AreSent, AreSyncsCounted, IsCounted, counts_at, syncs_at}
@@ -49,12 +49,12 @@ module _ (program : ProgramShape) (sound : IsSound program) (mode : Mode) (code 
 
   -- the block that a client is in, or was in last
   newest_sent : (t : Ticket) → (s.client t.client).begun ≡ suc t.index → AreSent (has_ended (s.client t.client) t.index) (n t) (by_tree t)
-  newest_sent t b = by_place (s.client t.client).place refl (counted.newest t.client t.index b)
+  newest_sent t b = by_place (s.client t.client).stage refl (counted.newest t.client t.index b)
     where
       m : Client
       m = s.client t.client
 
-      open_yet : (pl : Place) → m.place ≡ pl → is_between pl ≡ false → has_ended m t.index ≡ false
+      open_yet : (pl : ClientStage) → m.stage ≡ pl → is_between pl ≡ false → has_ended m t.index ≡ false
       open_yet pl at inside =
           let less : nat_lt (suc t.index) m.begun ≡ false = grind (arith, b) in
           rw less (ap (λ p. nat_eq (suc t.index) m.begun && is_between p) at ∙ both (nat_eq (suc t.index) m.begun) (is_between pl) inside)
@@ -63,7 +63,7 @@ module _ (program : ProgramShape) (sound : IsSound program) (mode : Mode) (code 
           both true z e = e
           both false z e = refl
 
-      by_place : (pl : Place) → m.place ≡ pl → CountAt (settings_of code size t.client) t (reserved_of code size t) (tree_of code size t (s.entry t))
+      by_place : (pl : ClientStage) → m.stage ≡ pl → CountAt (settings_of code size t.client) t (reserved_of code size t) (tree_of code size t (s.entry t))
           (s.trace t) (n t) m pl
           → AreSent (has_ended m t.index) (n t) (by_tree t)
       by_place (between l) at k = inl k

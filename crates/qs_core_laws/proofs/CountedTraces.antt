@@ -20,7 +20,7 @@ use Rattle.qs_played.specs.Played.{Played}
 use Rattle.qs_played.specs.SyncSums.{AreListed, AreSent, IsCounted, syncs_at}
 use Rattle.qs_played.proofs.JournalRooms.{no_block_beyond}
 use Rattle.qs_core_laws.specs.Core.{AreCodes, tree_of}
-use Rattle.qs_client_run.proofs.Codes.{longest_covers}
+use Rattle.qs_client_run.proofs.CodeBounds.{longest_covers}
 
 -- the same counts, said otherwise
 pub sent_as : (ended : Bool) (sent counts others : ℕ → ℕ) → ((h : ℕ) → counts h ≡ others h) → AreSent ended sent counts → AreSent ended sent others

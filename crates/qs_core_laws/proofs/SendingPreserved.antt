@@ -17,7 +17,7 @@ use Rattle.qs_program.specs.Program.{ProgramShape}
 use Rattle.qs_chunk.specs.LaneViews.{Standing, asks, gone, ClientLane}
 use Rattle.qs_chunk.specs.declared.parcel.Parcel.{Parcel}
 use Rattle.qs_handler.specs.Handler.{serving}
-use Rattle.qs_client_run.specs.Client.{Client, Settings, Settled, act_of, sent, took_chunk}
+use Rattle.qs_client_run.specs.Client.{Client, Settings, Settlement, act_of, after_parcel, take_chunk}
 use Rattle.qs_client_run.specs.declared.act.Act.TheVariants.{Send, Await, NeedChunk}
 use Rattle.qs_client_run.specs.Client as clients
 use Rattle.qs_played.proofs.FunctionUpdate.{put_at, put_at_here, put_at_there}
@@ -114,7 +114,7 @@ module _ (program : ProgramShape) (lined : (t : Ticket) → Lined (reserves prog
 
   module _ (c n : ℕ) (begun : (s.client c).begun ≡ suc n) (m : Client) (same_begun : m.begun ≡ (s.client c).begun) (events : List Event)
       (snt : ℕ → List Parcel) (got : ℕ → List HeldState) (pg : Page) (entry : pg.entry ≡ (y.page (ticket c n)).entry) (trace : pg.trace ≡ (y.page (ticket c n)).trace ++ events)
-      (ok : PlaceOk program (ticket c n) snt got m pg m.place) (out : (h : ℕ) → reserves program (ticket c n) h ≡ false → (snt h ≡ []) × (got h ≡ [])) where
+      (ok : PlaceOk program (ticket c n) snt got m pg m.stage) (out : (h : ℕ) → reserves program (ticket c n) h ≡ false → (snt h ≡ []) × (got h ≡ [])) where
     abbrev Y : LaneHistory
     Y = story program s y g k c n begun m same_begun events snt got pg entry trace ok out
 
@@ -149,20 +149,20 @@ module _ (program : ProgramShape) (lined : (t : Ticket) → Lined (reserves prog
         (λ u. sym (grown_there y.sent (ticket c n) snt j (sides j).0 u)) (λ u. sym (grown_there y.got (ticket c n) got j (sides j).1 u)) (k.objects j))
 
   -- the core after what a client did
-  abbrev pub after : ℕ → Ticket → Settled → (ℕ → ℕ → List Parcel) → (ℕ → ℕ → Option HeldState) → (ℕ → ℕ → ℕ) → (ℕ → ℕ) → (Ticket → List SyncCount) → Core
+  abbrev pub after : ℕ → Ticket → Settlement → (ℕ → ℕ → List Parcel) → (ℕ → ℕ → Option HeldState) → (ℕ → ℕ → ℕ) → (ℕ → ℕ) → (Ticket → List SyncCount) → Core
   after c t r down up spare syncs tallies = record s { client = put s.client c r.client; trace = put_at s.trace t (s.trace t ++ r.events); down = down; up = up; spare = spare; syncs = syncs; sync_counts = tallies }
 
   abbrev pub Keeps : Core → Type 0
   Keeps s' = (y' : LaneHistory) × (g' : ℕ → HandlerLog) × CoreInvariant program s' y' g'
 
   pub send_kept : (c n h : ℕ) (p : Parcel) (syncs : ℕ → ℕ) (tallies : Ticket → List SyncCount) → (s.client c).begun ≡ suc n → act_of settings blocks (s.client c) ≡ Send h p
-      → Keeps (after c (ticket c n) (sent settings (ticket c n) (listed program (ticket c n)) (s.client c) h p) (put_lane s.down c h (s.down c h ++ p ∷ [])) s.up s.spare syncs tallies)
+      → Keeps (after c (ticket c n) (after_parcel settings (ticket c n) (listed program (ticket c n)) (s.client c) h p) (put_lane s.down c h (s.down c h ++ p ∷ [])) s.up s.spare syncs tallies)
   send_kept c n h p syncs tallies begun act =
       let t : Ticket = ticket c n in
       let m : Client = s.client c in
-      let r : Settled = sent settings t (listed program t) m h p in
+      let r : Settlement = after_parcel settings t (listed program t) m h p in
       let ok = k.places c n begun in
-      let at = send_at program t (y.sent t) (y.got t) settings blocks m (y.page t) m.place ok h p act in
+      let at = send_at program t (y.sent t) (y.got t) settings blocks m (y.page t) m.stage ok h p act in
       let here = λ (e : y.stands t h ≡ gone). at.1 (sym (k.stands c n begun h) ∙ e) in
       let ends = sends_ok program t (y.sent t) (y.got t) settings (lined t) blocks m (y.page t) h p ok act in
       let snt = put (y.sent t) h (y.sent t h ++ p ∷ []) in
@@ -189,13 +189,13 @@ module _ (program : ProgramShape) (lined : (t : Ticket) → Lined (reserves prog
       )
 
   pub get_kept : (c n h : ℕ) (x : HeldState) → (s.client c).begun ≡ suc n → act_of settings blocks (s.client c) ≡ Await h → s.up c h ≡ Some x
-      → Keeps (after c (ticket c n) (clients.got settings (ticket c n) (listed program (ticket c n)) (s.client c) x (s.client c).place) s.down (put_lane s.up c h None) s.spare s.syncs s.sync_counts)
+      → Keeps (after c (ticket c n) (clients.take_object settings (ticket c n) (listed program (ticket c n)) (s.client c) x (s.client c).stage) s.down (put_lane s.up c h None) s.spare s.syncs s.sync_counts)
   get_kept c n h x begun act up =
       let t : Ticket = ticket c n in
       let m : Client = s.client c in
-      let r : Settled = clients.got settings t (listed program t) m x m.place in
+      let r : Settlement = clients.take_object settings t (listed program t) m x m.stage in
       let ok = k.places c n begun in
-      let at = await_at program t (y.sent t) (y.got t) settings blocks m (y.page t) m.place ok h act in
+      let at = await_at program t (y.sent t) (y.got t) settings blocks m (y.page t) m.stage ok h act in
       let here = λ (e : y.stands t h ≡ gone). asks_gone (sym at.1 ∙ (sym (k.stands c n begun h) ∙ e)) in
       let ends = gets_ok program t (y.sent t) (y.got t) settings (lined t) blocks m (y.page t) h x ok act in
       let got = put (y.got t) h (y.got t h ++ x ∷ []) in
@@ -207,16 +207,16 @@ module _ (program : ProgramShape) (lined : (t : Ticket) → Lined (reserves prog
             (num_cases h j),
       ) in
       let one = up_serving (Mine h) (fresh_held program h) (post s h) (deeds y h) (g h) t x [] (k.objects h) (ap as_list up) (λ u one_u at_c. older u begun one_u at_c) (deeds_ok program s y g k h).lane in (
-        story program s y g k c n begun r.client (got_begun settings t (listed program t) m h x m.place) r.events (y.sent t) got ends.0 ends.1 ends.2 ends.3 out,
+        story program s y g k c n begun r.client (got_begun settings t (listed program t) m h x m.stage) r.events (y.sent t) got ends.0 ends.1 ends.2 ends.3 out,
         put g h (g h),
-        at_object c n begun r.client (got_begun settings t (listed program t) m h x m.place) r.events (y.sent t) got ends.0 ends.1 ends.2 ends.3 out
+        at_object c n begun r.client (got_begun settings t (listed program t) m h x m.stage) r.events (y.sent t) got ends.0 ends.1 ends.2 ends.3 out
             s.down (put_lane s.up c h None) s.spare s.syncs s.sync_counts h (record (post s h) { up = put (λ c. as_list (s.up c h)) c [] }) (g h)
             (post_path _ _ refl refl refl (fun_ext (put_up_at s.up c h None)))
             (λ j other. post_path _ _ refl refl refl (fun_ext (λ d. put_up_there s.up c h None d j other)))
             (λ j other. (refl, put_there (y.got t) h (y.got t h ++ x ∷ []) j other))
             (object_deeds (Mine h) (fresh_held program h) (record (post s h) { up = put (λ c. as_list (s.up c h)) c [] })
             (record (deeds y h) { got = put_at (λ u. y.got u h) t (y.got t h ++ x ∷ []) })
-            (deeds (story program s y g k c n begun r.client (got_begun settings t (listed program t) m h x m.place) r.events (y.sent t) got ends.0 ends.1 ends.2 ends.3 out) h) (g h)
+            (deeds (story program s y g k c n begun r.client (got_begun settings t (listed program t) m h x m.stage) r.events (y.sent t) got ends.0 ends.1 ends.2 ends.3 out) h) (g h)
             (λ u. sym (grown_there y.sent t (y.sent t) h refl u)) (λ u. sym (grown_here y.got t h (y.got t h ++ x ∷ []) u))
             (got_ok (Mine h) (fresh_held program h) (post s h) (deeds y h) (g h) t x [] one (ap as_list up) (past_apart t h here) (k.objects h))),
       )
@@ -239,15 +239,15 @@ module _ (program : ProgramShape) (lined : (t : Ticket) → Lined (reserves prog
           (num_cases u.index n)
 
   pub chunk_kept : (c n h : ℕ) (spare : ℕ → ℕ → ℕ) → (s.client c).begun ≡ suc n → act_of settings blocks (s.client c) ≡ NeedChunk h
-      → Keeps (after c (ticket c n) (took_chunk settings (ticket c n) (listed program (ticket c n)) (s.client c) h (s.client c).place) s.down s.up spare s.syncs s.sync_counts)
+      → Keeps (after c (ticket c n) (take_chunk settings (ticket c n) (listed program (ticket c n)) (s.client c) h (s.client c).stage) s.down s.up spare s.syncs s.sync_counts)
   chunk_kept c n h spare begun act =
       let t : Ticket = ticket c n in
       let m : Client = s.client c in
-      let r : Settled = took_chunk settings t (listed program t) m h m.place in
+      let r : Settlement = take_chunk settings t (listed program t) m h m.stage in
       let ok = k.places c n begun in
       let ends = chunks_ok program t (y.sent t) (y.got t) settings (lined t) blocks m (y.page t) h ok act in
       let out = λ (j : ℕ) (no : reserves program t j ≡ false). k.outside t j no in (
-        story program s y g k c n begun r.client (chunk_begun settings t (listed program t) m h m.place) r.events (y.sent t) (y.got t) ends.0 ends.1 ends.2 ends.3 out,
+        story program s y g k c n begun r.client (chunk_begun settings t (listed program t) m h m.stage) r.events (y.sent t) (y.got t) ends.0 ends.1 ends.2 ends.3 out,
         g,
-        at_none c n begun r.client (chunk_begun settings t (listed program t) m h m.place) r.events (y.sent t) (y.got t) ends.0 ends.1 ends.2 ends.3 out spare s.syncs s.sync_counts (λ j. (refl, refl)),
+        at_none c n begun r.client (chunk_begun settings t (listed program t) m h m.stage) r.events (y.sent t) (y.got t) ends.0 ends.1 ends.2 ends.3 out spare s.syncs s.sync_counts (λ j. (refl, refl)),
       )

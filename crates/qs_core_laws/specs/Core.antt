@@ -22,8 +22,8 @@ use Rattle.qs_handler.specs.Handler.{Handler, free, gave, received, taken}
 use Rattle.qs_handler.specs.Handler as handlers
 use Rattle.qs_handler.specs.declared.mind.Act as handler_acts
 use Rattle.qs_handler.specs.declared.mind.Act.TheVariants as acts
-use Rattle.qs_client_run.specs.Client.{Client, Place, Settings, Settled, act_of, between, runs, full, awaits, leaves, booked, first_client, got, sent, took_chunk}
-use Rattle.qs_client.specs.Mind.{tree_at}
+use Rattle.qs_client_run.specs.Client.{Client, ClientStage, Settings, Settlement, act_of, between, runs, full, awaits, leaves, begin, first_client, take_object, after_parcel, take_chunk}
+use Rattle.qs_client.specs.ClientModel.{tree_at}
 use Rattle.qs_client_run.specs.declared.act.Act as client_acts
 use Rattle.qs_client_run.specs.declared.act.Act.TheVariants as wants
 use Rattle.qs_played.specs.JournalRooms.{fresh_held}
@@ -83,14 +83,14 @@ module _ (code : ℕ → ClientCode) (size : ℕ) where
   current c m = ticket c (m.begun - 1)
 
   -- a client after an act, with what entered its block's trace
-  abbrev pub settled : Core → ℕ → Ticket → Settled → Core
+  abbrev pub settled : Core → ℕ → Ticket → Settlement → Core
   settled s c t r = record s {
     client = put s.client c r.client;
     trace = put_ticket s.trace t (s.trace t ++ r.events);
   }
 
   -- Reserve: the ticket comes to the order, and to the queue of each handler of the block's list
-  abbrev pub reserved : Core → ℕ → Ticket → Locals → Settled → Core
+  abbrev pub reserved : Core → ℕ → Ticket → Locals → Settlement → Core
   reserved s c t l r = record s {
     order = s.order ++ t ∷ [];
     client = put s.client c r.client;
@@ -99,10 +99,10 @@ module _ (code : ℕ → ClientCode) (size : ℕ) where
     trace = put_ticket s.trace t r.events;
   }
 
-  abbrev pub reserves_from : Core → ℕ → Place → Option Core
+  abbrev pub reserves_from : Core → ℕ → ClientStage → Option Core
   reserves_from s c (between l) =
       let t = ticket c (s.client c).begun in
-      Some (reserved s c t l (booked (settings_of c) t (reserved_of t) (s.client c) (tree_of t l)))
+      Some (reserved s c t l (begin (settings_of c) t (reserved_of t) (s.client c) (tree_of t l)))
   reserves_from s c (runs rest) = None
   reserves_from s c (full h rest) = None
   reserves_from s c (awaits h rest) = None
@@ -135,7 +135,7 @@ module _ (code : ℕ → ClientCode) (size : ℕ) where
       let m = s.client c in
       let t = current c m in
       if nat_lt (length (s.down c h)) lane_room
-      then Some (settled (lies s c h parcel) c t (sent (settings_of c) t (reserved_of t) m h parcel))
+      then Some (settled (lies s c h parcel) c t (after_parcel (settings_of c) t (reserved_of t) m h parcel))
       else None
 
   abbrev pub with_up : Core → ℕ → ℕ → Option HeldState → Core
@@ -150,7 +150,7 @@ module _ (code : ℕ → ClientCode) (size : ℕ) where
   gets s c h (Some x) =
       let m = s.client c in
       let t = current c m in
-      Some (settled (with_up s c h None) c t (got (settings_of c) t (reserved_of t) m x m.place))
+      Some (settled (with_up s c h None) c t (take_object (settings_of c) t (reserved_of t) m x m.stage))
 
   -- an empty chunk is taken
   abbrev pub takes_chunk : Core → ℕ → ℕ → ℕ → Option Core
@@ -158,10 +158,10 @@ module _ (code : ℕ → ClientCode) (size : ℕ) where
   takes_chunk s c h (suc n) =
       let m = s.client c in
       let t = current c m in
-      Some (settled (with_spare s c h n) c t (took_chunk (settings_of c) t (reserved_of t) m h m.place))
+      Some (settled (with_spare s c h n) c t (take_chunk (settings_of c) t (reserved_of t) m h m.stage))
 
   abbrev pub client_step : Core → ℕ → client_acts.Act → Option Core
-  client_step s c wants.Reserve = reserves_from s c (s.client c).place
+  client_step s c wants.Reserve = reserves_from s c (s.client c).stage
   client_step s c (wants.Send h parcel) = sends s c h parcel
   client_step s c (wants.Await h) = gets s c h (s.up c h)
   client_step s c (wants.NeedChunk h) = takes_chunk s c h (s.spare c h)

@@ -12,7 +12,7 @@ use Rattle.qs_syncset.specs.Codes.{ClientCode}
 use Rattle.qs_chunk.specs.LaneParts.{away_at, commands_in, lane_of}
 use Rattle.qs_handler.specs.Handler.{Handler, free, serves, spares, gives, away, closed, serving, is_free}
 use Rattle.qs_client_run.specs.Client.{Client}
-use Rattle.qs_client.specs.Mind.{is_between, has_ended}
+use Rattle.qs_client.specs.ClientModel.{is_between, has_ended}
 use Rattle.qs_played.specs.Isolation.{IsIsolated}
 use Rattle.qs_played.specs.Schedule.{all_named, most_rounds, schedule}
 use Rattle.qs_played.specs.declared.actor.Actor.{Actor}
@@ -75,7 +75,7 @@ all_of is (n ∷ ns) = is n && all_of is ns
 
 -- a client is between two blocks, with none to come
 abbrev pub is_done : ProgramShape → Core → ℕ → Bool
-is_done p s c = is_between (s.client c).place && nat_eq (s.client c).begun (blocks_of p c)
+is_done p s c = is_between (s.client c).stage && nat_eq (s.client c).begun (blocks_of p c)
 
 -- a handler has its object and serves nobody, and nothing lies in its queue or in a lane to it
 abbrev pub is_idle : ProgramShape → Core → ℕ → Bool

@@ -9,37 +9,37 @@ use Rattle.qs_objects.specs.declared.Request.{Request}
 use Rattle.qs_syncset.specs.Codes.{ClientCode}
 use Rattle.qs_chunk.specs.Batch.{Batch}
 use Rattle.qs_chunk.specs.declared.parcel.Parcel.{Parcel}
-use Rattle.qs_client_run.specs.Client.{Settled}
+use Rattle.qs_client_run.specs.Client.{Settlement}
 use Rattle.qs_sync_counts.specs.SyncRows.{fresh_rows}
 use Rattle.qs_chunk.specs.Limits.{lane_room}
-use Rattle.qs_client.specs.Mind.{Asks, Mind, lists_of, asked_of, chunk_mind, comes_to, counted, done, extended, got_mind, hands_out, next_act, next_mind, settings_of, whole, booked_mind, enters, fresh_mind, locals_at}
+use Rattle.qs_client.specs.ClientModel.{Asks, ClientModel, lists_of, act_due, mind_after_chunk, comes_to, count_syncs, finish, extend, mind_after_object, hands_out, next_act, next_mind, settings_of, with_act_again, mind_after_begin, enters, fresh_mind, locals_at}
 use Rattle.qs_client.specs.MindState.{MindState, mind_of}
 use Rattle.qs_client_run.specs.declared.act.Act.{Act}
-use Rattle.qs_client_run.proofs.Parting.{acts_lose_nothing}
+use Rattle.qs_client_run.proofs.CarriedValues.{acts_lose_nothing}
 use Rattle.qs_client_run.specs.declared.act.Act.TheVariants as acts
 use Rattle.qs_played.proofs.Lists.{get_or-any}
 use Rattle.qs_core_parts.specs.CoreClients.{CoreClientState, IsCoreClient, LaneSteps, lane_step, turns_to, whole_of}
 use Rattle.qs_core_parts.specs.LaneStates.{LaneState, fresh_lane, lane_at, with_down, with_spare, with_up}
 
-extended_by_none : (ts : List (List Event)) (k : ℕ) → extended ts k [] ≡ ts
+extended_by_none : (ts : List (List Event)) (k : ℕ) → extend ts k [] ≡ ts
 extended_by_none ts k = ap (set ts k) (append-nil (get_or ts k [])) ∙ set-get_or ts k []
 
 -- a mind that has come to its next act stays there
-pub come_stays : (m : Mind) (r : Settled) → done (comes_to m r) ≡ comes_to m r
+pub come_stays : (m : ClientModel) (r : Settlement) → finish (comes_to m r) ≡ comes_to m r
 come_stays m r = λ k. record {
   code = m.code;
   size = m.size;
   ticket = m.ticket;
   client = r.client;
   entries = m.entries;
-  traces = extended_by_none (extended m.traces m.ticket.index r.events) m.ticket.index k;
+  traces = extended_by_none (extend m.traces m.ticket.index r.events) m.ticket.index k;
   syncs = add-zero m.syncs k;
   counts = m.counts;
-  handed = (comes_to m r).handed;
+  outgoing = (comes_to m r).outgoing;
 }
 
 -- with what the act carries it is as it was
-pub whole_again : (m : Mind) (r : Settled) → whole (hands_out (comes_to m r) (asked_of (comes_to m r))) (asked_of (comes_to m r)) ≡ comes_to m r
+pub whole_again : (m : ClientModel) (r : Settlement) → with_act_again (hands_out (comes_to m r) (act_due (comes_to m r))) (act_due (comes_to m r)) ≡ comes_to m r
 whole_again m r = λ k. record {
   code = m.code;
   size = m.size;
@@ -49,37 +49,37 @@ whole_again m r = λ k. record {
   traces = (comes_to m r).traces;
   syncs = m.syncs;
   counts = m.counts;
-  handed = (comes_to m r).handed;
+  outgoing = (comes_to m r).outgoing;
 }
 
 -- a seat with the next act of a mind that has come to it
-pub record IsSeatOf (n : Mind) (s : CoreClientState) : Type 0 where
+pub record IsSeatOf (n : ClientModel) (s : CoreClientState) : Type 0 where
   pub whole_is : whole_of s ≡ n
   pub seat : IsCoreClient s
 
-module _ (m : Mind) (r : Settled) (s : CoreClientState) (handed : mind_of s.mind ≡ hands_out (comes_to m r) (asked_of (comes_to m r))) (act : s.act ≡ asked_of (comes_to m r)) where
+module _ (m : ClientModel) (r : Settlement) (s : CoreClientState) (handed : mind_of s.mind ≡ hands_out (comes_to m r) (act_due (comes_to m r))) (act : s.act ≡ act_due (comes_to m r)) where
   whole_is : whole_of s ≡ comes_to m r
   unfolding whole_of
-  whole_is = (λ k. whole (handed k) (act k)) ∙ whole_again m r
+  whole_is = (λ k. with_act_again (handed k) (act k)) ∙ whole_again m r
 
   pub seat_of : IsSeatOf (comes_to m r) s
   seat_of = record {
     whole_is = whole_is;
     seat = record {
-      act = act ∙ ap asked_of (sym whole_is);
+      act = act ∙ ap act_due (sym whole_is);
       mind = handed ∙ (λ k. hands_out (sym whole_is k) (sym act k));
     };
   }
 
 -- where the mind that was asked last has come to its next act already
-pub seat_after : (m : Mind) (r : Settled) (old : MindState) (s : CoreClientState) → mind_of old ≡ comes_to m r → s.act ≡ next_act (mind_of old) → mind_of s.mind ≡ next_mind (mind_of old) → IsSeatOf (comes_to m r) s
+pub seat_after : (m : ClientModel) (r : Settlement) (old : MindState) (s : CoreClientState) → mind_of old ≡ comes_to m r → s.act ≡ next_act (mind_of old) → mind_of s.mind ≡ next_mind (mind_of old) → IsSeatOf (comes_to m r) s
 seat_after m r old s come act handed =
-    let stays : done (mind_of old) ≡ comes_to m r = ap done come ∙ come_stays m r in
-    seat_of m r s (handed ∙ ap (λ (n : Mind). hands_out n (asked_of n)) stays) (act ∙ ap asked_of stays)
+    let stays : finish (mind_of old) ≡ comes_to m r = ap finish come ∙ come_stays m r in
+    seat_of m r s (handed ∙ ap (λ (n : ClientModel). hands_out n (act_due n)) stays) (act ∙ ap act_due stays)
 
 -- where something was left to be done for the last act
-pub seat_done : (old : MindState) (s : CoreClientState) → s.act ≡ next_act (mind_of old) → mind_of s.mind ≡ next_mind (mind_of old) → IsSeatOf (done (mind_of old)) s
-seat_done old s act handed = seat_of (counted (mind_of old)) _ s handed act
+pub seat_done : (old : MindState) (s : CoreClientState) → s.act ≡ next_act (mind_of old) → mind_of s.mind ≡ next_mind (mind_of old) → IsSeatOf (finish (mind_of old)) s
+seat_done old s act handed = seat_of (count_syncs (mind_of old)) _ s handed act
 
 -- an act that carries nothing leaves the mind as it is
 same_handed : (s : CoreClientState) → hands_out (whole_of s) acts.Reserve ≡ whole_of s
@@ -92,12 +92,12 @@ unfolding whole_of
 asked_whole s kept act is = (refl, sym kept.act ∙ is)
 
 module _ (s : CoreClientState) (kept : IsCoreClient s) where
-  abbrev pub own : Mind
+  abbrev pub own : ClientModel
   own = whole_of s
 
   -- an act that carries nothing, after which something has to come
   pub asks : (act : Act) → s.act ≡ act → hands_out own act ≡ own → Asks own act → Asks (mind_of s.mind) act
-  asks act is same asked = subst (λ (n : Mind). Asks n act) (sym (kept.mind ∙ ap (hands_out own) is ∙ same)) asked
+  asks act is same asked = subst (λ (n : ClientModel). Asks n act) (sym (kept.mind ∙ ap (hands_out own) is ∙ same)) asked
 
   pub mind_is : (act : Act) → s.act ≡ act → hands_out own act ≡ own → mind_of s.mind ≡ own
   mind_is act is same = kept.mind ∙ ap (hands_out own) is ∙ same
@@ -112,7 +112,7 @@ module _ (s : CoreClientState) (kept : IsCoreClient s) (t : CoreClientState) (h 
       → t.act ≡ next_act (mind_of s.mind) → mind_of t.mind ≡ next_mind (mind_of s.mind) → t.lanes ≡ set s.lanes h (with_down lane (lane.down ++ p ∷ []))
       → LaneSteps s t
   sent_steps p is room act handed lanes_are =
-      let sent : whole_of t ≡ done (hands_out (whole_of s) (acts.Send h p)) = (seat_done s.mind t act handed).whole_is ∙ ap done (kept.mind ∙ ap (hands_out (whole_of s)) is) in
+      let sent : whole_of t ≡ finish (hands_out (whole_of s) (acts.Send h p)) = (seat_done s.mind t act handed).whole_is ∙ ap finish (kept.mind ∙ ap (hands_out (whole_of s)) is) in
       record {
         handler = h;
         turned = ap turns_to is;
@@ -122,13 +122,13 @@ module _ (s : CoreClientState) (kept : IsCoreClient s) (t : CoreClientState) (h 
       }
 
   -- the object came
-  pub got_steps : (x : HeldState) (m : MindState) → s.act ≡ acts.Await h → lane.up ≡ Some x → mind_of m ≡ got_mind (mind_of s.mind) x
+  pub got_steps : (x : HeldState) (m : MindState) → s.act ≡ acts.Await h → lane.up ≡ Some x → mind_of m ≡ mind_after_object (mind_of s.mind) x
       → t.act ≡ next_act (mind_of m) → mind_of t.mind ≡ next_mind (mind_of m) → t.lanes ≡ set s.lanes h (with_up lane None)
       → LaneSteps s t
   got_steps x m is there came act handed lanes_are =
       let own_is : mind_of s.mind ≡ whole_of s = mind_is s kept (acts.Await h) is (same_handed s) in
-      let got_is : mind_of m ≡ got_mind (whole_of s) x = came ∙ ap (λ (n : Mind). got_mind n x) own_is in
-      let after : whole_of t ≡ got_mind (whole_of s) x = (seat_after (whole_of s) _ m t got_is act handed).whole_is in
+      let got_is : mind_of m ≡ mind_after_object (whole_of s) x = came ∙ ap (λ (n : ClientModel). mind_after_object n x) own_is in
+      let after : whole_of t ≡ mind_after_object (whole_of s) x = (seat_after (whole_of s) _ m t got_is act handed).whole_is in
       record {
         handler = h;
         turned = ap turns_to is;
@@ -138,13 +138,13 @@ module _ (s : CoreClientState) (kept : IsCoreClient s) (t : CoreClientState) (h 
       }
 
   -- an empty chunk came
-  pub chunk_steps : (b : Batch Request) (bs : List (Batch Request)) (m : MindState) → s.act ≡ acts.NeedChunk h → lane.spare ≡ b ∷ bs → mind_of m ≡ chunk_mind (mind_of s.mind) h
+  pub chunk_steps : (b : Batch Request) (bs : List (Batch Request)) (m : MindState) → s.act ≡ acts.NeedChunk h → lane.spare ≡ b ∷ bs → mind_of m ≡ mind_after_chunk (mind_of s.mind) h
       → t.act ≡ next_act (mind_of m) → mind_of t.mind ≡ next_mind (mind_of m) → t.lanes ≡ set s.lanes h (with_spare lane bs)
       → LaneSteps s t
   chunk_steps b bs m is there came act handed lanes_are =
       let own_is : mind_of s.mind ≡ whole_of s = mind_is s kept (acts.NeedChunk h) is (same_handed s) in
-      let got_is : mind_of m ≡ chunk_mind (whole_of s) h = came ∙ ap (λ (n : Mind). chunk_mind n h) own_is in
-      let after : whole_of t ≡ chunk_mind (whole_of s) h = (seat_after (whole_of s) _ m t got_is act handed).whole_is in
+      let got_is : mind_of m ≡ mind_after_chunk (whole_of s) h = came ∙ ap (λ (n : ClientModel). mind_after_chunk n h) own_is in
+      let after : whole_of t ≡ mind_after_chunk (whole_of s) h = (seat_after (whole_of s) _ m t got_is act handed).whole_is in
       record {
         handler = h;
         turned = ap turns_to is;
@@ -154,11 +154,11 @@ module _ (s : CoreClientState) (kept : IsCoreClient s) (t : CoreClientState) (h 
       }
 
 -- its next block was reserved
-pub booked_seat : (s : CoreClientState) → IsCoreClient s → (t : CoreClientState) (u : Ticket) (m : MindState) → s.act ≡ acts.Reserve → mind_of m ≡ booked_mind (mind_of s.mind) u
-    → t.act ≡ next_act (mind_of m) → mind_of t.mind ≡ next_mind (mind_of m) → IsSeatOf (booked_mind (whole_of s) u) t
+pub booked_seat : (s : CoreClientState) → IsCoreClient s → (t : CoreClientState) (u : Ticket) (m : MindState) → s.act ≡ acts.Reserve → mind_of m ≡ mind_after_begin (mind_of s.mind) u
+    → t.act ≡ next_act (mind_of m) → mind_of t.mind ≡ next_mind (mind_of m) → IsSeatOf (mind_after_begin (whole_of s) u) t
 booked_seat s kept t u m is came act handed =
     let own_is : mind_of s.mind ≡ whole_of s = mind_is s kept acts.Reserve is (same_handed s) in
-    seat_after (enters (whole_of s) u (locals_at (whole_of s).client.place)) _ m t (came ∙ ap (λ (n : Mind). booked_mind n u) own_is) act handed
+    seat_after (enters (whole_of s) u (locals_at (whole_of s).client.stage)) _ m t (came ∙ ap (λ (n : ClientModel). mind_after_begin n u) own_is) act handed
 
 -- an act that sends to one handler sends what it sends
 send_same : (a : Act) (h g : ℕ) (p q : Parcel) → a ≡ acts.Send h p → a ≡ acts.Send g q → a ≡ acts.Send h q
@@ -197,24 +197,24 @@ module _ (s now : CoreClientState) (kept : IsCoreClient s) (same : s ≡ now) (h
             (lanes ∙ lanes_are k _ (pushed ∙ ap (λ (x : LaneState). with_down x (x.down ++ q ∷ [])) lane_is))),
       )
 
-  pub code_got : (x : HeldState) (m : MindState) → now.act ≡ acts.Await h → l.up ≡ Some x → mind_of m ≡ got_mind (mind_of s.mind) x → (t : CoreClientState) → t.act ≡ next_act (mind_of m) → mind_of t.mind ≡ next_mind (mind_of m)
+  pub code_got : (x : HeldState) (m : MindState) → now.act ≡ acts.Await h → l.up ≡ Some x → mind_of m ≡ mind_after_object (mind_of s.mind) x → (t : CoreClientState) → t.act ≡ next_act (mind_of m) → mind_of t.mind ≡ next_mind (mind_of m)
       → (k : LaneState) → k ≡ with_up l None → t.lanes ≡ set_to k → IsCoreClient t × LaneSteps now t
   code_got x m asked lies came t act handed k taken lanes =
       let waits : s.act ≡ acts.Await h = ap (λ (y : CoreClientState). y.act) same ∙ asked in
       let own_is : mind_of s.mind ≡ whole_of s = mind_is s kept (acts.Await h) waits (same_handed s) in (
-        (seat_after (whole_of s) _ m t (came ∙ ap (λ (y : Mind). got_mind y x) own_is) act handed).seat,
+        (seat_after (whole_of s) _ m t (came ∙ ap (λ (y : ClientModel). mind_after_object y x) own_is) act handed).seat,
         subst (λ (y : CoreClientState). LaneSteps y t) same
             (got_steps s kept t h x m waits (ap (λ (y : LaneState). y.up) (sym lane_is) ∙ lies) came act handed
             (lanes ∙ lanes_are k _ (taken ∙ ap (λ (y : LaneState). with_up y None) lane_is))),
       )
 
-  pub code_chunk : (b : Batch Request) (m : MindState) → now.act ≡ acts.NeedChunk h → mind_of m ≡ chunk_mind (mind_of s.mind) h → (t : CoreClientState) → t.act ≡ next_act (mind_of m) → mind_of t.mind ≡ next_mind (mind_of m)
+  pub code_chunk : (b : Batch Request) (m : MindState) → now.act ≡ acts.NeedChunk h → mind_of m ≡ mind_after_chunk (mind_of s.mind) h → (t : CoreClientState) → t.act ≡ next_act (mind_of m) → mind_of t.mind ≡ next_mind (mind_of m)
       → (k : LaneState) → l ≡ with_spare k (b ∷ k.spare) → t.lanes ≡ set_to k → IsCoreClient t × LaneSteps now t
   code_chunk b m asked came t act handed k taken lanes =
       let needs : s.act ≡ acts.NeedChunk h = ap (λ (y : CoreClientState). y.act) same ∙ asked in
       let own_is : mind_of s.mind ≡ whole_of s = mind_is s kept (acts.NeedChunk h) needs (same_handed s) in
       let rest : k ≡ with_spare (lane_at s.lanes h) k.spare = (λ i. with_spare (sym taken i) k.spare) ∙ ap (λ (y : LaneState). with_spare y k.spare) lane_is in (
-        (seat_after (whole_of s) _ m t (came ∙ ap (λ (y : Mind). chunk_mind y h) own_is) act handed).seat,
+        (seat_after (whole_of s) _ m t (came ∙ ap (λ (y : ClientModel). mind_after_chunk y h) own_is) act handed).seat,
         subst (λ (y : CoreClientState). LaneSteps y t) same
             (chunk_steps s kept t h b k.spare m needs (ap (λ (y : LaneState). y.spare) (sym lane_is ∙ taken)) came act handed
             (lanes ∙ lanes_are k _ rest)),
@@ -228,10 +228,10 @@ asked_chunk s now kept same h asked =
 
 -- a client before its first block
 module _ (code : ClientCode) (size : ℕ) where
-  abbrev first : Mind
+  abbrev first : ClientModel
   first = fresh_mind code size
 
-  first_stays : done first ≡ first
+  first_stays : finish first ≡ first
   first_stays = λ k. record {
     code = code;
     size = size;
@@ -241,10 +241,10 @@ module _ (code : ClientCode) (size : ℕ) where
     traces = extended_by_none first.traces 0 k;
     syncs = 0;
     counts = fresh_rows (lists_of code.blocks);
-    handed = first.handed;
+    outgoing = first.outgoing;
   }
 
-  first_again : whole (hands_out first (asked_of first)) (asked_of first) ≡ first
+  first_again : with_act_again (hands_out first (act_due first)) (act_due first) ≡ first
   first_again = λ k. record {
     code = code;
     size = size;
@@ -254,28 +254,28 @@ module _ (code : ClientCode) (size : ℕ) where
     traces = first.traces;
     syncs = 0;
     counts = fresh_rows (lists_of code.blocks);
-    handed = first.handed;
+    outgoing = first.outgoing;
   }
 
   module _ (old : MindState) (s : CoreClientState) (fresh : mind_of old ≡ first) (act : s.act ≡ next_act (mind_of old)) (handed : mind_of s.mind ≡ next_mind (mind_of old)) where
-    stays : done (mind_of old) ≡ first
-    stays = ap done fresh ∙ first_stays
+    stays : finish (mind_of old) ≡ first
+    stays = ap finish fresh ∙ first_stays
 
-    act_is : s.act ≡ asked_of first
-    act_is = act ∙ ap asked_of stays
+    act_is : s.act ≡ act_due first
+    act_is = act ∙ ap act_due stays
 
-    handed_is : mind_of s.mind ≡ hands_out first (asked_of first)
-    handed_is = handed ∙ ap (λ (n : Mind). hands_out n (asked_of n)) stays
+    handed_is : mind_of s.mind ≡ hands_out first (act_due first)
+    handed_is = handed ∙ ap (λ (n : ClientModel). hands_out n (act_due n)) stays
 
     first_whole : whole_of s ≡ first
     unfolding whole_of
-    first_whole = (λ k. whole (handed_is k) (act_is k)) ∙ first_again
+    first_whole = (λ k. with_act_again (handed_is k) (act_is k)) ∙ first_again
 
     pub fresh_seat : IsSeatOf first s
     fresh_seat = record {
       whole_is = first_whole;
       seat = record {
-        act = act_is ∙ ap asked_of (sym first_whole);
+        act = act_is ∙ ap act_due (sym first_whole);
         mind = handed_is ∙ (λ k. hands_out (sym first_whole k) (sym act_is k));
       };
     }

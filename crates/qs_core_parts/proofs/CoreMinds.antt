@@ -7,16 +7,16 @@ use Rattle.qs_graph.specs.Steps.{limit}
 use Rattle.qs_chunk.specs.Batch.{Batch, batch}
 use Rattle.qs_chunk.specs.declared.parcel.Parcel.TheVariants as parcels
 use Rattle.qs_chunk.specs.Limits.{lane_room}
-use Rattle.qs_client_run.specs.Client.{Client, Place, act_at, between, runs, full, awaits, leaves}
-use Rattle.qs_client.specs.Mind.{Mind, asked_of, hands_out, is_between, settings_of}
+use Rattle.qs_client_run.specs.Client.{Client, ClientStage, act_at, between, runs, full, awaits, leaves}
+use Rattle.qs_client.specs.ClientModel.{ClientModel, act_due, hands_out, is_between, settings_of}
 use Rattle.qs_client.specs.MindState.{IsMind, mind_of}
-use Rattle.qs_client_run.specs.Standing.{gave}
+use Rattle.qs_client_run.specs.BetweenActs.{without_act}
 use Rattle.qs_client_run.specs.declared.act.Act.{Act}
 use Rattle.qs_client_run.specs.declared.act.Act.TheVariants as acts
 use Rattle.qs_core_parts.specs.CoreClients.{CoreClientState, IsCoreClient, lane_step, takes_empty, takes_object, turns_to, whole_of}
 use Rattle.qs_core_parts.specs.LaneStates.{IsStocked, LaneState}
 
-pub gave_begun : (m : Client) (act : Act) → (gave m act).begun ≡ m.begun
+pub gave_begun : (m : Client) (act : Act) → (without_act m act).begun ≡ m.begun
 gave_begun m acts.Reserve = refl
 gave_begun m (acts.Send h (parcels.Work b)) = refl
 gave_begun m (acts.Send h parcels.Sync) = refl
@@ -26,7 +26,7 @@ gave_begun m (acts.Await h) = refl
 gave_begun m (acts.NeedChunk h) = refl
 gave_begun m acts.Finished = refl
 
-pub gave_place : (m : Client) (act : Act) → (gave m act).place ≡ m.place
+pub gave_place : (m : Client) (act : Act) → (without_act m act).stage ≡ m.stage
 gave_place m acts.Reserve = refl
 gave_place m (acts.Send h (parcels.Work b)) = refl
 gave_place m (acts.Send h parcels.Sync) = refl
@@ -54,17 +54,17 @@ whole_mind s kept ok =
     }
 
 -- a client that turns to a lane has begun a block
-turning : (m : Client) (blocks : ℕ) (h : ℕ) (p : Place) → is_between p ≡ true → turns_to (if nat_lt m.begun blocks then acts.Reserve else acts.Finished) ≡ Some h → ⊥
+turning : (m : Client) (blocks : ℕ) (h : ℕ) (p : ClientStage) → is_between p ≡ true → turns_to (if nat_lt m.begun blocks then acts.Reserve else acts.Finished) ≡ Some h → ⊥
 turning m blocks h p is e = by_test (nat_lt m.begun blocks) e
   where
     by_test : (b : Bool) → turns_to (if b then acts.Reserve else acts.Finished) ≡ Some h → ⊥
     by_test true e = cc
     by_test false e = cc
 
-pub lane_begun : (n : Mind) (h : ℕ) → IsMind n → turns_to (asked_of n) ≡ Some h → 0 < n.client.begun
+pub lane_begun : (n : ClientModel) (h : ℕ) → IsMind n → turns_to (act_due n) ≡ Some h → 0 < n.client.begun
 lane_begun n h ok turned = by_count n.client.begun refl
   where
-    at_place : (p : Place) → is_between p ≡ true → turns_to (act_at (settings_of n) (length n.code.blocks) n.client p) ≡ Some h → ⊥
+    at_place : (p : ClientStage) → is_between p ≡ true → turns_to (act_at (settings_of n) (length n.code.blocks) n.client p) ≡ Some h → ⊥
     at_place (between l) is e = turning n.client (length n.code.blocks) h (between l) is e
     at_place (runs rest) is e = cc
     at_place (full g rest) is e = cc
@@ -72,24 +72,24 @@ lane_begun n h ok turned = by_count n.client.begun refl
     at_place (leaves g hs l) is e = cc
 
     by_count : (k : ℕ) → n.client.begun ≡ k → 0 < k
-    by_count zero e = absurd (at_place n.client.place (ok.first e) turned)
+    by_count zero e = absurd (at_place n.client.stage (ok.first e) turned)
     by_count (suc k) e = omega arith
 
 -- a step at a lane keeps the mind's code, size and ticket, and that the lane's chunks are empty
-pub record Kept (m n : Mind) (l k : LaneState) : Type 0 where
+pub record Kept (m n : ClientModel) (l k : LaneState) : Type 0 where
   pub code : n.code ≡ m.code
   pub size : n.size ≡ m.size
   pub ticket : n.ticket ≡ m.ticket
   pub stocked : (size : ℕ) → IsStocked size l → IsStocked size k
 
-abbrev KeptBy : Mind → LaneState → Option (Mind × LaneState) → Type 0
+abbrev KeptBy : ClientModel → LaneState → Option (ClientModel × LaneState) → Type 0
 KeptBy m l None = Unit {0}
 KeptBy m l (Some q) = Kept m q.0 l q.1
 
 tail_stocked : (size : ℕ) (bs : List (Batch Request)) (l : LaneState) → l.spare ≡ bs → IsStocked size l → AllByRecursion (λ (b : Batch Request). b ≡ batch [] size) bs
 tail_stocked size bs l is all = subst (AllByRecursion (λ (b : Batch Request). b ≡ batch [] size)) is all
 
-all_kept : (m : Mind) (act : Act) (l : LaneState) → KeptBy m l (lane_step m act l)
+all_kept : (m : ClientModel) (act : Act) (l : LaneState) → KeptBy m l (lane_step m act l)
 all_kept m acts.Reserve l = tt
 all_kept m (acts.Send h p) l = by_room (nat_lt (length l.down) lane_room) refl
   where
@@ -108,5 +108,5 @@ all_kept m (acts.NeedChunk h) l = by_spare l.spare refl
     by_spare (b ∷ bs) e = record { code = refl; size = refl; ticket = refl; stocked = λ size all. (tail_stocked size (b ∷ bs) l e all).1 }
 all_kept m acts.Finished l = tt
 
-pub step_keeps : (m n : Mind) (act : Act) (l k : LaneState) → lane_step m act l ≡ Some (n, k) → Kept m n l k
+pub step_keeps : (m n : ClientModel) (act : Act) (l k : LaneState) → lane_step m act l ≡ Some (n, k) → Kept m n l k
 step_keeps m n act l k e = subst (KeptBy m l) e (all_kept m act l)

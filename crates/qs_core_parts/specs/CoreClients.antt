@@ -5,7 +5,7 @@ use Rattle.qs_objects.specs.Journals.{HeldState}
 use Rattle.qs_objects.specs.declared.Request.{Request}
 use Rattle.qs_chunk.specs.Batch.{Batch}
 use Rattle.qs_chunk.specs.Limits.{lane_room}
-use Rattle.qs_client.specs.Mind.{Mind, asked_of, chunk_mind, done, got_mind, hands_out, whole}
+use Rattle.qs_client.specs.ClientModel.{ClientModel, act_due, mind_after_chunk, finish, mind_after_object, hands_out, with_act_again}
 use Rattle.qs_client.specs.MindState.{MindState, mind_of}
 use Rattle.qs_client_run.specs.declared.act.Act.{Act}
 use Rattle.qs_client_run.specs.declared.act.Act.TheVariants as acts
@@ -20,16 +20,16 @@ pub record CoreClientState : Type 0 where
   pub lanes : List LaneState
 
 -- the mind with what the act carries
-unfoldable pub whole_of : CoreClientState → Mind
-whole_of s = whole (mind_of s.mind) s.act
+unfoldable pub whole_of : CoreClientState → ClientModel
+whole_of s = with_act_again (mind_of s.mind) s.act
 
 -- what the blocks of a mind have shown
-abbrev pub rows_of : Mind → ClientRows
+abbrev pub rows_of : ClientModel → ClientRows
 rows_of m = record { traces = m.traces; entries = m.entries; counts = m.counts }
 
 -- the act is the next one of the client, and the mind is without what it carries
 pub record IsCoreClient (s : CoreClientState) : Type 0 where
-  pub act : s.act ≡ asked_of (whole_of s)
+  pub act : s.act ≡ act_due (whole_of s)
   pub mind : mind_of s.mind ≡ hands_out (whole_of s) s.act
 
 -- the handler to whose lane a client turns
@@ -40,19 +40,19 @@ turns_to (acts.Await h) = Some h
 turns_to (acts.NeedChunk h) = Some h
 turns_to acts.Finished = None
 
-abbrev pub takes_object : Mind → LaneState → Option HeldState → Option (Mind × LaneState)
+abbrev pub takes_object : ClientModel → LaneState → Option HeldState → Option (ClientModel × LaneState)
 takes_object m l None = None
-takes_object m l (Some x) = Some (got_mind m x, with_up l None)
+takes_object m l (Some x) = Some (mind_after_object m x, with_up l None)
 
-abbrev pub takes_empty : Mind → ℕ → LaneState → List (Batch Request) → Option (Mind × LaneState)
+abbrev pub takes_empty : ClientModel → ℕ → LaneState → List (Batch Request) → Option (ClientModel × LaneState)
 takes_empty m h l [] = None
-takes_empty m h l (b ∷ bs) = Some (chunk_mind m h, with_spare l bs)
+takes_empty m h l (b ∷ bs) = Some (mind_after_chunk m h, with_spare l bs)
 
 -- what it does at that lane: the mind and the lane after it, where it can step
-abbrev pub lane_step : Mind → Act → LaneState → Option (Mind × LaneState)
+abbrev pub lane_step : ClientModel → Act → LaneState → Option (ClientModel × LaneState)
 lane_step m acts.Reserve l = None
 lane_step m (acts.Send h parcel) l =
-    if nat_lt (length l.down) lane_room then Some (done (hands_out m (acts.Send h parcel)), with_down l (l.down ++ parcel ∷ [])) else None
+    if nat_lt (length l.down) lane_room then Some (finish (hands_out m (acts.Send h parcel)), with_down l (l.down ++ parcel ∷ [])) else None
 lane_step m (acts.Await h) l = takes_object m l l.up
 lane_step m (acts.NeedChunk h) l = takes_empty m h l l.spare
 lane_step m acts.Finished l = None

@@ -3,14 +3,14 @@
 ghost use Rattle.std.specs.Prelude.{◌≡◌, ◌<◌, [], false, ◌&&◌, ◌++◌, ◌∷◌, ℕ, length, nat_eq, replicate, slice_index_or, slice_set, IfOk, option_copied};
 ghost use Rattle.std.specs.Bool.{OnTrue};
 ghost use Rattle.qs_program.specs.Limits.{most_handlers};
-ghost use Rattle.qs_client.specs.Mind.{booked_mind, fresh_mind, is_between};
+ghost use Rattle.qs_client.specs.ClientModel.{mind_after_begin, fresh_mind, is_between};
 ghost use Rattle.qs_client.specs.MindState.{IsMind, mind_of};
 ghost use Rattle.qs_chunk.specs.declared.parcel.Parcel.{Parcel as ParcelShape};
 ghost use Rattle.qs_client_run.specs.declared.act.Act.TheVariants as acts;
 ghost use Rattle.qs_core_parts.specs.CoreHandlers.{MayCome, handler_of, lane_step as handler_lane_step};
 ghost use Rattle.qs_core_parts.specs.CoreClients.{Meets, AreStocked, HasLane, IsCoreClient, LaneStays, LaneSteps, is_reserve, rows_of, turns_to, whole_of};
 ghost use Rattle.qs_chunk.specs.LaneParts.{away_at, home_of};
-ghost use Rattle.qs_client.specs.Mind.{has_ended};
+ghost use Rattle.qs_client.specs.ClientModel.{has_ended};
 ghost use Rattle.qs_core_parts.specs.LaneStates.{fresh_lane, lane_at};
 
 use crate::core_handler::CoreHandler;
@@ -96,11 +96,11 @@ impl CoreClient {
     pub fn book(&mut self, ticket: Ticket)
         requires asked { self.old.act ≡ acts.Reserve }
         requires next { ticket.index ≡ (whole_of self.old).client.begun }
-        ensures booked { whole_of self.new ≡ booked_mind (whole_of self.old) ticket }
+        ensures booked { whole_of self.new ≡ mind_after_begin (whole_of self.old) ticket }
         ensures seat { IsCoreClient self.new }
         ensures lanes { self.new.lanes ≡ self.old.lanes }
     {
-        self.mind.booked(ticket);
+        self.mind.begin(ticket);
         self.act = self.mind.next();
     }
 
@@ -169,7 +169,7 @@ impl CoreClient {
         let Some(held) = lane.take_object() else {
             return false;
         };
-        self.mind.got(held);
+        self.mind.take_object(held);
         self.act = self.mind.next();
         true
     }
@@ -187,7 +187,7 @@ impl CoreClient {
         let Some(chunk) = lane.take_chunk() else {
             return false;
         };
-        self.mind.chunk(chunk);
+        self.mind.take_chunk(chunk);
         self.act = self.mind.next();
         true
     }
@@ -214,7 +214,7 @@ impl CoreClient {
 
     /// Whether it stands between two blocks, with none to come.
     pub fn is_done(&self) -> bool
-        ensures value { result ≡ (is_between (whole_of self.now).client.place && nat_eq (whole_of self.now).client.begun (length (whole_of self.now).code.blocks)) }
+        ensures value { result ≡ (is_between (whole_of self.now).client.stage && nat_eq (whole_of self.now).client.begun (length (whole_of self.now).code.blocks)) }
     {
         self.mind.is_between() && self.mind.begun() == self.mind.blocks()
     }

@@ -4,7 +4,7 @@ use Rattle.qs_objects.specs.Journals.{HeldState}
 use Rattle.qs_objects.specs.declared.Request.{Request}
 use Rattle.qs_chunk.specs.LaneViews.{gone}
 use Rattle.qs_chunk.specs.declared.parcel.Parcel.{Parcel}
-use Rattle.qs_client_run.specs.Client.{Settings, clears, call_act}
+use Rattle.qs_client_run.specs.Client.{Settings, clear, call_act}
 use Rattle.qs_client_run.specs.declared.act.Act.{Act}
 use Rattle.qs_client_run.specs.declared.act.Act.TheVariants.{Reserve, Send, Await, NeedChunk, Finished}
 use Rattle.qs_protocol.proofs.ClientInvariants.{in_hand}
@@ -37,12 +37,12 @@ module _ (settings : Settings) where
   call_object g None (Some rs) h parcel e = cc
 
   pub clears_object : (g : ℕ) (hd : Option HeldState) (ck : Option (List Request)) (q : Parcel) (h : ℕ) (parcel : Parcel)
-      → clears settings g hd ck (Send g q) ≡ Send h parcel → g ≡ h
+      → clear settings g hd ck (Send g q) ≡ Send h parcel → g ≡ h
   clears_object g (Some x) ck q h parcel e = cc
   clears_object g None (Some rs) q h parcel e = cc
   clears_object g None None q h parcel e = cc
 
-  pub full_object : (g : ℕ) (ck : Option (List Request)) (h : ℕ) (parcel : Parcel) → clears settings g None ck Finished ≡ Send h parcel → (g ≡ h) × (ck ≢ None)
+  pub full_object : (g : ℕ) (ck : Option (List Request)) (h : ℕ) (parcel : Parcel) → clear settings g None ck Finished ≡ Send h parcel → (g ≡ h) × (ck ≢ None)
   full_object g (Some rs) h parcel e = (cc, λ n. cc)
   full_object g None h parcel e = absurd (cc)
 
@@ -56,21 +56,21 @@ module _ (settings : Settings) where
   call_not_await g None None h e = cc
   call_not_await g None (Some rs) h e = cc
 
-  pub clears_not_await : (g : ℕ) (hd : Option HeldState) (ck : Option (List Request)) (parcel : Parcel) (h : ℕ) → clears settings g hd ck (Send g parcel) ≡ Await h → ⊥
+  pub clears_not_await : (g : ℕ) (hd : Option HeldState) (ck : Option (List Request)) (parcel : Parcel) (h : ℕ) → clear settings g hd ck (Send g parcel) ≡ Await h → ⊥
   clears_not_await g (Some x) ck parcel h e = cc
   clears_not_await g None None parcel h e = cc
   clears_not_await g None (Some rs) parcel h e = cc
 
-  pub full_not_await : (g : ℕ) (ck : Option (List Request)) (h : ℕ) → clears settings g None ck Finished ≡ Await h → ⊥
+  pub full_not_await : (g : ℕ) (ck : Option (List Request)) (h : ℕ) → clear settings g None ck Finished ≡ Await h → ⊥
   full_not_await g None h e = cc
   full_not_await g (Some rs) h e = cc
 
-  pub clears_not_need : (g : ℕ) (hd : Option HeldState) (ck : Option (List Request)) (parcel : Parcel) (h : ℕ) → clears settings g hd ck (Send g parcel) ≡ NeedChunk h → ⊥
+  pub clears_not_need : (g : ℕ) (hd : Option HeldState) (ck : Option (List Request)) (parcel : Parcel) (h : ℕ) → clear settings g hd ck (Send g parcel) ≡ NeedChunk h → ⊥
   clears_not_need g (Some x) ck parcel h e = cc
   clears_not_need g None None parcel h e = cc
   clears_not_need g None (Some rs) parcel h e = cc
 
-  pub full_not_need : (g : ℕ) (ck : Option (List Request)) (h : ℕ) → clears settings g None ck Finished ≡ NeedChunk h → ⊥
+  pub full_not_need : (g : ℕ) (ck : Option (List Request)) (h : ℕ) → clear settings g None ck Finished ≡ NeedChunk h → ⊥
   full_not_need g None h e = cc
   full_not_need g (Some rs) h e = cc
 
@@ -79,11 +79,11 @@ module _ (settings : Settings) where
   call_not_reserve g None None e = cc
   call_not_reserve g None (Some rs) e = cc
 
-  pub clears_not_reserve : (g : ℕ) (hd : Option HeldState) (ck : Option (List Request)) (parcel : Parcel) → clears settings g hd ck (Send g parcel) ≡ Reserve → ⊥
+  pub clears_not_reserve : (g : ℕ) (hd : Option HeldState) (ck : Option (List Request)) (parcel : Parcel) → clear settings g hd ck (Send g parcel) ≡ Reserve → ⊥
   clears_not_reserve g (Some x) ck parcel e = cc
   clears_not_reserve g None None parcel e = cc
   clears_not_reserve g None (Some rs) parcel e = cc
 
-  pub full_not_reserve : (g : ℕ) (ck : Option (List Request)) → clears settings g None ck Finished ≡ Reserve → ⊥
+  pub full_not_reserve : (g : ℕ) (ck : Option (List Request)) → clear settings g None ck Finished ≡ Reserve → ⊥
   full_not_reserve g None e = cc
   full_not_reserve g (Some rs) e = cc

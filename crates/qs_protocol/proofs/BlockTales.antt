@@ -19,7 +19,7 @@ use Rattle.qs_graph.specs.Synced.{Synced, erased}
 use Rattle.qs_syncset.specs.SoundSynced.{IsSoundSynced, IsOnReserved}
 use Rattle.qs_chunk.specs.LaneViews.{ClientLane}
 use Rattle.qs_chunk.specs.declared.parcel.Parcel.{Parcel}
-use Rattle.qs_client_run.specs.Client.{Client, Settings, Settled, act_of, between, booked, sent, took_chunk}
+use Rattle.qs_client_run.specs.Client.{Client, Settings, Settlement, act_of, between, begin, after_parcel, take_chunk}
 use Rattle.qs_client_run.specs.Client as clients
 use Rattle.qs_client_run.specs.declared.act.Act.TheVariants.{Send, Await, NeedChunk}
 use Rattle.qs_played.specs.Played.{ticket}
@@ -52,8 +52,8 @@ pub record Telling (program : ProgramShape) (c blocks : ℕ) (m : Client) (entry
     (sent : ℕ → List Parcel) (got : ℕ → List HeldState) : Type 0 where
   pub block : ℕ → Block
   pub within : m.begun ≤ blocks
-  pub idle : m.begun ≡ 0 → (m.place ≡ between zeros) × ((h : ℕ) → HasNone m h)
-  pub last : (k : ℕ) → m.begun ≡ suc k → PlaceOk program (ticket c k) (block k).sent (block k).got m (block k).page m.place
+  pub idle : m.begun ≡ 0 → (m.stage ≡ between zeros) × ((h : ℕ) → HasNone m h)
+  pub last : (k : ℕ) → m.begun ≡ suc k → PlaceOk program (ticket c k) (block k).sent (block k).got m (block k).page m.stage
   pub older : (k : ℕ) → suc k < m.begun → BlockTold program c k (block k).page (block k).sent (block k).got
   pub begins : (k : ℕ) → k < m.begun → Begins (λ (t : Ticket). (block t.index).page) c k (block k).page.entry
   pub outside : (k : ℕ) → k < m.begun → (h : ℕ) → reserves program (ticket c k) h ≡ false → ((block k).sent h ≡ []) × ((block k).got h ≡ [])
@@ -84,7 +84,7 @@ retold program c blocks m entry entry' trace trace' sent sent' got got' en tr se
 }
 
 -- before the first block
-pub nothing_told : (program : ProgramShape) (c blocks : ℕ) (m : Client) (entry : ℕ → Locals) (trace : ℕ → List Event) → m.begun ≡ 0 → m.place ≡ between zeros
+pub nothing_told : (program : ProgramShape) (c blocks : ℕ) (m : Client) (entry : ℕ → Locals) (trace : ℕ → List Event) → m.begun ≡ 0 → m.stage ≡ between zeros
     → ((h : ℕ) → HasNone m h) → ((k : ℕ) → trace k ≡ []) → Telling program c blocks m entry trace (λ h. []) (λ h. [])
 nothing_told program c blocks m entry trace none at hands empty = record {
   block = λ k. block_with (record { entry = []; trace = []; rest = tree.Done [] }) (λ h. []) (λ h. []);
@@ -115,7 +115,7 @@ module _ (program : ProgramShape) (c blocks : ℕ) (settings : Settings) (m : Cl
     pub hands : (h : ℕ) → HasNone m h
     pub over : (k : ℕ) → k < n → BlockTold program c k (o.block k).page (o.block k).sent (o.block k).got
 
-  pub rests : (l : Locals) → m.place ≡ between l → (n : ℕ) → m.begun ≡ n → Rests l n
+  pub rests : (l : Locals) → m.stage ≡ between l → (n : ℕ) → m.begun ≡ n → Rests l n
   rests l at zero e =
       let i = o.idle e in
       record { next = cc (sym at ∙ i.0); hands = i.1; over = λ k lt. absurd (omega (arith, lt)) }
@@ -137,10 +137,10 @@ module _ (program : ProgramShape) (c blocks : ℕ) (settings : Settings) (m : Cl
       }
 
   -- it did something in the block that it is in
-  module _ (k : ℕ) (e : m.begun ≡ suc k) (r : Settled) (still : r.client.begun ≡ m.begun) (new : Block)
+  module _ (k : ℕ) (e : m.begun ≡ suc k) (r : Settlement) (still : r.client.begun ≡ m.begun) (new : Block)
       (more : ℕ → List Parcel) (came : ℕ → List HeldState) where
     pub told_within : new.page.entry ≡ (o.block k).page.entry → new.page.trace ≡ (o.block k).page.trace ++ r.events
-        → PlaceOk program (ticket c k) new.sent new.got r.client new.page r.client.place
+        → PlaceOk program (ticket c k) new.sent new.got r.client new.page r.client.stage
         → ((h : ℕ) → new.sent h ≡ (o.block k).sent h ++ more h) → ((h : ℕ) → new.got h ≡ (o.block k).got h ++ came h)
         → ((h : ℕ) → reserves program (ticket c k) h ≡ false → (more h ≡ []) × (came h ≡ []))
         → Telling program c blocks r.client entry (put trace k (trace k ++ r.events)) (λ h. snt h ++ more h) (λ h. got h ++ came h)
@@ -152,8 +152,8 @@ module _ (program : ProgramShape) (c blocks : ℕ) (settings : Settings) (m : Cl
           idle = λ z. absurd (omega (arith, n, z));
           last = λ j i.
               let is : k ≡ j = omega (arith, n, i) in
-              subst (λ j. let b = put o.block k new j in PlaceOk program (ticket c j) b.sent b.got r.client b.page r.client.place) is
-              (subst (λ (b : Block). PlaceOk program (ticket c k) b.sent b.got r.client b.page r.client.place) (sym (put_here o.block k new)) ok);
+              subst (λ j. let b = put o.block k new j in PlaceOk program (ticket c j) b.sent b.got r.client b.page r.client.stage) is
+              (subst (λ (b : Block). PlaceOk program (ticket c k) b.sent b.got r.client b.page r.client.stage) (sym (put_here o.block k new)) ok);
           older = λ j lt.
               subst (λ (b : Block). BlockTold program c j b.page b.sent b.got) (sym (put_there o.block k new j (after_not k j (omega (arith, n, lt)))))
               (o.older j (omega (arith, still, lt)));
@@ -182,8 +182,8 @@ module _ (program : ProgramShape) (c blocks : ℕ) (settings : Settings) (m : Cl
         }
 
   -- its next block begins
-  pub told_begun : (l : Locals) → m.place ≡ between l → m.begun < blocks → (r : Settled) (new : Block) → r.client.begun ≡ suc m.begun
-      → new.page.entry ≡ l → new.page.trace ≡ r.events → PlaceOk program (ticket c m.begun) new.sent new.got r.client new.page r.client.place
+  pub told_begun : (l : Locals) → m.stage ≡ between l → m.begun < blocks → (r : Settlement) (new : Block) → r.client.begun ≡ suc m.begun
+      → new.page.entry ≡ l → new.page.trace ≡ r.events → PlaceOk program (ticket c m.begun) new.sent new.got r.client new.page r.client.stage
       → ((h : ℕ) → new.sent h ≡ []) → ((h : ℕ) → new.got h ≡ [])
       → Telling program c blocks r.client (put entry m.begun l) (put trace m.begun (trace m.begun ++ r.events)) snt got
   told_begun l at less r new n entry_is trace_is ok none_sent none_got =
@@ -195,8 +195,8 @@ module _ (program : ProgramShape) (c blocks : ℕ) (settings : Settings) (m : Cl
         idle = λ z. absurd (omega (arith, n, z));
         last = λ j i.
             let is : k ≡ j = omega (arith, n, i) in
-            subst (λ j. let b = put o.block k new j in PlaceOk program (ticket c j) b.sent b.got r.client b.page r.client.place) is
-            (subst (λ (b : Block). PlaceOk program (ticket c k) b.sent b.got r.client b.page r.client.place) (sym (put_here o.block k new)) ok);
+            subst (λ j. let b = put o.block k new j in PlaceOk program (ticket c j) b.sent b.got r.client b.page r.client.stage) is
+            (subst (λ (b : Block). PlaceOk program (ticket c k) b.sent b.got r.client b.page r.client.stage) (sym (put_here o.block k new)) ok);
         older = λ j lt.
             let low : j < k = omega (arith, n, lt) in
             subst (λ (b : Block). BlockTold program c j b.page b.sent b.got) (sym (put_there o.block k new j (after_not k j low))) (before.over j low);
@@ -248,18 +248,18 @@ module _ (program : ProgramShape) (fine : (t : Ticket) (l : Locals) → AsksOnly
     (entry : ℕ → Locals) (trace : ℕ → List Event) (snt : ℕ → List Parcel) (got : ℕ → List HeldState)
     (o : Telling program c blocks m entry trace snt got) where
   -- what it came to in block k, with what it sent and got
-  abbrev pub Comes : ℕ → Settled → (ℕ → List Parcel) → (ℕ → List HeldState) → Type 0
+  abbrev pub Comes : ℕ → Settlement → (ℕ → List Parcel) → (ℕ → List HeldState) → Type 0
   Comes k r more came = Telling program c blocks r.client entry (put trace k (trace k ++ r.events)) (λ h. snt h ++ more h) (λ h. got h ++ came h)
 
   -- it is in a block, where its act is none of those between blocks
-  pub in_block : ((l : Locals) → m.place ≡ between l → ⊥) → (k : ℕ) × (m.begun ≡ suc k)
+  pub in_block : ((l : Locals) → m.stage ≡ between l → ⊥) → (k : ℕ) × (m.begun ≡ suc k)
   in_block inside = by_number m.begun refl
     where
       by_number : (n : ℕ) → m.begun ≡ n → (k : ℕ) × (m.begun ≡ suc k)
       by_number zero e = absurd (inside zeros (o.idle e).0)
       by_number (suc k) e = (k, e)
 
-  within_ends : (k : ℕ) → m.begun ≡ suc k → (r : Settled) → r.client.begun ≡ m.begun → (S : ℕ → List Parcel) (G : ℕ → List HeldState)
+  within_ends : (k : ℕ) → m.begun ≡ suc k → (r : Settlement) → r.client.begun ≡ m.begun → (S : ℕ → List Parcel) (G : ℕ → List HeldState)
       (more : ℕ → List Parcel) (came : ℕ → List HeldState)
       → ((h : ℕ) → S h ≡ (o.block k).sent h ++ more h) → ((h : ℕ) → G h ≡ (o.block k).got h ++ came h)
       → ((h : ℕ) → reserves program (ticket c k) h ≡ false → (more h ≡ []) × (came h ≡ []))
@@ -268,47 +268,47 @@ module _ (program : ProgramShape) (fine : (t : Ticket) (l : Locals) → AsksOnly
       told_within program c blocks settings m entry trace snt got o k e r still (block_with ends.0 S G) more came ends.1 ends.2 ends.3 sent_more got_more none
 
   pub send_told : (k : ℕ) → m.begun ≡ suc k → (a : ℕ) (p : Parcel) → act_of settings blocks m ≡ Send a p
-      → Comes k (sent settings (ticket c k) (listed program (ticket c k)) m a p) (λ h. if a == h then p ∷ [] else []) (λ h. [])
+      → Comes k (after_parcel settings (ticket c k) (listed program (ticket c k)) m a p) (λ h. if a == h then p ∷ [] else []) (λ h. [])
   send_told k e a p act =
       let t = ticket c k in
       let b = o.block k in
       let ok = o.last k e in
-      let mine = (send_at program t b.sent b.got settings blocks m b.page m.place ok a p act).0 in
-      within_ends k e (sent settings t (listed program t) m a p) (sent_begun settings t (listed program t) m a p)
+      let mine = (send_at program t b.sent b.got settings blocks m b.page m.stage ok a p act).0 in
+      within_ends k e (after_parcel settings t (listed program t) m a p) (sent_begun settings t (listed program t) m a p)
       (put b.sent a (b.sent a ++ p ∷ [])) b.got (λ h. if a == h then p ∷ [] else []) (λ h. [])
       (one_more b.sent a p) (λ h. sym (append-nil (b.got h))) (λ h no. (only_reserved program t a h (p ∷ []) mine no, refl))
       (sends_ok program t b.sent b.got settings (lined t) blocks m b.page a p ok act)
 
   pub get_told : (k : ℕ) → m.begun ≡ suc k → (a : ℕ) (x : HeldState) → act_of settings blocks m ≡ Await a
-      → Comes k (clients.got settings (ticket c k) (listed program (ticket c k)) m x m.place) (λ h. []) (λ h. if a == h then x ∷ [] else [])
+      → Comes k (clients.take_object settings (ticket c k) (listed program (ticket c k)) m x m.stage) (λ h. []) (λ h. if a == h then x ∷ [] else [])
   get_told k e a x act =
       let t = ticket c k in
       let b = o.block k in
       let ok = o.last k e in
-      let mine = (await_at program t b.sent b.got settings blocks m b.page m.place ok a act).0 in
-      within_ends k e (clients.got settings t (listed program t) m x m.place) (got_begun settings t (listed program t) m a x m.place)
+      let mine = (await_at program t b.sent b.got settings blocks m b.page m.stage ok a act).0 in
+      within_ends k e (clients.take_object settings t (listed program t) m x m.stage) (got_begun settings t (listed program t) m a x m.stage)
       b.sent (put b.got a (b.got a ++ x ∷ [])) (λ h. []) (λ h. if a == h then x ∷ [] else [])
       (λ h. sym (append-nil (b.sent h))) (one_more b.got a x) (λ h no. (refl, only_reserved program t a h (x ∷ []) mine no))
       (gets_ok program t b.sent b.got settings (lined t) blocks m b.page a x ok act)
 
   pub chunk_told : (k : ℕ) → m.begun ≡ suc k → (a : ℕ) → act_of settings blocks m ≡ NeedChunk a
-      → Comes k (took_chunk settings (ticket c k) (listed program (ticket c k)) m a m.place) (λ h. []) (λ h. [])
+      → Comes k (take_chunk settings (ticket c k) (listed program (ticket c k)) m a m.stage) (λ h. []) (λ h. [])
   chunk_told k e a act =
       let t = ticket c k in
       let b = o.block k in
       let ok = o.last k e in
-      within_ends k e (took_chunk settings t (listed program t) m a m.place) (chunk_begun settings t (listed program t) m a m.place)
+      within_ends k e (take_chunk settings t (listed program t) m a m.stage) (chunk_begun settings t (listed program t) m a m.stage)
       b.sent b.got (λ h. []) (λ h. []) (λ h. sym (append-nil (b.sent h))) (λ h. sym (append-nil (b.got h))) (λ h no. (refl, refl))
       (chunks_ok program t b.sent b.got settings (lined t) blocks m b.page a ok act)
 
   -- the next block, whose code is this
-  pub reserve_told : (l : Locals) → m.place ≡ between l → m.begun < blocks → (code : Synced)
+  pub reserve_told : (l : Locals) → m.stage ≡ between l → m.begun < blocks → (code : Synced)
       → erased code ≡ block_tree program (ticket c m.begun) l → IsSoundSynced (λ h. false) code → IsOnReserved (listed program (ticket c m.begun)) code
-      → let r = booked settings (ticket c m.begun) (listed program (ticket c m.begun)) m code in
+      → let r = begin settings (ticket c m.begun) (listed program (ticket c m.begun)) m code in
       Telling program c blocks r.client (put entry m.begun l) (put trace m.begun (trace m.begun ++ r.events)) snt got
   reserve_told l at less code is_tree sound on =
       let t = ticket c m.begun in
-      let r = booked settings t (listed program t) m code in
+      let r = begin settings t (listed program t) m code in
       let hands = (rests program c blocks settings m entry trace snt got o l at m.begun refl).hands in
       let ends = books_ok program t (λ h. []) (λ h. []) settings (lined t) blocks m l code (λ h. (hands h).0) (λ h. (hands h).1) (λ h. refl) (λ h. refl)
       is_tree (fine t l) sound on in

@@ -14,7 +14,7 @@ use Rattle.qs_syncset.specs.SyncCounts.{syncs_along}
 use Rattle.qs_syncset.proofs.SyncTrees.{IsAsking, IsQueryOf}
 use Rattle.qs_chunk.specs.declared.parcel.Parcel.{Parcel}
 use Rattle.qs_chunk.specs.declared.parcel.Parcel.TheVariants as parcels
-use Rattle.qs_client_run.specs.Client.{Client, Place, Settings, Settled, act_at, act_of, between, runs, full, awaits, leaves, call_act, calls, clears, got, leaving, queries, sent, sent_end, sent_home, sent_sync, sent_work, settle, stays, took_chunk, with_event, work}
+use Rattle.qs_client_run.specs.Client.{Client, ClientStage, Settings, Settlement, act_at, act_of, between, runs, full, awaits, leaves, call_act, call, clear, take_object, leave, query, after_parcel, after_end, after_home, after_sync, after_work, settle, stop_at, take_chunk, with_event, work}
 use Rattle.qs_client_run.specs.declared.act.Act.TheVariants.{Send, Finished}
 use Rattle.qs_protocol.proofs.ActKinds.{outside_not_send}
 use Rattle.qs_protocol.proofs.ClientInvariants.{holding}
@@ -45,23 +45,23 @@ module _ (settings : Settings) (t : Ticket) (names : List ℕ) (first : Synced) 
     pub now : (h : ℕ) → n h ≡ (if g == h then 1 else 0) + along h false first tr
     pub later : (h : ℕ) (e : Event) (es : List Event) → along h false first (tr ++ e ∷ es) ≡ n h + along h (put held g true h) code (e ∷ es)
 
-  abbrev pub CountAt : List Event → (ℕ → ℕ) → Client → Place → Type 0
+  abbrev pub CountAt : List Event → (ℕ → ℕ) → Client → ClientStage → Type 0
   CountAt tr n m (between l) = Over tr n
   CountAt tr n m (runs code) = Even tr n (holding m) code × Halts m code × IsAsking code
   CountAt tr n m (full g code) = Even tr n (holding m) code × IsAsking code
   CountAt tr n m (awaits g code) = Pending tr n (holding m) g code
   CountAt tr n m (leaves g hs l) = Over tr n
 
-  abbrev pub Counts : List Event → (ℕ → ℕ) → Settled → Type 0
-  Counts tr n r = CountAt (tr ++ r.events) n r.client r.client.place
+  abbrev pub Counts : List Event → (ℕ → ℕ) → Settlement → Type 0
+  Counts tr n r = CountAt (tr ++ r.events) n r.client r.client.stage
 
-  pub counts_stay : (tr : List Event) (n : ℕ → ℕ) (m : Client) (pl : Place) → CountAt tr n (record m { place = pl }) pl → Counts tr n (stays m pl)
-  counts_stay tr n m pl k = subst (λ es. CountAt es n (record m { place = pl }) pl) (sym (append-nil tr)) k
+  pub counts_stay : (tr : List Event) (n : ℕ → ℕ) (m : Client) (pl : ClientStage) → CountAt tr n (record m { stage = pl }) pl → Counts tr n (stop_at m pl)
+  counts_stay tr n m pl k = subst (λ es. CountAt es n (record m { stage = pl }) pl) (sym (append-nil tr)) k
 
-  counts_event : (tr : List Event) (n : ℕ → ℕ) (e : Event) (r : Settled) → Counts (tr ++ e ∷ []) n r → Counts tr n (with_event e r)
-  counts_event tr n e r k = subst (λ es. CountAt es n r.client r.client.place) (append_assoc tr (e ∷ []) r.events) k
+  counts_event : (tr : List Event) (n : ℕ → ℕ) (e : Event) (r : Settlement) → Counts (tr ++ e ∷ []) n r → Counts tr n (with_event e r)
+  counts_event tr n e r k = subst (λ es. CountAt es n r.client r.client.stage) (append_assoc tr (e ∷ []) r.events) k
 
-  leaving_counts : (tr : List Event) (n : ℕ → ℕ) (m : Client) (hs : List ℕ) (l : Locals) → Over tr n → Counts tr n (leaving settings t names m hs l)
+  leaving_counts : (tr : List Event) (n : ℕ → ℕ) (m : Client) (hs : List ℕ) (l : Locals) → Over tr n → Counts tr n (leave settings t names m hs l)
   leaving_counts tr n m [] l k = counts_stay tr n m (between l) k
   leaving_counts tr n m (h ∷ hs) l k = counts_stay tr n m (leaves h hs l) k
 
@@ -107,7 +107,7 @@ module _ (settings : Settings) (t : Ticket) (names : List ℕ) (first : Synced) 
   call_counts : (tr : List Event) (n : ℕ → ℕ) (m : Client) (r : Request) (next : Synced) (hd : Option HeldState) (ck : Option (List Request))
       → m.held r.object ≡ hd → IsAsking next
       → Even tr n (holding m) (Call r next) → ((tr : List Event) (m : Client) → Even tr n (holding m) next → Counts tr n (settle settings t names next m))
-      → Counts tr n (calls settings t names m r next (λ m. settle settings t names next m) hd ck)
+      → Counts tr n (call settings t names m r next (λ m. settle settings t names next m) hd ck)
   call_counts tr n m r next (Some x) ck a q k ih = counts_stay tr n m (runs (Call r next)) (k, tt, q)
   call_counts tr n m r next None None a q k ih = counts_stay tr n m (runs (Call r next)) (k, tt, q)
   call_counts tr n m r next None (Some rs) a q k ih =
@@ -117,11 +117,11 @@ module _ (settings : Settings) (t : Ticket) (names : List ℕ) (first : Synced) 
     where
       by_case : (x : Bool) → Even (tr ++ logged r ∷ []) n (holding m) next
           → Counts (tr ++ logged r ∷ []) n (settle settings t names next (record m { chunk = put m.chunk r.object (Some (rs ++ r ∷ [])) }))
-          → Counts tr n (with_event (logged r) (if x then stays (record m { chunk = put m.chunk r.object (Some (rs ++ r ∷ [])) })
+          → Counts tr n (with_event (logged r) (if x then stop_at (record m { chunk = put m.chunk r.object (Some (rs ++ r ∷ [])) })
           (full r.object next) else settle settings t names next (record m { chunk = put m.chunk r.object (Some (rs ++ r ∷ [])) })))
       by_case true more rest =
           let m' : Client = record m { chunk = put m.chunk r.object (Some (rs ++ r ∷ [])) } in
-          counts_event tr n (logged r) (stays m' (full r.object next)) (counts_stay (tr ++ logged r ∷ []) n m' (full r.object next) (more, q))
+          counts_event tr n (logged r) (stop_at m' (full r.object next)) (counts_stay (tr ++ logged r ∷ []) n m' (full r.object next) (more, q))
       by_case false more rest = counts_event tr n (logged r)
           (settle settings t names next (record m { chunk = put m.chunk r.object (Some (rs ++ r ∷ [])) })) rest
 
@@ -130,7 +130,7 @@ module _ (settings : Settings) (t : Ticket) (names : List ℕ) (first : Synced) 
       → (hd ≡ None → Even tr n (holding m) (Query r next))
       → ((h : ℕ) (e : Event) (es : List Event) → along h false first (tr ++ e ∷ es) ≡ n h + along h (holding m h) (Query r next) (e ∷ es))
       → ((v : ℤ) (tr : List Event) (m : Client) → Even tr n (holding m) (next v) → Counts tr n (settle settings t names (next v) m))
-      → Counts tr n (queries settings t names m r next (λ v m. settle settings t names (next v) m) hd)
+      → Counts tr n (query settings t names m r next (λ v m. settle settings t names (next v) m) hd)
   query_counts tr n m r next (Some x) a q none k ih =
       let o = ran x t r in
       let v = value_of o.1 in
@@ -159,7 +159,7 @@ module _ (settings : Settings) (t : Ticket) (names : List ℕ) (first : Synced) 
 
   sync_counts : (tr : List Event) (n : ℕ → ℕ) (m : Client) (g : ℕ) (next : Synced) (b : Bool) → (settings.dynamic && holding m g) ≡ b → IsAsking (Sync g next)
       → Even tr n (holding m) (Sync g next) → (Even tr n (holding m) next → Counts tr n (settle settings t names next m))
-      → Counts tr n (if b then settle settings t names next m else stays m (runs (Sync g next)))
+      → Counts tr n (if b then settle settings t names next m else stop_at m (runs (Sync g next)))
   sync_counts tr n m g next true e q k ih = ih (λ h es. k h es ∙ ap (λ a. n h + a) (passed (holding m) g h next es e))
   sync_counts tr n m g next false e q k ih = counts_stay tr n m (runs (Sync g next)) (k, e, q)
 
@@ -226,11 +226,11 @@ module _ (settings : Settings) (t : Ticket) (names : List ℕ) (first : Synced) 
   count_up n h parcels.End = n
 
   -- once a parcel was sent from this place
-  abbrev From : List Event → (ℕ → ℕ) → Client → Place → ℕ → Parcel → Type 0
-  From tr n m pl h (parcels.Home x) = Counts tr n (sent_home settings t names m h pl)
-  From tr n m pl h (parcels.Work rs) = Counts tr n (sent_work settings t names m h pl)
-  From tr n m pl h parcels.Sync = Counts tr (put n h (suc (n h))) (sent_sync settings t names m pl)
-  From tr n m pl h parcels.End = Counts tr n (sent_end settings t names m pl)
+  abbrev From : List Event → (ℕ → ℕ) → Client → ClientStage → ℕ → Parcel → Type 0
+  From tr n m pl h (parcels.Home x) = Counts tr n (after_home settings t names m h pl)
+  From tr n m pl h (parcels.Work rs) = Counts tr n (after_work settings t names m h pl)
+  From tr n m pl h parcels.Sync = Counts tr (put n h (suc (n h))) (after_sync settings t names m pl)
+  From tr n m pl h parcels.End = Counts tr n (after_end settings t names m pl)
 
   on_send : (P : ℕ → Parcel → Type 0) (g : ℕ) (q : Parcel) (h : ℕ) (p : Parcel) → Send g q ≡ Send h p → P g q → P h p
   on_send P g q h p e k =
@@ -250,7 +250,7 @@ module _ (settings : Settings) (t : Ticket) (names : List ℕ) (first : Synced) 
 
   clear_sent : (tr : List Event) (n : ℕ → ℕ) (m : Client) (g : ℕ) (next : Synced) (hd : Option HeldState) (ck : Option (List Request))
       → (settings.dynamic && holding m g) ≡ false → IsAsking (Sync g next) → Even tr n (holding m) (Sync g next)
-      → (h : ℕ) (p : Parcel) → clears settings g hd ck (Send g parcels.Sync) ≡ Send h p → From tr n m (runs (Sync g next)) h p
+      → (h : ℕ) (p : Parcel) → clear settings g hd ck (Send g parcels.Sync) ≡ Send h p → From tr n m (runs (Sync g next)) h p
   clear_sent tr n m g next (Some x) ck d q k h p e =
       on_send (From tr n m (runs (Sync g next))) g (parcels.Home x) h p e
       (settle_counts (Sync g next) tr n (record m { held = put m.held g None }) q (home_sync tr n m g next d k))
@@ -262,20 +262,20 @@ module _ (settings : Settings) (t : Ticket) (names : List ℕ) (first : Synced) 
       (counts_stay tr (put n g (suc (n g))) m (awaits g next) (sync_sent tr n m g next d q k))
 
   full_sent : (tr : List Event) (n : ℕ → ℕ) (m : Client) (g : ℕ) (code : Synced) (ck : Option (List Request)) → IsAsking code → Even tr n (holding m) code
-      → (h : ℕ) (p : Parcel) → clears settings g None ck Finished ≡ Send h p → From tr n m (full g code) h p
+      → (h : ℕ) (p : Parcel) → clear settings g None ck Finished ≡ Send h p → From tr n m (full g code) h p
   full_sent tr n m g code None q k h p e = absurd (cc)
   full_sent tr n m g code (Some rs) q k h p e =
       on_send (From tr n m (full g code)) g (work settings rs) h p e (settle_counts code tr n (record m { chunk = put m.chunk g None }) q k)
 
   leave_sent : (tr : List Event) (n : ℕ → ℕ) (m : Client) (g : ℕ) (hs : List ℕ) (l : Locals) (hd : Option HeldState) (ck : Option (List Request)) → Over tr n
-      → (h : ℕ) (p : Parcel) → clears settings g hd ck (Send g parcels.End) ≡ Send h p → From tr n m (leaves g hs l) h p
+      → (h : ℕ) (p : Parcel) → clear settings g hd ck (Send g parcels.End) ≡ Send h p → From tr n m (leaves g hs l) h p
   leave_sent tr n m g hs l (Some x) ck k h p e =
       on_send (From tr n m (leaves g hs l)) g (parcels.Home x) h p e (counts_stay tr n (record m { held = put m.held g None }) (leaves g hs l) k)
   leave_sent tr n m g hs l None (Some rs) k h p e =
       on_send (From tr n m (leaves g hs l)) g (work settings rs) h p e (counts_stay tr n (record m { chunk = put m.chunk g None }) (leaves g hs l) k)
   leave_sent tr n m g hs l None None k h p e = on_send (From tr n m (leaves g hs l)) g parcels.End h p e (leaving_counts tr n m hs l k)
 
-  from_place : (blocks : ℕ) (tr : List Event) (n : ℕ → ℕ) (m : Client) (pl : Place) → CountAt tr n m pl → (h : ℕ) (p : Parcel)
+  from_place : (blocks : ℕ) (tr : List Event) (n : ℕ → ℕ) (m : Client) (pl : ClientStage) → CountAt tr n m pl → (h : ℕ) (p : Parcel)
       → act_at settings blocks m pl ≡ Send h p
       → From tr n m pl h p
   from_place blocks tr n m (between l) k h p e = absurd (outside_not_send (nat_lt m.begun blocks) h p e)
@@ -287,15 +287,15 @@ module _ (settings : Settings) (t : Ticket) (names : List ℕ) (first : Synced) 
   from_place blocks tr n m (awaits g code) k h p e = absurd (cc)
   from_place blocks tr n m (leaves g hs l) k h p e = leave_sent tr n m g hs l (m.held g) (m.chunk g) k h p e
 
-  pub send_counts : (blocks : ℕ) (tr : List Event) (n : ℕ → ℕ) (m : Client) → CountAt tr n m m.place → (h : ℕ) (p : Parcel)
+  pub send_counts : (blocks : ℕ) (tr : List Event) (n : ℕ → ℕ) (m : Client) → CountAt tr n m m.stage → (h : ℕ) (p : Parcel)
       → act_of settings blocks m ≡ Send h p
-      → Counts tr (count_up n h p) (sent settings t names m h p)
-  send_counts blocks tr n m k h (parcels.Home x) e = from_place blocks tr n m m.place k h (parcels.Home x) e
-  send_counts blocks tr n m k h (parcels.Work rs) e = from_place blocks tr n m m.place k h (parcels.Work rs) e
-  send_counts blocks tr n m k h parcels.Sync e = from_place blocks tr n m m.place k h parcels.Sync e
-  send_counts blocks tr n m k h parcels.End e = from_place blocks tr n m m.place k h parcels.End e
+      → Counts tr (count_up n h p) (after_parcel settings t names m h p)
+  send_counts blocks tr n m k h (parcels.Home x) e = from_place blocks tr n m m.stage k h (parcels.Home x) e
+  send_counts blocks tr n m k h (parcels.Work rs) e = from_place blocks tr n m m.stage k h (parcels.Work rs) e
+  send_counts blocks tr n m k h parcels.Sync e = from_place blocks tr n m m.stage k h parcels.Sync e
+  send_counts blocks tr n m k h parcels.End e = from_place blocks tr n m m.stage k h parcels.End e
 
-  halts_still : (m : Client) (p : Place) (code : Synced) → Halts m code → Halts (record m { place = p }) code
+  halts_still : (m : Client) (p : ClientStage) (code : Synced) → Halts m code → Halts (record m { stage = p }) code
   halts_still m p (Done l) k = k
   halts_still m p (Call r next) k = k
   halts_still m p (Sync g next) k = k
@@ -315,14 +315,14 @@ module _ (settings : Settings) (t : Ticket) (names : List ℕ) (first : Synced) 
       (λ h e es. k.later h e es ∙ ap (λ b. n h + along h b (Query r next) (e ∷ es)) (sym (some_put m.held g h x)))
       (λ v tr m k'. settle_counts (next v) tr n m (k.asks v) k')
 
-  pub got_counts : (tr : List Event) (n : ℕ → ℕ) (m : Client) (x : HeldState) (pl : Place) → CountAt tr n m pl → Counts tr n (got settings t names m x pl)
+  pub got_counts : (tr : List Event) (n : ℕ → ℕ) (m : Client) (x : HeldState) (pl : ClientStage) → CountAt tr n m pl → Counts tr n (take_object settings t names m x pl)
   got_counts tr n m x (between l) k = counts_stay tr n m (between l) k
   got_counts tr n m x (runs code) k = counts_stay tr n m (runs code) (k.0, halts_still m (runs code) code k.1, k.2)
   got_counts tr n m x (full g code) k = counts_stay tr n m (full g code) k
   got_counts tr n m x (awaits g code) k = query_comes tr n m x g code k
   got_counts tr n m x (leaves g hs l) k = counts_stay tr n m (leaves g hs l) k
 
-  pub chunk_counts : (tr : List Event) (n : ℕ → ℕ) (m : Client) (h : ℕ) (pl : Place) → CountAt tr n m pl → Counts tr n (took_chunk settings t names m h pl)
+  pub chunk_counts : (tr : List Event) (n : ℕ → ℕ) (m : Client) (h : ℕ) (pl : ClientStage) → CountAt tr n m pl → Counts tr n (take_chunk settings t names m h pl)
   chunk_counts tr n m h (between l) k = counts_stay tr n m (between l) k
   chunk_counts tr n m h (runs code) k = settle_counts code tr n (record m { chunk = put m.chunk h (Some []) }) k.2 k.0
   chunk_counts tr n m h (full g code) k = counts_stay tr n m (full g code) k

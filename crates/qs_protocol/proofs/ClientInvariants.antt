@@ -15,7 +15,7 @@ use Rattle.qs_graph.specs.Synced.{Synced, Done, Call, Sync, Query, erased}
 use Rattle.qs_syncset.specs.SoundSynced.{IsSoundSynced, IsOnReserved}
 use Rattle.qs_chunk.specs.LaneViews.{Standing, sends, asks, holds, gone, ClientLane}
 use Rattle.qs_chunk.specs.declared.parcel.Parcel.{Parcel}
-use Rattle.qs_client_run.specs.Client.{Client, Place, between, runs, full, awaits, leaves}
+use Rattle.qs_client_run.specs.Client.{Client, ClientStage, between, runs, full, awaits, leaves}
 
 -- how a client stands to an object, by what it has in hand
 abbrev pub in_hand : Option HeldState → Option (List Request) → Standing
@@ -93,7 +93,7 @@ module _ (p : ProgramShape) (t : Ticket) (sent : ℕ → List Parcel) (got : ℕ
     pub lined : Lined (reserves p t) names
     pub empty : (g : ℕ) → is_in names g ≡ false → HasNone m g
 
-  abbrev pub PlaceOk : Client → Page → Place → Type 0
+  abbrev pub PlaceOk : Client → Page → ClientStage → Type 0
   PlaceOk m pg (between l) = Leaving m pg [] l
   PlaceOk m pg (runs code) = Ready m pg code × Stops code
   PlaceOk m pg (full h code) = Ready m pg code
@@ -101,7 +101,7 @@ module _ (p : ProgramShape) (t : Ticket) (sent : ℕ → List Parcel) (got : ℕ
   PlaceOk m pg (leaves h hs l) = Leaving m pg (h ∷ hs) l
 
 -- how a client stands to an object, by its place
-abbrev pub standing_at : ProgramShape → Ticket → Client → Place → ℕ → Standing
+abbrev pub standing_at : ProgramShape → Ticket → Client → ClientStage → ℕ → Standing
 standing_at p t m (between l) h = apart_from p t h
 standing_at p t m (runs code) h = in_hand (m.held h) (m.chunk h)
 standing_at p t m (full g code) h = in_hand (m.held h) (m.chunk h)

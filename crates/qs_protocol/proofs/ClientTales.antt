@@ -18,13 +18,13 @@ use Rattle.qs_syncset.specs.Codes.{ClientCode, code_at}
 use Rattle.qs_syncset.specs.SoundSynced.{IsSoundSynced, IsOnReserved}
 use Rattle.qs_sync_counts.specs.declared.sync_counts.SyncCount.{SyncCount}
 use Rattle.qs_chunk.specs.declared.parcel.Parcel.{Parcel}
-use Rattle.qs_client_run.specs.Client.{Client, Place, Settings, Settled, act_at, act_of, between, booked, sent, took_chunk}
+use Rattle.qs_client_run.specs.Client.{Client, ClientStage, Settings, Settlement, act_at, act_of, between, begin, after_parcel, take_chunk}
 use Rattle.qs_client_run.specs.Client as clients
-use Rattle.qs_client_run.specs.Standing.{count_sync, handed_of}
+use Rattle.qs_client_run.specs.BetweenActs.{count_sync, outgoing_of}
 use Rattle.qs_client_run.specs.declared.act.Act.TheVariants as acts
 use Rattle.qs_client.specs.ClientRuns.{Deed, DeedsLead, RunsTo, got_from, next_ticket, reservations, sent_to}
 use Rattle.qs_client.specs.ClientRuns as deeds
-use Rattle.qs_client.specs.Mind.{Mind, asked_of, booked_mind, chunk_mind, done, enters, fresh_mind, got_mind, hands_out, is_between, tallied, tree_at}
+use Rattle.qs_client.specs.ClientModel.{ClientModel, act_due, mind_after_begin, mind_after_chunk, finish, enters, fresh_mind, mind_after_object, hands_out, is_between, tally, tree_at}
 use Rattle.qs_played.specs.Played.{no_events, ticket}
 use Rattle.qs_protocol.proofs.ActObjects.{chunk_begun, got_begun, not_await, not_need, not_send, reserve_at, sent_begun, settle_begun}
 use Rattle.qs_protocol.proofs.BlockLists.{row_push, row_set, upto}
@@ -35,22 +35,22 @@ use Rattle.qs_protocol.proofs.FullChunks.{ComesFull, HasFull, chunk_full, finish
 use Rattle.qs_protocol.proofs.MindSteps.{came, chunk_does, deeds_keep, done_still, get_does, reserve_does, send_does}
 
 -- the rows of a mind, by block
-abbrev pub entry_rows : Mind → ℕ → Locals
+abbrev pub entry_rows : ClientModel → ℕ → Locals
 entry_rows m k = slice_index_or m.entries k []
 
-abbrev pub trace_rows : Mind → ℕ → List Event
+abbrev pub trace_rows : ClientModel → ℕ → List Event
 trace_rows m k = slice_index_or m.traces k []
 
 -- what one client's whole run says
-pub record Tale (program : ProgramShape) (c : ℕ) (code : ClientCode) (deeds : List Deed) (end : Mind) : Type 0 where
+pub record Tale (program : ProgramShape) (c : ℕ) (code : ClientCode) (deeds : List Deed) (end : ClientModel) : Type 0 where
   pub page : ℕ → Page
   pub sent : ℕ → ℕ → List Parcel
   pub got : ℕ → ℕ → List HeldState
   pub begun : end.client.begun ≡ length code.blocks
   pub reserved : reservations deeds ≡ length code.blocks
-  pub between : is_between end.client.place ≡ true
+  pub between : is_between end.client.stage ≡ true
   pub hands : (h : ℕ) → HasNone end.client h
-  pub first : length code.blocks ≡ 0 → end.client.place ≡ clients.between zeros
+  pub first : length code.blocks ≡ 0 → end.client.stage ≡ clients.between zeros
   pub blocks : (k : ℕ) → k < length code.blocks → BlockTold program c k (page k) (sent k) (got k)
   pub begins : (k : ℕ) → k < length code.blocks → Begins (λ (t : Ticket). page t.index) c k (page k).entry
   pub entries : (k : ℕ) → k < length code.blocks → slice_index_or end.entries k [] ≡ (page k).entry
@@ -68,18 +68,18 @@ module _ (program : ProgramShape) (fine : (t : Ticket) (l : Locals) → AsksOnly
   settings = record { dynamic = code.dynamic; size = size }
 
   -- what is known of its mind in the midst of a run, by its deeds so far
-  pub record InTale (before : List Deed) (m : Mind) : Type 0 where
+  pub record InTale (before : List Deed) (m : ClientModel) : Type 0 where
     pub code_is : m.code ≡ code
     pub size_is : m.size ≡ size
     pub ticket_is : (k : ℕ) → m.client.begun ≡ suc k → m.ticket ≡ ticket c k
     pub entry_count : length m.entries ≡ m.client.begun
     pub trace_count : length m.traces ≡ length code.blocks
     pub reserved : m.client.begun ≡ reservations before
-    pub full : HasFull m.client m.client.place
+    pub full : HasFull m.client m.client.stage
     pub telling : Telling program c (length code.blocks) m.client (entry_rows m) (trace_rows m) (λ h. sent_to h before) (λ h. got_from h before)
 
   -- a mind of this code, in this block
-  abbrev pub own : Mind → Ticket → Mind
+  abbrev pub own : ClientModel → Ticket → ClientModel
   own m t = record {
     code = code;
     size = size;
@@ -89,10 +89,10 @@ module _ (program : ProgramShape) (fine : (t : Ticket) (l : Locals) → AsksOnly
     traces = m.traces;
     syncs = m.syncs;
     counts = m.counts;
-    handed = m.handed;
+    outgoing = m.outgoing;
   }
 
-  pub own_is : (m : Mind) (t : Ticket) → m.code ≡ code → m.size ≡ size → m.ticket ≡ t → m ≡ own m t
+  pub own_is : (m : ClientModel) (t : Ticket) → m.code ≡ code → m.size ≡ size → m.ticket ≡ t → m ≡ own m t
   own_is m t a b d = λ i. record {
     code = a i;
     size = b i;
@@ -102,15 +102,15 @@ module _ (program : ProgramShape) (fine : (t : Ticket) (l : Locals) → AsksOnly
     traces = m.traces;
     syncs = m.syncs;
     counts = m.counts;
-    handed = m.handed;
+    outgoing = m.outgoing;
   }
 
-  module _ (before : List Deed) (m : Mind) (o : InTale before m) where
-    pub asks : asked_of m ≡ act_of settings (length code.blocks) m.client
+  module _ (before : List Deed) (m : ClientModel) (o : InTale before m) where
+    pub asks : act_due m ≡ act_of settings (length code.blocks) m.client
     asks = ap₂ (λ (code : ClientCode) (size : ℕ). act_of (record { dynamic = code.dynamic; size = size }) (length code.blocks) m.client) o.code_is o.size_is
 
     -- it came to this in the block that it is in, by a deed that reserves none
-    comes : (d : Deed) (k : ℕ) → m.client.begun ≡ suc k → (r : Settled) → r.client.begun ≡ m.client.begun → ComesFull r → reservations (d ∷ []) ≡ 0
+    comes : (d : Deed) (k : ℕ) → m.client.begun ≡ suc k → (r : Settlement) → r.client.begun ≡ m.client.begun → ComesFull r → reservations (d ∷ []) ≡ 0
         → (syncs : ℕ) (counts : List (List SyncCount))
         → Telling program c (length code.blocks) r.client (entry_rows m) (put (trace_rows m) k (trace_rows m k ++ r.events))
         (λ h. sent_to h before ++ sent_to h (d ∷ [])) (λ h. got_from h before ++ got_from h (d ∷ []))
@@ -135,78 +135,78 @@ module _ (program : ProgramShape) (fine : (t : Ticket) (l : Locals) → AsksOnly
     pub inside : (k : ℕ) → m.client.begun ≡ suc k → k < length code.blocks
     inside k e = let within = o.telling.within in omega (arith, e, within)
 
-    pub in_tale_block : ((l : Locals) → m.client.place ≡ between l → ⊥) → (k : ℕ) × (m.client.begun ≡ suc k)
+    pub in_tale_block : ((l : Locals) → m.client.stage ≡ between l → ⊥) → (k : ℕ) × (m.client.begun ≡ suc k)
     in_tale_block none =
         in_block program fine lined c (length code.blocks) settings m.client (entry_rows m) (trace_rows m)
         (λ h. sent_to h before) (λ h. got_from h before) o.telling none
 
-    pub sending : (h : ℕ) (p : Parcel) → asked_of m ≡ acts.Send h p → InTale (before ++ deeds.sends h p ∷ []) (done (hands_out m (acts.Send h p)))
+    pub sending : (h : ℕ) (p : Parcel) → act_due m ≡ acts.Send h p → InTale (before ++ deeds.sends h p ∷ []) (finish (hands_out m (acts.Send h p)))
     sending h p asked =
         let act : act_of settings (length code.blocks) m.client ≡ acts.Send h p = sym asks ∙ asked in
         let at = in_tale_block (λ l e. not_send settings (length code.blocks) m.client l h p e act) in
         let k = at.0 in
         let t = ticket c k in
-        let syncs = m.syncs + count_sync (handed_of (acts.Send h p)) in
-        let counts = tallied (handed_of (acts.Send h p)) k m.counts in
+        let syncs = m.syncs + count_sync (outgoing_of (acts.Send h p)) in
+        let counts = tally (outgoing_of (acts.Send h p)) k m.counts in
         let after : List Deed = before ++ deeds.sends h p ∷ [] in
-        subst (λ (m : Mind). InTale after (done (hands_out m (acts.Send h p)))) (sym (own_is m t o.code_is o.size_is (o.ticket_is k at.1)))
+        subst (λ (m : ClientModel). InTale after (finish (hands_out m (acts.Send h p)))) (sym (own_is m t o.code_is o.size_is (o.ticket_is k at.1)))
         (subst (InTale after) (sym (send_does (own m t) h p act))
-        (subst (λ names. InTale after (came (own m t) (sent settings t names m.client h p) syncs counts)) (sym (reserved_is k (inside k at.1)))
-        (comes (deeds.sends h p) k at.1 (sent settings t (listed program t) m.client h p) (sent_begun settings t (listed program t) m.client h p)
+        (subst (λ names. InTale after (came (own m t) (after_parcel settings t names m.client h p) syncs counts)) (sym (reserved_is k (inside k at.1)))
+        (comes (deeds.sends h p) k at.1 (after_parcel settings t (listed program t) m.client h p) (sent_begun settings t (listed program t) m.client h p)
         (sent_full settings t (listed program t) m.client h p o.full) refl syncs counts
         (send_told program fine lined c (length code.blocks) settings m.client (entry_rows m) (trace_rows m)
         (λ h. sent_to h before) (λ h. got_from h before) o.telling k at.1 h p act))))
 
-    pub getting : (h : ℕ) (x : HeldState) → asked_of m ≡ acts.Await h → InTale (before ++ deeds.gets h x ∷ []) (done (got_mind (hands_out m (acts.Await h)) x))
+    pub getting : (h : ℕ) (x : HeldState) → act_due m ≡ acts.Await h → InTale (before ++ deeds.gets h x ∷ []) (finish (mind_after_object (hands_out m (acts.Await h)) x))
     getting h x asked =
         let act : act_of settings (length code.blocks) m.client ≡ acts.Await h = sym asks ∙ asked in
         let at = in_tale_block (λ l e. not_await settings (length code.blocks) m.client l h e act) in
         let k = at.0 in
         let t = ticket c k in
         let after : List Deed = before ++ deeds.gets h x ∷ [] in
-        subst (λ (m : Mind). InTale after (done (got_mind (hands_out m (acts.Await h)) x))) (sym (own_is m t o.code_is o.size_is (o.ticket_is k at.1)))
+        subst (λ (m : ClientModel). InTale after (finish (mind_after_object (hands_out m (acts.Await h)) x))) (sym (own_is m t o.code_is o.size_is (o.ticket_is k at.1)))
         (subst (InTale after) (sym (get_does (own m t) h x))
-        (subst (λ names. InTale after (came (own m t) (clients.got settings t names m.client x m.client.place) m.syncs m.counts))
+        (subst (λ names. InTale after (came (own m t) (clients.take_object settings t names m.client x m.client.stage) m.syncs m.counts))
         (sym (reserved_is k (inside k at.1)))
-        (comes (deeds.gets h x) k at.1 (clients.got settings t (listed program t) m.client x m.client.place)
-        (got_begun settings t (listed program t) m.client h x m.client.place)
-        (got_full settings t (listed program t) m.client x m.client.place o.full) refl m.syncs m.counts
+        (comes (deeds.gets h x) k at.1 (clients.take_object settings t (listed program t) m.client x m.client.stage)
+        (got_begun settings t (listed program t) m.client h x m.client.stage)
+        (got_full settings t (listed program t) m.client x m.client.stage o.full) refl m.syncs m.counts
         (get_told program fine lined c (length code.blocks) settings m.client (entry_rows m) (trace_rows m)
         (λ h. sent_to h before) (λ h. got_from h before) o.telling k at.1 h x act))))
 
-    pub taking : (h : ℕ) → asked_of m ≡ acts.NeedChunk h → InTale (before ++ deeds.takes_chunk h ∷ []) (done (chunk_mind (hands_out m (acts.NeedChunk h)) h))
+    pub taking : (h : ℕ) → act_due m ≡ acts.NeedChunk h → InTale (before ++ deeds.takes_chunk h ∷ []) (finish (mind_after_chunk (hands_out m (acts.NeedChunk h)) h))
     taking h asked =
         let act : act_of settings (length code.blocks) m.client ≡ acts.NeedChunk h = sym asks ∙ asked in
         let at = in_tale_block (λ l e. not_need settings (length code.blocks) m.client l h e act) in
         let k = at.0 in
         let t = ticket c k in
         let after : List Deed = before ++ deeds.takes_chunk h ∷ [] in
-        subst (λ (m : Mind). InTale after (done (chunk_mind (hands_out m (acts.NeedChunk h)) h))) (sym (own_is m t o.code_is o.size_is (o.ticket_is k at.1)))
+        subst (λ (m : ClientModel). InTale after (finish (mind_after_chunk (hands_out m (acts.NeedChunk h)) h))) (sym (own_is m t o.code_is o.size_is (o.ticket_is k at.1)))
         (subst (InTale after) (sym (chunk_does (own m t) h))
-        (subst (λ names. InTale after (came (own m t) (took_chunk settings t names m.client h m.client.place) m.syncs m.counts))
+        (subst (λ names. InTale after (came (own m t) (take_chunk settings t names m.client h m.client.stage) m.syncs m.counts))
         (sym (reserved_is k (inside k at.1)))
-        (comes (deeds.takes_chunk h) k at.1 (took_chunk settings t (listed program t) m.client h m.client.place)
-        (chunk_begun settings t (listed program t) m.client h m.client.place)
-        (chunk_full settings t (listed program t) m.client h m.client.place o.full) refl m.syncs m.counts
+        (comes (deeds.takes_chunk h) k at.1 (take_chunk settings t (listed program t) m.client h m.client.stage)
+        (chunk_begun settings t (listed program t) m.client h m.client.stage)
+        (chunk_full settings t (listed program t) m.client h m.client.stage o.full) refl m.syncs m.counts
         (chunk_told program fine lined c (length code.blocks) settings m.client (entry_rows m) (trace_rows m)
         (λ h. sent_to h before) (λ h. got_from h before) o.telling k at.1 h act))))
 
     -- a client that reserves is between blocks, of which some are left
-    pub reserves_between : asked_of m ≡ acts.Reserve → (l : Locals) × (m.client.place ≡ clients.between l) × (m.client.begun < length code.blocks)
+    pub reserves_between : act_due m ≡ acts.Reserve → (l : Locals) × (m.client.stage ≡ clients.between l) × (m.client.begun < length code.blocks)
     reserves_between asked =
         let act : act_of settings (length code.blocks) m.client ≡ acts.Reserve = sym asks ∙ asked in
         let at = place_of m.client.begun refl act in
         (at.0, at.1, reserves_more settings (length code.blocks) m.client at.0 at.1 act)
       where
         place_of : (n : ℕ) → m.client.begun ≡ n → act_of settings (length code.blocks) m.client ≡ acts.Reserve
-            → (l : Locals) × (m.client.place ≡ clients.between l)
+            → (l : Locals) × (m.client.stage ≡ clients.between l)
         place_of zero e act = (zeros, (o.telling.idle e).0)
         place_of (suc k) e act =
             let b = o.telling.block k in
-            reserve_at program (ticket c k) b.sent b.got settings (length code.blocks) m.client b.page m.client.place (o.telling.last k e) act
+            reserve_at program (ticket c k) b.sent b.got settings (length code.blocks) m.client b.page m.client.stage (o.telling.last k e) act
 
-    pub reserving : asked_of m ≡ acts.Reserve
-        → InTale (before ++ deeds.reserves ∷ []) (done (booked_mind (hands_out m acts.Reserve) (next_ticket c (hands_out m acts.Reserve))))
+    pub reserving : act_due m ≡ acts.Reserve
+        → InTale (before ++ deeds.reserves ∷ []) (finish (mind_after_begin (hands_out m acts.Reserve) (next_ticket c (hands_out m acts.Reserve))))
     reserving asked =
         let found = reserves_between asked in
         let l = found.0 in
@@ -214,18 +214,18 @@ module _ (program : ProgramShape) (fine : (t : Ticket) (l : Locals) → AsksOnly
         let t = ticket c k in
         let after : List Deed = before ++ deeds.reserves ∷ [] in
         let walk = walk_is k l found.2 in
-        subst (λ (m : Mind). InTale after (done (booked_mind (hands_out m acts.Reserve) (next_ticket c (hands_out m acts.Reserve)))))
+        subst (λ (m : ClientModel). InTale after (finish (mind_after_begin (hands_out m acts.Reserve) (next_ticket c (hands_out m acts.Reserve)))))
         (sym (own_is m m.ticket o.code_is o.size_is refl))
         (subst (InTale after) (sym (reserve_does (own m m.ticket) c l found.1))
-        (subst (λ names. InTale after (came (enters (own m m.ticket) t l) (booked settings t names m.client (tree_at code k l)) m.syncs m.counts))
+        (subst (λ names. InTale after (came (enters (own m m.ticket) t l) (begin settings t names m.client (tree_at code k l)) m.syncs m.counts))
         (sym (reserved_is k found.2))
-        (begun_with l found.2 (booked settings t (listed program t) m.client (tree_at code k l))
+        (begun_with l found.2 (begin settings t (listed program t) m.client (tree_at code k l))
         (settle_begun settings t (listed program t) (tree_at code k l) (record m.client { begun = suc m.client.begun }))
         (settle_full settings t (listed program t) (tree_at code k l) (record m.client { begun = suc m.client.begun }))
         (reserve_told program fine lined c (length code.blocks) settings m.client (entry_rows m) (trace_rows m)
         (λ h. sent_to h before) (λ h. got_from h before) o.telling l found.1 found.2 (tree_at code k l) walk.0 walk.1 walk.2))))
       where
-        begun_with : (l : Locals) → m.client.begun < length code.blocks → (r : Settled) → r.client.begun ≡ suc m.client.begun → ComesFull r
+        begun_with : (l : Locals) → m.client.begun < length code.blocks → (r : Settlement) → r.client.begun ≡ suc m.client.begun → ComesFull r
             → Telling program c (length code.blocks) r.client (put (entry_rows m) m.client.begun l)
             (put (trace_rows m) m.client.begun (trace_rows m m.client.begun ++ r.events)) (λ h. sent_to h before) (λ h. got_from h before)
             → InTale (before ++ deeds.reserves ∷ []) (came (enters (own m m.ticket) (ticket c m.client.begun) l) r m.syncs m.counts)
@@ -251,7 +251,7 @@ module _ (program : ProgramShape) (fine : (t : Ticket) (l : Locals) → AsksOnly
             }
 
   -- before the first deed
-  pub fresh_tale : InTale [] (done (fresh_mind code size))
+  pub fresh_tale : InTale [] (finish (fresh_mind code size))
   fresh_tale = subst (InTale []) (sym (done_still (fresh_mind code size) refl)) (record {
     code_is = refl;
     size_is = refl;
@@ -269,11 +269,11 @@ module _ (program : ProgramShape) (fine : (t : Ticket) (l : Locals) → AsksOnly
       none_at (suc n) zero = refl
       none_at (suc n) (suc k) = none_at n k
 
-  pub in_tale : (deeds : List Deed) (last : Mind) → DeedsLead c (fresh_mind code size) deeds last → InTale deeds (done last)
+  pub in_tale : (deeds : List Deed) (last : ClientModel) → DeedsLead c (fresh_mind code size) deeds last → InTale deeds (finish last)
   in_tale deeds last lead = deeds_keep c InTale reserving sending getting taking deeds [] (fresh_mind code size) last fresh_tale lead
 
   -- a mind that asks for nothing more
-  finished_tale : (deeds : List Deed) (m : Mind) → InTale deeds m → asked_of m ≡ acts.Finished → Tale program c code deeds m
+  finished_tale : (deeds : List Deed) (m : ClientModel) → InTale deeds m → act_due m ≡ acts.Finished → Tale program c code deeds m
   finished_tale deeds m o asked =
       let act : act_of settings (length code.blocks) m.client ≡ acts.Finished = sym (asks deeds m o) ∙ asked in
       let w = o.telling in
@@ -300,20 +300,20 @@ module _ (program : ProgramShape) (fine : (t : Ticket) (l : Locals) → AsksOnly
       }
     where
       place_of : (n : ℕ) → m.client.begun ≡ n → act_of settings (length code.blocks) m.client ≡ acts.Finished
-          → (l : Locals) × (m.client.place ≡ clients.between l)
+          → (l : Locals) × (m.client.stage ≡ clients.between l)
       place_of zero e act = (zeros, (o.telling.idle e).0)
       place_of (suc k) e act =
           let b = o.telling.block k in
-          finished_at program (ticket c k) b.sent b.got settings (length code.blocks) m.client b.page m.client.place (o.telling.last k e) o.full act
+          finished_at program (ticket c k) b.sent b.got settings (length code.blocks) m.client b.page m.client.stage (o.telling.last k e) o.full act
 
   -- what a client's whole run says
-  pub told : (deeds : List Deed) (end : Mind) → RunsTo c (fresh_mind code size) deeds end → Tale program c code deeds end
+  pub told : (deeds : List Deed) (end : ClientModel) → RunsTo c (fresh_mind code size) deeds end → Tale program c code deeds end
   told deeds end run =
-      subst (Tale program c code deeds) (sym (run.end_is ∙ ap (hands_out (done run.last)) run.finished))
-      (ended (finished_tale deeds (done run.last) (in_tale deeds run.last run.deeds_lead) run.finished))
+      subst (Tale program c code deeds) (sym (run.end_is ∙ ap (hands_out (finish run.last)) run.finished))
+      (ended (finished_tale deeds (finish run.last) (in_tale deeds run.last run.deeds_lead) run.finished))
     where
       -- an act that carries nothing changes nothing of it
-      ended : Tale program c code deeds (done run.last) → Tale program c code deeds (hands_out (done run.last) acts.Finished)
+      ended : Tale program c code deeds (finish run.last) → Tale program c code deeds (hands_out (finish run.last) acts.Finished)
       ended w = record {
         page = w.page;
         sent = w.sent;

@@ -3,18 +3,18 @@
 use Rattle.std.proofs.Common.{◌≡◌, arith, ℕ, ◌+◌, Bool, true, false, if◌then◌else◌, ◌==◌, List, [], ◌∷◌, ◌++◌, refl, sym, ap, subst, add-zero}
 use Rattle.qs_client.specs.ClientRuns.{Deed, DeedsLead, got_from, next_ticket, reservations, sent_to}
 use Rattle.qs_client.specs.ClientRuns as deeds
-use Rattle.qs_client.specs.Mind.{Mind, booked_mind, chunk_mind, got_mind, next_mind}
+use Rattle.qs_client.specs.ClientModel.{ClientModel, mind_after_begin, mind_after_chunk, mind_after_object, next_mind}
 
 -- they lead on
-pub deeds_join : (c : ℕ) (before after : List Deed) (first m end : Mind) → DeedsLead c first before m → DeedsLead c m after end
+pub deeds_join : (c : ℕ) (before after : List Deed) (first m end : ClientModel) → DeedsLead c first before m → DeedsLead c m after end
     → DeedsLead c first (before ++ after) end
-deeds_join c [] after first m end lead next = subst (λ (first : Mind). DeedsLead c first after end) (sym lead) next
+deeds_join c [] after first m end lead next = subst (λ (first : ClientModel). DeedsLead c first after end) (sym lead) next
 deeds_join c (deeds.reserves ∷ before) after first m end lead next =
-    (lead.0, deeds_join c before after (booked_mind (next_mind first) (next_ticket c (next_mind first))) m end lead.1 next)
+    (lead.0, deeds_join c before after (mind_after_begin (next_mind first) (next_ticket c (next_mind first))) m end lead.1 next)
 deeds_join c (deeds.sends h p ∷ before) after first m end lead next = (lead.0, deeds_join c before after (next_mind first) m end lead.1 next)
-deeds_join c (deeds.gets h x ∷ before) after first m end lead next = (lead.0, deeds_join c before after (got_mind (next_mind first) x) m end lead.1 next)
+deeds_join c (deeds.gets h x ∷ before) after first m end lead next = (lead.0, deeds_join c before after (mind_after_object (next_mind first) x) m end lead.1 next)
 deeds_join c (deeds.takes_chunk h ∷ before) after first m end lead next =
-    (lead.0, deeds_join c before after (chunk_mind (next_mind first) h) m end lead.1 next)
+    (lead.0, deeds_join c before after (mind_after_chunk (next_mind first) h) m end lead.1 next)
 
 -- one more in front, or not
 pub front_join : {A : Type 0} (b : Bool) (x : A) (all front back : List A) → all ≡ front ++ back

@@ -15,45 +15,45 @@ use Rattle.qs_chunk.specs.declared.parcel.Parcel.{Parcel}
 use Rattle.qs_chunk.specs.declared.parcel.Parcel.TheVariants as parcels
 use Rattle.qs_client_run.specs.declared.act.Act.{Act}
 use Rattle.qs_client_run.specs.declared.act.Act.TheVariants.{Reserve, Send, Finished}
-use Rattle.qs_client_run.specs.Client.{Client, Place, Settings, Settled, between, runs, full, awaits, leaves, act_at, call_act, calls, clears, leaving}
-use Rattle.qs_client_run.specs.Client.{queries, sent, sent_end, sent_home, sent_sync, sent_work, settle, stays, took_chunk}
+use Rattle.qs_client_run.specs.Client.{Client, ClientStage, Settings, Settlement, between, runs, full, awaits, leaves, act_at, call_act, call, clear, leave}
+use Rattle.qs_client_run.specs.Client.{query, after_parcel, after_end, after_home, after_sync, after_work, settle, stop_at, take_chunk}
 use Rattle.qs_client_run.specs.Client as clients
 use Rattle.qs_protocol.proofs.ActObjects.{between_acts}
 use Rattle.qs_protocol.proofs.ClientInvariants.{PlaceOk}
 
-abbrev pub HasFull : Client → Place → Type 0
+abbrev pub HasFull : Client → ClientStage → Type 0
 HasFull m (full h rest) = is_some (m.chunk h) ≡ true
 HasFull m (between l) = Unit {0}
 HasFull m (runs rest) = Unit {0}
 HasFull m (awaits h rest) = Unit {0}
 HasFull m (leaves h hs l) = Unit {0}
 
-abbrev pub ComesFull : Settled → Type 0
-ComesFull r = HasFull r.client r.client.place
+abbrev pub ComesFull : Settlement → Type 0
+ComesFull r = HasFull r.client r.client.stage
 
 module _ (settings : Settings) (t : Ticket) (names : List ℕ) where
-  leaving_full : (m : Client) (hs : List ℕ) (l : Locals) → ComesFull (leaving settings t names m hs l)
+  leaving_full : (m : Client) (hs : List ℕ) (l : Locals) → ComesFull (leave settings t names m hs l)
   leaving_full m [] l = tt
   leaving_full m (h ∷ hs) l = tt
 
   call_full : (m : Client) (r : Request) (next : Synced) (hd : Option HeldState) (ck : Option (List Request))
-      → ((m : Client) → ComesFull (settle settings t names next m)) → ComesFull (calls settings t names m r next (λ m. settle settings t names next m) hd ck)
+      → ((m : Client) → ComesFull (settle settings t names next m)) → ComesFull (call settings t names m r next (λ m. settle settings t names next m) hd ck)
   call_full m r next (Some x) ck ih = tt
   call_full m r next None None ih = tt
   call_full m r next None (Some rs) ih = by_case (length (rs ++ r ∷ []) == settings.size)
     where
-      by_case : (b : Bool) → ComesFull (if b then stays (record m { chunk = put m.chunk r.object (Some (rs ++ r ∷ [])) }) (full r.object next)
+      by_case : (b : Bool) → ComesFull (if b then stop_at (record m { chunk = put m.chunk r.object (Some (rs ++ r ∷ [])) }) (full r.object next)
           else settle settings t names next (record m { chunk = put m.chunk r.object (Some (rs ++ r ∷ [])) }))
       by_case true = ap is_some (put_here m.chunk r.object (Some (rs ++ r ∷ [])))
       by_case false = ih (record m { chunk = put m.chunk r.object (Some (rs ++ r ∷ [])) })
 
   query_full : (m : Client) (r : Request) (next : ℤ → Synced) (hd : Option HeldState) → ((v : ℤ) (m : Client) → ComesFull (settle settings t names (next v) m))
-      → ComesFull (queries settings t names m r next (λ v m. settle settings t names (next v) m) hd)
+      → ComesFull (query settings t names m r next (λ v m. settle settings t names (next v) m) hd)
   query_full m r next (Some x) ih = ih (value_of (ran x t r).1) (record m { held = put m.held r.object (Some (ran x t r).0) })
   query_full m r next None ih = tt
 
   sync_full : (m : Client) (h : ℕ) (next : Synced) (b : Bool) → ((m : Client) → ComesFull (settle settings t names next m))
-      → ComesFull (if b then settle settings t names next m else stays m (runs (Sync h next)))
+      → ComesFull (if b then settle settings t names next m else stop_at m (runs (Sync h next)))
   sync_full m h next true ih = ih m
   sync_full m h next false ih = tt
 
@@ -63,21 +63,21 @@ module _ (settings : Settings) (t : Ticket) (names : List ℕ) where
   settle_full (Sync h next) m = sync_full m h next (settings.dynamic && is_some (m.held h)) (λ m. settle_full next m)
   settle_full (Query r next) m = query_full m r next (m.held r.object) (λ v m. settle_full (next v) m)
 
-  home_full : (m : Client) (h : ℕ) (pl : Place) → HasFull m pl → ComesFull (sent_home settings t names m h pl)
+  home_full : (m : Client) (h : ℕ) (pl : ClientStage) → HasFull m pl → ComesFull (after_home settings t names m h pl)
   home_full m h (between l) k = k
   home_full m h (runs code) k = settle_full code (record m { held = put m.held h None })
   home_full m h (full g code) k = k
   home_full m h (awaits g code) k = k
   home_full m h (leaves g hs l) k = k
 
-  work_full : (m : Client) (h : ℕ) (pl : Place) → HasFull m pl → ComesFull (sent_work settings t names m h pl)
+  work_full : (m : Client) (h : ℕ) (pl : ClientStage) → HasFull m pl → ComesFull (after_work settings t names m h pl)
   work_full m h (between l) k = k
   work_full m h (runs code) k = settle_full code (record m { chunk = put m.chunk h None })
   work_full m h (full g code) k = settle_full code (record m { chunk = put m.chunk h None })
   work_full m h (awaits g code) k = k
   work_full m h (leaves g hs l) k = k
 
-  sync_sent_full : (m : Client) (pl : Place) → HasFull m pl → ComesFull (sent_sync settings t names m pl)
+  sync_sent_full : (m : Client) (pl : ClientStage) → HasFull m pl → ComesFull (after_sync settings t names m pl)
   sync_sent_full m (between l) k = k
   sync_sent_full m (runs (Done l)) k = k
   sync_sent_full m (runs (Call r next)) k = k
@@ -87,27 +87,27 @@ module _ (settings : Settings) (t : Ticket) (names : List ℕ) where
   sync_sent_full m (awaits g code) k = k
   sync_sent_full m (leaves g hs l) k = k
 
-  end_full : (m : Client) (pl : Place) → HasFull m pl → ComesFull (sent_end settings t names m pl)
+  end_full : (m : Client) (pl : ClientStage) → HasFull m pl → ComesFull (after_end settings t names m pl)
   end_full m (between l) k = k
   end_full m (runs code) k = k
   end_full m (full g code) k = k
   end_full m (awaits g code) k = k
   end_full m (leaves g hs l) k = leaving_full m hs l
 
-  pub sent_full : (m : Client) (h : ℕ) (parcel : Parcel) → HasFull m m.place → ComesFull (sent settings t names m h parcel)
-  sent_full m h (parcels.Home x) k = home_full m h m.place k
-  sent_full m h (parcels.Work chunk) k = work_full m h m.place k
-  sent_full m h parcels.Sync k = sync_sent_full m m.place k
-  sent_full m h parcels.End k = end_full m m.place k
+  pub sent_full : (m : Client) (h : ℕ) (parcel : Parcel) → HasFull m m.stage → ComesFull (after_parcel settings t names m h parcel)
+  sent_full m h (parcels.Home x) k = home_full m h m.stage k
+  sent_full m h (parcels.Work chunk) k = work_full m h m.stage k
+  sent_full m h parcels.Sync k = sync_sent_full m m.stage k
+  sent_full m h parcels.End k = end_full m m.stage k
 
-  pub got_full : (m : Client) (x : HeldState) (pl : Place) → HasFull m pl → ComesFull (clients.got settings t names m x pl)
+  pub got_full : (m : Client) (x : HeldState) (pl : ClientStage) → HasFull m pl → ComesFull (clients.take_object settings t names m x pl)
   got_full m x (between l) k = k
   got_full m x (runs code) k = k
   got_full m x (full g code) k = k
   got_full m x (awaits g code) k = settle_full code (record m { held = put m.held g (Some x) })
   got_full m x (leaves g hs l) k = k
 
-  pub chunk_full : (m : Client) (h : ℕ) (pl : Place) → HasFull m pl → ComesFull (took_chunk settings t names m h pl)
+  pub chunk_full : (m : Client) (h : ℕ) (pl : ClientStage) → HasFull m pl → ComesFull (take_chunk settings t names m h pl)
   chunk_full m h (between l) k = k
   chunk_full m h (runs code) k = settle_full code (record m { chunk = put m.chunk h (Some []) })
   chunk_full m h (full g code) k = k
@@ -121,18 +121,18 @@ module _ (settings : Settings) where
   call_not_last h None None e = cc
   call_not_last h None (Some rs) e = cc
 
-  clears_not_last : (h : ℕ) (hd : Option HeldState) (ck : Option (List Request)) (parcel : Parcel) → clears settings h hd ck (Send h parcel) ≡ Finished → ⊥
+  clears_not_last : (h : ℕ) (hd : Option HeldState) (ck : Option (List Request)) (parcel : Parcel) → clear settings h hd ck (Send h parcel) ≡ Finished → ⊥
   clears_not_last h (Some x) ck parcel e = cc
   clears_not_last h None (Some rs) parcel e = cc
   clears_not_last h None None parcel e = cc
 
-  full_not_last : (h : ℕ) (ck : Option (List Request)) → is_some ck ≡ true → clears settings h None ck Finished ≡ Finished → ⊥
+  full_not_last : (h : ℕ) (ck : Option (List Request)) → is_some ck ≡ true → clear settings h None ck Finished ≡ Finished → ⊥
   full_not_last h (Some rs) some e = cc
   full_not_last h None some e = cc
 
 -- who asks for nothing more is between blocks
 pub finished_at : (program : ProgramShape) (t : Ticket) (snt : ℕ → List Parcel) (got : ℕ → List HeldState) (settings : Settings) (blocks : ℕ)
-    (m : Client) (pg : Page) (pl : Place) → PlaceOk program t snt got m pg pl → HasFull m pl → act_at settings blocks m pl ≡ Finished
+    (m : Client) (pg : Page) (pl : ClientStage) → PlaceOk program t snt got m pg pl → HasFull m pl → act_at settings blocks m pl ≡ Finished
     → (l : Locals) × (pl ≡ between l)
 finished_at program t snt got settings blocks m pg (between l) k some e = (l, refl)
 finished_at program t snt got settings blocks m pg (runs (Done l)) k some e = absurd k.1
@@ -147,7 +147,7 @@ finished_at program t snt got settings blocks m pg (leaves g hs l) k some e =
     absurd (clears_not_last settings g (m.held g) (m.chunk g) parcels.End e)
 
 -- between blocks it reserves where a block is left, and is finished where none is
-pub reserves_more : (settings : Settings) (blocks : ℕ) (m : Client) (l : Locals) → m.place ≡ between l
+pub reserves_more : (settings : Settings) (blocks : ℕ) (m : Client) (l : Locals) → m.stage ≡ between l
     → clients.act_of settings blocks m ≡ Reserve → m.begun < blocks
 reserves_more settings blocks m l at act = by_test (nat_lt m.begun blocks) refl (sym (between_acts settings blocks m l at) ∙ act)
   where
@@ -155,7 +155,7 @@ reserves_more settings blocks m l at act = by_test (nat_lt m.begun blocks) refl 
     by_test true e is = grind (arith, nat_tests)
     by_test false e is = absurd (cc)
 
-pub finished_all : (settings : Settings) (blocks : ℕ) (m : Client) (l : Locals) → m.place ≡ between l
+pub finished_all : (settings : Settings) (blocks : ℕ) (m : Client) (l : Locals) → m.stage ≡ between l
     → clients.act_of settings blocks m ≡ Finished → blocks ≤ m.begun
 finished_all settings blocks m l at act = by_test (nat_lt m.begun blocks) refl (sym (between_acts settings blocks m l at) ∙ act)
   where

@@ -12,7 +12,7 @@ use Rattle.qs_chunk.specs.declared.parcel.Parcel.{Parcel}
 use Rattle.qs_client_run.specs.Client.{Settings, act_of}
 use Rattle.qs_client_run.specs.declared.act.Act.TheVariants as acts
 use Rattle.qs_client.specs.ClientRuns.{Deed}
-use Rattle.qs_client.specs.Mind.{Mind, asked_of, tree_at}
+use Rattle.qs_client.specs.ClientModel.{ClientModel, act_due, tree_at}
 use Rattle.qs_played.specs.Played.{ticket}
 use Rattle.qs_protocol.proofs.ActObjects.{await_at, need_at, not_await, not_need, not_send, send_at}
 use Rattle.qs_protocol.proofs.ClientInvariants.{Lined, listed}
@@ -24,7 +24,7 @@ module _ (program : ProgramShape) (fine : (t : Ticket) (l : Locals) → AsksOnly
     (walk_is : (k : ℕ) (l : Locals) → k < length code.blocks
     → (erased (tree_at code k l) ≡ block_tree program (ticket c k) l) × IsSoundSynced (λ h. false) (tree_at code k l)
     × IsOnReserved (listed program (ticket c k)) (tree_at code k l))
-    (before : List Deed) (m : Mind) (o : InTale program fine lined c code size reserved_is walk_is before m) where
+    (before : List Deed) (m : ClientModel) (o : InTale program fine lined c code size reserved_is walk_is before m) where
   -- some block of the client reserves the object
   abbrev pub IsReservedObject : ℕ → Type 0
   IsReservedObject h = (k : ℕ) × (k < length code.blocks) × (reserves program (ticket c k) h ≡ true)
@@ -32,32 +32,32 @@ module _ (program : ProgramShape) (fine : (t : Ticket) (l : Locals) → AsksOnly
   abbrev by : Settings
   by = record { dynamic = code.dynamic; size = size }
 
-  act_is : asked_of m ≡ act_of by (length code.blocks) m.client
+  act_is : act_due m ≡ act_of by (length code.blocks) m.client
   act_is = asks program fine lined c code size reserved_is walk_is before m o
 
-  pub send_reserved : (h : ℕ) (p : Parcel) → asked_of m ≡ acts.Send h p → IsReservedObject h
+  pub send_reserved : (h : ℕ) (p : Parcel) → act_due m ≡ acts.Send h p → IsReservedObject h
   send_reserved h p asked =
       let act = sym act_is ∙ asked in
       let at = in_tale_block program fine lined c code size reserved_is walk_is before m o (λ l e. not_send by (length code.blocks) m.client l h p e act) in
       let k = at.0 in
       let b = o.telling.block k in
-      let own = send_at program (ticket c k) b.sent b.got by (length code.blocks) m.client b.page m.client.place (o.telling.last k at.1) h p act in
+      let own = send_at program (ticket c k) b.sent b.got by (length code.blocks) m.client b.page m.client.stage (o.telling.last k at.1) h p act in
       (k, inside program fine lined c code size reserved_is walk_is before m o k at.1, own.0)
 
-  pub await_reserved : (h : ℕ) → asked_of m ≡ acts.Await h → IsReservedObject h
+  pub await_reserved : (h : ℕ) → act_due m ≡ acts.Await h → IsReservedObject h
   await_reserved h asked =
       let act = sym act_is ∙ asked in
       let at = in_tale_block program fine lined c code size reserved_is walk_is before m o (λ l e. not_await by (length code.blocks) m.client l h e act) in
       let k = at.0 in
       let b = o.telling.block k in
-      let own = await_at program (ticket c k) b.sent b.got by (length code.blocks) m.client b.page m.client.place (o.telling.last k at.1) h act in
+      let own = await_at program (ticket c k) b.sent b.got by (length code.blocks) m.client b.page m.client.stage (o.telling.last k at.1) h act in
       (k, inside program fine lined c code size reserved_is walk_is before m o k at.1, own.0)
 
-  pub need_reserved : (h : ℕ) → asked_of m ≡ acts.NeedChunk h → IsReservedObject h
+  pub need_reserved : (h : ℕ) → act_due m ≡ acts.NeedChunk h → IsReservedObject h
   need_reserved h asked =
       let act = sym act_is ∙ asked in
       let at = in_tale_block program fine lined c code size reserved_is walk_is before m o (λ l e. not_need by (length code.blocks) m.client l h e act) in
       let k = at.0 in
       let b = o.telling.block k in
-      let own = need_at program (ticket c k) b.sent b.got by (length code.blocks) m.client b.page m.client.place (o.telling.last k at.1) h act in
+      let own = need_at program (ticket c k) b.sent b.got by (length code.blocks) m.client b.page m.client.stage (o.telling.last k at.1) h act in
       (k, inside program fine lined c code size reserved_is walk_is before m o k at.1, own)

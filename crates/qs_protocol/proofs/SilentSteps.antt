@@ -20,7 +20,7 @@ use Rattle.qs_graph.specs.Synced.{Synced, Done, Call, Sync, Query, erased}
 use Rattle.qs_syncset.specs.SoundSynced.{IsSoundSynced}
 use Rattle.qs_chunk.specs.LaneViews.{sends, holds, ClientLane}
 use Rattle.qs_chunk.specs.declared.parcel.Parcel.{Parcel}
-use Rattle.qs_client_run.specs.Client.{Client, Place, Settings, Settled, between, runs, full, leaves, stays, with_event, leaving, calls, queries, settle}
+use Rattle.qs_client_run.specs.Client.{Client, ClientStage, Settings, Settlement, between, runs, full, leaves, stop_at, with_event, leave, call, query, settle}
 use Rattle.qs_played.proofs.FunctionUpdate.{put_all}
 use Rattle.qs_protocol.proofs.ClientInvariants.{in_hand, holding, listed, Lined, apart_from, Ready, Leaving, PlaceOk}
 use Rattle.qs_protocol.proofs.LaneMoves.{lane_goes, goes_put, goes_ask}
@@ -41,17 +41,17 @@ sound_more s s' (Query r next) e k = (e r.object k.0, λ v. sound_more s s' (nex
 
 module _ (program : ProgramShape) (t : Ticket) (sent : ℕ → List Parcel) (got : ℕ → List HeldState) (settings : Settings) (lined : Lined (reserves program t) (listed program t)) where
   -- after these events the page, and the client at its place
-  abbrev pub Ends : Page → Settled → Type 0
-  Ends pg r = (pg' : Page) × (pg'.entry ≡ pg.entry) × (pg'.trace ≡ pg.trace ++ r.events) × PlaceOk program t sent got r.client pg' r.client.place
+  abbrev pub Ends : Page → Settlement → Type 0
+  Ends pg r = (pg' : Page) × (pg'.entry ≡ pg.entry) × (pg'.trace ≡ pg.trace ++ r.events) × PlaceOk program t sent got r.client pg' r.client.stage
 
-  pub ends_stays : (pg : Page) (m : Client) (p : Place) → PlaceOk program t sent got (record m { place = p }) pg p → Ends pg (stays m p)
+  pub ends_stays : (pg : Page) (m : Client) (p : ClientStage) → PlaceOk program t sent got (record m { stage = p }) pg p → Ends pg (stop_at m p)
   ends_stays pg m p ok = (pg, refl, sym (append-nil pg.trace), ok)
 
-  ends_event : (pg : Page) (e : Event) (next : Interaction) (r : Settled) → Ends (advance pg e next) r → Ends pg (with_event e r)
+  ends_event : (pg : Page) (e : Event) (next : Interaction) (r : Settlement) → Ends (advance pg e next) r → Ends pg (with_event e r)
   ends_event pg e next r k = (k.0, k.1, k.2 ∙ append_assoc pg.trace (e ∷ []) r.events, k.3)
 
   -- its place says nothing of what it has
-  ready_at : (m : Client) (p : Place) (pg : Page) (code : Synced) → Ready program t sent got m pg code → Ready program t sent got (record m { place = p }) pg code
+  ready_at : (m : Client) (p : ClientStage) (pg : Page) (code : Synced) → Ready program t sent got m pg code → Ready program t sent got (record m { stage = p }) pg code
   ready_at m p pg code k = record { page = k.page; rest = k.rest; lanes = k.lanes; not_both = k.not_both; own = k.own; sound = k.sound; on = k.on }
 
   -- a command goes into the chunk in hand
@@ -123,25 +123,25 @@ module _ (program : ProgramShape) (t : Ticket) (sent : ℕ → List Parcel) (got
 
   order_ends : (m : Client) (pg : Page) (r : Request) (next : Synced) (hd : Option HeldState) (ck : Option (List Request)) → m.held r.object ≡ hd → m.chunk r.object ≡ ck → Ready program t sent got m pg (Call r next)
       → ((m : Client) (pg : Page) → Ready program t sent got m pg next → Ends pg (settle settings t (listed program t) next m))
-      → Ends pg (calls settings t (listed program t) m r next (λ m. settle settings t (listed program t) next m) hd ck)
+      → Ends pg (call settings t (listed program t) m r next (λ m. settle settings t (listed program t) next m) hd ck)
   order_ends m pg r next (Some x) ck a b k ih = ends_stays pg m (runs (Call r next)) (ready_at m (runs (Call r next)) pg (Call r next) k, tt)
   order_ends m pg r next None None a b k ih = ends_stays pg m (runs (Call r next)) (ready_at m (runs (Call r next)) pg (Call r next) k, tt)
   order_ends m pg r next None (Some rs) a b k ih = ends_event pg (logged r) (erased next) _ (by_case (length (rs ++ r ∷ []) == settings.size))
     where
-      by_case : (x : Bool) → Ends (advance pg (logged r) (erased next)) (if x then stays (record m { chunk = put m.chunk r.object (Some (rs ++ r ∷ [])) }) (full r.object next) else settle settings t (listed program t) next (record m { chunk = put m.chunk r.object (Some (rs ++ r ∷ [])) }))
+      by_case : (x : Bool) → Ends (advance pg (logged r) (erased next)) (if x then stop_at (record m { chunk = put m.chunk r.object (Some (rs ++ r ∷ [])) }) (full r.object next) else settle settings t (listed program t) next (record m { chunk = put m.chunk r.object (Some (rs ++ r ∷ [])) }))
       by_case true = ends_stays (advance pg (logged r) (erased next)) (record m { chunk = put m.chunk r.object (Some (rs ++ r ∷ [])) }) (full r.object next) (ready_at (record m { chunk = put m.chunk r.object (Some (rs ++ r ∷ [])) }) (full r.object next) (advance pg (logged r) (erased next)) next (put_ready m pg r next rs a b k))
       by_case false = ih (record m { chunk = put m.chunk r.object (Some (rs ++ r ∷ [])) }) (advance pg (logged r) (erased next)) (put_ready m pg r next rs a b k)
 
   ask_ends : (m : Client) (pg : Page) (r : Request) (next : ℤ → Synced) (hd : Option HeldState) → m.held r.object ≡ hd → Ready program t sent got m pg (Query r next)
       → ((v : ℤ) (m : Client) (pg : Page) → Ready program t sent got m pg (next v) → Ends pg (settle settings t (listed program t) (next v) m))
-      → Ends pg (queries settings t (listed program t) m r next (λ v m. settle settings t (listed program t) (next v) m) hd)
+      → Ends pg (query settings t (listed program t) m r next (λ v m. settle settings t (listed program t) (next v) m) hd)
   ask_ends m pg r next (Some x) a k ih =
       let v = (ran x t r).1 in
       ends_event pg (event r v) (erased (next (value_of v))) _ (ih (value_of v) (record m { held = put m.held r.object (Some (ran x t r).0) }) (advance pg (event r v) (erased (next (value_of v)))) (ask_ready m pg r next x a k))
   ask_ends m pg r next None a k ih = absurd (true≢false (sym k.sound.0 ∙ ap is_some a))
 
   sync_ends : (m : Client) (pg : Page) (h : ℕ) (next : Synced) → Ready program t sent got m pg (Sync h next) → (b : Bool) → (settings.dynamic && is_some (m.held h)) ≡ b
-      → (Ready program t sent got m pg next → Ends pg (settle settings t (listed program t) next m)) → Ends pg (if b then settle settings t (listed program t) next m else stays m (runs (Sync h next)))
+      → (Ready program t sent got m pg next → Ends pg (settle settings t (listed program t) next m)) → Ends pg (if b then settle settings t (listed program t) next m else stop_at m (runs (Sync h next)))
   sync_ends m pg h next k true e ih = ih (record { page = k.page; rest = k.rest; lanes = k.lanes; not_both = k.not_both; own = k.own; sound = sound_more (put (holding m) h true) (holding m) next less k.sound; on = k.on.1 })
     where
       less : (g : ℕ) → put (holding m) h true g ≡ true → holding m g ≡ true
@@ -152,7 +152,7 @@ module _ (program : ProgramShape) (t : Ticket) (sent : ℕ → List Parcel) (got
           (num_cases h g)
   sync_ends m pg h next k false e ih = ends_stays pg m (runs (Sync h next)) (ready_at m (runs (Sync h next)) pg (Sync h next) k, tt)
 
-  pub leaving_ends : (m : Client) (pg : Page) (l : Locals) (hs : List ℕ) → Leaving program t sent got m pg hs l → Ends pg (leaving settings t (listed program t) m hs l)
+  pub leaving_ends : (m : Client) (pg : Page) (l : Locals) (hs : List ℕ) → Leaving program t sent got m pg hs l → Ends pg (leave settings t (listed program t) m hs l)
   leaving_ends m pg l [] k = ends_stays pg m (between l) (record { page = k.page; rest = k.rest; lanes = k.lanes; not_both = k.not_both; lined = k.lined; empty = k.empty })
   leaving_ends m pg l (h ∷ hs) k = ends_stays pg m (leaves h hs l) (record { page = k.page; rest = k.rest; lanes = k.lanes; not_both = k.not_both; lined = k.lined; empty = k.empty })
 

@@ -22,14 +22,14 @@ use Rattle.qs_sync_counts.specs.declared.sync_counts.SyncCount.{SyncCount}
 use Rattle.qs_syncset.proofs.SyncTrees.{IsAsking}
 use Rattle.qs_chunk.specs.declared.parcel.Parcel.{Parcel}
 use Rattle.qs_chunk.specs.declared.parcel.Parcel.TheVariants as parcels
-use Rattle.qs_client_run.specs.Client.{Client, Place, Settings, Settled, act_of, between, booked, sent, took_chunk}
+use Rattle.qs_client_run.specs.Client.{Client, ClientStage, Settings, Settlement, act_of, between, begin, after_parcel, take_chunk}
 use Rattle.qs_client_run.specs.Client as clients
-use Rattle.qs_client_run.specs.Standing.{count_sync, handed_of}
+use Rattle.qs_client_run.specs.BetweenActs.{count_sync, outgoing_of}
 use Rattle.qs_client_run.specs.declared.act.Act.TheVariants as acts
-use Rattle.qs_client_run.specs.declared.stage.Handed.TheVariants as handeds
+use Rattle.qs_client_run.specs.declared.stage.Outgoing.TheVariants as outgoings
 use Rattle.qs_client.specs.ClientRuns.{Deed, DeedsLead, RunsTo, next_ticket}
 use Rattle.qs_client.specs.ClientRuns as deeds
-use Rattle.qs_client.specs.Mind.{Mind, asked_of, booked_mind, chunk_mind, done, enters, fresh_mind, got_mind, hands_out, is_between, lists_of, tallied, tree_at}
+use Rattle.qs_client.specs.ClientModel.{ClientModel, act_due, mind_after_begin, mind_after_chunk, finish, enters, fresh_mind, mind_after_object, hands_out, is_between, lists_of, tally, tree_at}
 use Rattle.qs_played.specs.Played.{ticket}
 use Rattle.qs_played.proofs.FunctionUpdate.{put_both}
 use Rattle.qs_played.proofs.SyncTallies.{none_for, objects_none, objects_stay, sent_for}
@@ -43,7 +43,7 @@ use Rattle.qs_protocol.proofs.ClientTales.{reserving, sending, taking, trace_row
 use Rattle.qs_protocol.proofs.MindSteps.{came, chunk_does, deeds_keep, done_still, get_does, reserve_does, send_does}
 
 -- the counts of a mind, by block
-abbrev pub count_rows : Mind → ℕ → List SyncCount
+abbrev pub count_rows : ClientModel → ℕ → List SyncCount
 count_rows m k = slice_index_or m.counts k []
 
 -- the counts of a block's row are those of the objects of its list, in order, and say these numbers
@@ -52,7 +52,7 @@ pub record IsTallied (objects : List ℕ) (row : List SyncCount) (syncs : ℕ �
   pub numbers : (h : ℕ) → syncs_for row h ≡ syncs h
 
 -- how many Syncs each block of a whole run sent, for each object: as many as its trace says, and as its row counts
-pub record TaleCounts (program : ProgramShape) (c : ℕ) (code : ClientCode) (size : ℕ) (deeds : List Deed) (end : Mind) (tale : Tale program c code deeds end)
+pub record TaleCounts (program : ProgramShape) (c : ℕ) (code : ClientCode) (size : ℕ) (deeds : List Deed) (end : ClientModel) (tale : Tale program c code deeds end)
     : Type 0 where
   pub syncs : ℕ → ℕ → ℕ
   pub counted : (k : ℕ) → k < length code.blocks
@@ -81,7 +81,7 @@ module _ (program : ProgramShape) (fine : (t : Ticket) (l : Locals) → AsksOnly
     → (erased (tree_at code k l) ≡ block_tree program (ticket c k) l) × IsSoundSynced (λ h. false) (tree_at code k l)
     × IsOnReserved (listed program (ticket c k)) (tree_at code k l))
     (asking : (k : ℕ) (l : Locals) → k < length code.blocks → IsAsking (tree_at code k l)) where
-  abbrev Known : List Deed → Mind → Type 0
+  abbrev Known : List Deed → ClientModel → Type 0
   Known before m = InTale program fine lined c code size reserved_is walk_is before m
 
   abbrev set_by : Settings
@@ -89,14 +89,14 @@ module _ (program : ProgramShape) (fine : (t : Ticket) (l : Locals) → AsksOnly
 
   -- what a client has sent in block k, which began with these variables, by its trace
   abbrev pub At : ℕ → Locals → List Event → (ℕ → ℕ) → Client → Type 0
-  At k l es n m = CountAt set_by (ticket c k) (listed program (ticket c k)) (tree_at code k l) es n m m.place
+  At k l es n m = CountAt set_by (ticket c k) (listed program (ticket c k)) (tree_at code k l) es n m m.stage
 
   -- and in a block that is over
   abbrev pub Past : ℕ → Locals → List Event → (ℕ → ℕ) → Type 0
   Past k l es n = Over set_by (ticket c k) (listed program (ticket c k)) (tree_at code k l) es n
 
   -- how many Syncs each block sent for each object, in the midst of a run
-  pub record InCounts (m : Mind) : Type 0 where
+  pub record InCounts (m : ClientModel) : Type 0 where
     pub syncs : ℕ → ℕ → ℕ
     pub newest : (k : ℕ) → m.client.begun ≡ suc k → At k (entry_rows m k) (trace_rows m k) (syncs k) m.client
     pub older : (k : ℕ) → suc k < m.client.begun → Past k (entry_rows m k) (trace_rows m k) (syncs k)
@@ -104,9 +104,9 @@ module _ (program : ProgramShape) (fine : (t : Ticket) (l : Locals) → AsksOnly
     pub row_count : length m.counts ≡ length code.blocks
     pub rows : (k : ℕ) → k < length code.blocks → IsTallied (listed program (ticket c k)) (count_rows m k) (syncs k)
 
-  module _ (before : List Deed) (m : Mind) (o : Known before m) (w : InCounts m) where
+  module _ (before : List Deed) (m : ClientModel) (o : Known before m) (w : InCounts m) where
     -- it came to this in the block that it is in
-    comes : (k : ℕ) → m.client.begun ≡ suc k → (r : Settled) → r.client.begun ≡ m.client.begun → (n : ℕ → ℕ) (total : ℕ) (counts : List (List SyncCount))
+    comes : (k : ℕ) → m.client.begun ≡ suc k → (r : Settlement) → r.client.begun ≡ m.client.begun → (n : ℕ → ℕ) (total : ℕ) (counts : List (List SyncCount))
         → Counts set_by (ticket c k) (listed program (ticket c k)) (tree_at code k (entry_rows m k)) (trace_rows m k) n r
         → length counts ≡ length code.blocks
         → ((j : ℕ) → j < length code.blocks → IsTallied (listed program (ticket c j)) (slice_index_or counts j []) (put w.syncs k n j))
@@ -132,7 +132,7 @@ module _ (program : ProgramShape) (fine : (t : Ticket) (l : Locals) → AsksOnly
         }
 
     -- where no Sync was sent
-    comes_alike : (k : ℕ) → m.client.begun ≡ suc k → (r : Settled) → r.client.begun ≡ m.client.begun → (total : ℕ)
+    comes_alike : (k : ℕ) → m.client.begun ≡ suc k → (r : Settlement) → r.client.begun ≡ m.client.begun → (total : ℕ)
         → Counts set_by (ticket c k) (listed program (ticket c k)) (tree_at code k (entry_rows m k)) (trace_rows m k) (w.syncs k) r
         → InCounts (came (own program fine lined c code size reserved_is walk_is m (ticket c k)) r total m.counts)
     comes_alike k e r still total now = comes k e r still (w.syncs k) total m.counts now w.row_count (λ j lt.
@@ -145,10 +145,10 @@ module _ (program : ProgramShape) (fine : (t : Ticket) (l : Locals) → AsksOnly
             (num_cases k j)
 
     -- where a Sync was sent for h
-    comes_synced : (k : ℕ) → m.client.begun ≡ suc k → (h : ℕ) → reserves program (ticket c k) h ≡ true → (r : Settled) → r.client.begun ≡ m.client.begun
+    comes_synced : (k : ℕ) → m.client.begun ≡ suc k → (h : ℕ) → reserves program (ticket c k) h ≡ true → (r : Settlement) → r.client.begun ≡ m.client.begun
         → (total : ℕ)
         → Counts set_by (ticket c k) (listed program (ticket c k)) (tree_at code k (entry_rows m k)) (trace_rows m k) (put (w.syncs k) h (suc (w.syncs k h))) r
-        → InCounts (came (own program fine lined c code size reserved_is walk_is m (ticket c k)) r total (tallied (handeds.Sync h) k m.counts))
+        → InCounts (came (own program fine lined c code size reserved_is walk_is m (ticket c k)) r total (tally (outgoings.Sync h) k m.counts))
     comes_synced k e h mine r still total now =
         let more = put (w.syncs k) h (suc (w.syncs k h)) in
         let row = with_sync h (count_rows m k) in
@@ -170,7 +170,7 @@ module _ (program : ProgramShape) (fine : (t : Ticket) (l : Locals) → AsksOnly
         }
 
     -- between blocks all that were begun are over
-    all_past : (l : Locals) → m.client.place ≡ between l → (j : ℕ) → j < m.client.begun → Past j (entry_rows m j) (trace_rows m j) (w.syncs j)
+    all_past : (l : Locals) → m.client.stage ≡ between l → (j : ℕ) → j < m.client.begun → Past j (entry_rows m j) (trace_rows m j) (w.syncs j)
     all_past l at j lt = ⊎_elim
         (λ (is : m.client.begun ≡ suc j).
         let t = ticket c j in
@@ -178,113 +178,113 @@ module _ (program : ProgramShape) (fine : (t : Ticket) (l : Locals) → AsksOnly
         (λ (other : (m.client.begun == suc j) ≡ false). let apart = apart_eqb m.client.begun (suc j) other in w.older j (omega (arith, lt, apart)))
         (num_cases m.client.begun (suc j))
 
-    asks_own : asked_of m ≡ act_of set_by (length code.blocks) m.client
+    asks_own : act_due m ≡ act_of set_by (length code.blocks) m.client
     asks_own = asks program fine lined c code size reserved_is walk_is before m o
 
     inside_own : (k : ℕ) → m.client.begun ≡ suc k → k < length code.blocks
     inside_own k e = inside program fine lined c code size reserved_is walk_is before m o k e
 
-    send_counted : (h : ℕ) (p : Parcel) → asked_of m ≡ acts.Send h p → InCounts (done (hands_out m (acts.Send h p)))
+    send_counted : (h : ℕ) (p : Parcel) → act_due m ≡ acts.Send h p → InCounts (finish (hands_out m (acts.Send h p)))
     send_counted h p asked =
         let act : act_of set_by (length code.blocks) m.client ≡ acts.Send h p = sym asks_own ∙ asked in
         let at = in_tale_block program fine lined c code size reserved_is walk_is before m o
         (λ l e. not_send set_by (length code.blocks) m.client l h p e act) in
         let k = at.0 in
         let t = ticket c k in
-        let total = m.syncs + count_sync (handed_of (acts.Send h p)) in
-        subst (λ (m : Mind). InCounts (done (hands_out m (acts.Send h p))))
+        let total = m.syncs + count_sync (outgoing_of (acts.Send h p)) in
+        subst (λ (m : ClientModel). InCounts (finish (hands_out m (acts.Send h p))))
         (sym (own_is program fine lined c code size reserved_is walk_is m t o.code_is o.size_is (o.ticket_is k at.1)))
         (subst InCounts (sym (send_does (own program fine lined c code size reserved_is walk_is m t) h p act))
-        (subst (λ names. InCounts (came (own program fine lined c code size reserved_is walk_is m t) (sent set_by t names m.client h p) total
-        (tallied (handed_of (acts.Send h p)) k m.counts))) (sym (reserved_is k (inside_own k at.1)))
+        (subst (λ names. InCounts (came (own program fine lined c code size reserved_is walk_is m t) (after_parcel set_by t names m.client h p) total
+        (tally (outgoing_of (acts.Send h p)) k m.counts))) (sym (reserved_is k (inside_own k at.1)))
         (by_parcel k at.1 p act total)))
       where
         by_parcel : (k : ℕ) → m.client.begun ≡ suc k → (p : Parcel) → act_of set_by (length code.blocks) m.client ≡ acts.Send h p → (total : ℕ)
             → InCounts (came (own program fine lined c code size reserved_is walk_is m (ticket c k))
-            (sent set_by (ticket c k) (listed program (ticket c k)) m.client h p) total (tallied (handed_of (acts.Send h p)) k m.counts))
+            (after_parcel set_by (ticket c k) (listed program (ticket c k)) m.client h p) total (tally (outgoing_of (acts.Send h p)) k m.counts))
         by_parcel k e (parcels.Home x) act total =
             let t = ticket c k in
-            comes_alike k e (sent set_by t (listed program t) m.client h (parcels.Home x))
+            comes_alike k e (after_parcel set_by t (listed program t) m.client h (parcels.Home x))
             (sent_begun set_by t (listed program t) m.client h (parcels.Home x)) total
             (send_counts set_by t (listed program t) (tree_at code k (entry_rows m k)) (length code.blocks) (trace_rows m k) (w.syncs k) m.client
             (w.newest k e) h (parcels.Home x) act)
         by_parcel k e (parcels.Work chunk) act total =
             let t = ticket c k in
-            comes_alike k e (sent set_by t (listed program t) m.client h (parcels.Work chunk))
+            comes_alike k e (after_parcel set_by t (listed program t) m.client h (parcels.Work chunk))
             (sent_begun set_by t (listed program t) m.client h (parcels.Work chunk)) total
             (send_counts set_by t (listed program t) (tree_at code k (entry_rows m k)) (length code.blocks) (trace_rows m k) (w.syncs k) m.client
             (w.newest k e) h (parcels.Work chunk) act)
         by_parcel k e parcels.Sync act total =
             let t = ticket c k in
             let b = o.telling.block k in
-            let mine = (send_at program t b.sent b.got set_by (length code.blocks) m.client b.page m.client.place (o.telling.last k e) h parcels.Sync act).0 in
-            comes_synced k e h mine (sent set_by t (listed program t) m.client h parcels.Sync)
+            let mine = (send_at program t b.sent b.got set_by (length code.blocks) m.client b.page m.client.stage (o.telling.last k e) h parcels.Sync act).0 in
+            comes_synced k e h mine (after_parcel set_by t (listed program t) m.client h parcels.Sync)
             (sent_begun set_by t (listed program t) m.client h parcels.Sync) total
             (send_counts set_by t (listed program t) (tree_at code k (entry_rows m k)) (length code.blocks) (trace_rows m k) (w.syncs k) m.client
             (w.newest k e) h parcels.Sync act)
         by_parcel k e parcels.End act total =
             let t = ticket c k in
-            comes_alike k e (sent set_by t (listed program t) m.client h parcels.End)
+            comes_alike k e (after_parcel set_by t (listed program t) m.client h parcels.End)
             (sent_begun set_by t (listed program t) m.client h parcels.End) total
             (send_counts set_by t (listed program t) (tree_at code k (entry_rows m k)) (length code.blocks) (trace_rows m k) (w.syncs k) m.client
             (w.newest k e) h parcels.End act)
 
-    get_counted : (h : ℕ) (x : HeldState) → asked_of m ≡ acts.Await h → InCounts (done (got_mind (hands_out m (acts.Await h)) x))
+    get_counted : (h : ℕ) (x : HeldState) → act_due m ≡ acts.Await h → InCounts (finish (mind_after_object (hands_out m (acts.Await h)) x))
     get_counted h x asked =
         let act : act_of set_by (length code.blocks) m.client ≡ acts.Await h = sym asks_own ∙ asked in
         let at = in_tale_block program fine lined c code size reserved_is walk_is before m o
         (λ l e. not_await set_by (length code.blocks) m.client l h e act) in
         let k = at.0 in
         let t = ticket c k in
-        subst (λ (m : Mind). InCounts (done (got_mind (hands_out m (acts.Await h)) x)))
+        subst (λ (m : ClientModel). InCounts (finish (mind_after_object (hands_out m (acts.Await h)) x)))
         (sym (own_is program fine lined c code size reserved_is walk_is m t o.code_is o.size_is (o.ticket_is k at.1)))
         (subst InCounts (sym (get_does (own program fine lined c code size reserved_is walk_is m t) h x))
         (subst (λ names. InCounts (came (own program fine lined c code size reserved_is walk_is m t)
-        (clients.got set_by t names m.client x m.client.place) m.syncs m.counts)) (sym (reserved_is k (inside_own k at.1)))
-        (comes_alike k at.1 (clients.got set_by t (listed program t) m.client x m.client.place)
-        (got_begun set_by t (listed program t) m.client h x m.client.place) m.syncs
-        (got_counts set_by t (listed program t) (tree_at code k (entry_rows m k)) (trace_rows m k) (w.syncs k) m.client x m.client.place (w.newest k at.1)))))
+        (clients.take_object set_by t names m.client x m.client.stage) m.syncs m.counts)) (sym (reserved_is k (inside_own k at.1)))
+        (comes_alike k at.1 (clients.take_object set_by t (listed program t) m.client x m.client.stage)
+        (got_begun set_by t (listed program t) m.client h x m.client.stage) m.syncs
+        (got_counts set_by t (listed program t) (tree_at code k (entry_rows m k)) (trace_rows m k) (w.syncs k) m.client x m.client.stage (w.newest k at.1)))))
 
-    chunk_counted : (h : ℕ) → asked_of m ≡ acts.NeedChunk h → InCounts (done (chunk_mind (hands_out m (acts.NeedChunk h)) h))
+    chunk_counted : (h : ℕ) → act_due m ≡ acts.NeedChunk h → InCounts (finish (mind_after_chunk (hands_out m (acts.NeedChunk h)) h))
     chunk_counted h asked =
         let act : act_of set_by (length code.blocks) m.client ≡ acts.NeedChunk h = sym asks_own ∙ asked in
         let at = in_tale_block program fine lined c code size reserved_is walk_is before m o
         (λ l e. not_need set_by (length code.blocks) m.client l h e act) in
         let k = at.0 in
         let t = ticket c k in
-        subst (λ (m : Mind). InCounts (done (chunk_mind (hands_out m (acts.NeedChunk h)) h)))
+        subst (λ (m : ClientModel). InCounts (finish (mind_after_chunk (hands_out m (acts.NeedChunk h)) h)))
         (sym (own_is program fine lined c code size reserved_is walk_is m t o.code_is o.size_is (o.ticket_is k at.1)))
         (subst InCounts (sym (chunk_does (own program fine lined c code size reserved_is walk_is m t) h))
         (subst (λ names. InCounts (came (own program fine lined c code size reserved_is walk_is m t)
-        (took_chunk set_by t names m.client h m.client.place) m.syncs m.counts)) (sym (reserved_is k (inside_own k at.1)))
-        (comes_alike k at.1 (took_chunk set_by t (listed program t) m.client h m.client.place)
-        (chunk_begun set_by t (listed program t) m.client h m.client.place) m.syncs
-        (chunk_counts set_by t (listed program t) (tree_at code k (entry_rows m k)) (trace_rows m k) (w.syncs k) m.client h m.client.place (w.newest k at.1)))))
+        (take_chunk set_by t names m.client h m.client.stage) m.syncs m.counts)) (sym (reserved_is k (inside_own k at.1)))
+        (comes_alike k at.1 (take_chunk set_by t (listed program t) m.client h m.client.stage)
+        (chunk_begun set_by t (listed program t) m.client h m.client.stage) m.syncs
+        (chunk_counts set_by t (listed program t) (tree_at code k (entry_rows m k)) (trace_rows m k) (w.syncs k) m.client h m.client.stage (w.newest k at.1)))))
 
-    reserve_counted : asked_of m ≡ acts.Reserve → InCounts (done (booked_mind (hands_out m acts.Reserve) (next_ticket c (hands_out m acts.Reserve))))
+    reserve_counted : act_due m ≡ acts.Reserve → InCounts (finish (mind_after_begin (hands_out m acts.Reserve) (next_ticket c (hands_out m acts.Reserve))))
     reserve_counted asked =
         let found = reserves_between program fine lined c code size reserved_is walk_is before m o asked in
         let l = found.0 in
         let k = m.client.begun in
         let t = ticket c k in
-        subst (λ (m : Mind). InCounts (done (booked_mind (hands_out m acts.Reserve) (next_ticket c (hands_out m acts.Reserve)))))
+        subst (λ (m : ClientModel). InCounts (finish (mind_after_begin (hands_out m acts.Reserve) (next_ticket c (hands_out m acts.Reserve)))))
         (sym (own_is program fine lined c code size reserved_is walk_is m m.ticket o.code_is o.size_is refl))
         (subst InCounts (sym (reserve_does (own program fine lined c code size reserved_is walk_is m m.ticket) c l found.1))
         (subst (λ names. InCounts (came (enters (own program fine lined c code size reserved_is walk_is m m.ticket) t l)
-        (booked set_by t names m.client (tree_at code k l)) m.syncs m.counts)) (sym (reserved_is k found.2))
+        (begin set_by t names m.client (tree_at code k l)) m.syncs m.counts)) (sym (reserved_is k found.2))
         (begun_with l found.1 found.2)))
       where
-        begun_with : (l : Locals) → m.client.place ≡ between l → m.client.begun < length code.blocks
+        begun_with : (l : Locals) → m.client.stage ≡ between l → m.client.begun < length code.blocks
             → let t = ticket c m.client.begun in
             InCounts (came (enters (own program fine lined c code size reserved_is walk_is m m.ticket) t l)
-            (booked set_by t (listed program t) m.client (tree_at code m.client.begun l)) m.syncs m.counts)
+            (begin set_by t (listed program t) m.client (tree_at code m.client.begun l)) m.syncs m.counts)
         begun_with l at less =
             let k = m.client.begun in
             let t = ticket c k in
             let names = listed program t in
             let tree = tree_at code k l in
             let began : Client = record m.client { begun = suc m.client.begun } in
-            let r : Settled = booked set_by t names m.client tree in
+            let r : Settlement = begin set_by t names m.client tree in
             let row : List Event = trace_rows m k ++ r.events in
             let more : r.client.begun ≡ suc k = settle_begun set_by t names tree began in
             let trace_is = row_set m.traces k row (let long = o.trace_count in omega (arith, long, less)) in
@@ -316,7 +316,7 @@ module _ (program : ProgramShape) (fine : (t : Ticket) (l : Locals) → AsksOnly
             }
 
   -- before the first deed
-  fresh_counts : InCounts (done (fresh_mind code size))
+  fresh_counts : InCounts (finish (fresh_mind code size))
   fresh_counts = subst InCounts (sym (done_still (fresh_mind code size) refl)) (record {
     syncs = λ k h. 0;
     newest = λ k e. absurd (omega (arith, e));
@@ -335,10 +335,10 @@ module _ (program : ProgramShape) (fine : (t : Ticket) (l : Locals) → AsksOnly
           get_or-map no_syncs (lists_of code.blocks) k [] [] (omega (arith, many, lt))
           ∙ ap no_syncs (get_or-map (λ (b : BlockCode). b.reserved) code.blocks k no_code [] lt ∙ reserved_is k lt)
 
-  abbrev pub Both : List Deed → Mind → Type 0
+  abbrev pub Both : List Deed → ClientModel → Type 0
   Both before m = Known before m × InCounts m
 
-  pub in_counts : (deeds : List Deed) (last : Mind) → DeedsLead c (fresh_mind code size) deeds last → Both deeds (done last)
+  pub in_counts : (deeds : List Deed) (last : ClientModel) → DeedsLead c (fresh_mind code size) deeds last → Both deeds (finish last)
   in_counts deeds last lead =
       deeds_keep c Both
       (λ before m k asked. (reserving program fine lined c code size reserved_is walk_is before m k.0 asked, reserve_counted before m k.0 k.1 asked))
@@ -347,7 +347,7 @@ module _ (program : ProgramShape) (fine : (t : Ticket) (l : Locals) → AsksOnly
       (λ before m k h asked. (taking program fine lined c code size reserved_is walk_is before m k.0 h asked, chunk_counted before m k.0 k.1 h asked))
       deeds [] (fresh_mind code size) last (fresh_tale program fine lined c code size reserved_is walk_is, fresh_counts) lead
 
-  stands_between : (p : Place) → is_between p ≡ true → (l : Locals) × (p ≡ between l)
+  stands_between : (p : ClientStage) → is_between p ≡ true → (l : Locals) × (p ≡ between l)
   stands_between (between l) e = (l, refl)
   stands_between (clients.runs rest) e = absurd (true≢false (sym e))
   stands_between (clients.full h rest) e = absurd (true≢false (sym e))
@@ -355,19 +355,19 @@ module _ (program : ProgramShape) (fine : (t : Ticket) (l : Locals) → AsksOnly
   stands_between (clients.leaves h hs l) e = absurd (true≢false (sym e))
 
   -- how many Syncs a client's whole run sent
-  pub told_counts : (deeds : List Deed) (end : Mind) → RunsTo c (fresh_mind code size) deeds end → (tale : Tale program c code deeds end)
+  pub told_counts : (deeds : List Deed) (end : ClientModel) → RunsTo c (fresh_mind code size) deeds end → (tale : Tale program c code deeds end)
       → TaleCounts program c code size deeds end tale
   told_counts deeds end run tale =
-      subst (λ (end : Mind). (tale : Tale program c code deeds end) → TaleCounts program c code size deeds end tale)
-      (sym (run.end_is ∙ ap (hands_out (done run.last)) run.finished)) ended tale
+      subst (λ (end : ClientModel). (tale : Tale program c code deeds end) → TaleCounts program c code size deeds end tale)
+      (sym (run.end_is ∙ ap (hands_out (finish run.last)) run.finished)) ended tale
     where
-      ended : (tale : Tale program c code deeds (hands_out (done run.last) acts.Finished))
-          → TaleCounts program c code size deeds (hands_out (done run.last) acts.Finished) tale
+      ended : (tale : Tale program c code deeds (hands_out (finish run.last) acts.Finished))
+          → TaleCounts program c code size deeds (hands_out (finish run.last) acts.Finished) tale
       ended tale =
-          let m = done run.last in
+          let m = finish run.last in
           let both = in_counts deeds run.last run.deeds_lead in
           let w = both.1 in
-          let at = stands_between m.client.place tale.between in
+          let at = stands_between m.client.stage tale.between in
           record {
             syncs = w.syncs;
             counted = λ k lt.

@@ -17,7 +17,7 @@ use Rattle.qs_handler.specs.Handler.{free, closed}
 use Rattle.qs_handler.specs.HandlerRuns.{Task, TasksLead, given_to, received_from, taken_by}
 use Rattle.qs_handler.proofs.RunTurns.{handlers_take_turns}
 use Rattle.qs_client.specs.ClientRuns.{Deed, RunsTo, got_from, reservations, sent_to}
-use Rattle.qs_client.specs.Mind.{Mind, fresh_mind}
+use Rattle.qs_client.specs.ClientModel.{ClientModel, fresh_mind}
 use Rattle.qs_client.specs.MindState.{mind_of}
 use Rattle.qs_client_thread.specs.ClientThreads as running
 use Rattle.qs_desk.specs.Tickets.{of_client, pushed_to}
@@ -65,7 +65,7 @@ module _ {D : Type 0} where
   code_in None = no_code
   code_in (Some s) = (mind_of s.mind).code
 
-  abbrev pub mind_in : Option (ClientWorker D) → Mind
+  abbrev pub mind_in : Option (ClientWorker D) → ClientModel
   mind_in None = fresh_mind no_code 0
   mind_in (Some s) = mind_of s.mind
 
@@ -108,7 +108,7 @@ module _ {D : Type 0} (p : ProgramShape) (sound : IsSound p) (mode : Mode) (size
       let begins : mind_of a.first.mind ≡ fresh_mind (code c) size = ready.mind.begins ∙ ap (λ k. fresh_mind k size) (sym (ap code_in a.first_is)) in
       let did = sym (ap deeds_in a.is) in
       let ends = sym (ap mind_in a.second_is) in
-      subst (λ (q : ℕ × (Mind × (List Deed × Mind))). RunsTo q.0 q.1.0 q.1.1.0 q.1.1.1) (λ i. (ready.number i, (begins i, (did i, ends i)))) a.related.ran
+      subst (λ (q : ℕ × (ClientModel × (List Deed × ClientModel))). RunsTo q.0 q.1.0 q.1.1.0 q.1.1.1) (λ i. (ready.number i, (begins i, (did i, ends i)))) a.related.ran
 
   handler_runs : (h : ℕ) → h < length p.objects → TasksLead (free (fresh_held p h)) (threads.tasks h) (closed (threads.held h))
   handler_runs h own =
@@ -148,7 +148,7 @@ module _ {D : Type 0} (p : ProgramShape) (sound : IsSound p) (mode : Mode) (size
       let ready = ran.ready.client_ready c a.first a.first_is in
       let same = sym start.number in
       let some = ready.reached k h (subst (λ n. k < blocks_of p n) same few) (subst (λ n. reserves p (ticket n k) h ≡ true) same own) in
-      let fresh = subst (λ n. running.IsFresh n (running.lane_at a.first.lanes h)) (ap (λ (m : Mind). m.size) start.mind.begins) (ready.fresh h) in
+      let fresh = subst (λ n. running.IsFresh n (running.lane_at a.first.lanes h)) (ap (λ (m : ClientModel). m.size) start.mind.begins) (ready.fresh h) in
       let run = lane_run size c h a.related.deeds b.related.tasks (running.lane_at a.first.lanes h) (running.lane_at a.second.lanes h)
       (handling.lane_at b.first.lanes c) (handling.lane_at b.second.lanes c) some fresh (a.related.done.ends h)
       (ran.ready.lanes c h a.first b.first a.first_is b.first_is) (b.related.served.ends c) (met.lanes c h a.second b.second a.second_is b.second_is) in

@@ -5,7 +5,7 @@ use Rattle.qs_program.specs.Sound.{IsSound}
 use Rattle.qs_meaning.specs.Following.{reserves}
 use Rattle.qs_syncset.specs.declared.mode.Mode.{Mode}
 use Rattle.qs_syncset.specs.Codes.{IsCodeOf}
-use Rattle.qs_client.specs.Mind as minds
+use Rattle.qs_client.specs.ClientModel as minds
 use Rattle.qs_client.specs.MindState.{mind_of}
 use Rattle.qs_client_thread.specs.ClientThreads as running
 use Rattle.qs_handler_thread.specs.HandlerThreads as handling
@@ -46,7 +46,7 @@ module _ {D : Type 0} where
       → s.share ≡ record { client = c; count = 0 } → s.lanes ≡ get_or outs c [] → IsClientOf p mode size outs c s
   client_of p mode size outs c s sound made mind share row =
       let at : s.share.client ≡ c = ap (λ (v : ShareView). v.client) share in
-      let size_is : (mind_of s.mind).size ≡ size = ap (λ (m : minds.Mind). m.size) mind.begins in
+      let size_is : (mind_of s.mind).size ≡ size = ap (λ (m : minds.ClientModel). m.size) mind.begins in
       let at_row : (h : ℕ) → IsNewOut size (ever_reserves p c h) (running.lane_at s.lanes h) = λ h. subst (λ r. IsNewOut size (ever_reserves p c h) (running.lane_at r h)) (sym row) (made c h) in
       record {
         own = record { number = at; mind = mind };

@@ -15,7 +15,7 @@ use Rattle.qs_meaning.specs.Serial.{no_state}
 use Rattle.qs_sync_counts.specs.SyncRows.{object_of, syncs_of}
 use Rattle.qs_syncset.specs.declared.mode.Mode.{Mode}
 use Rattle.qs_syncset.proofs.ShortLists.{few_reserved}
-use Rattle.qs_client.specs.Mind.{Mind}
+use Rattle.qs_client.specs.ClientModel.{ClientModel}
 use Rattle.qs_played.specs.Isolation.{ticket_at}
 use Rattle.qs_played.specs.JournalRooms.{fresh_held}
 use Rattle.qs_played.specs.Played.{ClientRows, HaveRows, counts_in, rows_at, ticket}
@@ -33,7 +33,7 @@ use Rattle.qs_run.specs.Collected.{AreCountsShort, journal_of, shown_when_over, 
 use Rattle.qs_run.proofs.ListPlaces.{from_places}
 use Rattle.qs_run.proofs.CollectedRun.{IsCollected, code, codes, held_in, mind_in, threads, threads_run}
 
-abbrev pub mind_rows : Mind → ClientRows
+abbrev pub mind_rows : ClientModel → ClientRows
 mind_rows m = record { traces = m.traces; entries = m.entries; counts = m.counts }
 
 module _ {D : Type 0} where

@@ -14,7 +14,7 @@ use Rattle.qs_handler.specs.Handler.{closed}
 use Rattle.qs_handler.specs.HandlerRuns.{Task}
 use Rattle.qs_handler_thread.specs.HandlerThreads as handling
 use Rattle.qs_client.specs.ClientRuns.{Deed, RunsTo}
-use Rattle.qs_client.specs.Mind.{fresh_mind}
+use Rattle.qs_client.specs.ClientModel.{fresh_mind}
 use Rattle.qs_client.specs.MindState.{MindState, mind_of}
 use Rattle.qs_client_thread.specs.ClientThreads as running
 use Rattle.qs_played.specs.JournalRooms.{fresh_held}

@@ -8,7 +8,7 @@ use Rattle.qs_program.specs.Sound.{IsSound}
 use Rattle.qs_meaning.proofs.Each.{each_map}
 use Rattle.qs_syncset.specs.Codes.{ClientCode}
 use Rattle.qs_syncset.specs.declared.mode.Mode.{Mode}
-use Rattle.qs_client.specs.Mind.{Mind}
+use Rattle.qs_client.specs.ClientModel.{ClientModel}
 use Rattle.qs_played.proofs.JournalRooms.{no_block_beyond}
 use Rattle.qs_core_laws.specs.Core.{AreCodes}
 use Rattle.qs_run_laws.specs.ThreadRuns.{IsThreadRun, ThreadRun}
@@ -16,7 +16,7 @@ use Rattle.qs_run_laws.proofs.ThreadTales.{count_is, inside, rows_end}
 use Rattle.qs_run_laws.proofs.ThreadsIsolated.{mind_is}
 
 -- a mind has written what there is to say of its k-th block
-pub record HasRow (m : Mind) (k : ℕ) : Type 0 where
+pub record HasRow (m : ClientModel) (k : ℕ) : Type 0 where
   pub entry : k < length m.entries
   pub trace : k < length m.traces
   pub counts : k < length m.counts
@@ -32,7 +32,7 @@ module _ (p : ProgramShape) (sound : IsSound p) (mode : Mode) (code : ℕ → Cl
       let traces = rows.1 in
       let counts = rows.2 in (
         client,
-        subst (λ (m : Mind). HasRow m t.index) (sym (mind_is p sound mode code codes size r run t.client client)) (record {
+        subst (λ (m : ClientModel). HasRow m t.index) (sym (mind_is p sound mode code codes size r run t.client client)) (record {
           entry = omega (arith, few, count, entries);
           trace = omega (arith, few, count, traces);
           counts = omega (arith, few, count, counts);

@@ -18,7 +18,7 @@ use Rattle.qs_chunk.proofs.LaneRuns.{run_of}
 use Rattle.qs_handler.specs.Handler.{free, closed}
 use Rattle.qs_handler.specs.HandlerRuns.{TasksLead, given_to, received_from, taken_by}
 use Rattle.qs_client.specs.ClientRuns.{RunsTo, got_from, reservations, sent_to}
-use Rattle.qs_client.specs.Mind.{fresh_mind}
+use Rattle.qs_client.specs.ClientModel.{fresh_mind}
 use Rattle.qs_played.specs.JournalRooms.{fresh_held}
 use Rattle.qs_played.specs.Played.{ticket}
 use Rattle.qs_played.proofs.ReservedObjects.{reserved_inside}

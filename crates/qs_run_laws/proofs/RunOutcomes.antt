@@ -17,7 +17,7 @@ use Rattle.qs_syncset.specs.Codes.{ClientCode}
 use Rattle.qs_syncset.specs.SyncCounts.{syncs_along}
 use Rattle.qs_sync_counts.specs.SyncRows.{object_of, syncs_for}
 use Rattle.qs_syncset.specs.declared.mode.Mode.{Mode}
-use Rattle.qs_client.specs.Mind.{Mind}
+use Rattle.qs_client.specs.ClientModel.{ClientModel}
 use Rattle.qs_played.specs.Isolation.{ended_of, entry_of, ticket_at, trace_of}
 use Rattle.qs_played.specs.Played.{ticket}
 use Rattle.qs_played.specs.SyncSums.{AreSent, AreSyncsCounted, IsCounted, counts_at, syncs_at}
@@ -136,7 +136,7 @@ module _ (p : ProgramShape) (sound : IsSound p) (mode : Mode) (code : ℕ → Cl
     tallied : IsTallied (listed p t) (counts_by r t) ((tale_counts p sound mode code codes size r run t.client).syncs t.index)
     tallied =
         let client = no_block_beyond p t.client (let o = own in omega (arith, o)) in
-        subst (λ (m : Mind). IsTallied (listed p t) (get_or m.counts t.index []) ((tale_counts p sound mode code codes size r run t.client).syncs t.index))
+        subst (λ (m : ClientModel). IsTallied (listed p t) (get_or m.counts t.index []) ((tale_counts p sound mode code codes size r run t.client).syncs t.index))
         (sym (mind_is p sound mode code codes size r run t.client client))
         ((tale_counts p sound mode code codes size r run t.client).tallied t.index (block_told p sound mode code codes size r run t own))
 

@@ -22,7 +22,7 @@ use Rattle.qs_handler.specs.HandlerRuns.{Task, takes, TasksLead, taken_by}
 use Rattle.qs_handler.specs.HandlerTurns.{HasTurns, Turn}
 use Rattle.qs_handler.proofs.RunTurns.{handlers_take_turns}
 use Rattle.qs_client.specs.ClientRuns.{Deed, RunsTo}
-use Rattle.qs_client.specs.Mind.{Mind, done, fresh_mind, hands_out, next_act, next_mind, tree_at}
+use Rattle.qs_client.specs.ClientModel.{ClientModel, finish, fresh_mind, hands_out, next_act, next_mind, tree_at}
 use Rattle.qs_played.specs.Played.{ticket}
 use Rattle.qs_played.proofs.JournalRooms.{no_block_beyond}
 use Rattle.qs_played.proofs.ReservedObjects.{reserved_inside}
@@ -33,7 +33,7 @@ use Rattle.qs_protocol.proofs.TaleCounts.{TaleCounts, in_counts, told_counts}
 use Rattle.qs_played.specs.JournalRooms.{fresh_held}
 use Rattle.qs_core_laws.specs.Core.{AreCodes}
 use Rattle.qs_protocol.proofs.ReservedLists.{lined}
-use Rattle.qs_client_run.proofs.Codes.{longest_covers}
+use Rattle.qs_client_run.proofs.CodeBounds.{longest_covers}
 use Rattle.qs_core_laws.proofs.CoreCodes.{block_walk, blocks_are, reserved_is}
 use Rattle.qs_desk.specs.Tickets.{of_handler}
 use Rattle.qs_run_laws.specs.ThreadRuns.{IsThreadRun, ThreadRun}
@@ -64,7 +64,7 @@ module _ (p : ProgramShape) (sound : IsSound p) (mode : Mode) (code : ℕ → Cl
   abbrev pub deeds_of : ℕ → List Deed
   deeds_of c = if nat_lt c (length p.clients) then r.deeds c else []
 
-  abbrev pub mind_of : ℕ → Mind
+  abbrev pub mind_of : ℕ → ClientModel
   mind_of c = if nat_lt c (length p.clients) then r.mind c else next_mind (fresh_mind (code c) size)
 
   -- a client without blocks has finished
@@ -147,8 +147,8 @@ module _ (p : ProgramShape) (sound : IsSound p) (mode : Mode) (code : ℕ → Cl
   rows_end c =
       let run = client_runs c in
       let both = in_counts p (blocks_ask_only p sound) (lined p sound) c (code c) size (own_list c) (own_walk c) (own_asks c) (deeds_of c) run.last run.deeds_lead in
-      let is : mind_of c ≡ hands_out (done run.last) acts.Finished = run.end_is ∙ ap (hands_out (done run.last)) run.finished in (
-        ap (λ (m : Mind). length m.entries) is ∙ (both.0.entry_count ∙ (sym (ap (λ (m : Mind). m.client.begun) is) ∙ (tale c).begun)),
-        ap (λ (m : Mind). length m.traces) is ∙ both.0.trace_count,
-        ap (λ (m : Mind). length m.counts) is ∙ both.1.row_count,
+      let is : mind_of c ≡ hands_out (finish run.last) acts.Finished = run.end_is ∙ ap (hands_out (finish run.last)) run.finished in (
+        ap (λ (m : ClientModel). length m.entries) is ∙ (both.0.entry_count ∙ (sym (ap (λ (m : ClientModel). m.client.begun) is) ∙ (tale c).begun)),
+        ap (λ (m : ClientModel). length m.traces) is ∙ both.0.trace_count,
+        ap (λ (m : ClientModel). length m.counts) is ∙ both.1.row_count,
       )

@@ -19,7 +19,7 @@ use Rattle.qs_meaning.proofs.RequestPaths.{requests_within}
 use Rattle.qs_meaning.proofs.SerialRuns.{line}
 use Rattle.qs_syncset.specs.Codes.{ClientCode}
 use Rattle.qs_syncset.specs.declared.mode.Mode.{Mode}
-use Rattle.qs_client.specs.Mind.{Mind}
+use Rattle.qs_client.specs.ClientModel.{ClientModel}
 use Rattle.qs_played.specs.Isolation.{IsIsolated, journal_of, state_of, ticket_at}
 use Rattle.qs_played.specs.JournalRooms.{fresh_held, room_of}
 use Rattle.qs_played.specs.Played.{Played, ticket}
@@ -97,12 +97,12 @@ module _ (p : ProgramShape) (sound : IsSound p) (mode : Mode) (code : ℕ → Cl
   -- what a client's rows say of a ticket
   pub entry_is : (t : Ticket) → t.index < blocks_of p t.client → entry_by r t ≡ (page t).entry
   entry_is t few =
-      ap (λ (m : Mind). get_or m.entries t.index []) (mind_is t.client (no_block_beyond p t.client (omega (arith, few))))
+      ap (λ (m : ClientModel). get_or m.entries t.index []) (mind_is t.client (no_block_beyond p t.client (omega (arith, few))))
       ∙ (tale p sound mode code codes size r run t.client).entries t.index (block_told p sound mode code codes size r run t few)
 
   pub trace_is : (t : Ticket) → t.index < blocks_of p t.client → trace_by r t ≡ (page t).trace
   trace_is t few =
-      ap (λ (m : Mind). get_or m.traces t.index []) (mind_is t.client (no_block_beyond p t.client (omega (arith, few))))
+      ap (λ (m : ClientModel). get_or m.traces t.index []) (mind_is t.client (no_block_beyond p t.client (omega (arith, few))))
       ∙ (tale p sound mode code codes size r run t.client).traces t.index (block_told p sound mode code codes size r run t few)
 
   journal_is : (h : ℕ) → h < length p.objects → journal_of shown h ≡ (end h).journal

@@ -21,7 +21,7 @@ use Rattle.qs_chunk.specs.declared.parcel.Parcel.{Parcel}
 use Rattle.qs_chunk.specs.declared.parcel.Parcel.TheVariants.{Work, Sync, Home, End}
 use Rattle.qs_handler.specs.HandlerRuns.{Task, takes, receives, gives, spares}
 use Rattle.qs_client.specs.ClientRuns.{Deed, next_ticket, reserves, sends, gets, takes_chunk}
-use Rattle.qs_client.specs.Mind.{Mind, booked_mind, chunk_mind, fresh_mind, got_mind, next_mind}
+use Rattle.qs_client.specs.ClientModel.{ClientModel, mind_after_begin, mind_after_chunk, fresh_mind, mind_after_object, next_mind}
 use Rattle.qs_played.specs.Played.{ticket}
 use Rattle.qs_core_laws.specs.Core.{AreCodes}
 use Rattle.qs_core_laws.specs.CoreExamples.{built, counted}
@@ -136,12 +136,12 @@ taker_tasks =
     ∷ takes nexts.Closed ∷ []
 
 -- the mind of client c after deeds
-abbrev pub mind_after : ℕ → Mind → List Deed → Mind
+abbrev pub mind_after : ℕ → ClientModel → List Deed → ClientModel
 mind_after c m [] = m
-mind_after c m (reserves ∷ deeds) = mind_after c (booked_mind (next_mind m) (next_ticket c (next_mind m))) deeds
+mind_after c m (reserves ∷ deeds) = mind_after c (mind_after_begin (next_mind m) (next_ticket c (next_mind m))) deeds
 mind_after c m (sends h parcel ∷ deeds) = mind_after c (next_mind m) deeds
-mind_after c m (gets h x ∷ deeds) = mind_after c (got_mind (next_mind m) x) deeds
-mind_after c m (takes_chunk h ∷ deeds) = mind_after c (chunk_mind (next_mind m) h) deeds
+mind_after c m (gets h x ∷ deeds) = mind_after c (mind_after_object (next_mind m) x) deeds
+mind_after c m (takes_chunk h ∷ deeds) = mind_after c (mind_after_chunk (next_mind m) h) deeds
 
 abbrev pub bank_deeds : ℕ → List Deed
 bank_deeds zero = mover_deeds

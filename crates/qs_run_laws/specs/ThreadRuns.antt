@@ -16,7 +16,7 @@ use Rattle.qs_chunk.specs.LaneRun.{IsLaneRun}
 use Rattle.qs_handler.specs.Handler.{free, closed}
 use Rattle.qs_handler.specs.HandlerRuns.{Task, TasksLead, given_to, received_from, taken_by}
 use Rattle.qs_client.specs.ClientRuns.{Deed, RunsTo, got_from, reservations, sent_to}
-use Rattle.qs_client.specs.Mind.{Mind, fresh_mind}
+use Rattle.qs_client.specs.ClientModel.{ClientModel, fresh_mind}
 use Rattle.qs_played.specs.Played.{Played, ticket}
 use Rattle.qs_played.specs.JournalRooms.{fresh_held}
 use Rattle.qs_desk.specs.Tickets.{of_client, pushed_to}
@@ -26,7 +26,7 @@ use Rattle.qs_desk.specs.Tickets.{of_client, pushed_to}
 pub record ThreadRun : Type 0 where
   pub order : List Ticket
   pub deeds : ℕ → List Deed
-  pub mind : ℕ → Mind
+  pub mind : ℕ → ClientModel
   pub tasks : ℕ → List Task
   pub held : ℕ → HeldState
 

@@ -1,6 +1,6 @@
 use Rattle.std.proofs.Common.{◌≡◌, ◌≤◌, ◌+◌, ◌*◌, drop}
 use Rattle.qs_sync_counts.specs.SyncRows.{begun_rows, objects_in}
-use Rattle.qs_client.specs.Mind.{lists_of}
+use Rattle.qs_client.specs.ClientModel.{lists_of}
 use Rattle.qs_client.proofs.mind.fresh_counts.Given as goal
 
 abbrev pub invariant-loop-block : goal.invariant-loop-block

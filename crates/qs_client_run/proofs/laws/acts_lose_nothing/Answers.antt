@@ -1,4 +1,4 @@
-use Rattle.qs_client_run.proofs.Parting.{acts_lose_nothing}
+use Rattle.qs_client_run.proofs.CarriedValues.{acts_lose_nothing}
 use Rattle.qs_client_run.proofs.laws.acts_lose_nothing.Goals as goal
 
 pub returns : goal.returns

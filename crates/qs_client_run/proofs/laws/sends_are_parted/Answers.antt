@@ -1,4 +1,4 @@
-use Rattle.qs_client_run.proofs.Parting.{sends_are_parted}
+use Rattle.qs_client_run.proofs.CarriedValues.{sends_are_parted}
 use Rattle.qs_client_run.proofs.laws.sends_are_parted.Goals as goal
 
 pub returns : goal.returns

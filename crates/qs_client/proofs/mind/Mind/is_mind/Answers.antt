@@ -1,6 +1,6 @@
 use Rattle.std.proofs.Common.{subst}
 use Rattle.qs_client.specs.MindState.{IsMind, MindState, mind_of}
-use Rattle.qs_client.proofs.Keeping.{kept_mind}
+use Rattle.qs_client.proofs.MindRefinement.{kept_mind}
 use Rattle.qs_client.proofs.mind.Mind.is_mind.Goals as goal
 
 pub returns : goal.returns

@@ -1,41 +1,41 @@
 use Rattle.std.proofs.Common.{◌≡◌, sym, ap, ◌∙◌, subst, length, arith}
-use Rattle.qs_client_run.specs.Acting.{HasActed}
-use Rattle.qs_client_run.specs.declared.stage.Handed.{Handed}
-use Rattle.qs_client.specs.Kept.{IsKept}
-use Rattle.qs_client.specs.Mind.{Asks, Mind, asked_of, done, hands_out}
+use Rattle.qs_client_run.specs.NextActs.{HasActed}
+use Rattle.qs_client_run.specs.declared.stage.Outgoing.{Outgoing}
+use Rattle.qs_client.specs.SoundMind.{IsSoundMind}
+use Rattle.qs_client.specs.ClientModel.{Asks, ClientModel, act_due, finish, hands_out}
 use Rattle.qs_client.specs.MindState.{MindState, block_of, mind_of, settings_in}
 use Rattle.qs_client.specs.contracts.mind.Mind.{the_view}
-use Rattle.qs_client.proofs.Keeping.{acts_asked, acts_is, acts_kept, hands_over, quiet_asks}
+use Rattle.qs_client.proofs.MindRefinement.{acts_asked, acts_is, acts_kept, hands_over, quiet_asks}
 use Rattle.qs_client.proofs.mind.Mind.next.Goals as goal
 
 pub invariant_of-self : goal.invariant_of-self
 invariant_of-self c =
     let m : MindState = the_view c.self.inside in
-    let w : IsKept m = c.self.invariant.1 in
+    let w : IsSoundMind m = c.self.invariant.1 in
     let begun : c.len.result ≡ length m.entries = omega arith in
     let acted = subst (λ n. HasActed (block_of m) (settings_in m) (length m.code.blocks) m.ticket.index n w.left c.act-act.result m.run c.act-act.new.self) begun
     (c.act-act.ensures.acted (settings_in m) w.left w.standing) in (
       c.self.invariant.0,
-      subst (λ (h : Handed). IsKept (hands_over m c.act-act.new.self h)) (sym c.leaves-self-inside.ensures.value)
+      subst (λ (h : Outgoing). IsSoundMind (hands_over m c.act-act.new.self h)) (sym c.outgoing-self-inside.ensures.value)
           (acts_kept m w c.act-act.result c.act-act.new.self acted),
     )
 
 pub returns : goal.returns
 returns c =
     let m : MindState = the_view c.self.inside in
-    let w : IsKept m = c.self.invariant.1 in
+    let w : IsSoundMind m = c.self.invariant.1 in
     let begun : c.len.result ≡ length m.entries = omega arith in
     let acted = subst (λ n. HasActed (block_of m) (settings_in m) (length m.code.blocks) m.ticket.index n w.left c.act-act.result m.run c.act-act.new.self) begun
     (c.act-act.ensures.acted (settings_in m) w.left w.standing) in
-    let finished : mind_of m ≡ done (mind_of c.args.self.now) = ap mind_of c.self.view_is ∙ c.finish.ensures.done in
-    let given : c.act-act.result ≡ asked_of (done (mind_of c.args.self.now)) =
-    acts_asked m w.left c.act-act.result c.act-act.new.self acted ∙ ap asked_of finished in
-    let new : mind_of (hands_over m c.act-act.new.self c.leaves-self-inside.result) ≡ hands_out (mind_of m) c.act-act.result =
-    ap (λ (h : Handed). mind_of (hands_over m c.act-act.new.self h)) c.leaves-self-inside.ensures.value
+    let finished : mind_of m ≡ finish (mind_of c.args.self.now) = ap mind_of c.self.view_is ∙ c.finish.ensures.done in
+    let given : c.act-act.result ≡ act_due (finish (mind_of c.args.self.now)) =
+    acts_asked m w.left c.act-act.result c.act-act.new.self acted ∙ ap act_due finished in
+    let new : mind_of (hands_over m c.act-act.new.self c.outgoing-self-inside.result) ≡ hands_out (mind_of m) c.act-act.result =
+    ap (λ (h : Outgoing). mind_of (hands_over m c.act-act.new.self h)) c.outgoing-self-inside.ensures.value
     ∙ acts_is m w.left c.act-act.result c.act-act.new.self acted in
     record {
       asked = λ quiet.
-          subst (λ (x : Mind). Asks x c.act-act.result) (sym new)
+          subst (λ (x : ClientModel). Asks x c.act-act.result) (sym new)
           (quiet_asks (mind_of m) c.act-act.result quiet (acts_asked m w.left c.act-act.result c.act-act.new.self acted));
       act = given;
       rest = new ∙ (λ i. hands_out (finished i) (given i));

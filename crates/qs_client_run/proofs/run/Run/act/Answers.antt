@@ -4,14 +4,14 @@ use Rattle.qs_graph.specs.WellFormed.{IsGraph}
 use Rattle.qs_graph.specs.Nodes as places
 use Rattle.qs_syncset.specs.Codes.{BlockCode, code_at}
 use Rattle.qs_chunk.specs.declared.parcel.Parcel.TheVariants as parcels
-use Rattle.qs_client_run.specs.Acting.{HasActed, IsInside, act_by, cleared, hands_by, with_hands, without}
-use Rattle.qs_client_run.specs.Hand.{HandsState}
-use Rattle.qs_client_run.specs.Standing.{IsStanding}
+use Rattle.qs_client_run.specs.NextActs.{HasActed, IsInside, act_by, clear, holdings_by, with_holdings, without}
+use Rattle.qs_client_run.specs.Holdings.{HoldingsState}
+use Rattle.qs_client_run.specs.BetweenActs.{IsStanding}
 use Rattle.qs_client_run.specs.declared.act.Act.{Act}
 use Rattle.qs_client_run.specs.declared.act.Act.TheVariants.{Send}
 use Rattle.qs_client_run.specs.declared.run.Run.{Run}
-use Rattle.qs_client_run.proofs.Acting.{acts_at_node, acts_leaving}
-use Rattle.qs_client_run.proofs.Codes.{below_eight}
+use Rattle.qs_client_run.proofs.ActRefinement.{acts_at_node, acts_leaving}
+use Rattle.qs_client_run.proofs.CodeBounds.{below_eight}
 use Rattle.qs_client_run.proofs.run.Run.act.Goals as goal
 
 pub returns-in-Runs : goal.returns-in-Runs
@@ -23,13 +23,13 @@ returns-in-Runs c =
     record {
       acted = λ settings most standing.
           let w = subst (IsStanding b settings.size k most s) c.in-Runs.is standing in
-          let given : c.act_at_node.result ≡ act_by s.hands (move b.graph s.way) =
-          c.act_at_node.ensures.act ∙ ap (λ (g : List places.Place). act_by s.hands (move g s.way)) graph in
-          let new : c.act_at_node.new.self ≡ with_hands s (hands_by s.hands (move b.graph s.way)) =
-          c.act_at_node.ensures.rest ∙ ap (λ (g : List places.Place). with_hands s (hands_by s.hands (move g s.way))) graph in
+          let given : c.act_at_node.result ≡ act_by s.holdings (move b.graph s.position) =
+          c.act_at_node.ensures.act ∙ ap (λ (g : List places.Place). act_by s.holdings (move g s.position)) graph in
+          let new : c.act_at_node.new.self ≡ with_holdings s (holdings_by s.holdings (move b.graph s.position)) =
+          c.act_at_node.ensures.rest ∙ ap (λ (g : List places.Place). with_holdings s (holdings_by s.holdings (move g s.position))) graph in
           subst (λ (a : Act). HasActed b settings (length c.args.code.now.blocks) k c.args.begun most a s c.act_at_node.new.self) (sym given)
           (
-          subst (λ (t : Run). HasActed b settings (length c.args.code.now.blocks) k c.args.begun most (act_by s.hands (move b.graph s.way)) s t) (sym new)
+          subst (λ (t : Run). HasActed b settings (length c.args.code.now.blocks) k c.args.begun most (act_by s.holdings (move b.graph s.position)) s t) (sym new)
           (acts_at_node b settings (length c.args.code.now.blocks) k c.args.begun most w.0 s (subst IsGraph graph c.is_graph.ensures.graph) w.1 c.in-Runs.is w.3 w.2)
           );
     }
@@ -48,13 +48,13 @@ returns-in-Leaves c =
     record {
       acted = λ settings most standing.
           let w = subst (IsStanding b settings.size k most s) c.in-Leaves.is standing in
-          let given : c.clear.result ≡ cleared s.hands (get_or b.reserved i 0) (end b.reserved) =
-          c.clear.ensures.act ∙ ap (λ (hs : List ℕ). cleared s.hands (get_or hs i 0) (end hs)) list in
-          let new : c.clear.new.self ≡ without s.hands (get_or b.reserved i 0) =
-          c.clear.ensures.rest ∙ ap (λ (hs : List ℕ). without s.hands (get_or hs i 0)) list in
-          subst (λ (a : Act). HasActed b settings blocks k c.args.begun most a s (with_hands s c.clear.new.self)) (sym given)
+          let given : c.clear.result ≡ clear s.holdings (get_or b.reserved i 0) (end b.reserved) =
+          c.clear.ensures.act ∙ ap (λ (hs : List ℕ). clear s.holdings (get_or hs i 0) (end hs)) list in
+          let new : c.clear.new.self ≡ without s.holdings (get_or b.reserved i 0) =
+          c.clear.ensures.rest ∙ ap (λ (hs : List ℕ). without s.holdings (get_or hs i 0)) list in
+          subst (λ (a : Act). HasActed b settings blocks k c.args.begun most a s (with_holdings s c.clear.new.self)) (sym given)
           (
-          subst (λ (x : HandsState). HasActed b settings blocks k c.args.begun most (cleared s.hands (get_or b.reserved i 0) (end b.reserved)) s (with_hands s x)) (sym new)
+          subst (λ (x : HoldingsState). HasActed b settings blocks k c.args.begun most (clear s.holdings (get_or b.reserved i 0) (end b.reserved)) s (with_holdings s x)) (sym new)
           (acts_leaving b settings blocks k c.args.begun most i s c.in-Leaves.is w.1 (below_eight code k i c.is_code.ensures.code inside w.1) w.0)
           );
     }

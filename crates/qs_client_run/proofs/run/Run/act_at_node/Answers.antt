@@ -4,12 +4,12 @@ use Rattle.qs_graph.specs.declared.node.Node.{Node}
 use Rattle.qs_graph.specs.Nodes.{place_at, first_target, second_target}
 use Rattle.qs_graph.specs.Walk.{Move, Spot, move_by}
 use Rattle.qs_graph.specs.declared.node.Node.TheVariants as nodes
-use Rattle.qs_client_run.specs.Acting.{act_by, cleared, hands_by, with_hands, without}
+use Rattle.qs_client_run.specs.NextActs.{act_by, clear, holdings_by, with_holdings, without}
 use Rattle.qs_client_run.specs.declared.act.Act.TheVariants as acts
 use Rattle.qs_chunk.specs.declared.parcel.Parcel.TheVariants as parcels
 use Rattle.qs_client_run.specs.Running.{IsLoud}
 use Rattle.qs_client_run.specs.declared.run.Run.{Run}
-use Rattle.qs_client_run.proofs.Moves.{moves}
+use Rattle.qs_client_run.proofs.StepAtNode.{moves}
 use Rattle.qs_client_run.proofs.run.Run.act_at_node.Goals as goal
 
 neither : (v : Node) (s : Spot) (a b : ℕ) → IsLoud (move_by v s a b) → ((x : ℕ) → v ≡ nodes.Sync x → ⊥) → ((x : calls.Call) → v ≡ nodes.Call x → ⊥) → ⊥
@@ -25,9 +25,9 @@ pub unreachable-requires : goal.unreachable-requires
 unreachable-requires c =
     let s : Run = c.args.self.now in
     let g = c.args.graph.now.nodes in
-    let is : c.node-2.result.now ≡ (place_at g s.way.node).node = c.node-2.ensures.value ∙ ap (λ n. (place_at g n).node) c.node.ensures.value in
-    neither (place_at g s.way.node).node s.way (first_target (place_at g s.way.node)) (second_target (place_at g s.way.node))
-    (subst IsLoud (moves g s.way (place_at g s.way.node).node refl) c.requires.loud)
+    let is : c.node-2.result.now ≡ (place_at g s.position.node).node = c.node-2.ensures.value ∙ ap (λ n. (place_at g n).node) c.node.ensures.value in
+    neither (place_at g s.position.node).node s.position (first_target (place_at g s.position.node)) (second_target (place_at g s.position.node))
+    (subst IsLoud (moves g s.position (place_at g s.position.node).node refl) c.requires.loud)
     (λ x e. c.in_default.not-Sync x (is ∙ e))
     (λ x e. c.in_default.not-Call x (is ∙ e))
 
@@ -36,10 +36,10 @@ returns-in-Call c =
     let s : Run = c.args.self.now in
     let g = c.args.graph.now.nodes in
     let is = ap (λ n. (place_at g n).node) (sym c.node.ensures.value) ∙ sym c.node-2.ensures.value ∙ c.in-Call.is in
-    let at = sym (moves g s.way (nodes.Call c.in-Call.call) is) in
+    let at = sym (moves g s.position (nodes.Call c.in-Call.call) is) in
     record {
-      act = c.clear.ensures.act ∙ ap (λ n. cleared s.hands n (acts.NeedChunk n)) c.bound-object.ensures.object ∙ ap (λ (m : Move). act_by s.hands m) at;
-      rest = ap (with_hands s) (c.clear.ensures.rest ∙ ap (without s.hands) c.bound-object.ensures.object ∙ ap (λ (m : Move). hands_by s.hands m) at);
+      act = c.clear.ensures.act ∙ ap (λ n. clear s.holdings n (acts.NeedChunk n)) c.bound-object.ensures.object ∙ ap (λ (m : Move). act_by s.holdings m) at;
+      rest = ap (with_holdings s) (c.clear.ensures.rest ∙ ap (without s.holdings) c.bound-object.ensures.object ∙ ap (λ (m : Move). holdings_by s.holdings m) at);
     }
 
 pub returns-in-Sync : goal.returns-in-Sync
@@ -47,8 +47,8 @@ returns-in-Sync c =
     let s : Run = c.args.self.now in
     let g = c.args.graph.now.nodes in
     let is = ap (λ n. (place_at g n).node) (sym c.node.ensures.value) ∙ sym c.node-2.ensures.value ∙ c.in-Sync.is in
-    let at = sym (moves g s.way (nodes.Sync c.in-Sync.name) is) in
+    let at = sym (moves g s.position (nodes.Sync c.in-Sync.name) is) in
     record {
-      act = c.clear-in-Sync.ensures.act ∙ ap (λ n. cleared s.hands n (acts.Send n parcels.Sync)) c.bound-handler.ensures.object ∙ ap (λ (m : Move). act_by s.hands m) at;
-      rest = ap (with_hands s) (c.clear-in-Sync.ensures.rest ∙ ap (without s.hands) c.bound-handler.ensures.object ∙ ap (λ (m : Move). hands_by s.hands m) at);
+      act = c.clear-in-Sync.ensures.act ∙ ap (λ n. clear s.holdings n (acts.Send n parcels.Sync)) c.bound-handler.ensures.object ∙ ap (λ (m : Move). act_by s.holdings m) at;
+      rest = ap (with_holdings s) (c.clear-in-Sync.ensures.rest ∙ ap (without s.holdings) c.bound-handler.ensures.object ∙ ap (λ (m : Move). holdings_by s.holdings m) at);
     }

@@ -5,11 +5,11 @@ use Rattle.qs_objects.specs.Parts.{logged}
 use Rattle.qs_program.specs.Values.{request_of}
 use Rattle.qs_graph.specs.Walk.{at_node}
 use Rattle.qs_chunk.specs.Batch.{batch}
-use Rattle.qs_client_run.specs.Hand.{HandsState, with_chunk}
-use Rattle.qs_client_run.specs.Running.{called}
+use Rattle.qs_client_run.specs.Holdings.{HoldingsState, with_chunk}
+use Rattle.qs_client_run.specs.Running.{call}
 use Rattle.qs_objects.specs.Traces.{noted_at}
 use Rattle.qs_client_run.specs.declared.run.Run.{Run}
-use Rattle.qs_client_run.proofs.Steps.{none_of, called_fills}
+use Rattle.qs_client_run.proofs.CallAndQuery.{none_of, called_fills}
 use Rattle.qs_client_run.proofs.run.Run.call.Goals.{then-is_full, else-is_full}
 use Rattle.qs_client_run.specs.declared.stage.Stage.TheVariants as stages
 use Rattle.qs_client_run.proofs.run.Run.call.Goals as goal
@@ -18,29 +18,29 @@ pub returns-clause-new : goal.returns-clause-new
 returns-clause-new c =
     let s : Run = c.args.self.now in
     let h = c.bound-object.result in
-    let to = λ (n : ℕ). record (request_of s.way.locals c.args.call.now) { object = n } in
+    let to = λ (n : ℕ). record (request_of s.position.locals c.args.command.now) { object = n } in
     let r : Request = to h in
     let same : c.request-request.result ≡ r = c.request-request.ensures.value ∙ ap to (sym c.bound-object.ensures.object) in
     let more : c.push.new.self ≡ batch (c.in-Some.chunk.items ++ r ∷ []) c.in-Some.chunk.capacity =
     c.in-Ok.ensures.ok ∙ ap (λ (q : Request). batch (c.in-Some.chunk.items ++ q ∷ []) c.in-Some.chunk.capacity) same in
-    let hands : c.put_chunk.new.self ≡ with_chunk s.hands h (Some c.push.new.self) =
-    c.put_chunk.ensures.value ∙ ap (λ (x : HandsState). with_chunk x h (Some c.push.new.self)) c.take_chunk.ensures.rest
-    ∙ ap (λ xs. record { held = s.hands.held; chunks = xs }) (set-set s.hands.chunks h None (Some c.push.new.self)) in
+    let holdings : c.put_chunk.new.self ≡ with_chunk s.holdings h (Some c.push.new.self) =
+    c.put_chunk.ensures.value ∙ ap (λ (x : HoldingsState). with_chunk x h (Some c.push.new.self)) c.take_chunk.ensures.rest
+    ∙ ap (λ xs. record { held = s.holdings.held; chunks = xs }) (set-set s.holdings.chunks h None (Some c.push.new.self)) in
     let full = ap (λ n. n == c.capacity.result) c.len.ensures.count ∙ ap (λ n. length c.push.new.self.items == n) c.capacity.ensures.capacity in
     let rest =
-    called_fills c.args.block r (at_node s.way c.args.next) s c.in-Some.chunk c.push.new.self (c.len.result == c.capacity.result) c.put_chunk.new.self
-    (none_of _ (sym c.holds.ensures.value ∙ c.if-holds.false)) (sym c.take_chunk.ensures.value ∙ c.in-Some.is) more full hands
-    ∙ ap (λ n. (called c.args.block (to n) (at_node s.way c.args.next) s).0) c.bound-object.ensures.object in
-    let way : c.go_to.new.self ≡ at_node s.way c.args.next = c.go_to.ensures.value in
+    called_fills c.args.block r (at_node s.position c.args.next) s c.in-Some.chunk c.push.new.self (c.len.result == c.capacity.result) c.put_chunk.new.self
+    (none_of _ (sym c.holds.ensures.value ∙ c.if-holds.false)) (sym c.take_chunk.ensures.value ∙ c.in-Some.is) more full holdings
+    ∙ ap (λ n. (call c.args.block (to n) (at_node s.position c.args.next) s).0) c.bound-object.ensures.object in
+    let position : c.go_to.new.self ≡ at_node s.position c.args.next = c.go_to.ensures.value in
     let event : c.note.new.self ≡ noted_at s.traces c.args.block (logged r) =
     c.note.ensures.noted ∙ ap (λ (q : Request). noted_at s.traces c.args.block (logged q)) (c.copied.ensures.same ∙ same) in
     elim c.if-is_full.branch [
       | then-is_full w ↦
           w.self-is
-          ∙ (λ i. record { way = way i; hands = c.put_chunk.new.self; traces = event i; stage = if sym (eq-eqb _ _ w.if-is_full.true) i then stages.Full h else s.stage })
+          ∙ (λ i. record { position = position i; holdings = c.put_chunk.new.self; traces = event i; stage = if sym (eq-eqb _ _ w.if-is_full.true) i then stages.Full h else s.stage })
           ∙ rest
       | else-is_full w ↦
           w.self-is
-          ∙ (λ i. record { way = way i; hands = c.put_chunk.new.self; traces = event i; stage = if sym (ne_eqb c.len.result c.capacity.result (λ e. omega (arith, e, w.if-is_full.false))) i then stages.Full h else s.stage })
+          ∙ (λ i. record { position = position i; holdings = c.put_chunk.new.self; traces = event i; stage = if sym (ne_eqb c.len.result c.capacity.result (λ e. omega (arith, e, w.if-is_full.false))) i then stages.Full h else s.stage })
           ∙ rest
     ]

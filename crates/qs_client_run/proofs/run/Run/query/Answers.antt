@@ -6,11 +6,11 @@ use Rattle.qs_objects.specs.Journals.{ran}
 use Rattle.qs_program.specs.Values.{request_of}
 use Rattle.qs_meaning.specs.Solo.{event, value_of}
 use Rattle.qs_graph.specs.Walk.{Spot, at_node, with_value}
-use Rattle.qs_client_run.specs.Hand.{HandsState, with_held}
-use Rattle.qs_client_run.specs.Running.{asked}
+use Rattle.qs_client_run.specs.Holdings.{HoldingsState, with_held}
+use Rattle.qs_client_run.specs.Running.{query}
 use Rattle.qs_objects.specs.Traces.{noted_at}
 use Rattle.qs_client_run.specs.declared.run.Run.{Run}
-use Rattle.qs_client_run.proofs.Steps.{asked_runs}
+use Rattle.qs_client_run.proofs.CallAndQuery.{asked_runs}
 use Rattle.qs_client_run.proofs.run.Run.query.Goals as goal
 use mir.Val.{to_z, of_z}
 use mir.Syntax.{w64}
@@ -24,25 +24,25 @@ returns c =
     let s : Run = c.args.self.now in
     let h = c.bound-object.result in
     let u = c.args.ticket in
-    let to = λ (n : ℕ). record (request_of s.way.locals c.args.call.now) { object = n } in
+    let to = λ (n : ℕ). record (request_of s.position.locals c.args.call.now) { object = n } in
     let r : Request = to h in
     let same : c.request-request.result ≡ r = c.request-request.ensures.value ∙ ap to (sym c.bound-object.ensures.object) in
-    let hands : c.put_held.new.self ≡ with_held s.hands h (Some c.run-reply.new.self) =
-    c.put_held.ensures.value ∙ ap (λ (x : HandsState). with_held x h (Some c.run-reply.new.self)) c.take_held.ensures.rest
-    ∙ ap (λ xs. record { held = xs; chunks = s.hands.chunks }) (set-set s.hands.held h None (Some c.run-reply.new.self)) in
+    let holdings : c.put_held.new.self ≡ with_held s.holdings h (Some c.run-reply.new.self) =
+    c.put_held.ensures.value ∙ ap (λ (x : HoldingsState). with_held x h (Some c.run-reply.new.self)) c.take_held.ensures.rest
+    ∙ ap (λ xs. record { held = xs; chunks = s.holdings.chunks }) (set-set s.holdings.held h None (Some c.run-reply.new.self)) in
     let done : (c.run-reply.new.self, c.run-reply.result) ≡ ran c.in-Some.held u r =
     c.run-reply.ensures.ran ∙ ap (λ (q : Request). ran c.in-Some.held u q) (c.copied.ensures.same ∙ same) in
-    let spot = λ (v : ℤ). at_node (with_value s.way c.args.variable v) c.args.next in
+    let spot = λ (v : ℤ). at_node (with_value s.position c.args.variable v) c.args.next in
     let kept : to_z w64 (of_z w64 c.unwrap_or.result) ≡ unwrap_or c.run-reply.result (pos 0) = search (arith, ints, to_z-of_z, c.unwrap_or.ensures) in
     let reply : to_z w64 (of_z w64 c.unwrap_or.result) ≡ value_of c.run-reply.result = kept ∙ unwrapped c.run-reply.result in
-    let way : c.go_to.new.self ≡ spot (value_of c.run-reply.result) =
-    c.go_to.ensures.value ∙ ap (λ (w : Spot). at_node w c.args.next) (c.assign.ensures.value ∙ ap (λ v. with_value s.way c.args.variable v) reply) in
+    let position : c.go_to.new.self ≡ spot (value_of c.run-reply.result) =
+    c.go_to.ensures.value ∙ ap (λ (w : Spot). at_node w c.args.next) (c.assign.ensures.value ∙ ap (λ v. with_value s.position c.args.variable v) reply) in
     let event : c.note.new.self ≡ noted_at s.traces u.index (event r c.run-reply.result) =
     c.note.ensures.noted ∙ ap (λ k. noted_at s.traces k (event c.request-request.result c.run-reply.result)) c.from.ensures
     ∙ ap (λ (q : Request). noted_at s.traces u.index (event q c.run-reply.result)) same in
     record {
       new =
-          (λ i. record { way = way i; hands = c.put_held.new.self; traces = event i; stage = s.stage })
-          ∙ asked_runs u r spot s c.in-Some.held c.run-reply.new.self c.run-reply.result c.put_held.new.self (sym c.take_held.ensures.value ∙ c.in-Some.is) done hands
-          ∙ ap (λ n. (asked u (to n) spot s).0) c.bound-object.ensures.object;
+          (λ i. record { position = position i; holdings = c.put_held.new.self; traces = event i; stage = s.stage })
+          ∙ asked_runs u r spot s c.in-Some.held c.run-reply.new.self c.run-reply.result c.put_held.new.self (sym c.take_held.ensures.value ∙ c.in-Some.is) done holdings
+          ∙ ap (λ n. (query u (to n) spot s).0) c.bound-object.ensures.object;
     }

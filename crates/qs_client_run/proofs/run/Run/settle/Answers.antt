@@ -2,44 +2,44 @@ use Rattle.std.proofs.Common.{◌≡◌, ◌≤◌, ◌+◌, ℕ, refl, sym, ◌
 use Rattle.qs_graph.specs.Steps.{limit}
 use Rattle.qs_graph.specs.Walk.{Spot, Within}
 use Rattle.qs_graph.specs.Nodes as places
-use Rattle.qs_client_run.specs.Client.{Settings, Place, between}
-use Rattle.qs_client_run.proofs.Going.{WentOn, goes_on, stops, keeps_rows, keeps_both, stopped_up}
+use Rattle.qs_client_run.specs.Client.{Settings, ClientStage, between}
+use Rattle.qs_client_run.proofs.StepRefinement.{WentOn, goes_on, stops, keeps_rows, keeps_both, stopped_up}
 use Rattle.qs_client_run.proofs.run.Run.settle.Goals as goal
 
 pub loop-turn-init : goal.loop-turn-init
 loop-turn-init c = record {
   stands = c.requires.stands;
-  on = λ settings begun p n dynamic w. record { stands = c.requires.stands; left = n; few = omega (arith, w.few); fewer = omega arith; rows = keeps_rows c.args.terms.ticket.index c.args.self.now.traces; counts = refl; running = w; same = refl };
+  on = λ settings begun p n dynamic w. record { stands = c.requires.stands; left = n; few = omega (arith, w.few); fewer = omega arith; rows = keeps_rows c.args.context.ticket.index c.args.self.now.traces; counts = refl; running = w; same = refl };
 }
 
 pub step-requires : goal.step-requires
 step-requires c =
     let w = c.requires.running in
-    let settings : Settings = record { dynamic = c.args.terms.dynamic; size = w.0 } in
+    let settings : Settings = record { dynamic = c.args.context.dynamic; size = w.0 } in
     let on = c.loop-turn.invariant.on settings 0 (between []) w.1 refl w.2 in
     record { running = (w.0, on.left, on.running) }
 
 pub loop-turn-preserved : goal.loop-turn-preserved
 loop-turn-preserved c =
-    let next = λ (settings : Settings) (begun : ℕ) (p : Place) (n : ℕ) (dynamic : settings.dynamic ≡ c.args.terms.dynamic)
-    (on : WentOn c.args.graph.now.nodes settings c.args.terms c.args.reserved.now begun p n c.loop-turn._turn c.args.self.now c.loop-turn.self).
-    goes_on c.args.graph.now.nodes settings c.args.terms c.args.reserved.now begun p on.left c.loop-turn._turn c.loop-turn.self c.step.new.self c.is_graph.ensures.graph dynamic on.stands on.running on.few c.step.ensures.new (sym c.step.ensures.on ∙ c.if-not-step.false) in
+    let next = λ (settings : Settings) (begun : ℕ) (p : ClientStage) (n : ℕ) (dynamic : settings.dynamic ≡ c.args.context.dynamic)
+    (on : WentOn c.args.graph.now.nodes settings c.args.context c.args.reserved.now begun p n c.loop-turn._turn c.args.self.now c.loop-turn.self).
+    goes_on c.args.graph.now.nodes settings c.args.context c.args.reserved.now begun p on.left c.loop-turn._turn c.loop-turn.self c.step.new.self c.is_graph.ensures.graph dynamic on.stands on.running on.few c.step.ensures.new (sym c.step.ensures.on ∙ c.if-not-step.false) in
     let w = c.requires.running in
-    let settings : Settings = record { dynamic = c.args.terms.dynamic; size = w.0 } in
+    let settings : Settings = record { dynamic = c.args.context.dynamic; size = w.0 } in
     record {
       stands = (next settings 0 (between []) w.1 refl (c.loop-turn.invariant.on settings 0 (between []) w.1 refl w.2)).stands;
       on = λ settings begun p n dynamic w.
           let on = c.loop-turn.invariant.on settings begun p n dynamic w in
           let more = next settings begun p n dynamic on in
-          record { stands = more.stands; left = more.left; few = more.few; fewer = omega (arith, on.fewer, more.fewer); rows = keeps_both c.args.terms.ticket.index _ _ _ on.rows more.rows; counts = more.counts ∙ on.counts; running = more.running; same = on.same ∙ more.same };
+          record { stands = more.stands; left = more.left; few = more.few; fewer = omega (arith, on.fewer, more.fewer); rows = keeps_both c.args.context.ticket.index _ _ _ on.rows more.rows; counts = more.counts ∙ on.counts; running = more.running; same = on.same ∙ more.same };
     }
 
 pub returns-then-not-step : goal.returns-then-not-step
 returns-then-not-step c = record {
   settled = λ settings begun p n dynamic w.
       let on = c.loop-turn.invariant.on settings begun p n dynamic w in
-      let end = stops c.args.graph.now.nodes settings c.args.terms c.args.reserved.now begun p on.left c.loop-turn.self c.step.new.self c.is_graph.ensures.graph dynamic on.stands on.running c.step.ensures.new (sym c.step.ensures.on ∙ c.if-not-step.true) in
-      record { stopped = stopped_up c.args.graph.now.nodes c.args.reserved.now settings.size c.args.terms.ticket.index on.left n c.step.new.self c.step.new.self.stage on.fewer end.stopped; rows = keeps_both c.args.terms.ticket.index _ _ _ on.rows end.rows; counts = end.counts ∙ on.counts; same = on.same ∙ end.same };
+      let end = stops c.args.graph.now.nodes settings c.args.context c.args.reserved.now begun p on.left c.loop-turn.self c.step.new.self c.is_graph.ensures.graph dynamic on.stands on.running c.step.ensures.new (sym c.step.ensures.on ∙ c.if-not-step.true) in
+      record { stopped = stopped_up c.args.graph.now.nodes c.args.reserved.now settings.size c.args.context.ticket.index on.left n c.step.new.self c.step.new.self.stage on.fewer end.stopped; rows = keeps_both c.args.context.ticket.index _ _ _ on.rows end.rows; counts = end.counts ∙ on.counts; same = on.same ∙ end.same };
 }
 
 spent : (g : List places.Place) (n turn : ℕ) (s : Spot) → n + turn ≤ limit → 3000002 ≤ turn → Within g n s → ⊥
@@ -49,6 +49,6 @@ spent g n turn s few all w = let none : n ≡ 0 = omega (arith, few, all) in sub
 pub unreachable-requires : goal.unreachable-requires
 unreachable-requires c =
     let w = c.requires.running in
-    let settings : Settings = record { dynamic = c.args.terms.dynamic; size = w.0 } in
+    let settings : Settings = record { dynamic = c.args.context.dynamic; size = w.0 } in
     let on = c.loop-turn.invariant.on settings 0 (between []) w.1 refl w.2 in
-    spent c.args.graph.now.nodes on.left c.loop-turn._turn c.loop-turn.self.way on.few (omega (arith, c.loop-turn-test.false)) on.running.within
+    spent c.args.graph.now.nodes on.left c.loop-turn._turn c.loop-turn.self.position on.few (omega (arith, c.loop-turn-test.false)) on.running.within

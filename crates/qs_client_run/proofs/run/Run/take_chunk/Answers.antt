@@ -5,13 +5,13 @@ use Rattle.qs_graph.specs.WellFormed.{IsGraph}
 use Rattle.qs_graph.specs.Nodes as places
 use Rattle.qs_syncset.specs.Codes.{BlockCode, code_at}
 use Rattle.qs_chunk.specs.Batch.{Batch, batch}
-use Rattle.qs_client_run.specs.Acting.{with_hands}
-use Rattle.qs_client_run.specs.Hand.{HandsState, with_chunk}
-use Rattle.qs_client_run.specs.Minds.{HasSettled, place_of}
+use Rattle.qs_client_run.specs.NextActs.{with_holdings}
+use Rattle.qs_client_run.specs.Holdings.{HoldingsState, with_chunk}
+use Rattle.qs_client_run.specs.ClientOfRun.{HasSettled, stage_of}
 use Rattle.qs_client_run.specs.Running.{IsRunning}
-use Rattle.qs_client_run.specs.Standing.{HasTaken, IsStanding}
+use Rattle.qs_client_run.specs.BetweenActs.{HasTaken, IsStanding}
 use Rattle.qs_client_run.specs.declared.run.Run.{Run}
-use Rattle.qs_client_run.proofs.Coming.{at_call, called_here, eight_here, filled_running, is_call, node_inside, taken_comes}
+use Rattle.qs_client_run.proofs.ArrivalRefinement.{at_call, called_here, eight_here, filled_running, is_call, node_inside, taken_comes}
 use Rattle.qs_client_run.proofs.run.Run.take_chunk.Goals as goal
 
 pub node-requires-2 : goal.node-requires-2
@@ -23,7 +23,7 @@ node-requires-2 c =
     let graph : c.graph-graph.result.now.nodes ≡ b.graph = c.graph-graph.ensures.value ∙ ap (λ n. (code_at c.args.code.now n).graph) c.from.ensures in
     let at = subst (IsStanding b w.0.size k w.3 s) (at_call b w.0 c.args.ticket w.1 w.2 w.3 s w.4 w.6).stands w.6.standing in
     record {
-      in_range = omega (arith, node_inside b.graph at.0 s.way at.2.within, c.node.ensures.value, ap (λ (g : List places.Place). length g) graph);
+      in_range = omega (arith, node_inside b.graph at.0 s.position at.2.within, c.node.ensures.value, ap (λ (g : List places.Place). length g) graph);
     }
 
 pub unreachable-requires : goal.unreachable-requires
@@ -32,7 +32,7 @@ unreachable-requires c =
     let b : BlockCode = code_at c.args.code.now c.args.ticket.index in
     let w = c.requires.asked in
     let graph : c.graph-graph.result.now.nodes ≡ b.graph = c.graph-graph.ensures.value ∙ ap (λ n. (code_at c.args.code.now n).graph) c.from.ensures in
-    let node : c.node-2.result.now ≡ (places.place_at b.graph s.way.node).node =
+    let node : c.node-2.result.now ≡ (places.place_at b.graph s.position.node).node =
     c.node-2.ensures.value ∙ (λ i. (places.place_at (graph i) (c.node.ensures.value i)).node) in
     is_call b.graph s w.4 (at_call b w.0 c.args.ticket w.1 w.2 w.3 s w.4 w.6) (λ x e. c.in_default.not-Call x (node ∙ e))
 
@@ -44,19 +44,19 @@ resume-requires c =
     let h = c.in-Call.call.object in
     let w = c.requires.asked in
     let graph : c.graph-graph.result.now.nodes ≡ b.graph = c.graph-graph.ensures.value ∙ ap (λ n. (code_at c.args.code.now n).graph) c.from.ensures in
-    let node : c.node-2.result.now ≡ (places.place_at b.graph s.way.node).node =
+    let node : c.node-2.result.now ≡ (places.place_at b.graph s.position.node).node =
     c.node-2.ensures.value ∙ (λ i. (places.place_at (graph i) (c.node.ensures.value i)).node) in
     let at = subst (IsStanding b w.0.size k w.3 s) (at_call b w.0 c.args.ticket w.1 w.2 w.3 s w.4 w.6).stands w.6.standing in
     let eight : h < most_handlers = eight_here b.graph at.0 s c.in-Call.call (subst IsGraph graph c.is_graph.ensures.graph) at.2.within (sym node ∙ c.in-Call.is) in
-    let hands : c.put_chunk.new.self ≡ with_chunk s.hands h (Some (batch [] w.0.size)) =
-    c.put_chunk.ensures.value ∙ (λ i. with_chunk s.hands (c.bound.ensures.object i) (Some (w.5 i))) in
+    let holdings : c.put_chunk.new.self ≡ with_chunk s.holdings h (Some (batch [] w.0.size)) =
+    c.put_chunk.ensures.value ∙ (λ i. with_chunk s.holdings (c.bound.ensures.object i) (Some (w.5 i))) in
     let some : 0 < w.0.size = omega (arith, c.requires.room, ap (λ (x : Batch Request). x.capacity) w.5) in
     record {
       block = c.requires.block;
       running = (
         w.0.size,
         at.0,
-        subst (λ (x : HandsState). IsRunning b.graph w.0.size k at.0 (with_hands s x)) (sym hands)
+        subst (λ (x : HoldingsState). IsRunning b.graph w.0.size k at.0 (with_holdings s x)) (sym holdings)
             (filled_running b w.0 c.args.ticket w.1 w.2 w.3 s at.0 h eight some at.2),
       );
     }
@@ -68,22 +68,22 @@ returns c =
     let b : BlockCode = code_at c.args.code.now u.index in
     let h = c.in-Call.call.object in
     let graph : c.graph-graph.result.now.nodes ≡ b.graph = c.graph-graph.ensures.value ∙ ap (λ n. (code_at c.args.code.now n).graph) c.from.ensures in
-    let node : c.node-2.result.now ≡ (places.place_at b.graph s.way.node).node =
+    let node : c.node-2.result.now ≡ (places.place_at b.graph s.position.node).node =
     c.node-2.ensures.value ∙ (λ i. (places.place_at (graph i) (c.node.ensures.value i)).node) in
     record {
       come = λ settings blocks begun most g dynamic chunk w.
           let call = at_call b settings u blocks begun most s g w in
           let at = subst (IsStanding b settings.size u.index most s) call.stands w.standing in
           let eight : h < most_handlers = eight_here b.graph at.0 s c.in-Call.call (subst IsGraph graph c.is_graph.ensures.graph) at.2.within (sym node ∙ c.in-Call.is) in
-          let hands : c.put_chunk.new.self ≡ with_chunk s.hands h (Some (batch [] settings.size)) =
-          c.put_chunk.ensures.value ∙ (λ i. with_chunk s.hands (c.bound.ensures.object i) (Some (chunk i))) in
+          let holdings : c.put_chunk.new.self ≡ with_chunk s.holdings h (Some (batch [] settings.size)) =
+          c.put_chunk.ensures.value ∙ (λ i. with_chunk s.holdings (c.bound.ensures.object i) (Some (chunk i))) in
           let some : 0 < settings.size = omega (arith, c.requires.room, ap (λ (x : Batch Request). x.capacity) chunk) in
           let running = filled_running b settings u blocks begun most s at.0 h eight some at.2 in
-          let p = place_of b.graph b.reserved s in
-          let settled : HasSettled b.graph settings u b.reserved begun p at.0 (with_hands s (with_chunk s.hands h (Some (batch [] settings.size)))) c.resume.new.self =
-          subst (λ (x : HandsState). HasSettled b.graph settings u b.reserved begun p at.0 (with_hands s x) c.resume.new.self) hands
+          let p = stage_of b.graph b.reserved s in
+          let settled : HasSettled b.graph settings u b.reserved begun p at.0 (with_holdings s (with_chunk s.holdings h (Some (batch [] settings.size)))) c.resume.new.self =
+          subst (λ (x : HoldingsState). HasSettled b.graph settings u b.reserved begun p at.0 (with_holdings s x) c.resume.new.self) holdings
           (c.resume.ensures.settled settings begun p at.0 dynamic
-          (subst (λ (x : HandsState). IsRunning b.graph settings.size u.index at.0 (with_hands s x)) (sym hands) running)) in
+          (subst (λ (x : HoldingsState). IsRunning b.graph settings.size u.index at.0 (with_holdings s x)) (sym holdings) running)) in
           subst (λ x. HasTaken b settings u begun most x s c.resume.new.self) (called_here b.graph s g c.in-Call.call (sym node ∙ c.in-Call.is) call)
           (taken_comes b settings u blocks begun most s at.0 h c.resume.new.self call.stands at.1 eight at.2 settled);
     }

@@ -1,0 +1,197 @@
+-- A client's mind: what it has come to, and what each call does to it.
+use Rattle.std.specs.Prelude.{◌≡◌, ℕ, suc, ◌&&◌, ◌||◌, nat_lt, nat_eq, ◌+◌, ◌-◌, Bool, true, false, if◌then◌else◌, List, [], ◌∷◌, ◌++◌, length, map, replicate, slice_index_or, slice_set}
+use Rattle.qs_objects.specs.Journals.{HeldState}
+use Rattle.qs_objects.specs.declared.held.Event.{Event}
+use Rattle.qs_objects.specs.declared.held.Ticket.{Ticket}
+use Rattle.qs_program.specs.Values.{Locals}
+use Rattle.qs_meaning.specs.Serial.{zeros}
+use Rattle.qs_graph.specs.Steps.{limit}
+use Rattle.qs_graph.specs.Synced.{Synced}
+use Rattle.qs_graph.specs.Walk.{entry, walk}
+use Rattle.qs_syncset.specs.Codes.{BlockCode, ClientCode, code_at}
+use Rattle.qs_sync_counts.specs.SyncRows.{fresh_rows, with_sync}
+use Rattle.qs_sync_counts.specs.declared.sync_counts.SyncCount.{SyncCount}
+use Rattle.qs_client_run.specs.Client.{Client, ClientStage, Settings, Settlement, act_of, between, runs, full, awaits, leaves, begin, first_client, take_object, take_chunk}
+use Rattle.qs_client_run.specs.ClientLaws.{with_act}
+use Rattle.qs_client_run.specs.BetweenActs.{after_send, without_act, outgoing_of, count_sync}
+use Rattle.qs_client_run.specs.declared.act.Act.{Act}
+use Rattle.qs_client_run.specs.declared.stage.Outgoing.{Outgoing}
+use Rattle.qs_client_run.specs.BlockSizes.{longest}
+use Rattle.qs_client_run.specs.declared.stage.Outgoing.TheVariants as outgoings
+
+-- a block as a tree with the synchronisations that are left in it, from these variables; each repeat sets its count as it begins
+abbrev pub tree_at : ClientCode → ℕ → Locals → Synced
+tree_at code k l = walk (code_at code k).graph limit (entry l (replicate (longest code.blocks) 0))
+
+-- the lists of objects that the blocks reserve
+abbrev pub lists_of : List BlockCode → List (List ℕ)
+lists_of blocks = map (λ (b : BlockCode). b.reserved) blocks
+
+-- the code and the chunks' size; the ticket of the block that was begun last; the client; for each block that was begun the variables at
+-- entry, and for each block the trace so far; the Syncs that were sent, all and for each block and each object of its list; and what is still to be done for the last act once it was done
+pub record ClientModel : Type 0 where
+  pub code : ClientCode
+  pub size : ℕ
+  pub ticket : Ticket
+  pub client : Client
+  pub entries : List Locals
+  pub traces : List (List Event)
+  pub syncs : ℕ
+  pub counts : List (List SyncCount)
+  pub outgoing : Outgoing
+
+abbrev pub settings_of : ClientModel → Settings
+settings_of m = record { dynamic = m.code.dynamic; size = m.size }
+
+-- the handlers that the block reserves
+abbrev pub reserved_by : ClientModel → List ℕ
+reserved_by m = (code_at m.code m.ticket.index).reserved
+
+-- events at the end of a block's trace
+abbrev pub extend : List (List Event) → ℕ → List Event → List (List Event)
+extend ts k es = slice_set ts k (slice_index_or ts k [] ++ es)
+
+-- the client, and what entered its block's trace
+abbrev pub comes_to : ClientModel → Settlement → ClientModel
+comes_to m s = record {
+  code = m.code;
+  size = m.size;
+  ticket = m.ticket;
+  client = s.client;
+  entries = m.entries;
+  traces = extend m.traces m.ticket.index s.events;
+  syncs = m.syncs;
+  counts = m.counts;
+  outgoing = outgoings.Nothing;
+}
+
+-- a Sync is counted for the block and the object that it was sent for
+abbrev pub tally : Outgoing → ℕ → List (List SyncCount) → List (List SyncCount)
+tally (outgoings.Sync h) k rows = slice_set rows k (with_sync h (slice_index_or rows k []))
+tally outgoings.Nothing k rows = rows
+tally outgoings.Value k rows = rows
+tally outgoings.End k rows = rows
+
+abbrev pub count_syncs : ClientModel → ClientModel
+count_syncs m = record {
+  code = m.code;
+  size = m.size;
+  ticket = m.ticket;
+  client = m.client;
+  entries = m.entries;
+  traces = m.traces;
+  syncs = m.syncs + count_sync m.outgoing;
+  counts = tally m.outgoing m.ticket.index m.counts;
+  outgoing = m.outgoing;
+}
+
+-- once the last act was done
+abbrev pub finish : ClientModel → ClientModel
+finish m = comes_to (count_syncs m) (after_send (settings_of m) m.ticket (reserved_by m) m.outgoing m.client)
+
+-- the next act
+abbrev pub act_due : ClientModel → Act
+act_due m = act_of (settings_of m) (length m.code.blocks) m.client
+
+abbrev pub next_act : ClientModel → Act
+next_act m = act_due (finish m)
+
+-- without what the act carries
+abbrev pub hands_out : ClientModel → Act → ClientModel
+hands_out m act = record {
+  code = m.code;
+  size = m.size;
+  ticket = m.ticket;
+  client = without_act m.client act;
+  entries = m.entries;
+  traces = m.traces;
+  syncs = m.syncs;
+  counts = m.counts;
+  outgoing = outgoing_of act;
+}
+
+abbrev pub next_mind : ClientModel → ClientModel
+next_mind m = hands_out (finish m) (next_act m)
+
+-- with what the act carries again
+abbrev pub with_act_again : ClientModel → Act → ClientModel
+with_act_again m act = record {
+  code = m.code;
+  size = m.size;
+  ticket = m.ticket;
+  client = with_act m.client act;
+  entries = m.entries;
+  traces = m.traces;
+  syncs = m.syncs;
+  counts = m.counts;
+  outgoing = outgoings.Nothing;
+}
+
+-- the last act, for which nothing is left to be done, asks for something to come
+abbrev pub Asks : ClientModel → Act → Type 0
+Asks m act = (m.outgoing ≡ outgoings.Nothing) × (act_due m ≡ act)
+
+abbrev pub locals_at : ClientStage → Locals
+locals_at (between l) = l
+locals_at (runs rest) = []
+locals_at (full h rest) = []
+locals_at (awaits h rest) = []
+locals_at (leaves h hs l) = l
+
+abbrev pub enters : ClientModel → Ticket → Locals → ClientModel
+enters m t l = record {
+  code = m.code;
+  size = m.size;
+  ticket = t;
+  client = m.client;
+  entries = m.entries ++ l ∷ [];
+  traces = m.traces;
+  syncs = m.syncs;
+  counts = m.counts;
+  outgoing = m.outgoing;
+}
+
+-- its next block was reserved, which begins with these variables
+abbrev pub mind_after_begin_with : ClientModel → Ticket → Locals → ClientModel
+mind_after_begin_with m t l =
+    comes_to (enters m t l) (begin (settings_of m) t (code_at m.code t.index).reserved m.client (tree_at m.code t.index l))
+
+abbrev pub mind_after_begin : ClientModel → Ticket → ClientModel
+mind_after_begin m t = mind_after_begin_with m t (locals_at m.client.stage)
+
+-- the object came
+abbrev pub mind_after_object : ClientModel → HeldState → ClientModel
+mind_after_object m x = comes_to m (take_object (settings_of m) m.ticket (reserved_by m) m.client x m.client.stage)
+
+-- an empty chunk for h came
+abbrev pub mind_after_chunk : ClientModel → ℕ → ClientModel
+mind_after_chunk m h = comes_to m (take_chunk (settings_of m) m.ticket (reserved_by m) m.client h m.client.stage)
+
+abbrev pub is_between : ClientStage → Bool
+is_between (between l) = true
+is_between (runs rest) = false
+is_between (full h rest) = false
+is_between (awaits h rest) = false
+is_between (leaves h hs l) = false
+
+-- the blocks that have ended: the last End of each was sent
+abbrev pub blocks_ended : Client → ℕ
+blocks_ended m = if is_between m.stage then m.begun else m.begun - 1
+
+-- before the first block, with all variables 0
+abbrev pub fresh_mind : ClientCode → ℕ → ClientModel
+fresh_mind code size = record {
+  code = code;
+  size = size;
+  ticket = record { client = 0; index = 0 };
+  client = first_client zeros;
+  entries = [];
+  traces = replicate (length code.blocks) [];
+  syncs = 0;
+  counts = fresh_rows (lists_of code.blocks);
+  outgoing = outgoings.Nothing;
+}
+
+-- whether a client's block has ended
+abbrev pub has_ended : Client → ℕ → Bool
+has_ended m k = nat_lt (suc k) m.begun || (nat_eq (suc k) m.begun && is_between m.stage)

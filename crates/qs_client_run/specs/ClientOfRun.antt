@@ -1,0 +1,64 @@
+-- A client as contracts see it, and as what it does next is defined.
+use Rattle.std.specs.Prelude.{◌≡◌, ℕ, suc, List, ◌++◌, length, drop, Option, Some, None, slice_index_or}
+use Rattle.qs_objects.specs.declared.held.Event.{Event}
+use Rattle.qs_objects.specs.declared.held.Ticket.{Ticket}
+use Rattle.qs_objects.specs.declared.Request.{Request}
+use Rattle.qs_program.specs.Values.{Locals}
+use Rattle.qs_graph.specs.Nodes.{Place as GraphPlace}
+use Rattle.qs_graph.specs.Steps.{limit}
+use Rattle.qs_graph.specs.Synced.{Synced}
+use Rattle.qs_graph.specs.Walk.{walk}
+use Rattle.qs_chunk.specs.Batch.{Batch}
+use Rattle.qs_client_run.specs.Client.{Client, Settings, Settlement, ClientStage, settle, between, runs, full, awaits, leaves}
+use Rattle.qs_client_run.specs.Running.{IsStopped, KeepsRows}
+use Rattle.qs_client_run.specs.Holdings.{HoldingsState, held_at, chunk_at}
+use Rattle.qs_objects.specs.Traces.{trace_at}
+use Rattle.qs_client_run.specs.declared.stage.Stage.{Stage}
+use Rattle.qs_client_run.specs.declared.run.Run.{Run}
+use Rattle.qs_client_run.specs.declared.stage.Stage.TheVariants as stages
+
+abbrev pub items_of : Option (Batch Request) → Option (List Request)
+items_of None = None
+items_of (Some b) = Some b.items
+
+-- a client with these hands, that has begun so many blocks and stands here
+abbrev pub client_with : ℕ → ClientStage → HoldingsState → Client
+client_with begun place s = record { begun = begun; stage = place; held = held_at s; chunk = λ h. items_of (chunk_at s h) }
+
+-- where it stands, in a block with this list of handlers whose rest is this
+abbrev pub stage_by : Stage → List ℕ → Synced → Locals → ClientStage
+stage_by stages.Between reserved rest l = between l
+stage_by stages.Runs reserved rest l = runs rest
+stage_by (stages.Full h) reserved rest l = full h rest
+stage_by (stages.Awaits h) reserved rest l = awaits h rest
+stage_by (stages.Leaves i) reserved rest l = leaves (slice_index_or reserved i 0) (drop (suc i) reserved) l
+
+abbrev pub stage_of : List GraphPlace → List ℕ → Run → ClientStage
+stage_of g reserved s = stage_by s.stage reserved (walk g limit s.position) s.position.locals
+
+abbrev pub client_of : List GraphPlace → List ℕ → ℕ → Run → Client
+client_of g reserved begun s = client_with begun (stage_of g reserved s) s.holdings
+
+-- a client and the trace of its block
+pub record ClientProgress : Type 0 where
+  pub client : Client
+  pub trace : List Event
+
+abbrev pub progress_after : List Event → Settlement → ClientProgress
+progress_after before s = record { client = s.client; trace = before ++ s.events }
+
+-- all that a client does to its own values up to its next act, with the trace so far, where this tree is to come
+abbrev pub progress_through : Settings → Ticket → List ℕ → ℕ → ClientStage → Synced → Run → ClientProgress
+progress_through settings ticket reserved begun p tree s =
+    progress_after (trace_at s.traces ticket.index).events (settle settings ticket reserved tree (client_with begun p s.holdings))
+
+abbrev pub progress_at : List GraphPlace → List ℕ → ℕ → ℕ → Run → ClientProgress
+progress_at g reserved begun k s = record { client = client_of g reserved begun s; trace = (trace_at s.traces k).events }
+
+-- from the old state within n nodes of the block's end a client has come to its next act: it makes no quiet move, and has done all that it does
+-- to its own values up to there
+pub record HasSettled (g : List GraphPlace) (settings : Settings) (ticket : Ticket) (reserved : List ℕ) (begun : ℕ) (p : ClientStage) (n : ℕ) (old new : Run) : Type 0 where
+  pub stopped : IsStopped g reserved settings.size ticket.index n new new.stage
+  pub rows : KeepsRows ticket.index old.traces new.traces
+  pub counts : length new.position.counts ≡ length old.position.counts
+  pub same : progress_through settings ticket reserved begun p (walk g n old.position) old ≡ progress_at g reserved begun ticket.index new

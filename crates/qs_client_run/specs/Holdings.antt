@@ -1,0 +1,26 @@
+-- The objects that a client holds and its open chunks, by the handlers' numbers.
+use Rattle.std.specs.Prelude.{ℕ, List, Option, None, replicate, slice_index_or, slice_set}
+use Rattle.qs_objects.specs.Journals.{HeldState}
+use Rattle.qs_objects.specs.declared.Request.{Request}
+use Rattle.qs_program.specs.Limits.{most_handlers}
+use Rattle.qs_chunk.specs.Batch.{Batch}
+
+-- for each of 8 handlers the object, where it is held, and the open chunk, where there is one
+pub record HoldingsState : Type 0 where
+  pub held : List (Option HeldState)
+  pub chunks : List (Option (Batch Request))
+
+abbrev pub held_at : HoldingsState → ℕ → Option HeldState
+held_at s h = slice_index_or s.held h None
+
+abbrev pub chunk_at : HoldingsState → ℕ → Option (Batch Request)
+chunk_at s h = slice_index_or s.chunks h None
+
+abbrev pub with_held : HoldingsState → ℕ → Option HeldState → HoldingsState
+with_held s h x = record { held = slice_set s.held h x; chunks = s.chunks }
+
+abbrev pub with_chunk : HoldingsState → ℕ → Option (Batch Request) → HoldingsState
+with_chunk s h c = record { held = s.held; chunks = slice_set s.chunks h c }
+
+abbrev pub no_holdings : HoldingsState
+no_holdings = record { held = replicate most_handlers None; chunks = replicate most_handlers None }

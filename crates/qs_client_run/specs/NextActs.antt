@@ -1,0 +1,80 @@
+-- What a client in a block hands out with its next act, by its data.
+use Rattle.std.specs.Prelude.{◌≡◌, ◌<◌, ℕ, Option, Some, None}
+use Rattle.qs_objects.specs.Journals.{HeldState}
+use Rattle.qs_objects.specs.declared.Request.{Request}
+use Rattle.qs_graph.specs.Walk.{Move, Calls, Syncs}
+use Rattle.qs_syncset.specs.Codes.{BlockCode}
+use Rattle.qs_chunk.specs.Batch.{Batch}
+use Rattle.qs_chunk.specs.declared.parcel.Parcel.TheVariants as parcels
+use Rattle.qs_client_run.specs.Client.{Settings, act_of}
+use Rattle.qs_client_run.specs.Holdings.{HoldingsState, held_at, chunk_at, with_held, with_chunk}
+use Rattle.qs_client_run.specs.ClientOfRun.{client_of}
+use Rattle.qs_client_run.specs.BetweenActs.{IsOutgoingAt, IsStanding, without_act, outgoing_of}
+use Rattle.qs_client_run.specs.declared.act.Act.{Act}
+use Rattle.qs_client_run.specs.declared.act.Act.TheVariants.{Send, NeedChunk, Finished}
+use Rattle.qs_client_run.specs.declared.run.Run.{Run}
+use Rattle.qs_client_run.specs.declared.stage.Stage.{Stage}
+use Rattle.qs_client_run.specs.declared.stage.Stage.TheVariants as stages
+use Rattle.qs_client_run.specs.declared.act.Act.TheVariants as acts
+
+-- with the object, it goes home; else with an open chunk, the chunk goes; else this
+abbrev pub clear_by : ℕ → Option HeldState → Option (Batch Request) → Act → Act
+clear_by h (Some x) c other = Send h (parcels.Home x)
+clear_by h None (Some b) other = Send h (parcels.Work b)
+clear_by h None None other = other
+
+abbrev pub clear : HoldingsState → ℕ → Act → Act
+clear s h other = clear_by h (held_at s h) (chunk_at s h) other
+
+-- without what went
+abbrev pub without_by : HoldingsState → ℕ → Option HeldState → HoldingsState
+without_by s h (Some x) = with_held s h None
+without_by s h None = with_chunk (with_held s h None) h None
+
+abbrev pub without : HoldingsState → ℕ → HoldingsState
+without s h = without_by s h (held_at s h)
+
+-- at a node
+abbrev pub act_by : HoldingsState → Move → Act
+act_by s (Calls r t) = clear s r.object (NeedChunk r.object)
+act_by s (Syncs h t) = clear s h (Send h parcels.Sync)
+act_by s m = Finished
+
+abbrev pub holdings_by : HoldingsState → Move → HoldingsState
+holdings_by s (Calls r t) = without s r.object
+holdings_by s (Syncs h t) = without s h
+holdings_by s m = s
+
+-- a full chunk goes
+abbrev pub send_full : ℕ → Option (Batch Request) → Act
+send_full h (Some b) = Send h (parcels.Work b)
+send_full h None = Finished
+
+-- with these hands
+abbrev pub with_holdings : Run → HoldingsState → Run
+with_holdings s holdings = record { position = s.position; holdings = holdings; traces = s.traces; stage = s.stage }
+
+-- a client in a block is in one of so many
+abbrev pub IsInside : Stage → ℕ → ℕ → Type 0
+IsInside stages.Between k blocks = Unit {0}
+IsInside stage k blocks = k < blocks
+
+-- the client as its next act comes: without what the act carries, and else as it was
+pub record HasActed (b : BlockCode) (settings : Settings) (blocks k begun most : ℕ) (given : Act) (old new : Run) : Type 0 where
+  pub act : given ≡ act_of settings blocks (client_of b.graph b.reserved begun old)
+  pub rest : client_of b.graph b.reserved begun new ≡ without_act (client_of b.graph b.reserved begun old) given
+  pub position : new.position ≡ old.position
+  pub traces : new.traces ≡ old.traces
+  pub stage : new.stage ≡ old.stage
+  pub standing : IsStanding b settings.size k most new new.stage
+  pub gone : IsOutgoingAt b.graph (outgoing_of given) new new.stage
+
+-- a client in a block that has this to do next
+pub record Wants (b : BlockCode) (settings : Settings) (blocks k begun most : ℕ) (s : Run) (wanted : Act) : Type 0 where
+  pub standing : IsStanding b settings.size k most s s.stage
+  pub act : act_of settings blocks (client_of b.graph b.reserved begun s) ≡ wanted
+
+-- an act that sends nothing
+abbrev pub SendsNothing : Act → Type 0
+SendsNothing (acts.Send h p) = ⊥
+SendsNothing act = Unit {0}
