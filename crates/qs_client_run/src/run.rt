@@ -12,8 +12,8 @@ ghost use Rattle.qs_client_run.specs.ClientOfRun.{HasSettled};
 ghost use Rattle.qs_client_run.specs.declared.stage.Stage.TheVariants as stages;
 
 use crate::holdings::Holdings;
-use crate::stage::Stage;
 use crate::position::Position;
+use crate::stage::Stage;
 use qs_graph::{Graph, Node, bound};
 use qs_objects::{Event, Ticket, Traces};
 use qs_program::Call;
@@ -175,7 +175,8 @@ impl Run {
                 true
             }
             Node::Branch(choice) => {
-                self.position.choose(*choice, next, graph.second_target(node));
+                self.position
+                    .choose(*choice, next, graph.second_target(node));
                 true
             }
         }

@@ -14,7 +14,7 @@ use Rattle.qs_meaning.specs.Following.{reserves, block_tree, AsksOnly}
 use Rattle.qs_program.specs.Program.{ProgramShape, blocks_of}
 use Rattle.qs_meaning.specs.Serial.{zeros}
 use Rattle.qs_program.specs.Values.{Locals}
-use Rattle.qs_meaning.proofs.Histories.{Page, Begins}
+use Rattle.qs_meaning.specs.BlockRecords.{Page, Begins}
 use Rattle.qs_graph.specs.Synced.{Synced, erased}
 use Rattle.qs_syncset.specs.SoundSynced.{IsSoundSynced, IsOnReserved}
 use Rattle.qs_chunk.specs.LaneViews.{Standing, sends, gone}

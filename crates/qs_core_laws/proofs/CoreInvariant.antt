@@ -7,13 +7,14 @@ use Rattle.qs_objects.specs.declared.held.Ticket.{Ticket}
 use Rattle.qs_meaning.specs.Following.{reserves}
 use Rattle.qs_program.specs.Program.{ProgramShape}
 use Rattle.qs_meaning.specs.Serial.{IsLegal, zeros}
-use Rattle.qs_meaning.proofs.Histories.{Page, Begins, IsDone}
+use Rattle.qs_meaning.specs.BlockRecords.{Page, Begins, IsDone}
 use Rattle.qs_chunk.specs.LaneViews.{Standing, gone, ClientLane}
 use Rattle.qs_chunk.specs.declared.parcel.Parcel.{Parcel}
 use Rattle.qs_client_run.specs.Client.{between}
 use Rattle.qs_played.specs.Played.{ticket}
 use Rattle.qs_played.proofs.Orders.{counts_after}
-use Rattle.qs_protocol.proofs.ClientInvariants.{HasNone, IsOpenPage, PlaceOk, standing_at}
+use Rattle.qs_protocol.proofs.ClientInvariants.{PlaceOk, standing_at}
+use Rattle.qs_protocol.specs.ClientHistories.{HasNone, IsOpenPage}
 use Rattle.qs_protocol.proofs.ObjectViews.{as_list, ObjectView, ClientLog, HandlerLog, IsObject}
 use Rattle.qs_played.specs.JournalRooms.{fresh_held}
 use Rattle.qs_core_laws.specs.Core.{Core}

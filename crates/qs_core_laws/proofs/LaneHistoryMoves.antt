@@ -6,13 +6,13 @@ use Rattle.qs_objects.specs.declared.held.Ticket.{Ticket}
 use Rattle.qs_objects.proofs.Choices.{ticket_cases}
 use Rattle.qs_program.specs.Program.{ProgramShape}
 use Rattle.qs_program.specs.Values.{Locals}
-use Rattle.qs_meaning.proofs.Histories.{Page, Begins, IsDone}
+use Rattle.qs_meaning.specs.BlockRecords.{Page, Begins, IsDone}
 use Rattle.qs_meaning.specs.Interaction as tree
 use Rattle.qs_chunk.specs.LaneViews.{Standing, gone, ClientLane}
 use Rattle.qs_chunk.specs.declared.parcel.Parcel.{Parcel}
 use Rattle.qs_played.specs.Played.{ticket}
 use Rattle.qs_played.proofs.FunctionUpdate.{put_at, put_at_here, put_at_there}
-use Rattle.qs_protocol.proofs.ClientInvariants.{IsOpenPage}
+use Rattle.qs_protocol.specs.ClientHistories.{IsOpenPage}
 use Rattle.qs_core_laws.proofs.CoreInvariant.{LaneHistory, TicketOk}
 
 -- a client's last ticket comes before none of its tickets

@@ -10,7 +10,8 @@ use Rattle.qs_objects.specs.declared.held.Ticket.{Ticket}
 use Rattle.qs_objects.proofs.Choices.{apart_eqb, num_cases, ticket_cases, ticket_path, same_self}
 use Rattle.qs_meaning.specs.Solo.{put}
 use Rattle.qs_meaning.proofs.Each.{each_map, each_front, each_kept}
-use Rattle.qs_meaning.proofs.Histories.{Among, Page}
+use Rattle.qs_meaning.proofs.Histories.{Among}
+use Rattle.qs_meaning.specs.BlockRecords.{Page}
 use Rattle.qs_meaning.proofs.TreeWalks.{put_here, put_there}
 use Rattle.qs_meaning.specs.Following.{reserves}
 use Rattle.qs_program.specs.Program.{ProgramShape}

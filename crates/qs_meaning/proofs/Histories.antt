@@ -12,31 +12,13 @@ use Rattle.qs_objects.specs.declared.held.Ticket.{Ticket}
 use Rattle.qs_objects.specs.declared.Request.{Request}
 use Rattle.qs_objects.proofs.Choices.{same_self, not_same}
 use Rattle.qs_objects.proofs.ObjectLaws.{never_answers}
+use Rattle.qs_meaning.specs.BlockRecords.{Page, IsDone, IsPage}
 use Rattle.qs_meaning.specs.Following.{Leads, block_tree}
 use Rattle.qs_meaning.specs.Interaction.{Interaction, Done, Call, Query}
 use Rattle.qs_program.specs.Program.{ProgramShape}
 use Rattle.qs_meaning.specs.Serial.{zeros}
 use Rattle.qs_program.specs.Values.{Locals}
 use Rattle.qs_meaning.proofs.Each.{each_map, each_join, flat_map_same, flat_map_none}
-
--- what is known of a reservation: the variables at entry, the trace so far, and what is left of the block
-pub record Page : Type 0 where
-  pub entry : Locals
-  pub trace : List Event
-  pub rest : Interaction
-
-abbrev pub IsDone : Interaction → Type 0
-IsDone (Done l) = Unit {0}
-IsDone (Call r next) = ⊥
-IsDone (Query r next) = ⊥
-
-abbrev pub IsPage : ProgramShape → Ticket → Page → Type 0
-IsPage p t pg = Leads (block_tree p t pg.entry) pg.trace pg.rest
-
--- a block begins with what the client's block before it left
-abbrev pub Begins : (Ticket → Page) → ℕ → ℕ → Locals → Type 0
-Begins page c zero l = l ≡ zeros
-Begins page c (suc k) l = (page (record { client = c; index = k })).rest ≡ Done l
 
 abbrev pub parts_of : (Ticket → Page) → ℕ → Ticket → List Event
 parts_of page h t = part h (page t).trace

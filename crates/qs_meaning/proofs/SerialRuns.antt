@@ -19,7 +19,8 @@ use Rattle.qs_meaning.specs.Solo.{States, Outcome, put, solo}
 use Rattle.qs_program.specs.Sound.{IsSound}
 use Rattle.qs_program.specs.Values.{Locals}
 use Rattle.qs_meaning.proofs.Each.{each_map, each_both, each_join}
-use Rattle.qs_meaning.proofs.Histories.{Page, IsPage, IsDone, Begins, parts_of, done_of, Apart, OnlyCommands, Piece, Line, Flow, ClearOf, clear_stamped, clear_later, commands_honest, has_append, has_clear, unstamp_all}
+use Rattle.qs_meaning.proofs.Histories.{parts_of, done_of, Apart, OnlyCommands, Piece, Line, Flow, ClearOf, clear_stamped, clear_later, commands_honest, has_append, has_clear, unstamp_all}
+use Rattle.qs_meaning.specs.BlockRecords.{Page, IsPage, IsDone, Begins}
 use Rattle.qs_meaning.proofs.SoundTrees.{blocks_ask_only}
 use Rattle.qs_meaning.proofs.TreeWalks.{put_here, put_there, changed_all_at, honest_traces_run, run_leads, unnamed, untouched}
 use Rattle.qs_meaning.proofs.Trees.{trees_agree}

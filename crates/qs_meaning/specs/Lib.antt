@@ -8,3 +8,4 @@ pub mod Alike
 pub mod StateKinds
 pub mod MeaningExamples
 pub mod AlikeExamples
+pub mod BlockRecords

@@ -14,7 +14,8 @@ use Rattle.qs_meaning.specs.Serial.{IsLegal, LegalFrom, declared}
 use Rattle.qs_meaning.specs.Solo.{put}
 use Rattle.qs_program.specs.Sound.{IsSound}
 use Rattle.qs_meaning.proofs.Each.{each_map, each_both, each_join}
-use Rattle.qs_meaning.proofs.Histories.{Among, Begins, Apart, Flow, IsDone, IsPage, Line, NoQuery, done_of, parts_of}
+use Rattle.qs_meaning.proofs.Histories.{Among, Apart, Flow, Line, NoQuery, done_of, parts_of}
+use Rattle.qs_meaning.specs.BlockRecords.{Begins, IsDone, IsPage}
 use Rattle.qs_meaning.proofs.SerialRuns.{legal_apart, line}
 use Rattle.qs_meaning.proofs.SoundTrees.{blocks_ask_only}
 use Rattle.qs_meaning.proofs.TreeWalks.{unnamed}

@@ -25,7 +25,7 @@ use Rattle.qs_meaning.specs.Solo.{put, event, value_of}
 use Rattle.qs_program.specs.Sound.{IsSound, is_in}
 use Rattle.qs_program.specs.Values.{Locals}
 use Rattle.qs_program.proofs.Bounds.{sound_block}
-use Rattle.qs_meaning.proofs.Histories.{Begins}
+use Rattle.qs_meaning.specs.BlockRecords.{Begins}
 use Rattle.qs_meaning.proofs.TreeWalks.{put_here, put_there}
 use Rattle.qs_played.specs.Played.{ticket}
 use Rattle.qs_played.specs.JournalRooms.{room_of}

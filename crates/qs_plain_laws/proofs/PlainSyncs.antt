@@ -15,7 +15,8 @@ use Rattle.qs_program.specs.Program.{ProgramShape, blocks_of, text_of}
 use Rattle.qs_meaning.specs.Serial.{IsLegal}
 use Rattle.qs_meaning.specs.Solo.{value_of}
 use Rattle.qs_program.specs.Sound.{IsSound}
-use Rattle.qs_meaning.proofs.Histories.{Among, IsPage}
+use Rattle.qs_meaning.proofs.Histories.{Among}
+use Rattle.qs_meaning.specs.BlockRecords.{IsPage}
 use Rattle.qs_meaning.proofs.Each.{each_map}
 use Rattle.qs_meaning.proofs.SoundTrees.{blocks_ask_only}
 use Rattle.qs_syncset.specs.SyncCounts.{asks, queries}

@@ -11,7 +11,8 @@ use Rattle.qs_meaning.specs.Interaction.{Interaction, Query}
 use Rattle.qs_program.specs.Program.{ProgramShape, text_of}
 use Rattle.qs_meaning.specs.Solo.{event, value_of}
 use Rattle.qs_meaning.proofs.Each.{each_map, each_front, each_back, each_kept}
-use Rattle.qs_meaning.proofs.Histories.{IsPage, parts_of}
+use Rattle.qs_meaning.proofs.Histories.{parts_of}
+use Rattle.qs_meaning.specs.BlockRecords.{IsPage}
 use Rattle.qs_meaning.proofs.RequestPaths.{requests_within}
 use Rattle.qs_meaning.proofs.TreeWalks.{leads_query, part_snoc_here}
 use Rattle.qs_played.specs.JournalRooms.{room_of}

@@ -15,7 +15,8 @@ use Rattle.qs_meaning.specs.Solo.{put, event, value_of}
 use Rattle.qs_program.specs.Sound.{IsSound}
 use Rattle.qs_program.specs.Values.{Locals}
 use Rattle.qs_meaning.proofs.Each.{each_map, each_both, each_snoc}
-use Rattle.qs_meaning.proofs.Histories.{Page, IsPage, IsDone, Begins, Among, parts_of, done_of, advance}
+use Rattle.qs_meaning.proofs.Histories.{Among, parts_of, done_of, advance}
+use Rattle.qs_meaning.specs.BlockRecords.{Page, IsPage, IsDone, Begins}
 use Rattle.qs_meaning.proofs.SoundTrees.{blocks_ask_only}
 use Rattle.qs_meaning.proofs.TreeWalks.{put_here, put_there, leads_call, leads_query, asks_rest, part_snoc_here, part_snoc_there}
 use Rattle.qs_played.proofs.Orders.{legal-more, counts-more, each_among}

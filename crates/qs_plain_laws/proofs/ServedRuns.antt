@@ -14,7 +14,8 @@ use Rattle.qs_program.specs.Program.{ProgramShape}
 use Rattle.qs_meaning.specs.Serial.{IsLegal, declared}
 use Rattle.qs_meaning.specs.Solo.{put, event, value_of}
 use Rattle.qs_program.specs.Values.{Locals}
-use Rattle.qs_meaning.proofs.Histories.{Page, IsPage, Begins, Apart, NoQuery, parts_of, done_of, advance}
+use Rattle.qs_meaning.proofs.Histories.{Apart, NoQuery, parts_of, done_of, advance}
+use Rattle.qs_meaning.specs.BlockRecords.{Page, IsPage, Begins}
 use Rattle.qs_played.proofs.Orders.{counts_after}
 use Rattle.qs_played.proofs.FunctionUpdate.{put_at}
 

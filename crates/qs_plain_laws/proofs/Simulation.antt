@@ -19,7 +19,8 @@ use Rattle.qs_meaning.specs.Solo.{put, event, value_of}
 use Rattle.qs_program.specs.Sound.{IsSound}
 use Rattle.qs_program.specs.Values.{Locals}
 use Rattle.qs_meaning.proofs.Each.{each_map, each_kept, each_back, each_passes, every, map_same}
-use Rattle.qs_meaning.proofs.Histories.{Page, IsPage, IsDone, Begins, Among, Apart, advance}
+use Rattle.qs_meaning.proofs.Histories.{Among, Apart, advance}
+use Rattle.qs_meaning.specs.BlockRecords.{Page, IsPage, IsDone, Begins}
 use Rattle.qs_meaning.proofs.TreeWalks.{put_here, put_there}
 use Rattle.qs_played.specs.Played.{ticket}
 use Rattle.qs_played.specs.JournalRooms.{room_of}

@@ -18,7 +18,8 @@ use Rattle.qs_program.specs.Program.{ProgramShape, blocks_of}
 use Rattle.qs_meaning.specs.Serial.{IsLegal, serial, declared}
 use Rattle.qs_program.specs.Sound.{IsSound}
 use Rattle.qs_meaning.proofs.Each.{each_map, zip_at}
-use Rattle.qs_meaning.proofs.Histories.{Among, Begins, Flow, InTurn, IsDone, IsPage, Line, NoQuery, OnlyCommands, Page, PartIs, Through, Told, parts_of, told}
+use Rattle.qs_meaning.proofs.Histories.{Among, Flow, InTurn, Line, NoQuery, OnlyCommands, PartIs, Through, Told, parts_of, told}
+use Rattle.qs_meaning.specs.BlockRecords.{Begins, IsDone, IsPage, Page}
 use Rattle.qs_meaning.proofs.SerialRuns.{Agrees, legal_apart, line, runs_serially}
 use Rattle.qs_played.specs.Isolation.{IsFitting, IsIsolated, IsLine, IsPlace, IsWhole, ended_of, entry_of, journal_of, no_place, place_of, queries_of, state_of, ticket_at, trace_of}
 use Rattle.qs_played.specs.Played.{ticket}

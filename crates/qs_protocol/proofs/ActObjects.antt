@@ -9,7 +9,7 @@ use Rattle.qs_program.specs.Program.{ProgramShape}
 use Rattle.qs_meaning.specs.Solo.{put, value_of}
 use Rattle.qs_program.specs.Sound.{is_in}
 use Rattle.qs_program.specs.Values.{Locals}
-use Rattle.qs_meaning.proofs.Histories.{Page}
+use Rattle.qs_meaning.specs.BlockRecords.{Page}
 use Rattle.qs_graph.specs.Synced.{Synced, Done, Call, Sync, Query}
 use Rattle.qs_chunk.specs.LaneViews.{asks, gone}
 use Rattle.qs_chunk.specs.declared.parcel.Parcel.{Parcel}
@@ -17,7 +17,8 @@ use Rattle.qs_chunk.specs.declared.parcel.Parcel.TheVariants as parcels
 use Rattle.qs_client_run.specs.declared.act.Act.TheVariants.{Reserve, Send, Await, NeedChunk, Finished}
 use Rattle.qs_client_run.specs.Client.{Client, ClientStage, Settings, between, runs, full, awaits, leaves, stop_at, act_at, act_of, leave, call, query, settle, after_home, after_work, after_sync, after_end, after_parcel, take_chunk}
 use Rattle.qs_client_run.specs.Client as clients
-use Rattle.qs_protocol.proofs.ClientInvariants.{in_hand, apart_from, PlaceOk, standing_at}
+use Rattle.qs_protocol.proofs.ClientInvariants.{in_hand, PlaceOk, standing_at}
+use Rattle.qs_protocol.specs.ClientHistories.{apart_from}
 use Rattle.qs_protocol.proofs.ActKinds.{outside_not_send, outside_not_await, outside_not_need, call_object, clears_object, full_object, need_object, call_not_await, clears_not_await, full_not_await, clears_not_need, full_not_need, call_not_reserve, clears_not_reserve, full_not_reserve, in_hand_gone}
 
 or_true : (b : Bool) → (b ≡ false → ⊥) → b ≡ true

@@ -4,13 +4,9 @@ use Rattle.std.proofs.Common.{subst, ⊎_elim, append_assoc, append-nil, get_or-
 use Rattle.std.proofs.Math.ListN.{get_or-append}
 use Rattle.std.proofs.lemmas.List.{get_or_push}
 use Rattle.qs_objects.proofs.Choices.{eqb_apart, apart_eqb, num_cases}
+use Rattle.qs_protocol.specs.ClientHistories.{upto}
 use Rattle.qs_meaning.specs.Solo.{put}
 use Rattle.qs_meaning.proofs.TreeWalks.{put_here, put_there}
-
--- the first n lists, joined
-abbrev pub upto : {A : Type 0} → (ℕ → List A) → ℕ → List A
-upto f zero = []
-upto f (suc n) = upto f n ++ f n
 
 pub upto_same : {A : Type 0} (f g : ℕ → List A) (n : ℕ) → ((k : ℕ) → k < n → f k ≡ g k) → upto f n ≡ upto g n
 upto_same f g zero e = refl

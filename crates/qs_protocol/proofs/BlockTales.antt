@@ -13,7 +13,7 @@ use Rattle.qs_meaning.specs.Following.{AsksOnly, reserves, block_tree}
 use Rattle.qs_meaning.specs.Interaction as tree
 use Rattle.qs_meaning.specs.Serial.{zeros}
 use Rattle.qs_meaning.specs.Solo.{put}
-use Rattle.qs_meaning.proofs.Histories.{Page, Begins, IsDone}
+use Rattle.qs_meaning.specs.BlockRecords.{Page, Begins, IsDone}
 use Rattle.qs_meaning.proofs.TreeWalks.{put_here, put_there}
 use Rattle.qs_graph.specs.Synced.{Synced, erased}
 use Rattle.qs_syncset.specs.SoundSynced.{IsSoundSynced, IsOnReserved}
@@ -25,18 +25,12 @@ use Rattle.qs_client_run.specs.declared.act.Act.TheVariants.{Send, Await, NeedCh
 use Rattle.qs_played.specs.Played.{ticket}
 use Rattle.qs_played.proofs.FunctionUpdate.{put_all, put_both, put_kept}
 use Rattle.qs_protocol.proofs.ActObjects.{await_at, chunk_begun, got_begun, send_at, sent_begun, settle_begun}
-use Rattle.qs_protocol.proofs.BlockLists.{after_not, before_not, upto, upto_more, upto_new}
-use Rattle.qs_protocol.proofs.ClientInvariants.{HasNone, IsOpenPage, Leaving, Lined, PlaceOk, apart_from, listed}
+use Rattle.qs_protocol.proofs.BlockLists.{after_not, before_not, upto_more, upto_new}
+use Rattle.qs_protocol.specs.ClientHistories.{upto}
+use Rattle.qs_protocol.proofs.ClientInvariants.{Leaving, Lined, PlaceOk, listed}
+use Rattle.qs_protocol.specs.ClientHistories.{BlockTold, HasNone, IsOpenPage, apart_from}
 use Rattle.qs_protocol.proofs.ClientLogs.{books_ok, chunks_ok, gets_ok, sends_ok}
 use Rattle.qs_protocol.proofs.SilentSteps.{Ends}
-
-module _ (program : ProgramShape) (c : ℕ) where
-  -- a block that is over: its page, and for each object what was sent and got
-  pub record BlockTold (k : ℕ) (pg : Page) (sent : ℕ → List Parcel) (got : ℕ → List HeldState) : Type 0 where
-    pub page : IsOpenPage program (ticket c k) pg
-    pub done : IsDone pg.rest
-    pub lanes : (h : ℕ) → ClientLane (ticket c k) false (sent h) (got h) (part h pg.trace) (apart_from program (ticket c k) h)
-    pub outside : (h : ℕ) → reserves program (ticket c k) h ≡ false → (sent h ≡ []) × (got h ≡ [])
 
 -- what is known of a block: its page, what was sent to each object and what was got from it
 pub record Block : Type 0 where

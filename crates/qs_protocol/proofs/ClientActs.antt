@@ -11,7 +11,7 @@ use Rattle.qs_program.specs.Program.{ProgramShape}
 use Rattle.qs_meaning.specs.Solo.{put}
 use Rattle.qs_program.specs.Sound.{is_in}
 use Rattle.qs_program.specs.Values.{Locals}
-use Rattle.qs_meaning.proofs.Histories.{Page}
+use Rattle.qs_meaning.specs.BlockRecords.{Page}
 use Rattle.qs_graph.specs.Synced.{Synced, Call, Sync}
 use Rattle.qs_syncset.specs.SoundSynced.{IsSoundSynced}
 use Rattle.qs_chunk.specs.Batch.{batch}
@@ -20,7 +20,8 @@ use Rattle.qs_chunk.specs.declared.parcel.Parcel.{Parcel}
 use Rattle.qs_chunk.specs.declared.parcel.Parcel.TheVariants as parcels
 use Rattle.qs_client_run.specs.Client.{Client, Settings, work}
 use Rattle.qs_played.proofs.FunctionUpdate.{put_all, put_both}
-use Rattle.qs_protocol.proofs.ClientInvariants.{in_hand, NotBoth, holding, apart_from, Ready, Waiting, Leaving}
+use Rattle.qs_protocol.proofs.ClientInvariants.{in_hand, NotBoth, holding, Ready, Waiting, Leaving}
+use Rattle.qs_protocol.specs.ClientHistories.{apart_from}
 use Rattle.qs_protocol.proofs.LaneMoves.{Goes, lane_goes, goes_work, goes_sync, goes_got, goes_home, goes_end}
 use Rattle.qs_protocol.proofs.SilentSteps.{sound_more}
 

@@ -9,10 +9,11 @@ use Rattle.qs_program.specs.Program.{ProgramShape, text_of}
 use Rattle.qs_meaning.specs.Solo.{put}
 use Rattle.qs_program.specs.Sound.{is_in}
 use Rattle.qs_program.specs.Values.{Locals}
-use Rattle.qs_meaning.proofs.Histories.{Page, IsPage}
+use Rattle.qs_meaning.specs.BlockRecords.{Page, IsPage}
 use Rattle.qs_meaning.specs.Interaction as tree
 use Rattle.qs_graph.specs.Synced.{Synced, Done, Call, Sync, Query, erased}
 use Rattle.qs_syncset.specs.SoundSynced.{IsSoundSynced, IsOnReserved}
+use Rattle.qs_protocol.specs.ClientHistories.{HasNone, IsOpenPage, apart_from}
 use Rattle.qs_chunk.specs.LaneViews.{Standing, sends, asks, holds, gone, ClientLane}
 use Rattle.qs_chunk.specs.declared.parcel.Parcel.{Parcel}
 use Rattle.qs_client_run.specs.Client.{Client, ClientStage, between, runs, full, awaits, leaves}
@@ -29,9 +30,6 @@ NotBoth m h = (m.held h ≡ None) ⊎ (m.chunk h ≡ None)
 abbrev pub holding : Client → ℕ → Bool
 holding m h = is_some (m.held h)
 
-abbrev pub HasNone : Client → ℕ → Type 0
-HasNone m h = (m.held h ≡ None) × (m.chunk h ≡ None)
-
 -- the objects of a ticket's block
 abbrev pub listed : ProgramShape → Ticket → List ℕ
 listed p t = (text_of p t).reserved
@@ -47,15 +45,6 @@ Stops (Done l) = ⊥
 Stops (Call r next) = Unit {0}
 Stops (Sync h next) = Unit {0}
 Stops (Query r next) = ⊥
-
--- a page whose rest asks within the block's list
-pub record IsOpenPage (p : ProgramShape) (t : Ticket) (pg : Page) : Type 0 where
-  pub path : IsPage p t pg
-  pub fine : AsksOnly (reserves p t) pg.rest
-
--- left, or not reserved at all
-abbrev pub apart_from : ProgramShape → Ticket → ℕ → Standing
-apart_from p t h = if reserves p t h then gone else sends []
 
 module _ (p : ProgramShape) (t : Ticket) (sent : ℕ → List Parcel) (got : ℕ → List HeldState) where
   abbrev pub Lanes : Page → (ℕ → Standing) → Type 0

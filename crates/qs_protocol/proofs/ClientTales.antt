@@ -12,7 +12,7 @@ use Rattle.qs_program.specs.Values.{Locals}
 use Rattle.qs_meaning.specs.Following.{AsksOnly, reserves, block_tree}
 use Rattle.qs_meaning.specs.Serial.{zeros}
 use Rattle.qs_meaning.specs.Solo.{put}
-use Rattle.qs_meaning.proofs.Histories.{Page, Begins}
+use Rattle.qs_meaning.specs.BlockRecords.{Page, Begins}
 use Rattle.qs_graph.specs.Synced.{erased}
 use Rattle.qs_syncset.specs.Codes.{ClientCode, code_at}
 use Rattle.qs_syncset.specs.SoundSynced.{IsSoundSynced, IsOnReserved}
@@ -27,9 +27,12 @@ use Rattle.qs_client.specs.ClientRuns as deeds
 use Rattle.qs_client.specs.ClientModel.{ClientModel, act_due, mind_after_begin, mind_after_chunk, finish, enters, fresh_mind, mind_after_object, hands_out, is_between, tally, tree_at}
 use Rattle.qs_played.specs.Played.{no_events, ticket}
 use Rattle.qs_protocol.proofs.ActObjects.{chunk_begun, got_begun, not_await, not_need, not_send, reserve_at, sent_begun, settle_begun}
-use Rattle.qs_protocol.proofs.BlockLists.{row_push, row_set, upto}
-use Rattle.qs_protocol.proofs.BlockTales.{BlockTold, Telling, chunk_told, get_told, in_block, nothing_told, reserve_told, rests, retold, send_told}
-use Rattle.qs_protocol.proofs.ClientInvariants.{HasNone, Lined, listed}
+use Rattle.qs_protocol.proofs.BlockLists.{row_push, row_set}
+use Rattle.qs_protocol.specs.ClientHistories.{upto}
+use Rattle.qs_protocol.proofs.BlockTales.{Telling, chunk_told, get_told, in_block, nothing_told, reserve_told, rests, retold, send_told}
+use Rattle.qs_protocol.specs.ClientHistories.{BlockTold, Tale}
+use Rattle.qs_protocol.proofs.ClientInvariants.{Lined, listed}
+use Rattle.qs_protocol.specs.ClientHistories.{HasNone}
 use Rattle.qs_protocol.proofs.DeedJoins.{got_join, reservations_join, sent_join}
 use Rattle.qs_protocol.proofs.FullChunks.{ComesFull, HasFull, chunk_full, finished_all, finished_at, got_full, reserves_more, sent_full, settle_full}
 use Rattle.qs_protocol.proofs.MindSteps.{came, chunk_does, deeds_keep, done_still, get_does, reserve_does, send_does}
@@ -40,23 +43,6 @@ entry_rows m k = slice_index_or m.entries k []
 
 abbrev pub trace_rows : ClientModel → ℕ → List Event
 trace_rows m k = slice_index_or m.traces k []
-
--- what one client's whole run says
-pub record Tale (program : ProgramShape) (c : ℕ) (code : ClientCode) (deeds : List Deed) (end : ClientModel) : Type 0 where
-  pub page : ℕ → Page
-  pub sent : ℕ → ℕ → List Parcel
-  pub got : ℕ → ℕ → List HeldState
-  pub begun : end.client.begun ≡ length code.blocks
-  pub reserved : reservations deeds ≡ length code.blocks
-  pub between : is_between end.client.stage ≡ true
-  pub hands : (h : ℕ) → HasNone end.client h
-  pub first : length code.blocks ≡ 0 → end.client.stage ≡ clients.between zeros
-  pub blocks : (k : ℕ) → k < length code.blocks → BlockTold program c k (page k) (sent k) (got k)
-  pub begins : (k : ℕ) → k < length code.blocks → Begins (λ (t : Ticket). page t.index) c k (page k).entry
-  pub entries : (k : ℕ) → k < length code.blocks → slice_index_or end.entries k [] ≡ (page k).entry
-  pub traces : (k : ℕ) → k < length code.blocks → slice_index_or end.traces k [] ≡ (page k).trace
-  pub sent_is : (h : ℕ) → sent_to h deeds ≡ upto (λ k. sent k h) (length code.blocks)
-  pub got_is : (h : ℕ) → got_from h deeds ≡ upto (λ k. got k h) (length code.blocks)
 
 module _ (program : ProgramShape) (fine : (t : Ticket) (l : Locals) → AsksOnly (reserves program t) (block_tree program t l))
     (lined : (t : Ticket) → Lined (reserves program t) (listed program t)) (c : ℕ) (code : ClientCode) (size : ℕ)

@@ -8,7 +8,7 @@ use Rattle.qs_objects.specs.declared.Request.{Request}
 use Rattle.qs_program.specs.Program.{ProgramShape}
 use Rattle.qs_program.specs.Values.{Locals}
 use Rattle.qs_meaning.specs.Solo.{put, value_of}
-use Rattle.qs_meaning.proofs.Histories.{Page}
+use Rattle.qs_meaning.specs.BlockRecords.{Page}
 use Rattle.qs_meaning.proofs.TreeWalks.{put_here}
 use Rattle.qs_graph.specs.Synced.{Synced, Done, Call, Sync, Query}
 use Rattle.qs_chunk.specs.declared.parcel.Parcel.{Parcel}

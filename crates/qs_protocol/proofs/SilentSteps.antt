@@ -14,7 +14,8 @@ use Rattle.qs_program.specs.Program.{ProgramShape}
 use Rattle.qs_meaning.specs.Solo.{event, put, value_of}
 use Rattle.qs_program.specs.Sound.{is_in}
 use Rattle.qs_program.specs.Values.{Locals}
-use Rattle.qs_meaning.proofs.Histories.{Page, advance}
+use Rattle.qs_meaning.proofs.Histories.{advance}
+use Rattle.qs_meaning.specs.BlockRecords.{Page}
 use Rattle.qs_meaning.proofs.TreeWalks.{leads_call, leads_query, part_snoc_here, part_snoc_there, put_there}
 use Rattle.qs_graph.specs.Synced.{Synced, Done, Call, Sync, Query, erased}
 use Rattle.qs_syncset.specs.SoundSynced.{IsSoundSynced}
@@ -22,7 +23,8 @@ use Rattle.qs_chunk.specs.LaneViews.{sends, holds, ClientLane}
 use Rattle.qs_chunk.specs.declared.parcel.Parcel.{Parcel}
 use Rattle.qs_client_run.specs.Client.{Client, ClientStage, Settings, Settlement, between, runs, full, leaves, stop_at, with_event, leave, call, query, settle}
 use Rattle.qs_played.proofs.FunctionUpdate.{put_all}
-use Rattle.qs_protocol.proofs.ClientInvariants.{in_hand, holding, listed, Lined, apart_from, Ready, Leaving, PlaceOk}
+use Rattle.qs_protocol.proofs.ClientInvariants.{in_hand, holding, listed, Lined, Ready, Leaving, PlaceOk}
+use Rattle.qs_protocol.specs.ClientHistories.{apart_from}
 use Rattle.qs_protocol.proofs.LaneMoves.{lane_goes, goes_put, goes_ask}
 
 pub put_more : (s s' : ℕ → Bool) → ((h : ℕ) → s h ≡ true → s' h ≡ true) → (n : ℕ) (b : Bool) (h : ℕ) → put s n b h ≡ true → put s' n b h ≡ true

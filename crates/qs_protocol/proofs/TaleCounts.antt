@@ -38,7 +38,8 @@ use Rattle.qs_protocol.proofs.BlockLists.{after_not, before_not, row_push, row_s
 use Rattle.qs_protocol.proofs.BlockTales.{rests}
 use Rattle.qs_protocol.proofs.ClientCounts.{CountAt, Counts, Even, Over, chunk_counts, got_counts, send_counts, settle_counts}
 use Rattle.qs_protocol.proofs.ClientInvariants.{Lined, listed}
-use Rattle.qs_protocol.proofs.ClientTales.{InTale, Tale, asks, entry_rows, fresh_tale, getting, in_tale_block, inside, own, own_is, reserves_between}
+use Rattle.qs_protocol.proofs.ClientTales.{InTale, asks, entry_rows, fresh_tale, getting, in_tale_block, inside, own, own_is, reserves_between}
+use Rattle.qs_protocol.specs.ClientHistories.{Tale}
 use Rattle.qs_protocol.proofs.ClientTales.{reserving, sending, taking, trace_rows}
 use Rattle.qs_protocol.proofs.MindSteps.{came, chunk_does, deeds_keep, done_still, get_does, reserve_does, send_does}
 

@@ -8,11 +8,12 @@ use Rattle.qs_objects.specs.declared.held.Event.{Event}
 use Rattle.qs_objects.specs.declared.held.Ticket.{Ticket}
 use Rattle.qs_program.specs.Program.{ProgramShape}
 use Rattle.qs_meaning.specs.Following.{reserves}
-use Rattle.qs_meaning.proofs.Histories.{Flow, IsDone, Line, Page, done_of, parts_of}
+use Rattle.qs_meaning.proofs.Histories.{Flow, Line, done_of, parts_of}
+use Rattle.qs_meaning.specs.BlockRecords.{IsDone, Page}
 use Rattle.qs_chunk.specs.LaneViews.{ClientLane, Extends, gone, sends}
 use Rattle.qs_chunk.specs.declared.parcel.Parcel.{Parcel}
 use Rattle.qs_played.proofs.JournalRooms.{total}
-use Rattle.qs_protocol.proofs.ClientInvariants.{apart_from}
+use Rattle.qs_protocol.specs.ClientHistories.{apart_from}
 use Rattle.qs_protocol.proofs.LaneWholes.{match_over}
 use Rattle.qs_protocol.proofs.ObjectViews.{PastOf}
 use Rattle.qs_core_laws.proofs.JournalOrder.{Grown, grown, grown_room, stamped_honest, stamped_replay}

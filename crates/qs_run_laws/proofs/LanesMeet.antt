@@ -20,7 +20,7 @@ use Rattle.qs_client.specs.ClientRuns.{got_from, reservations, sent_to}
 use Rattle.qs_played.specs.Played.{ticket}
 use Rattle.qs_played.proofs.JournalRooms.{no_block_beyond}
 use Rattle.qs_played.proofs.ReservedObjects.{reserved_inside}
-use Rattle.qs_protocol.proofs.BlockLists.{upto}
+use Rattle.qs_protocol.specs.ClientHistories.{upto}
 use Rattle.qs_protocol.proofs.ObjectViews.{PastOf}
 use Rattle.qs_played.specs.JournalRooms.{fresh_held}
 use Rattle.qs_core_laws.specs.Core.{AreCodes}

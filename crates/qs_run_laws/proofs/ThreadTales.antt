@@ -28,7 +28,8 @@ use Rattle.qs_played.proofs.JournalRooms.{no_block_beyond}
 use Rattle.qs_played.proofs.ReservedObjects.{reserved_inside}
 use Rattle.qs_played.proofs.SyncLists.{legal_blocks}
 use Rattle.qs_protocol.proofs.ClientInvariants.{listed}
-use Rattle.qs_protocol.proofs.ClientTales.{Tale, told}
+use Rattle.qs_protocol.proofs.ClientTales.{told}
+use Rattle.qs_protocol.specs.ClientHistories.{Tale}
 use Rattle.qs_protocol.proofs.TaleCounts.{TaleCounts, in_counts, told_counts}
 use Rattle.qs_played.specs.JournalRooms.{fresh_held}
 use Rattle.qs_core_laws.specs.Core.{AreCodes}

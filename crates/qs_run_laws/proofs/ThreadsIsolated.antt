@@ -14,7 +14,8 @@ use Rattle.qs_program.specs.Values.{Locals}
 use Rattle.qs_meaning.specs.Following.{block_tree}
 use Rattle.qs_meaning.specs.Serial.{declared, no_state}
 use Rattle.qs_meaning.proofs.Each.{each_map}
-use Rattle.qs_meaning.proofs.Histories.{Among, Begins, Flow, IsPage, Page}
+use Rattle.qs_meaning.proofs.Histories.{Among, Flow}
+use Rattle.qs_meaning.specs.BlockRecords.{Begins, IsPage, Page}
 use Rattle.qs_meaning.proofs.RequestPaths.{requests_within}
 use Rattle.qs_meaning.proofs.SerialRuns.{line}
 use Rattle.qs_syncset.specs.Codes.{ClientCode}
