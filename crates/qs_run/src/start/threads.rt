@@ -91,8 +91,10 @@ fn run_clients<D: DeskName + Send + Sync, R: Threads + Wait + Sync>(
             ensures ran { IfSome result (λ workers. AllZip ClientHasRun (ready.items ++ worker ∷ []) workers.items × (vec_len workers ≡ vec_len ready + 1) × (vec_capacity workers ≡ vec_capacity room)) }
         {
             let promise = ClientPromise(Snapshot::of(&worker));
-            let Ok(handle) = scope.spawn_with(promise, move || client_work(rt, latch, front, worker))
-            else {
+            let Ok(handle) = scope.spawn_with(
+                promise,
+                move || client_work(rt, latch, front, worker),
+            ) else {
                 latch.open(rt, false);
                 return None;
             };
@@ -143,8 +145,10 @@ fn run_handlers<D: DeskName + Send + Sync, G: Gate, R: Threads + Wait + Sync>(
             ensures closed { IfSome result (λ results. results.desk.closed ≡ true) }
         {
             let promise = HandlerPromise(Snapshot::of(&worker));
-            let Ok(handle) = scope.spawn_with(promise, move || handler_work(rt, gate, latch, worker))
-            else {
+            let Ok(handle) = scope.spawn_with(
+                promise,
+                move || handler_work(rt, gate, latch, worker),
+            ) else {
                 latch.open(rt, false);
                 return None;
             };
