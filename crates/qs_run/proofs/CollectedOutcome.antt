@@ -1,4 +1,6 @@
--- All that is needed of a run whose workers have left: what is moved out of the seats and of the desk is an outcome.
+-- What `collect_outcome` shows is an outcome. Its calls say what each of them did, one after another, and change the desk's name for itself and
+-- the handlers on the way; here all of it is said of the desk and the workers as they were in the beginning, and the lemmas on
+-- these are brought together.
 use Rattle.std.proofs.Common.{◌≡◌, ◌≤◌, ℕ, List, length, map, sym, ap, ◌∙◌, subst}
 use Rattle.std.specs.List.{AllByRecursion}
 use Rattle.qs_objects.specs.Act.{State}
@@ -21,7 +23,7 @@ use Rattle.qs_run.proofs.CollectedWorkers.{all_collected, journals_still, states
 use Rattle.qs_run.proofs.ShownOutcome.{have_rows, outcome, short}
 use Rattle.qs_run.proofs.CollectedRun.{IsCollected}
 
--- what these lists show is an outcome, and can be shown
+-- what these lists show is an outcome, and it can be shown
 pub record IsShowable (p : ProgramShape) (mode : Mode) (order : List Ticket) (rows : List ClientRows) (journals : List (List Entry)) (states : List State) : Type 0 where
   pub few : length order ≤ most_tickets
   pub rows_there : HaveRows rows order
@@ -31,27 +33,27 @@ pub record IsShowable (p : ProgramShape) (mode : Mode) (order : List Ticket) (ro
 module _ {D : Type 0} (p : ProgramShape) (sound : IsSound p) (mode : Mode) (size : ℕ) (handlers : List (HandlerWorker D)) (clients : List (ClientWorker D))
     (ran : HaveRun p mode size handlers clients) where
   by_collected : (order : List Ticket) → IsCollected p order handlers clients → IsShowable p mode order (map rows_of clients) (map journal_of handlers) (map state_of handlers)
-  by_collected order met = record {
-    few = orders.short p order sound met.legal;
-    rows_there = have_rows p sound mode size order handlers clients ran met;
-    short_rows = short p sound mode size order handlers clients ran met;
-    is_outcome = outcome p sound mode size order handlers clients ran met;
+  by_collected order joined = record {
+    few = orders.short p order sound joined.legal;
+    rows_there = have_rows p sound mode size order handlers clients ran joined;
+    short_rows = short p sound mode size order handlers clients ran joined;
+    is_outcome = outcome p sound mode size order handlers clients ran joined;
   }
 
-  -- the desk before, after the clients and after the handlers left; the handlers before, and with their lanes left
+  -- the desk before, after the clients and after the handlers were collected; the handlers before, and without their lanes
   pub all_showable : (before after last : DeskView) (old left : List (HandlerWorker D)) (n : ℕ) (order : List Ticket) (rows : List ClientRows)
       (journals : List (List Entry)) (states : List State)
       → old ≡ handlers → after ≡ before → last ≡ after → left ≡ map (without_lanes_below n) old
       → AllByRecursion (IsBooked before.history) clients → AreAllJoined old clients → AllByRecursion (HasTakenAll p after.history) left
       → order ≡ last.history → IsLegal p last.history → rows ≡ map rows_of clients → journals ≡ map journal_of left → states ≡ map state_of left
       → IsShowable p mode order rows journals states
-  all_showable before after last old left n order rows journals states old_is after_is last_is cut_is booked met followed order_is legal rows_are journals_are states_are =
+  all_showable before after last old left n order rows journals states old_is after_is last_is left_is booked joined taken_all order_is legal rows_are journals_are states_are =
       let desk : last ≡ before = last_is ∙ after_is in
-      let cut_of : left ≡ map (without_lanes_below n) handlers = cut_is ∙ ap (map (without_lanes_below n)) old_is in
+      let left_of : left ≡ map (without_lanes_below n) handlers = left_is ∙ ap (map (without_lanes_below n)) old_is in
       let all = all_collected p before.history n handlers left clients (subst (λ (d : DeskView). IsLegal p d.history) desk legal) booked
-      (subst (λ hs. AreAllJoined hs clients) old_is met) cut_of (subst (λ (d : DeskView). AllByRecursion (HasTakenAll p d.history) left) after_is followed) in
+      (subst (λ hs. AreAllJoined hs clients) old_is joined) left_of (subst (λ (d : DeskView). AllByRecursion (HasTakenAll p d.history) left) after_is taken_all) in
       let orders_are : order ≡ before.history = order_is ∙ ap (λ (d : DeskView). d.history) desk in
-      let journals_of : journals ≡ map journal_of handlers = journals_are ∙ (ap (map journal_of) cut_of ∙ journals_still n handlers) in
-      let states_of : states ≡ map state_of handlers = states_are ∙ (ap (map state_of) cut_of ∙ states_still n handlers) in
+      let journals_of : journals ≡ map journal_of handlers = journals_are ∙ (ap (map journal_of) left_of ∙ journals_still n handlers) in
+      let states_of : states ≡ map state_of handlers = states_are ∙ (ap (map state_of) left_of ∙ states_still n handlers) in
       subst (λ (q : List Ticket × (List ClientRows × (List (List Entry) × List State))). IsShowable p mode q.0 q.1.0 q.1.1.0 q.1.1.1)
       (λ i. (sym orders_are i, (sym rows_are i, (sym journals_of i, sym states_of i)))) (by_collected before.history all)

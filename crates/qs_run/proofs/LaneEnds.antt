@@ -1,4 +1,6 @@
--- Ends of lanes in their places, as clients and handlers are gone through.
+-- The ends of lanes in their places while they are made. One loop goes through the clients and the other through the handlers of a client; the
+-- lanes so far are there and the places of the others are empty, and each new end changes its own place alone. In the end all lanes of
+-- the program are there, and beyond its clients and handlers there is none.
 use Rattle.std.proofs.Common.{◌≡◌, ℕ, ◌+◌, ◌<◌, ◌≤◌, Bool, false, List, Option, None, length, sym, subst, ◌∙◌, inl, inr, below_more, arith}
 use Rattle.std.proofs.lemmas.Bool.{cases_lt}
 use Rattle.qs_program.specs.Program.{ProgramShape}
@@ -13,7 +15,7 @@ ends_moved : (size : ℕ) (wanted : Bool) (out placed_out : Option OutView) (ins
 ends_moved size wanted out placed_out inside placed_in ends is_out is_in =
     subst (λ o. AreNewEnds size wanted o placed_in) (sym is_out) (subst (λ i. AreNewEnds size wanted out i) (sym is_in) ends)
 
--- no ends, where there is to be no lane
+-- there are no ends where no lane is wanted
 no_ends : (size : ℕ) (wanted : Bool) (out : Option OutView) (inside : Option InView) → wanted ≡ false → out ≡ None → inside ≡ None
     → AreNewEnds size wanted out inside
 no_ends size wanted out inside unwanted no_out no_in =

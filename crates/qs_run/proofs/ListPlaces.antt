@@ -1,10 +1,12 @@
 -- What is at the places of lists. The contracts of this crate say of all handlers, or of all clients, what holds at each place of a list, and
 -- the loops go through lists from the front, push to the end, or change one place after another. These lemmas say how each such step
 -- changes what holds at the places; they know nothing of workers.
-use Rattle.std.proofs.Common.{◌≡◌, ◌<◌, ◌≤◌, ◌+◌, ℕ, zero, suc, List, [], ◌∷◌, ◌++◌, Option, Some, None, length, map, drop, get_or, slice_get, slice_set, refl, sym, ap, ◌∙◌, subst, arith, add-one}
+use Rattle.std.proofs.Common.{◌≡◌, ◌<◌, ◌≤◌, ◌+◌, ℕ, zero, suc, List, [], ◌∷◌, ◌++◌, Option, Some, None, length, map, drop, get_or, slice_get, slice_set, refl, sym, ap, ap₂, ◌∙◌, subst, arith, add-one}
+use Rattle.std.proofs.lemmas.List.{length_push}
 use Rattle.std.proofs.lemmas.Option.{none-some, same_Some, slice_get-map, slice_get_read}
 use Rattle.std.specs.List.{AllByRecursion, AllZip}
 use Rattle.std.specs.Option.{option_map}
+use Rattle.qs_run.specs.Workers.{IsListOf}
 
 -- what holds of each member holds of the member at a place
 pub all_at : {X : Type 0} (P : X → Type 0) (xs : List X) (i : ℕ) (x : X) → AllByRecursion P xs → slice_get xs i ≡ Some x → P x
@@ -28,6 +30,15 @@ pushed P [] y each last zero x is = subst (P 0) (same_Some y x is) last
 pushed P [] y each last (suc i) x is = absurd (none-some x is)
 pushed P (z ∷ zs) y each last zero x is = each 0 x is
 pushed P (z ∷ zs) y each last (suc i) x is = pushed (λ k. P (suc k)) zs y (λ k v at. each (suc k) v at) last i x is
+
+-- and so a list of n members becomes one of n + 1
+pub one_more : {X : Type 0} (P : ℕ → X → Type 0) (n : ℕ) (xs more : List X) (put x : X) → IsListOf n P xs → P n x → put ≡ x → more ≡ xs ++ put ∷ []
+    → IsListOf (n + 1) P more
+one_more P n xs more put x before here same is = record {
+  many = ap length is ∙ length_push xs put ∙ ap (λ k. k + 1) before.many;
+  each = subst (λ ys. (i : ℕ) (y : _) → slice_get ys i ≡ Some y → P i y) (sym is)
+      (pushed P xs put before.each (subst (λ k. P k put) (sym before.many) (subst (P n) (sym same) here)));
+}
 
 -- the first of what is left of a list from place i on is its member there
 pub at_front : {X : Type 0} (xs : List X) (i : ℕ) (x : X) (rest : List X) → drop i xs ≡ x ∷ rest → slice_get xs i ≡ Some x
@@ -54,6 +65,11 @@ map_back f (x ∷ xs) (suc i) y e = map_back f xs i y e
 
 pub map_get : {X Y : Type 0} (f : X → Y) (xs : List X) (i : ℕ) (x : X) → slice_get xs i ≡ Some x → slice_get (map f xs) i ≡ Some (f x)
 map_get f xs i x e = slice_get-map f xs i ∙ ap (option_map f) e
+
+-- what is read of each member is as it was, where members changed in something else
+pub map_still : {X Y : Type 0} (f : X → Y) (g : X → X) → ((x : X) → f (g x) ≡ f x) → (xs : List X) → map f (map g xs) ≡ map f xs
+map_still f g same [] = refl
+map_still f g same (x ∷ xs) = ap₂ (λ y ys. y ∷ ys) (same x) (map_still f g same xs)
 
 -- Two lists that are related place by place.
 module _ {X Y : Type 0} (R : X → Y → Type 0) where

@@ -1,9 +1,10 @@
--- What is shown of a run, by the rows of its clients and the objects of its handlers, is what the law of running threads shows of it.
+-- What is shown of the workers' rows, journals and states is what the law of running threads shows of their run, so it is an outcome
+-- (`IsOutcome`). And it can be shown: each block of the order has its row, and its counts are few enough to be added up. The law speaks
+-- of functions of numbers and the code has lists, so the two are compared place by place.
 use Rattle.std.proofs.Common.{◌≡◌, ◌<◌, ◌≤◌, ℕ, zero, suc, true, List, [], ◌∷◌, length, map, get_or, slice_get, refl, sym, ap, ◌∙◌, subst, arith}
 use Rattle.std.proofs.lemmas.List.{get_or-map, length-map}
-use Rattle.std.proofs.lemmas.List.Elements.{length_all_zip}
 use Rattle.std.proofs.lemmas.List.FromFn.{fill_by_all}
-use Rattle.std.specs.List.{AllByRecursion, range_with_len}
+use Rattle.std.specs.List.{range_with_len}
 use Rattle.std.specs.Prelude.{sum_by}
 use Rattle.qs_objects.specs.Journals.{HeldState}
 use Rattle.qs_objects.specs.declared.held.Ticket.{Ticket}
@@ -26,12 +27,12 @@ use Rattle.qs_run_laws.specs.Outcomes.{IsOutcome}
 use Rattle.qs_run_laws.specs.ThreadRuns.{ThreadRun, counts_by, shown_by}
 use Rattle.qs_run_laws.proofs.ClientRowsEnd.{HasRow, rows_there}
 use Rattle.qs_run_laws.proofs.RunOutcomes.{runs_have_outcomes}
-use Rattle.qs_run.specs.Workers.{ClientHasRun, HandlerHasServed, HaveRun}
+use Rattle.qs_run.specs.Workers.{HaveRun}
 use Rattle.qs_run.specs.declared.worker.ClientWorker.{ClientWorker}
 use Rattle.qs_run.specs.declared.worker.HandlerWorker.{HandlerWorker}
 use Rattle.qs_run.specs.Collected.{AreCountsShort, journal_of, shown_when_over, rows_of, state_of}
 use Rattle.qs_run.proofs.ListPlaces.{from_places}
-use Rattle.qs_run.proofs.CollectedRun.{IsCollected, code, codes, held_in, mind_in, threads, threads_run}
+use Rattle.qs_run.proofs.CollectedRun.{IsCollected, clients_many, code, codes, handlers_many, held_in, mind_in, threads, threads_run}
 
 abbrev pub mind_rows : ClientModel → ClientRows
 mind_rows m = record { traces = m.traces; entries = m.entries; counts = m.counts }
@@ -39,35 +40,29 @@ mind_rows m = record { traces = m.traces; entries = m.entries; counts = m.counts
 module _ {D : Type 0} where
   rows_are : (cs : List (ClientWorker D)) (c : ℕ) → rows_at (map rows_of cs) c ≡ mind_rows (mind_in (slice_get cs c))
   rows_are [] c = refl
-  rows_are (s ∷ cs) zero = refl
-  rows_are (s ∷ cs) (suc c) = rows_are cs c
+  rows_are (w ∷ cs) zero = refl
+  rows_are (w ∷ cs) (suc c) = rows_are cs c
 
   held_at : {X : Type 0} (f : HeldState → X) (d : X) (x : HeldState) (hs : List (HandlerWorker D)) (h : ℕ) → h < length hs
-      → get_or (map (λ (s : HandlerWorker D). f s.held) hs) h d ≡ f (held_in x (slice_get hs h))
+      → get_or (map (λ (w : HandlerWorker D). f w.held) hs) h d ≡ f (held_in x (slice_get hs h))
   held_at f d x [] h lt = absurd (omega (arith, lt))
-  held_at f d x (s ∷ hs) zero lt = refl
-  held_at f d x (s ∷ hs) (suc h) lt = held_at f d x hs h (omega (arith, lt))
+  held_at f d x (w ∷ hs) zero lt = refl
+  held_at f d x (w ∷ hs) (suc h) lt = held_at f d x hs h (omega (arith, lt))
 
 module _ {D : Type 0} (p : ProgramShape) (sound : IsSound p) (mode : Mode) (size : ℕ) (order : List Ticket) (handlers : List (HandlerWorker D))
-    (clients : List (ClientWorker D)) (ran : HaveRun p mode size handlers clients) (met : IsCollected p order handlers clients) where
+    (clients : List (ClientWorker D)) (ran : HaveRun p mode size handlers clients) (joined : IsCollected p order handlers clients) where
   abbrev r : ThreadRun
-  r = threads p sound mode size order handlers clients ran met
+  r = threads p sound mode size order handlers clients ran joined
 
   abbrev rows : List ClientRows
   rows = map rows_of clients
 
-  all_handlers : length handlers ≡ length p.objects
-  all_handlers = sym (length_all_zip (HandlerHasServed p) ran.before_handlers handlers ran.served) ∙ ran.ready.all_handlers
-
-  all_clients : length clients ≡ length p.clients
-  all_clients = sym (length_all_zip ClientHasRun ran.before_clients clients ran.ran) ∙ ran.ready.all_clients
-
   helds_are : {X : Type 0} (f : HeldState → X) (d : X)
-      → map (λ (s : HandlerWorker D). f s.held) handlers ≡ map (λ h. f (r.held h)) (range_with_len 0 (length p.objects))
+      → map (λ (w : HandlerWorker D). f w.held) handlers ≡ map (λ h. f (r.held h)) (range_with_len 0 (length p.objects))
   helds_are f d =
-      fill_by_all (λ h. f (r.held h)) (map (λ (s : HandlerWorker D). f s.held) handlers) (length p.objects) d
-      (length-map handlers (λ (s : HandlerWorker D). f s.held) ∙ all_handlers)
-      (λ h own. held_at f d (fresh_held p h) handlers h (let all = all_handlers in omega (arith, own, all)))
+      fill_by_all (λ h. f (r.held h)) (map (λ (w : HandlerWorker D). f w.held) handlers) (length p.objects) d
+      (length-map handlers (λ (w : HandlerWorker D). f w.held) ∙ handlers_many p mode size handlers clients ran)
+      (λ h own. held_at f d (fresh_held p h) handlers h (let many = handlers_many p mode size handlers clients ran in omega (arith, own, many)))
 
   shown_are : shown_when_over order rows (map journal_of handlers) (map state_of handlers) ≡ shown_by p r
   shown_are =
@@ -87,8 +82,8 @@ module _ {D : Type 0} (p : ProgramShape) (sound : IsSound p) (mode : Mode) (size
 
   law : IsOutcome p mode (shown_by p r)
   law =
-      runs_have_outcomes p sound mode (code p sound mode size order handlers clients ran met) (codes p sound mode size order handlers clients ran met) size r
-      (threads_run p sound mode size order handlers clients ran met)
+      runs_have_outcomes p sound mode (code p sound mode size order handlers clients ran joined) (codes p sound mode size order handlers clients ran joined) size r
+      (threads_run p sound mode size order handlers clients ran joined)
 
   pub outcome : IsOutcome p mode (shown_when_over order rows (map journal_of handlers) (map state_of handlers))
   outcome = subst (IsOutcome p mode) (sym shown_are) law
@@ -96,12 +91,12 @@ module _ {D : Type 0} (p : ProgramShape) (sound : IsSound p) (mode : Mode) (size
   pub have_rows : HaveRows rows order
   have_rows i d few =
       let t = get_or order i d in
-      let all = rows_there p sound mode (code p sound mode size order handlers clients ran met) (codes p sound mode size order handlers clients ran met) size r
-      (threads_run p sound mode size order handlers clients ran met) in
+      let all = rows_there p sound mode (code p sound mode size order handlers clients ran joined) (codes p sound mode size order handlers clients ran joined) size r
+      (threads_run p sound mode size order handlers clients ran joined) in
       let here = AllByRecursion-get_or (λ (t : Ticket). (t.client < length p.clients) × HasRow (r.mind t.client) t.index) order i d all few in
       let own = here.0 in
       let many = length-map clients rows_of in
-      let same = all_clients in
+      let same = clients_many p mode size handlers clients ran in
       record {
         client = omega (arith, own, many, same);
         entry = subst (λ (w : ClientRows). t.index < length w.entries) (sym (rows_are clients t.client)) here.1.entry;
@@ -114,7 +109,7 @@ module _ {D : Type 0} (p : ProgramShape) (sound : IsSound p) (mode : Mode) (size
   unfolding AreSyncsCounted
   short = from_places (λ (t : Ticket). length (counts_in rows t) ≤ most_objects) (ticket 0 0) order (λ i few.
       let t = ticket_at (shown_by p r) i in
-      let inside = AllByRecursion-get_or (λ (t : Ticket). t.index < blocks_of p t.client) order i (ticket 0 0) (legal_blocks p (λ _. 0) order met.legal) few in
+      let inside = AllByRecursion-get_or (λ (t : Ticket). t.index < blocks_of p t.client) order i (ticket 0 0) (legal_blocks p (λ _. 0) order joined.legal) few in
       let client = no_block_beyond p t.client (omega (arith, inside)) in
       let same : counts_in rows t ≡ counts_at (shown_by p r) i =
       ap (λ (w : ClientRows). get_or w.counts t.index []) (rows_are clients t.client) ∙ sym (get_or-map (counts_by r) order i (ticket 0 0) [] few) in

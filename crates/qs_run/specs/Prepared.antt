@@ -1,16 +1,13 @@
 -- What a run begins with: minds, objects as declared and lanes, and then the workers that are made of them.
-use Rattle.std.specs.Prelude.{◌≡◌, ℕ, Bool, List, [], Option, Some, None, is_some, length, slice_get, slice_index_or}
+use Rattle.std.specs.Prelude.{◌≡◌, ℕ, Bool, List, [], Option, None, is_some, length, slice_index_or}
 use Rattle.std.specs.List.{list_any}
-use Rattle.qs_objects.specs.Journals.{HeldState}
 use Rattle.qs_program.specs.Program.{BlockShape, ProgramShape, client_at}
 use Rattle.qs_program.specs.Sound.{is_in}
 use Rattle.qs_syncset.specs.declared.mode.Mode.{Mode}
-use Rattle.qs_client.specs.MindState.{MindState}
 use Rattle.qs_client_thread.specs.ClientThreads as running
 use Rattle.qs_handler_thread.specs.HandlerThreads as handling
 use Rattle.qs_lane.specs.Views.{InView, OutView}
-use Rattle.qs_played.specs.JournalRooms.{fresh_held}
-use Rattle.qs_run.specs.Workers.{AreOneLane, IsClientAtStart, IsClientReady, IsHandlerAtStart, IsHandlerReady, IsMindAtStart}
+use Rattle.qs_run.specs.Workers.{AreOneLane, IsClientAtStart, IsClientReady, IsHandlerAtStart, IsHandlerReady, IsListOf, IsMindAtStart, IsObjectAtStart}
 use Rattle.qs_run.specs.declared.prepare.parts.RunParts.{RunParts}
 use Rattle.qs_run.specs.declared.worker.ClientWorker.{ClientWorker}
 use Rattle.qs_run.specs.declared.worker.HandlerWorker.{HandlerWorker}
@@ -49,12 +46,10 @@ pub record AreNewEnds (size : ℕ) (wanted : Bool) (out : Option OutView) (insid
 -- A mind for each client and an object as declared for each handler, in their order; and between each client and each handler a new lane with
 -- chunks of this size, exactly where some block of the client reserves the handler.
 pub record AreRunParts (p : ProgramShape) (mode : Mode) (size : ℕ) (parts : RunParts) : Type 0 where
-  pub all_minds : length parts.minds.items ≡ length p.clients
-  pub all_helds : length parts.helds.items ≡ length p.objects
-  pub all_outs : length parts.outs.items ≡ length p.clients
-  pub all_ins : length parts.ins.items ≡ length p.objects
-  pub mind : (c : ℕ) (m : MindState) → slice_get parts.minds.items c ≡ Some m → IsMindAtStart p mode size c m
-  pub held : (h : ℕ) (x : HeldState) → slice_get parts.helds.items h ≡ Some x → x ≡ fresh_held p h
+  pub minds : IsListOf (length p.clients) (IsMindAtStart p mode size) parts.minds.items
+  pub helds : IsListOf (length p.objects) (IsObjectAtStart p) parts.helds.items
+  pub outs : length parts.outs.items ≡ length p.clients
+  pub ins : length parts.ins.items ≡ length p.objects
   pub lane : (c h : ℕ) → AreNewEnds size (ever_reserves p c h) (out_at parts.outs.items c h) (in_at parts.ins.items c h)
 
 module _ {D : Type 0} where
@@ -69,13 +64,3 @@ module _ {D : Type 0} where
     pub own : IsClientAtStart p mode size c w
     pub row : w.lanes ≡ slice_index_or outs c []
     pub ready : IsClientReady p w
-
-  -- the workers of the first n handlers
-  pub record AreHandlersOf (p : ProgramShape) (ins : List (List (Option InView))) (n : ℕ) (workers : List (HandlerWorker D)) : Type 0 where
-    pub many : length workers ≡ n
-    pub each : (h : ℕ) (w : HandlerWorker D) → slice_get workers h ≡ Some w → IsHandlerOf p ins h w
-
-  -- the workers of the first n clients
-  pub record AreClientsOf (p : ProgramShape) (mode : Mode) (size : ℕ) (outs : List (List (Option OutView))) (n : ℕ) (workers : List (ClientWorker D)) : Type 0 where
-    pub many : length workers ≡ n
-    pub each : (c : ℕ) (w : ClientWorker D) → slice_get workers c ≡ Some w → IsClientOf p mode size outs c w

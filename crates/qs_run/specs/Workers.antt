@@ -3,6 +3,7 @@
 -- their ends of lanes.
 use Rattle.std.specs.Prelude.{◌≡◌, ◌<◌, ℕ, true, List, [], length, Option, Some, None, IsSome, slice_get}
 use Rattle.std.specs.List.{AllZip}
+use Rattle.qs_objects.specs.Journals.{HeldState}
 use Rattle.qs_objects.specs.declared.held.Ticket.{Ticket}
 use Rattle.qs_program.specs.Limits.{most_clients}
 use Rattle.qs_program.specs.Program.{ProgramShape, blocks_of}
@@ -23,6 +24,15 @@ use Rattle.qs_lane.specs.Views.{InView, OutView}
 use Rattle.qs_run.specs.declared.worker.ClientWorker.{ClientWorker}
 use Rattle.qs_run.specs.declared.worker.HandlerWorker.{HandlerWorker}
 
+-- The list has n members, and P holds of each at its place.
+pub record IsListOf {X : Type 0} (n : ℕ) (P : ℕ → X → Type 0) (xs : List X) : Type 0 where
+  pub many : length xs ≡ n
+  pub each : (i : ℕ) (x : X) → slice_get xs i ≡ Some x → P i x
+
+-- The object of handler h is as declared.
+abbrev pub IsObjectAtStart : ProgramShape → ℕ → HeldState → Type 0
+IsObjectAtStart p h x = x ≡ fresh_held p h
+
 -- The mind of client c before its first block: it has the code of that client's blocks in this mode, and chunks of this size.
 pub record IsMindAtStart (p : ProgramShape) (mode : Mode) (size : ℕ) (c : ℕ) (m : MindState) : Type 0 where
   pub code : IsCodeOf p mode c (mind_of m).code
@@ -39,7 +49,7 @@ module _ {D : Type 0} where
   -- The worker is handler h of the program, and its object is as declared.
   pub record IsHandlerAtStart (p : ProgramShape) (h : ℕ) (w : HandlerWorker D) : Type 0 where
     pub number : w.tickets.handler ≡ h
-    pub object : w.held ≡ fresh_held p h
+    pub object : IsObjectAtStart p h w.held
 
   -- The worker is client c of the program, and its mind is as before its first block.
   pub record IsClientAtStart (p : ProgramShape) (mode : Mode) (size : ℕ) (c : ℕ) (w : ClientWorker D) : Type 0 where
@@ -79,12 +89,8 @@ module _ {D : Type 0} where
   -- All workers of a program before a run: one for each handler and one for each client, in their order, each of them ready, and their ends
   -- of lanes belong together in pairs.
   pub record AreReady (p : ProgramShape) (mode : Mode) (size : ℕ) (handlers : List (HandlerWorker D)) (clients : List (ClientWorker D)) : Type 0 where
-    pub all_handlers : length handlers ≡ length p.objects
-    pub all_clients : length clients ≡ length p.clients
-    pub handler : (h : ℕ) (w : HandlerWorker D) → slice_get handlers h ≡ Some w → IsHandlerAtStart p h w
-    pub client : (c : ℕ) (w : ClientWorker D) → slice_get clients c ≡ Some w → IsClientAtStart p mode size c w
-    pub handler_ready : (h : ℕ) (w : HandlerWorker D) → slice_get handlers h ≡ Some w → IsHandlerReady p w
-    pub client_ready : (c : ℕ) (w : ClientWorker D) → slice_get clients c ≡ Some w → IsClientReady p w
+    pub all_handlers : IsListOf (length p.objects) (λ h w. IsHandlerAtStart p h w × IsHandlerReady p w) handlers
+    pub all_clients : IsListOf (length p.clients) (λ c w. IsClientAtStart p mode size c w × IsClientReady p w) clients
     pub lanes : (c h : ℕ) (w : ClientWorker D) (v : HandlerWorker D) → slice_get clients c ≡ Some w → slice_get handlers h ≡ Some v
         → AreOneLane (running.lane_at w.lanes h) (handling.lane_at v.lanes c)
 

@@ -1,7 +1,7 @@
 -- The minds with which the clients end have a row for each block of the order. What is shown of a run is read from these rows, and reading a
 -- row asks that it is there. Each mind ends with as many rows as its client has blocks, and each ticket of a legal order is one of them.
-use Rattle.std.proofs.Common.{◌≡◌, ◌<◌, ◌≤◌, ◌+◌, arith, ℕ, zero, suc, map, refl, sym, ap₂, subst, length, ◌∷◌}
-use Rattle.std.specs.List.{AllByRecursion, range_with_len}
+use Rattle.std.proofs.Common.{◌<◌, arith, ℕ, sym, subst, length}
+use Rattle.std.specs.List.{AllByRecursion}
 use Rattle.qs_objects.specs.declared.held.Ticket.{Ticket}
 use Rattle.qs_program.specs.Program.{ProgramShape, blocks_of}
 use Rattle.qs_program.specs.Sound.{IsSound}

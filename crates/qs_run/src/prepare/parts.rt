@@ -1,11 +1,8 @@
 //! The parts of a run: minds, objects and lanes.
 
-ghost use Rattle.std.specs.Prelude.{◌≡◌, ℕ, ◌<◌, Some, length, slice_get, IfOk};
-ghost use Rattle.qs_client.specs.MindState.{MindState};
-ghost use Rattle.qs_objects.specs.Journals.{HeldState};
-ghost use Rattle.qs_played.specs.JournalRooms.{fresh_held};
+ghost use Rattle.std.specs.Prelude.{◌<◌, length, IfOk};
 ghost use Rattle.qs_run.specs.Prepared.{AreRunParts};
-ghost use Rattle.qs_run.specs.Workers.{IsMindAtStart};
+ghost use Rattle.qs_run.specs.Workers.{IsListOf, IsMindAtStart, IsObjectAtStart};
 
 use crate::prepare::lanes::make_lanes;
 use qs_chunk::ChunkSize;
@@ -51,8 +48,7 @@ fn make_minds(
     mode: Mode,
     size: ChunkSize,
 ) -> Result<Vec<Mind>, AllocError>
-    ensures all { IfOk result (λ minds. length minds.items ≡ length program.now.clients) }
-    ensures each { IfOk result (λ minds. (c : ℕ) (m : MindState) → slice_get minds.items c ≡ Some m → IsMindAtStart program.now mode size c m) }
+    ensures minds { IfOk result (λ minds. IsListOf (length program.now.clients) (IsMindAtStart program.now mode size) minds.items) }
 {
     program.is_sound();
     let count = program.clients();
@@ -65,8 +61,7 @@ fn make_minds(
 
 // Each object as declared, with an empty journal.
 fn make_helds(alloc: Global, program: &Program) -> Result<Vec<Held>, AllocError>
-    ensures all { IfOk result (λ helds. length helds.items ≡ length program.now.objects) }
-    ensures each { IfOk result (λ helds. (h : ℕ) (x : HeldState) → slice_get helds.items h ≡ Some x → x ≡ fresh_held program.now h) }
+    ensures helds { IfOk result (λ helds. IsListOf (length program.now.objects) (IsObjectAtStart program.now) helds.items) }
 {
     program.is_sound();
     let count = program.objects();

@@ -1,14 +1,11 @@
 //! The workers of a run, made of its parts and of what the desk has for each of them.
 
-ghost use Rattle.std.specs.Prelude.{◌≡◌, ℕ, ◌≤◌, Some, [], length, map, slice_get, vec_capacity, IfOk};
-ghost use Rattle.qs_objects.specs.Journals.{HeldState};
+ghost use Rattle.std.specs.Prelude.{◌≡◌, ℕ, ◌≤◌, [], length, map, vec_capacity, IfOk};
 ghost use Rattle.qs_program.specs.Sound.{IsSound};
-ghost use Rattle.qs_client.specs.MindState.{MindState};
 ghost use Rattle.qs_desk.specs.Lines.{tickets_at};
 ghost use Rattle.qs_desk.specs.Places.{places, share_at};
-ghost use Rattle.qs_played.specs.JournalRooms.{fresh_held};
-ghost use Rattle.qs_run.specs.Prepared.{AreClientsOf, AreHandlersOf, AreRunParts, IsNewIn, IsNewOut, ever_reserves, in_at, out_at};
-ghost use Rattle.qs_run.specs.Workers.{AreReady, IsMindAtStart};
+ghost use Rattle.qs_run.specs.Prepared.{AreRunParts, IsClientOf, IsHandlerOf, IsNewIn, IsNewOut, ever_reserves, in_at, out_at};
+ghost use Rattle.qs_run.specs.Workers.{AreReady, IsListOf, IsMindAtStart, IsObjectAtStart};
 
 use crate::prepare::RunParts;
 use crate::worker::{ClientWorker, HandlerWorker, ReadyClient, ReadyHandler};
@@ -45,11 +42,11 @@ fn add_handlers<D: DeskName>(
 )
     requires sound { IsSound D.program }
     requires room { (workers.old.items ≡ []) × (length helds.items ≤ vec_capacity workers.old) }
-    requires all { (length helds.items ≡ length D.program.objects) × (length ins.items ≡ length D.program.objects) }
-    requires helds { (h : ℕ) (x : HeldState) → slice_get helds.items h ≡ Some x → x ≡ fresh_held D.program h }
+    requires helds { IsListOf (length D.program.objects) (IsObjectAtStart D.program) helds.items }
+    requires rows { length ins.items ≡ length D.program.objects }
     requires ins { (c h : ℕ) → IsNewIn (ever_reserves D.program c h) (in_at ins.items c h) }
     requires tickets { tickets ≡ map (tickets_at D.program) places }
-    ensures workers { AreHandlersOf D.program ins.items (length D.program.objects) workers.new.items }
+    ensures workers { IsListOf (length D.program.objects) (IsHandlerOf D.program ins.items) workers.new.items }
 {
     let count = helds.len();
     let mut tickets_left = tickets;
@@ -84,11 +81,11 @@ fn add_clients<D: DeskName>(
 )
     requires sound { IsSound D.program }
     requires room { (workers.old.items ≡ []) × (length minds.items ≤ vec_capacity workers.old) }
-    requires all { (length minds.items ≡ length D.program.clients) × (length outs.items ≡ length D.program.clients) }
-    requires minds { (c : ℕ) (m : MindState) → slice_get minds.items c ≡ Some m → IsMindAtStart D.program mode size c m }
+    requires minds { IsListOf (length D.program.clients) (IsMindAtStart D.program mode size) minds.items }
+    requires rows { length outs.items ≡ length D.program.clients }
     requires outs { (c h : ℕ) → IsNewOut size (ever_reserves D.program c h) (out_at outs.items c h) }
     requires shares { shares ≡ map (share_at D.program) places }
-    ensures workers { AreClientsOf D.program mode size outs.items (length D.program.clients) workers.new.items }
+    ensures workers { IsListOf (length D.program.clients) (IsClientOf D.program mode size outs.items) workers.new.items }
 {
     let _mode = mode;
     let _size = size;

@@ -1,4 +1,4 @@
--- The desk's name: that of the desk which was made.
+-- The name of the desk is that of the desk which was made.
 use Rattle.qs_run.proofs.execution.execute.Given as goal
 
 abbrev pub ghosts-run_parts : goal.ghosts-run_parts

@@ -1,3 +1,4 @@
+-- What is known of the clients that were collected so far. The handlers have lost their ends of the lanes to them, and nothing else.
 use Rattle.std.proofs.Common.{◌≡◌, length, map, vec_capacity}
 use Rattle.std.specs.List.{AllByRecursion}
 use Rattle.qs_run.specs.Collected.{AreAllJoined, IsBooked, rows_of, without_lanes_below}

@@ -1,3 +1,4 @@
+-- What is known of the handlers that were collected so far, and the journals and states that were moved out of them.
 use Rattle.std.proofs.Common.{◌≡◌, map, vec_capacity}
 use Rattle.std.specs.List.{AllByRecursion}
 use Rattle.qs_run.specs.Collected.{HasTakenAll, journal_of, state_of}

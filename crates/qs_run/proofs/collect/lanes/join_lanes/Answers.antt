@@ -1,3 +1,4 @@
+-- Each turn of the loop joins the lane to one handler and leaves the later ones as they were, so in the end all lanes of the client are joined.
 use Rattle.std.proofs.Common.{◌≡◌, ◌≢◌, ◌<◌, None, Some, length, slice_get, ap, ◌∙◌, arith, below_more}
 use Rattle.std.proofs.lemmas.List.{get_or-set_other}
 use Rattle.std.proofs.lemmas.Option.{slice_get_within}

@@ -1,3 +1,4 @@
+-- The counts of the blocks so far are added up.
 use Rattle.std.proofs.Common.{◌≡◌, ◌≤◌, ◌*◌, sum_by, take}
 use Rattle.qs_sync_counts.specs.SyncRows.{syncs_of}
 use Rattle.qs_run.proofs.collect.show.all_syncs.Given as goal

@@ -1,3 +1,4 @@
+-- The counts so far are added up.
 use Rattle.std.proofs.Common.{◌≡◌, ◌≤◌, ◌*◌, sum, take}
 use Rattle.qs_run.proofs.collect.show.block_syncs.Given as goal
 

@@ -1,3 +1,4 @@
+-- Each turn of the loop adds that one more block has ended.
 use Rattle.std.proofs.Common.{◌<◌, ◌++◌, ◌∷◌, [], true, length, map, take, get_or, sym, ap, ◌∙◌, arith}
 use Rattle.std.proofs.lemmas.List.{map_push, take_more}
 use Rattle.qs_objects.specs.declared.held.Ticket.{Ticket}

@@ -1,3 +1,4 @@
+-- The blocks so far have ended.
 use Rattle.std.proofs.Common.{◌≡◌, true, map, take, vec_capacity}
 use Rattle.qs_run.proofs.collect.show.ended_blocks.Given as goal
 

@@ -1,3 +1,4 @@
+-- The counts that are added up are those of the blocks of the order, of which each has few.
 use Rattle.std.proofs.Common.{◌≤◌, length, map, sym, ap, ◌∙◌, subst}
 use Rattle.std.specs.List.{AllByRecursion}
 use Rattle.qs_program.specs.Limits.{most_objects}

@@ -1,3 +1,4 @@
+-- In the end the client has all of its lanes, as no block reserves a handler that the program does not have.
 use Rattle.std.proofs.Common.{arith}
 use Rattle.qs_run.proofs.LaneEnds.{all_handlers}
 use Rattle.qs_run.proofs.prepare.lanes.add_client_lanes.Goals as goal

@@ -1,3 +1,4 @@
+-- The client's lanes to the handlers so far are there, and it has no others; the lanes of other clients are as before.
 use Rattle.std.proofs.Common.{◌≡◌, ℕ, ◌<◌, ◌≤◌, None, length}
 use Rattle.qs_run.specs.Prepared.{AreNewEnds, ever_reserves, in_at, out_at}
 use Rattle.qs_run.proofs.prepare.lanes.add_client_lanes.Given as goal

@@ -1,3 +1,4 @@
+-- Each turn of the loop adds the lanes of one client and leaves those of the others, so in the end all lanes are there.
 use Rattle.std.proofs.Common.{◌∙◌, arith}
 use Rattle.qs_run.proofs.LaneEnds.{all_clients, one_client_more, rest_free}
 use Rattle.qs_run.proofs.prepare.lanes.add_lanes.Goals as goal

@@ -1,3 +1,4 @@
+-- The lanes of the clients so far are there, and the others have none.
 use Rattle.std.proofs.Common.{◌≡◌, ℕ, ◌<◌, ◌≤◌, None, length}
 use Rattle.qs_run.specs.Prepared.{AreNewEnds, ever_reserves, in_at, out_at}
 use Rattle.qs_run.proofs.prepare.lanes.add_lanes.Given as goal

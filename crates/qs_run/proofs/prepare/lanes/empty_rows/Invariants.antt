@@ -1,3 +1,4 @@
+-- The rows so far have no end in them, and there is room for the rest.
 use Rattle.std.proofs.Common.{◌≡◌, ℕ, ◌≤◌, None, length}
 use Rattle.std.specs.Prelude.{vec_capacity}
 use Rattle.qs_run.specs.Prepared.{end_at}

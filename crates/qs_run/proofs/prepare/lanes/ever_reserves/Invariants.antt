@@ -1,3 +1,4 @@
+-- None of the blocks so far reserves the handler.
 use Rattle.std.proofs.Common.{◌≡◌, false, take}
 use Rattle.std.specs.List.{list_any}
 use Rattle.qs_program.specs.Program.{BlockShape, client_at}

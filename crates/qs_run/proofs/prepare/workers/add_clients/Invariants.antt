@@ -1,7 +1,9 @@
+-- The workers of the clients so far are there. What is left of the parts begins with what belongs to the next of them.
 use Rattle.std.proofs.Common.{◌≡◌, ℕ, ◌≤◌, None, drop}
 use Rattle.std.specs.Prelude.{slice_index_or, vec_capacity}
 use Rattle.std.specs.Vec.Iter.{into_iter_items}
-use Rattle.qs_run.specs.Prepared.{AreClientsOf}
+use Rattle.qs_run.specs.Prepared.{IsClientOf}
+use Rattle.qs_run.specs.Workers.{IsListOf}
 use Rattle.qs_run.proofs.prepare.workers.add_clients.Given as goal
 
 abbrev pub invariant-loop-client : goal.invariant-loop-client
@@ -10,5 +12,5 @@ invariant-loop-client g l = record {
   minds : into_iter_items l.minds_left ≡ drop l.client l.fn.minds.items;
   outs : into_iter_items l.lanes_left ≡ drop l.client l.fn.outs.items;
   shares : (c : ℕ) → l.client ≤ c → slice_index_or l.shares_left c None ≡ slice_index_or l.fn.shares c None;
-  added : AreClientsOf g.D.DeskName.program l.fn.mode l.fn.size l.fn.outs.items l.client l.workers.items;
+  added : IsListOf l.client (IsClientOf g.D.DeskName.program l.fn.mode l.fn.size l.fn.outs.items) l.workers.items;
 }

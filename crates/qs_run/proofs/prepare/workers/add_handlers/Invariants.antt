@@ -1,7 +1,9 @@
+-- The workers of the handlers so far are there. What is left of the parts begins with what belongs to the next of them.
 use Rattle.std.proofs.Common.{◌≡◌, ℕ, ◌≤◌, None, drop}
 use Rattle.std.specs.Prelude.{slice_index_or, vec_capacity}
 use Rattle.std.specs.Vec.Iter.{into_iter_items}
-use Rattle.qs_run.specs.Prepared.{AreHandlersOf}
+use Rattle.qs_run.specs.Prepared.{IsHandlerOf}
+use Rattle.qs_run.specs.Workers.{IsListOf}
 use Rattle.qs_run.proofs.prepare.workers.add_handlers.Given as goal
 
 abbrev pub invariant-loop-handler : goal.invariant-loop-handler
@@ -10,5 +12,5 @@ invariant-loop-handler g l = record {
   helds : into_iter_items l.helds_left ≡ drop l.handler l.fn.helds.items;
   ins : into_iter_items l.lanes_left ≡ drop l.handler l.fn.ins.items;
   tickets : (h : ℕ) → l.handler ≤ h → slice_index_or l.tickets_left h None ≡ slice_index_or l.fn.tickets h None;
-  added : AreHandlersOf g.D.DeskName.program l.fn.ins.items l.handler l.workers.items;
+  added : IsListOf l.handler (IsHandlerOf g.D.DeskName.program l.fn.ins.items) l.workers.items;
 }

@@ -1,3 +1,4 @@
+-- The workers that were made of the parts of a run are ready together.
 use Rattle.qs_run.proofs.ReadyWorkers.{all_ready}
 use Rattle.qs_run.proofs.prepare.workers.make_workers.Goals as goal
 

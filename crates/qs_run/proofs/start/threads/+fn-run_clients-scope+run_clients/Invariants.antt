@@ -1,4 +1,4 @@
--- Each scope stands round the start of one client fewer.
+-- Each scope stands around the start of one client fewer, so the recursion ends.
 use Rattle.std.proofs.Common.{vec_len, ◌+◌, ◌*◌}
 use Rattle.qs_run.proofs.start.threads.+fn-run_clients-scope+run_clients.Given as goal
 
