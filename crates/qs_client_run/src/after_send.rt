@@ -7,7 +7,7 @@ ghost use Rattle.qs_client_run.specs.ClientOfRun.{HasSettled};
 ghost use Rattle.qs_client_run.specs.BetweenActs.{HasSent, IsOutgoingAt, IsStanding, leave_next, await_object};
 ghost use Rattle.qs_client_run.specs.Running.{IsRunning};
 
-use crate::run::{Run, BlockContext};
+use crate::run::{BlockContext, Run};
 use crate::stage::{Outgoing, Stage};
 use qs_graph::{Graph, Node, bound};
 use qs_objects::Ticket;

@@ -10,9 +10,9 @@ ghost use Rattle.qs_client_run.specs.ClientOfRun.{HasSettled};
 ghost use Rattle.qs_client_run.specs.Running.{IsRunning};
 
 use crate::holdings::Holdings;
+use crate::position::Position;
 use crate::run::Run;
 use crate::stage::Stage;
-use crate::position::Position;
 use qs_objects::{Ticket, Traces};
 use qs_program::MOST_VARIABLES;
 use qs_syncset::Code;

@@ -4,16 +4,16 @@
 
 mod act;
 mod acts;
+mod after_send;
 mod begin;
 mod holdings;
 pub mod laws;
+mod position;
 mod run;
 mod stage;
-mod after_send;
-mod position;
 
 pub use act::Act;
 pub use holdings::Holdings;
+pub use position::Position;
 pub use run::Run;
 pub use stage::{Outgoing, Stage};
-pub use position::Position;
