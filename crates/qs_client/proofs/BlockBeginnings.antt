@@ -1,5 +1,5 @@
 -- The beginning of a block: all is in place, and there is room for all its requests.
-use Rattle.std.proofs.Common.{◌≡◌, ℕ, zero, suc, ◌+◌, ◌-◌, ◌*◌, ◌<◌, ◌≤◌, Bool, true, false, ◌==◌, if◌then◌else◌, inl, inr, List, [], ◌∷◌, ◌++◌, is_some, length, length-append, replicate, get_or, refl, sym, ap, ◌∙◌, subst, arith, ⊎_elim}
+use Rattle.std.proofs.Common.{◌≡◌, ℕ, zero, suc, ◌+◌, ◌-◌, ◌*◌, ◌<◌, ◌≤◌, Bool, true, false, ◌==◌, if◌then◌else◌, inl, inr, List, [], ◌∷◌, ◌++◌, is_some, length, length-append, replicate, refl, sym, ap, ◌∙◌, subst, arith, ⊎_elim}
 use Rattle.std.proofs.lemmas.Bool.{cases_lt}
 use Rattle.std.proofs.lemmas.List.{length-replicate}
 use Rattle.std.proofs.Math.ListN.{get_or-eq_default}
@@ -18,7 +18,7 @@ use Rattle.qs_meaning.specs.Paths as paths
 use Rattle.qs_graph.specs.Steps.{limit}
 use Rattle.qs_graph.specs.Synced.{Synced, Done, Call, Sync, Query, erased}
 use Rattle.qs_graph.specs.Walk.{entry, walk, Within}
-use Rattle.qs_syncset.specs.Codes.{BlockCode, ClientCode, IsCode, IsBlockCode, code_at, load_at, no_code}
+use Rattle.qs_syncset.specs.Codes.{BlockCode, ClientCode, IsCode, IsBlockCode, code_at, load_at}
 use Rattle.qs_syncset.specs.CodeLaws.{IsSoundWalk}
 use Rattle.qs_syncset.specs.Flow.{nothing}
 use Rattle.qs_syncset.specs.SoundSynced.{IsOnReserved, IsSoundSynced}
@@ -26,13 +26,13 @@ use Rattle.qs_syncset.proofs.CodeWalks.{walks_are_sound}
 use Rattle.qs_client_run.specs.Beginning.{at_beginning}
 use Rattle.qs_client_run.specs.Client.{Settlement, between, begin, settle}
 use Rattle.qs_client_run.specs.Holdings.{chunk_at, held_at}
-use Rattle.qs_client_run.specs.BlockSizes.{room_for, sum_below, longest}
+use Rattle.qs_client_run.specs.BlockSizes.{room_for, sum_below}
 use Rattle.qs_client_run.specs.ClientOfRun.{HasSettled, items_of, progress_after, stage_by}
 use Rattle.qs_client_run.specs.Running.{MakesAtMost, IsRunning}
 use Rattle.qs_client_run.specs.BetweenActs.{HasCome, IsStanding}
 use Rattle.qs_objects.specs.Traces.{AreEmptyAfter, TraceState, trace_at, trace_state}
 use Rattle.qs_program.specs.Limits.{most_handlers, most_objects}
-use Rattle.qs_client_run.specs.declared.run.Run.{Run}
+use Rattle.qs_client_run.specs.RunState.{RunState}
 use Rattle.qs_client_run.proofs.CodeBounds.{longest_covers, reserved_below_eight}
 use Rattle.qs_client_run.proofs.ArrivalRefinement.{reserves_here}
 use Rattle.qs_client_run.proofs.StepRefinement.{standing_of}
@@ -155,15 +155,10 @@ empty_after ts n k same none j after = elim (cases_lt j n) [
 
 -- the data of a mind whose next block begins
 abbrev pub entered : MindState → Ticket → MindState
-entered m t = record {
-  code = m.code;
-  size = m.size;
+entered m t = record m {
   ticket = t;
   run = at_beginning m.run;
   entries = m.entries ++ m.run.position.locals ∷ [];
-  syncs = m.syncs;
-  counts = m.counts;
-  outgoing = m.outgoing;
 }
 
 pub reserves : (m : MindState) (w : IsSoundMind m) → Asks (mind_of m) acts.Reserve → (m.run.stage ≡ stages.Between) × (length m.entries < length m.code.blocks)
@@ -220,7 +215,7 @@ module _ (m : MindState) (w : IsSoundMind m) (t : Ticket) (asked : Asks (mind_of
   abbrev pub its_booking : Settlement
   its_booking = begin (settings_in m) t (code_at m.code t.index).reserved (client_in m) (tree_at m.code t.index m.run.position.locals)
 
-  pub entered_comes : (new : Run)
+  pub entered_comes : (new : RunState)
       → HasSettled (code_at m.code t.index).graph (settings_in m) t (code_at m.code t.index).reserved (length (entered m t).entries) (between m.run.position.locals) limit
       (at_beginning m.run) new
       → HasCome (code_at m.code t.index) (settings_in m) t (length (entered m t).entries) limit its_booking (at_beginning m.run) new
@@ -247,13 +242,13 @@ module _ (m : MindState) (w : IsSoundMind m) (t : Ticket) (asked : Asks (mind_of
   unfolding limit
   few_entered = omega (arith, w.few, length_entered m t)
 
-  pub entered_kept : (new : Run) → HasCome (code_at m.code t.index) (settings_in m) t (length (entered m t).entries) limit its_booking (at_beginning m.run) new
+  pub entered_kept : (new : RunState) → HasCome (code_at m.code t.index) (settings_in m) t (length (entered m t).entries) limit its_booking (at_beginning m.run) new
       → IsSoundMind (hands_over (entered m t) new m.outgoing)
   entered_kept new come =
       subst IsSoundMind (nothing_left (entered m t) new (asks_nothing m acts.Reserve asked))
       (come_kept (entered m t) its_booking limit new entered_steady come few_entered)
 
-  pub booked_is : (new : Run) → HasCome (code_at m.code t.index) (settings_in m) t (length (entered m t).entries) limit its_booking (at_beginning m.run) new
+  pub booked_is : (new : RunState) → HasCome (code_at m.code t.index) (settings_in m) t (length (entered m t).entries) limit its_booking (at_beginning m.run) new
       → mind_of (hands_over (entered m t) new m.outgoing) ≡ mind_after_begin (mind_of m) t
   unfolding mind_of
   booked_is new come =

@@ -19,7 +19,7 @@ use Rattle.qs_client_run.specs.ClientOfRun.{items_of}
 use Rattle.qs_client_run.specs.Running.{IsOpen}
 use Rattle.qs_objects.specs.Traces.{empty_trace, events_of, trace_state}
 use Rattle.qs_chunk.specs.Limits.{largest_chunk}
-use Rattle.qs_client_run.specs.declared.run.Run.{Run}
+use Rattle.qs_client_run.specs.RunState.{RunState}
 use Rattle.qs_client_run.specs.declared.stage.Outgoing.TheVariants as outgoings
 use Rattle.qs_client.specs.SoundMind.{IsSoundMind}
 use Rattle.qs_client.specs.ClientModel.{lists_of, fresh_mind}
@@ -35,7 +35,7 @@ no_events [] = refl
 no_events (b ∷ bs) = ap (λ (es : List (List Event)). [] ∷ es) (no_events bs)
 
 -- the data of a mind before its first block, with this run and these entries
-abbrev pub fresh_with : ClientCode → ℕ → Run → List Locals → CountsState → MindState
+abbrev pub fresh_with : ClientCode → ℕ → RunState → List Locals → CountsState → MindState
 fresh_with code size run entries counts = record {
   code = code;
   size = size;

@@ -306,7 +306,7 @@ tickets_keep_lanes : TicketsKeepLanes
 tickets_keep_lanes m t h sent asks stands =
     let at : StandsAt m.client h sent = subst (λ c. StandsAt c h sent) (asked_client m acts.Reserve asks) stands in
     let reserved = (code_at m.code t.index).reserved in
-    let begun : Client = record { begun = suc m.client.begun; stage = m.client.stage; held = m.client.held; chunk = m.client.chunk } in
+    let begun : Client = record m.client { begun = suc m.client.begun } in
     let tree = tree_at m.code t.index (locals_at m.client.stage) in
     stands_at m.client (settle (settings_of m) t reserved tree begun).client h sent at
     (not_awaited (settings_of m) (length m.code.blocks) m.client m.client.stage h acts.Reserve (λ g is. cc is) asks.1)

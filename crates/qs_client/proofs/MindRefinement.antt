@@ -22,7 +22,7 @@ use Rattle.qs_client_run.specs.Running.{KeepsRows}
 use Rattle.qs_objects.specs.Traces.{TraceState, empty_trace, events_of, trace_at, trace_state}
 use Rattle.qs_chunk.specs.Limits.{largest_chunk}
 use Rattle.qs_client_run.specs.declared.act.Act.{Act}
-use Rattle.qs_client_run.specs.declared.run.Run.{Run}
+use Rattle.qs_client_run.specs.RunState.{RunState}
 use Rattle.qs_client_run.specs.declared.stage.Outgoing.{Outgoing}
 use Rattle.qs_client_run.specs.declared.stage.Stage.{Stage}
 use Rattle.qs_client_run.proofs.CodeBounds.{few_blocks}
@@ -67,19 +67,10 @@ pub extended_none : (ts : List (List Event)) (k : ℕ) → extend ts k [] ≡ ts
 extended_none ts k = ap (set ts k) (append-nil (get_or ts k [])) ∙ set-get_or ts k []
 
 -- the mind of these data with another run, and with nothing handed out
-abbrev pub with_run : MindState → Run → MindState
-with_run m run = record {
-  code = m.code;
-  size = m.size;
-  ticket = m.ticket;
-  run = run;
-  entries = m.entries;
-  syncs = m.syncs;
-  counts = m.counts;
-  outgoing = outgoings.Nothing;
-}
+abbrev pub with_run : MindState → RunState → MindState
+with_run m run = record m { run = run; outgoing = outgoings.Nothing }
 
-pub comes_mind : (m : MindState) (by : Settlement) (most : ℕ) (new : Run)
+pub comes_mind : (m : MindState) (by : Settlement) (most : ℕ) (new : RunState)
     → HasCome (block_of m) (settings_in m) m.ticket (length m.entries) most by m.run new
     → mind_of (with_run m new) ≡ comes_to (mind_of m) by
 unfolding mind_of
@@ -123,14 +114,14 @@ steady m some w = record {
   few_each = w.few_each;
 }
 
-nothing_gone : (g : List places.Place) (s : Run) (stage : Stage) → IsOutgoingAt g outgoings.Nothing s stage
+nothing_gone : (g : List places.Place) (s : RunState) (stage : Stage) → IsOutgoingAt g outgoings.Nothing s stage
 nothing_gone g s stages.Between = tt
 nothing_gone g s stages.Runs = tt
 nothing_gone g s (stages.Full h) = tt
 nothing_gone g s (stages.Awaits h) = tt
 nothing_gone g s (stages.Leaves i) = tt
 
-pub come_kept : (m : MindState) (by : Settlement) (most : ℕ) (new : Run) → IsSteady m
+pub come_kept : (m : MindState) (by : Settlement) (most : ℕ) (new : RunState) → IsSteady m
     → HasCome (block_of m) (settings_in m) m.ticket (length m.entries) most by m.run new
     → m.syncs + most ≤ length m.entries * limit → IsSoundMind (with_run m new)
 come_kept m by most new s w few = record {
@@ -202,7 +193,7 @@ pub syncs_fit : (m : MindState) → IsSoundMind m → m.syncs + count_sync m.out
 unfolding limit
 syncs_fit m w = omega (arith, w.few, w.blocks, few_blocks m.code w.code, few_counted m.outgoing)
 
-node_left : (b : BlockCode) (size k most h : ℕ) (s : Run) (stage : Stage) → IsStanding b size k most s stage → IsOutgoingAt b.graph (outgoings.Sync h) s stage → 1 ≤ most
+node_left : (b : BlockCode) (size k most h : ℕ) (s : RunState) (stage : Stage) → IsStanding b size k most s stage → IsOutgoingAt b.graph (outgoings.Sync h) s stage → 1 ≤ most
 node_left b size k most h s stages.Between w gone = absurd gone
 node_left b size k most h s (stages.Full o) w gone = absurd gone
 node_left b size k most h s (stages.Awaits o) w gone = absurd gone
@@ -240,17 +231,8 @@ kept_mind m w = record {
 }
 
 -- the mind of these data with another run and something handed out
-abbrev pub hands_over : MindState → Run → Outgoing → MindState
-hands_over m run outgoing = record {
-  code = m.code;
-  size = m.size;
-  ticket = m.ticket;
-  run = run;
-  entries = m.entries;
-  syncs = m.syncs;
-  counts = m.counts;
-  outgoing = outgoing;
-}
+abbrev pub hands_over : MindState → RunState → Outgoing → MindState
+hands_over m run outgoing = record m { run = run; outgoing = outgoing }
 
 pub wants_of : (m : MindState) (w : IsSoundMind m) (a : Act) → Asks (mind_of m) a
     → Wants (block_of m) (settings_in m) (length m.code.blocks) m.ticket.index (length m.entries) w.left m.run a
@@ -274,17 +256,17 @@ needs_begun m w h asked =
     (at_call (block_of m) (settings_in m) m.ticket (length m.code.blocks) (length m.entries) w.left m.run h (wants_of m w (acts.NeedChunk h) asked)).stands in cc)
 
 -- a mind for which nothing is left to be done
-pub nothing_left : (m : MindState) (run : Run) → m.outgoing ≡ outgoings.Nothing → with_run m run ≡ hands_over m run m.outgoing
+pub nothing_left : (m : MindState) (run : RunState) → m.outgoing ≡ outgoings.Nothing → with_run m run ≡ hands_over m run m.outgoing
 nothing_left m run e = λ i. hands_over m run (sym e i)
 
-pub got_is : (m : MindState) (most : ℕ) (x : HeldState) (new : Run) → m.outgoing ≡ outgoings.Nothing
+pub got_is : (m : MindState) (most : ℕ) (x : HeldState) (new : RunState) → m.outgoing ≡ outgoings.Nothing
     → HasGot (block_of m) (settings_in m) m.ticket (length m.entries) most x m.run new → mind_of (hands_over m new m.outgoing) ≡ mind_after_object (mind_of m) x
 unfolding mind_of
 got_is m most x new none w =
     ap mind_of (sym (nothing_left m new none))
     ∙ comes_mind m (take_object (settings_in m) m.ticket (block_of m).reserved (client_in m) x (client_in m).stage) most new w
 
-pub taken_is : (m : MindState) (most h : ℕ) (new : Run) → m.outgoing ≡ outgoings.Nothing
+pub taken_is : (m : MindState) (most h : ℕ) (new : RunState) → m.outgoing ≡ outgoings.Nothing
     → HasTaken (block_of m) (settings_in m) m.ticket (length m.entries) most h m.run new → mind_of (hands_over m new m.outgoing) ≡ mind_after_chunk (mind_of m) h
 unfolding mind_of
 taken_is m most h new none w =
@@ -293,22 +275,13 @@ taken_is m most h new none w =
 
 -- what was sent is done
 abbrev pub with_syncs : MindState → ℕ → CountsState → MindState
-with_syncs m syncs counts = record {
-  code = m.code;
-  size = m.size;
-  ticket = m.ticket;
-  run = m.run;
-  entries = m.entries;
-  syncs = syncs;
-  counts = counts;
-  outgoing = m.outgoing;
-}
+with_syncs m syncs counts = record m { syncs = syncs; counts = counts }
 
 -- with the Sync counted that was sent, if one was
 abbrev pub tallied_state : MindState → CountsState
 tallied_state m = counts_state (tally m.outgoing m.ticket.index m.counts.rows) m.counts.room
 
-pub done_is : (m : MindState) (most : ℕ) (new : Run) → HasSent (block_of m) (settings_in m) m.ticket (length m.entries) most m.outgoing m.run new
+pub done_is : (m : MindState) (most : ℕ) (new : RunState) → HasSent (block_of m) (settings_in m) m.ticket (length m.entries) most m.outgoing m.run new
     → mind_of (with_run (with_syncs m (m.syncs + count_sync m.outgoing) (tallied_state m)) new) ≡ finish (mind_of m)
 unfolding mind_of
 done_is m most new w =
@@ -333,7 +306,7 @@ done_none m none =
     })
     ∙ (λ i. finish (mind_of (hands_over m m.run (sym none i))))
 
-pub finish_kept : (m : MindState) (new : Run) (w : IsSoundMind m) → 0 < length m.entries
+pub finish_kept : (m : MindState) (new : RunState) (w : IsSoundMind m) → 0 < length m.entries
     → HasSent (block_of m) (settings_in m) m.ticket (length m.entries) w.left m.outgoing m.run new
     → IsSoundMind (with_run (with_syncs m (m.syncs + count_sync m.outgoing) (tallied_state m)) new)
 finish_kept m new w some sent =
@@ -355,7 +328,7 @@ finish_kept m new w some sent =
 
 -- the next act
 
-pub acts_kept : (m : MindState) (w : IsSoundMind m) (given : Act) (new : Run)
+pub acts_kept : (m : MindState) (w : IsSoundMind m) (given : Act) (new : RunState)
     → HasActed (block_of m) (settings_in m) (length m.code.blocks) m.ticket.index (length m.entries) w.left given m.run new
     → IsSoundMind (hands_over m new (outgoing_of given))
 acts_kept m w given new a = record {
@@ -378,7 +351,7 @@ acts_kept m w given new a = record {
   later = λ k past inside. ap (λ (ts : List TraceState). trace_at ts k) a.traces ∙ w.later k past inside;
 }
 
-pub acts_is : (m : MindState) (most : ℕ) (given : Act) (new : Run)
+pub acts_is : (m : MindState) (most : ℕ) (given : Act) (new : RunState)
     → HasActed (block_of m) (settings_in m) (length m.code.blocks) m.ticket.index (length m.entries) most given m.run new
     → mind_of (hands_over m new (outgoing_of given)) ≡ hands_out (mind_of m) given
 unfolding mind_of
@@ -394,7 +367,7 @@ acts_is m most given new a = λ i. record {
   outgoing = outgoing_of given;
 }
 
-pub acts_asked : (m : MindState) (most : ℕ) (given : Act) (new : Run)
+pub acts_asked : (m : MindState) (most : ℕ) (given : Act) (new : RunState)
     → HasActed (block_of m) (settings_in m) (length m.code.blocks) m.ticket.index (length m.entries) most given m.run new
     → given ≡ act_due (mind_of m)
 unfolding mind_of

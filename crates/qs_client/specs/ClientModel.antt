@@ -53,15 +53,9 @@ extend ts k es = slice_set ts k (slice_index_or ts k [] ++ es)
 
 -- the client, and what entered its block's trace
 abbrev pub comes_to : ClientModel → Settlement → ClientModel
-comes_to m s = record {
-  code = m.code;
-  size = m.size;
-  ticket = m.ticket;
+comes_to m s = record m {
   client = s.client;
-  entries = m.entries;
   traces = extend m.traces m.ticket.index s.events;
-  syncs = m.syncs;
-  counts = m.counts;
   outgoing = outgoings.Nothing;
 }
 
@@ -73,17 +67,7 @@ tally outgoings.Value k rows = rows
 tally outgoings.End k rows = rows
 
 abbrev pub count_syncs : ClientModel → ClientModel
-count_syncs m = record {
-  code = m.code;
-  size = m.size;
-  ticket = m.ticket;
-  client = m.client;
-  entries = m.entries;
-  traces = m.traces;
-  syncs = m.syncs + count_sync m.outgoing;
-  counts = tally m.outgoing m.ticket.index m.counts;
-  outgoing = m.outgoing;
-}
+count_syncs m = record m { syncs = m.syncs + count_sync m.outgoing; counts = tally m.outgoing m.ticket.index m.counts }
 
 -- once the last act was done
 abbrev pub finish : ClientModel → ClientModel
@@ -98,34 +82,14 @@ next_act m = act_due (finish m)
 
 -- without what the act carries
 abbrev pub hands_out : ClientModel → Act → ClientModel
-hands_out m act = record {
-  code = m.code;
-  size = m.size;
-  ticket = m.ticket;
-  client = without_act m.client act;
-  entries = m.entries;
-  traces = m.traces;
-  syncs = m.syncs;
-  counts = m.counts;
-  outgoing = outgoing_of act;
-}
+hands_out m act = record m { client = without_act m.client act; outgoing = outgoing_of act }
 
 abbrev pub next_mind : ClientModel → ClientModel
 next_mind m = hands_out (finish m) (next_act m)
 
 -- with what the act carries again
 abbrev pub with_act_again : ClientModel → Act → ClientModel
-with_act_again m act = record {
-  code = m.code;
-  size = m.size;
-  ticket = m.ticket;
-  client = with_act m.client act;
-  entries = m.entries;
-  traces = m.traces;
-  syncs = m.syncs;
-  counts = m.counts;
-  outgoing = outgoings.Nothing;
-}
+with_act_again m act = record m { client = with_act m.client act; outgoing = outgoings.Nothing }
 
 -- the last act, for which nothing is left to be done, asks for something to come
 abbrev pub Asks : ClientModel → Act → Type 0
@@ -139,17 +103,7 @@ locals_at (awaits h rest) = []
 locals_at (leaves h hs l) = l
 
 abbrev pub enters : ClientModel → Ticket → Locals → ClientModel
-enters m t l = record {
-  code = m.code;
-  size = m.size;
-  ticket = t;
-  client = m.client;
-  entries = m.entries ++ l ∷ [];
-  traces = m.traces;
-  syncs = m.syncs;
-  counts = m.counts;
-  outgoing = m.outgoing;
-}
+enters m t l = record m { ticket = t; entries = m.entries ++ l ∷ [] }
 
 -- its next block was reserved, which begins with these variables
 abbrev pub mind_after_begin_with : ClientModel → Ticket → Locals → ClientModel

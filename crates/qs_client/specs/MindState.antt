@@ -9,7 +9,7 @@ use Rattle.qs_client_run.specs.Client.{Client, Settings}
 use Rattle.qs_client_run.specs.ClientOfRun.{client_of}
 use Rattle.qs_objects.specs.Traces.{events_of}
 use Rattle.qs_chunk.specs.Limits.{largest_chunk}
-use Rattle.qs_client_run.specs.declared.run.Run.{Run}
+use Rattle.qs_client_run.specs.RunState.{RunState}
 use Rattle.qs_client_run.specs.declared.stage.Outgoing.{Outgoing}
 use Rattle.qs_client.specs.ClientModel.{ClientModel, is_between}
 
@@ -19,7 +19,7 @@ pub record MindState : Type 0 where
   pub code : ClientCode
   pub size : ℕ
   pub ticket : Ticket
-  pub run : Run
+  pub run : RunState
   pub entries : List Locals
   pub syncs : ℕ
   pub counts : CountsState

@@ -174,7 +174,7 @@ impl Mind {
         requires next { ticket.index ≡ (mind_of self.old).client.begun }
         ensures begun { mind_of self.new ≡ mind_after_begin (mind_of self.old) ticket }
     {
-        let locals = *self.run.position.locals();
+        let locals = self.run.locals();
         self.entries.push_reserved(locals);
         self.ticket = ticket;
         self.run.begin(&self.code, ticket);
@@ -234,7 +234,7 @@ impl Mind {
     pub fn is_between(&self) -> bool
         ensures value { result ≡ is_between (mind_of self.now).client.stage }
     {
-        matches!(self.run.stage, Stage::Between)
+        matches!(self.run.stage(), Stage::Between)
     }
 
     /// How many blocks have ended, as the act after a block's last End comes.
@@ -267,7 +267,7 @@ impl Mind {
     pub fn traces(&self) -> &Traces
         ensures value { events_of result.now ≡ (mind_of self.now).traces }
     {
-        &self.run.traces
+        self.run.traces()
     }
 
     /// The traces so far, joined: the events of all blocks, block after block.
@@ -275,7 +275,7 @@ impl Mind {
     pub fn row(&self) -> &[Event]
         ensures value { result.now ≡ joined (mind_of self.now).traces }
     {
-        self.run.traces.joined()
+        self.run.traces().joined()
     }
 
     /// The client's variables as it entered each block that was begun.
@@ -292,7 +292,7 @@ impl Mind {
         requires handler { handler < most_handlers }
         ensures value { option_copied result ≡ (mind_of self.now).client.held handler }
     {
-        self.run.holdings.held(handler)
+        self.run.held(handler)
     }
 
     /// The traces of all blocks, the variables at entry of those that were begun, and the counts of Syncs.

@@ -16,40 +16,39 @@ use Rattle.qs_chunk.specs.Batch.{Batch}
 use Rattle.qs_chunk.specs.declared.parcel.Parcel.TheVariants as parcels
 use Rattle.qs_client_run.specs.NextActs.{HasActed, act_by, holdings_by, clear, clear_by, send_full, with_holdings, without, without_by}
 use Rattle.qs_client_run.specs.Client.{Settings, act_at, act_of, rest_act}
-use Rattle.qs_client_run.specs.Holdings.{held_at, chunk_at, with_chunk}
+use Rattle.qs_client_run.specs.Holdings.{held_at, chunk_at, with_chunk, holding}
 use Rattle.qs_client_run.specs.ClientOfRun.{client_of, stage_by}
 use Rattle.qs_client_run.specs.Running.{IsOver, IsFull, IsRunning, IsLoud}
 use Rattle.qs_client_run.specs.BetweenActs.{IsOutgoingAt, IsStanding, IsSyncing, without_act, outgoing_of}
 use Rattle.qs_client_run.specs.declared.act.Act.{Act}
 use Rattle.qs_client_run.specs.declared.act.Act.TheVariants.{Send, NeedChunk}
-use Rattle.qs_client_run.specs.declared.run.Run.{Run}
+use Rattle.qs_client_run.specs.RunState.{RunState}
 use Rattle.qs_client_run.proofs.StepRefinement.{IsAmongEight, among_eight, sized_of}
-use Rattle.qs_client_run.proofs.HoldingsAsFunctions.{holding}
 use Rattle.qs_client_run.proofs.ClearedLanes.{clears_sized, calls_sized, gave_cleared, full_sized, gave_full, away_at_call, away_at_sync, cleared_running, cleared_over, emptied}
 use Rattle.qs_client_run.specs.Client as clients
 use Rattle.qs_client_run.specs.declared.stage.Stage.TheVariants as stages
 
 -- what is handed out leaves nothing else to be known
-gone_at_node : (g : List places.Place) (s : Run) (h : ℕ) (x : Option HeldState) (c : Option (Batch Request)) (other : Act)
+gone_at_node : (g : List places.Place) (s : RunState) (h : ℕ) (x : Option HeldState) (c : Option (Batch Request)) (other : Act)
     → IsOutgoingAt g (outgoing_of other) s stages.Runs → IsOutgoingAt g (outgoing_of (clear_by h x c other)) s stages.Runs
 gone_at_node g s h (Some x) c other w = tt
 gone_at_node g s h None (Some b) other w = tt
 gone_at_node g s h None None other w = w
 
-gone_at_end : (g : List places.Place) (s : Run) (h i : ℕ) (x : Option HeldState) (c : Option (Batch Request))
+gone_at_end : (g : List places.Place) (s : RunState) (h i : ℕ) (x : Option HeldState) (c : Option (Batch Request))
     → IsOutgoingAt g (outgoing_of (clear_by h x c (Send h parcels.End))) s (stages.Leaves i)
 gone_at_end g s h i (Some x) c = tt
 gone_at_end g s h i None (Some b) = tt
 gone_at_end g s h i None None = tt
 
-gone_full : (g : List places.Place) (s : Run) (h : ℕ) (c : Option (Batch Request)) → chunk_at s.holdings h ≡ None
+gone_full : (g : List places.Place) (s : RunState) (h : ℕ) (c : Option (Batch Request)) → chunk_at s.holdings h ≡ None
     → IsOutgoingAt g (outgoing_of (send_full h c)) s (stages.Full h)
 gone_full g s h (Some b) w = w
 gone_full g s h None w = tt
 
 module _ (b : BlockCode) (settings : Settings) (blocks k begun most : ℕ) where
   -- at a call or a synchronisation with this handler
-  at_node : (n h : ℕ) (s : Run) (m : Move) (other : Act) → suc n ≤ most → s.stage ≡ stages.Runs → move b.graph s.position ≡ m → h < most_handlers → IsLoud m
+  at_node : (n h : ℕ) (s : RunState) (m : Move) (other : Act) → suc n ≤ most → s.stage ≡ stages.Runs → move b.graph s.position ≡ m → h < most_handlers → IsLoud m
       → IsSoundSynced (put (holding s.holdings) h false) (said (walk b.graph n) s.position.locals m)
       → IsRunning b.graph settings.size k (suc n) s
       → clear_by h (held_at s.holdings h) (chunk_at s.holdings h) other
@@ -88,7 +87,7 @@ module _ (b : BlockCode) (settings : Settings) (blocks k begun most : ℕ) where
         gone = subst (IsOutgoingAt b.graph (outgoing_of given) new) (sym stands) (gone_at_node b.graph new h x c other gone);
       }
 
-  acts_by : (n : ℕ) (s : Run) (m : Move) → suc n ≤ most → s.stage ≡ stages.Runs → move b.graph s.position ≡ m → IsAmongEight m → IsLoud m
+  acts_by : (n : ℕ) (s : RunState) (m : Move) → suc n ≤ most → s.stage ≡ stages.Runs → move b.graph s.position ≡ m → IsAmongEight m → IsLoud m
       → IsSoundSynced (holding s.holdings) (said (walk b.graph n) s.position.locals m)
       → IsRunning b.graph settings.size k (suc n) s
       → HasActed b settings blocks k begun most (act_by s.holdings m) s (with_holdings s (holdings_by s.holdings m))
@@ -106,22 +105,22 @@ module _ (b : BlockCode) (settings : Settings) (blocks k begun most : ℕ) where
       (sized_of settings.size (chunk_at s.holdings h) (w.opened h)))
       (λ c. refl) (subst IsSyncing (sym is) tt)
 
-  pub acts_at_node : (n : ℕ) (s : Run) → IsGraph b.graph → n ≤ most → s.stage ≡ stages.Runs → IsLoud (move b.graph s.position)
+  pub acts_at_node : (n : ℕ) (s : RunState) → IsGraph b.graph → n ≤ most → s.stage ≡ stages.Runs → IsLoud (move b.graph s.position)
       → IsRunning b.graph settings.size k n s
       → HasActed b settings blocks k begun most (act_by s.holdings (move b.graph s.position)) s (with_holdings s (holdings_by s.holdings (move b.graph s.position)))
   acts_at_node zero s ok few stands loud w = absurd w.within
   acts_at_node (suc n) s ok few stands loud w =
       acts_by n s (move b.graph s.position) few stands refl (among_eight b.graph s.position ok w.within.0) loud w.sound w
 
-  pub acts_full : (n h : ℕ) (s : Run) → n ≤ most → s.stage ≡ stages.Full h → IsFull b.graph settings.size k n h s
+  pub acts_full : (n h : ℕ) (s : RunState) → n ≤ most → s.stage ≡ stages.Full h → IsFull b.graph settings.size k n h s
       → HasActed b settings blocks k begun most (send_full h (chunk_at s.holdings h)) s (with_holdings s (with_chunk s.holdings h None))
   acts_full n h s few stands w =
       let c = chunk_at s.holdings h in
       let new = with_holdings s (with_chunk s.holdings h None) in
-      let room : h < length s.holdings.chunks = omega (arith, w.handler, w.chunks) in
+      let room : h < length s.holdings.chunks = omega (arith, w.handler, w.in_block.chunks) in
       record {
         act =
-            full_sized settings h c (w.sized h)
+            full_sized settings h c (w.in_block.opened h).0
             ∙ sym (λ i. act_at settings blocks (client_of b.graph b.reserved begun s) (stage_by (stands i) b.reserved (walk b.graph limit s.position) s.position.locals));
         rest = gave_full begun (stage_by s.stage b.reserved (walk b.graph limit s.position) s.position.locals) s.holdings h room c refl;
         position = refl;
@@ -133,7 +132,7 @@ module _ (b : BlockCode) (settings : Settings) (blocks k begun most : ℕ) where
             (gone_full b.graph new h c (get_or-set_same s.holdings.chunks h None None room));
       }
 
-  pub acts_leaving : (i : ℕ) (s : Run) → s.stage ≡ stages.Leaves i → i < length b.reserved → get_or b.reserved i 0 < most_handlers → IsOver b.graph settings.size s
+  pub acts_leaving : (i : ℕ) (s : RunState) → s.stage ≡ stages.Leaves i → i < length b.reserved → get_or b.reserved i 0 < most_handlers → IsOver b.graph settings.size s
       → HasActed b settings blocks k begun most (clear s.holdings (get_or b.reserved i 0) (Send (get_or b.reserved i 0) parcels.End)) s
       (with_holdings s (without s.holdings (get_or b.reserved i 0)))
   acts_leaving i s stands inside eight w =
@@ -157,7 +156,7 @@ module _ (b : BlockCode) (settings : Settings) (blocks k begun most : ℕ) where
       }
 
   -- an act that carries nothing
-  pub acts_empty : (s : Run) (given : Act) → given ≡ act_of settings blocks (client_of b.graph b.reserved begun s)
+  pub acts_empty : (s : RunState) (given : Act) → given ≡ act_of settings blocks (client_of b.graph b.reserved begun s)
       → without_act (client_of b.graph b.reserved begun s) given ≡ client_of b.graph b.reserved begun s
       → IsStanding b settings.size k most s s.stage → IsOutgoingAt b.graph (outgoing_of given) s s.stage
       → HasActed b settings blocks k begun most given s s

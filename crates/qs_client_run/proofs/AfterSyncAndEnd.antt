@@ -4,21 +4,23 @@ use Rattle.std.proofs.lemmas.List.{drop_all}
 use Rattle.std.proofs.lemmas.Bool.{ltb-true, ltb-false}
 use Rattle.qs_objects.specs.declared.held.Event.{Event}
 use Rattle.qs_objects.specs.declared.held.Ticket.{Ticket}
+use Rattle.qs_meaning.specs.Solo.{put}
 use Rattle.qs_graph.specs.Steps.{limit}
 use Rattle.qs_graph.specs.Walk.{Spot, Move, Ends, Goes, Calls, Syncs, Queries, move, walk, EachNext}
 use Rattle.qs_graph.specs.WellFormed.{IsGraph}
 use Rattle.qs_graph.proofs.Saying.{walk_up}
 use Rattle.qs_syncset.specs.Codes.{BlockCode}
 use Rattle.qs_client_run.specs.Client.{Client, Settings, after_sync, after_end, leave, awaits, between}
-use Rattle.qs_client_run.specs.Holdings.{HoldingsState}
+use Rattle.qs_client_run.specs.Holdings.{HoldingsState, holding}
 use Rattle.qs_objects.specs.Traces.{TraceState, trace_at}
 use Rattle.qs_client_run.specs.ClientOfRun.{client_with, client_of, stage_by, progress_after}
-use Rattle.qs_client_run.specs.Running.{IsOver, IsRunning}
+use Rattle.qs_client_run.specs.Running.{IsOpen, IsOver, IsRunning}
 use Rattle.qs_client_run.specs.BetweenActs.{IsStanding, IsSyncing, HasSent, await_by, await_object, leave_next_by, leave_next}
-use Rattle.qs_client_run.specs.declared.run.Run.{Run}
+use Rattle.qs_client_run.specs.RunState.{RunState}
 use Rattle.qs_client_run.specs.declared.run.BlockContext.{BlockContext}
 use Rattle.qs_client_run.specs.declared.stage.Stage.{Stage}
 use Rattle.qs_client_run.proofs.StepRefinement.{Ready, ready, keeps_rows, counts_kept}
+use Rattle.qs_client_run.proofs.InBlock.{moved_in_block}
 use Rattle.qs_client_run.specs.Client as clients
 use Rattle.qs_client_run.specs.declared.stage.Outgoing.TheVariants as outgoings
 use Rattle.qs_client_run.specs.declared.stage.Stage.TheVariants as stages
@@ -27,10 +29,10 @@ module _ (b : BlockCode) (settings : Settings) (ticket : Ticket) (begun : ℕ) w
   abbrev context : BlockContext
   context = record { dynamic = settings.dynamic; ticket = ticket }
 
-  abbrev tr : Run → List Event
+  abbrev tr : RunState → List Event
   tr s = (trace_at s.traces ticket.index).events
 
-  awaits_by : (o n most : ℕ) (s : Run) (m : Move) → suc n ≤ most → Ready b.graph settings context b.reserved begun (between []) n s m → IsSyncing m
+  awaits_by : (o n most : ℕ) (s : RunState) (m : Move) → suc n ≤ most → Ready b.graph settings context b.reserved begun (between []) n s m → IsSyncing m
       → HasSent b settings ticket begun most (outgoings.Sync o) s (await_by m s)
   awaits_by o n most s (Goes t) few w loud = absurd loud
   awaits_by o n most s Ends few w loud = absurd loud
@@ -41,17 +43,9 @@ module _ (b : BlockCode) (settings : Settings) (ticket : Ticket) (begun : ℕ) w
       n,
       omega (arith, few),
       record {
-        few = omega (arith, w.whole.few);
-        within = w.next;
-        counted = w.counted;
-        sound = w.sound;
-        fits = w.fits;
-        row = w.whole.row;
-        last = w.whole.last;
-        held = w.whole.held;
-        chunks = w.whole.chunks;
         handler = w.eight;
-        opened = w.whole.opened;
+        in_block = moved_in_block b.graph ticket.index (holding s.holdings) (put (holding s.holdings) h true) (λ h c. IsOpen settings.size c) (λ h c. IsOpen settings.size c) s (stages.Awaits h) (suc n) n t w.whole
+            (omega (arith, w.whole.few)) w.next w.counted w.sound w.fits;
       },
     );
     rows = keeps_rows ticket.index s.traces;
@@ -65,14 +59,14 @@ module _ (b : BlockCode) (settings : Settings) (ticket : Ticket) (begun : ℕ) w
         });
   }
 
-  pub awaits_sent : (o n most : ℕ) (s : Run) → n ≤ most → IsGraph b.graph → s.stage ≡ stages.Runs → IsRunning b.graph settings.size ticket.index n s
+  pub awaits_sent : (o n most : ℕ) (s : RunState) → n ≤ most → IsGraph b.graph → s.stage ≡ stages.Runs → IsRunning b.graph settings.size ticket.index n s
       → IsSyncing (move b.graph s.position) → HasSent b settings ticket begun most (outgoings.Sync o) s (await_object b.graph s)
   awaits_sent o zero most s few ok stands w loud = absurd w.within
   awaits_sent o (suc n) most s few ok stands w loud =
       awaits_by o n most s (move b.graph s.position) few (ready b.graph settings context b.reserved begun (between []) n s ok refl stands w) loud
 
   -- a client that stands here
-  abbrev at : Spot → HoldingsState → List TraceState → Stage → Run
+  abbrev at : Spot → HoldingsState → List TraceState → Stage → RunState
   at position holdings traces stage = record { position = position; holdings = holdings; traces = traces; stage = stage }
 
   left_stays : (most : ℕ) (position : Spot) (holdings : HoldingsState) (traces : List TraceState) (stage : Stage) (p : clients.ClientStage)
@@ -138,5 +132,5 @@ module _ (b : BlockCode) (settings : Settings) (ticket : Ticket) (begun : ℕ) w
   left_by_stage most position holdings traces (stages.Awaits h) w = left_stays most position holdings traces (stages.Awaits h) (awaits h (walk b.graph limit position)) refl (λ c. refl) refl w
   left_by_stage most position holdings traces (stages.Leaves i) w = leaves_on most position holdings traces i w.0 (nat_lt (i + 1) (length b.reserved)) refl
 
-  pub end_sent : (most : ℕ) (s : Run) → IsStanding b settings.size ticket.index most s s.stage → HasSent b settings ticket begun most outgoings.End s (leave_next (length b.reserved) s)
+  pub end_sent : (most : ℕ) (s : RunState) → IsStanding b settings.size ticket.index most s s.stage → HasSent b settings ticket begun most outgoings.End s (leave_next (length b.reserved) s)
   end_sent most s w = left_by_stage most s.position s.holdings s.traces s.stage w

@@ -21,18 +21,19 @@ use Rattle.qs_chunk.specs.Batch.{batch}
 use Rattle.qs_chunk.specs.declared.parcel.Parcel.TheVariants as parcels
 use Rattle.qs_client_run.specs.NextActs.{Wants, with_holdings, SendsNothing}
 use Rattle.qs_client_run.specs.Client.{Client, Settings, act_at, act_of, call_act, clear, take_object, rest_act, take_chunk, settle}
-use Rattle.qs_client_run.specs.Holdings.{held_at, chunk_at, with_held, with_chunk}
+use Rattle.qs_client_run.specs.Holdings.{held_at, holding, chunk_at, with_held, with_chunk}
 use Rattle.qs_objects.specs.Traces.{trace_at}
 use Rattle.qs_program.specs.Limits.{most_handlers, most_objects}
 use Rattle.qs_client_run.specs.ClientOfRun.{HasSettled, client_of, items_of, progress_after, stage_by, stage_of}
-use Rattle.qs_client_run.specs.Running.{IsOpen, IsRunning, IsLoud}
-use Rattle.qs_client_run.specs.BetweenActs.{HasGot, HasTaken, IsAwaiting, IsStanding, outgoing_of}
+use Rattle.qs_client_run.specs.Running.{IsAwaiting, IsOpen, IsRunning, IsLoud}
+use Rattle.qs_client_run.specs.BetweenActs.{HasGot, HasTaken, IsStanding, outgoing_of}
 use Rattle.qs_client_run.specs.declared.act.Act.{Act}
-use Rattle.qs_client_run.specs.declared.run.Run.{Run}
+use Rattle.qs_client_run.specs.RunState.{RunState}
 use Rattle.qs_client_run.specs.declared.stage.Stage.{Stage}
 use Rattle.qs_client_run.proofs.StepRefinement.{IsAmongEight, among_eight, standing_of}
 use Rattle.qs_client_run.proofs.StepAtNode.{moves}
 use Rattle.qs_client_run.proofs.HoldingsAsFunctions.{chunk_each, held_put, holding_put, items_put}
+use Rattle.qs_client_run.proofs.InBlock.{held_in_block}
 use Rattle.qs_client_run.specs.declared.act.Act.TheVariants as acts
 use Rattle.qs_client_run.specs.declared.stage.Outgoing.TheVariants as outgoings
 use Rattle.qs_client_run.specs.declared.stage.Stage.TheVariants as stages
@@ -70,7 +71,7 @@ between_leaves true = refl
 between_leaves false = refl
 
 -- a client that wants a chunk for h stands at a call
-pub record IsAtCall (g : List places.Place) (s : Run) (h : ℕ) : Type 0 where
+pub record IsAtCall (g : List places.Place) (s : RunState) (h : ℕ) : Type 0 where
   pub stands : s.stage ≡ stages.Runs
   pub request : Request
   pub to : Spot
@@ -82,7 +83,7 @@ node_inside g zero s w = absurd w
 node_inside g (suc n) s w = w.0
 
 -- a call's request is the node's
-pub called_here : (g : List places.Place) (s : Run) (h : ℕ) (call : calls.Call) → (places.place_at g s.position.node).node ≡ nodes.Call call → IsAtCall g s h
+pub called_here : (g : List places.Place) (s : RunState) (h : ℕ) (call : calls.Call) → (places.place_at g s.position.node).node ≡ nodes.Call call → IsAtCall g s h
     → call.object ≡ h
 called_here g s h call is w =
     let same : Calls (request_of s.position.locals call) (at_node s.position (places.first_target (places.place_at g s.position.node))) ≡ Calls w.request w.to =
@@ -90,7 +91,7 @@ called_here g s h call is w =
     let request : request_of s.position.locals call ≡ w.request = cc in
     ap (λ (r : Request). r.object) request ∙ w.same
 
-pub eight_here : (g : List places.Place) (n : ℕ) (s : Run) (call : calls.Call) → IsGraph g → Within g n s.position
+pub eight_here : (g : List places.Place) (n : ℕ) (s : RunState) (call : calls.Call) → IsGraph g → Within g n s.position
     → (places.place_at g s.position.node).node ≡ nodes.Call call → call.object < most_objects
 eight_here g n s call ok within is = subst IsAmongEight (moves g s.position (nodes.Call call) is) (among_eight g s.position ok (node_inside g n s.position within))
 
@@ -104,12 +105,12 @@ no_call (nodes.Call d) s t a b r e other = other d refl
 no_call nodes.Exit s t a b r e other = cc
 
 -- a client stands at a call where its node is one
-pub is_call : (g : List places.Place) (s : Run) (h : ℕ) → IsAtCall g s h → ((x : calls.Call) → (places.place_at g s.position.node).node ≡ nodes.Call x → ⊥) → ⊥
+pub is_call : (g : List places.Place) (s : RunState) (h : ℕ) → IsAtCall g s h → ((x : calls.Call) → (places.place_at g s.position.node).node ≡ nodes.Call x → ⊥) → ⊥
 is_call g s h w other =
     let p = places.place_at g s.position.node in
     no_call p.node s.position w.to (places.first_target p) (places.second_target p) w.request (sym (moves g s.position p.node refl) ∙ w.is) other
 
-module _ (b : BlockCode) (settings : Settings) (ticket : Ticket) (blocks begun most : ℕ) (s : Run) where
+module _ (b : BlockCode) (settings : Settings) (ticket : Ticket) (blocks begun most : ℕ) (s : RunState) where
   abbrev c : Client
   c = client_of b.graph b.reserved begun s
 
@@ -196,20 +197,14 @@ module _ (b : BlockCode) (settings : Settings) (ticket : Ticket) (blocks begun m
   -- with the object
   pub held_running : (n h : ℕ) (x : HeldState) → IsAwaiting b.graph settings.size ticket.index n h s
       → IsRunning b.graph settings.size ticket.index n (with_holdings s (with_held s.holdings h (Some x)))
-  held_running n h x w = record {
-    few = w.few;
-    within = w.within;
-    counted = w.counted;
-    sound = subst (λ f. IsSoundSynced f (walk b.graph n s.position)) (sym (holding_put s.holdings h (Some x) (omega (arith, w.handler, w.held)))) w.sound;
-    fits = w.fits;
-    row = w.row;
-    last = w.last;
-    held = length-set s.holdings.held h (Some x) ∙ w.held;
-    chunks = w.chunks;
-    opened = w.opened;
-  }
+  held_running n h x w =
+      let room : h < length s.holdings.held = omega (arith, w.handler, w.in_block.held) in
+      let new = with_held s.holdings h (Some x) in
+      held_in_block b.graph ticket.index (put (holding s.holdings) h true) (holding new) (λ h c. IsOpen settings.size c) (λ h c. IsOpen settings.size c) s s.stage n new w.in_block
+      (subst (λ f. IsSoundSynced f (walk b.graph n s.position)) (sym (holding_put s.holdings h (Some x) room)) w.in_block.sound)
+      (length-set s.holdings.held h (Some x) ∙ w.in_block.held) w.in_block.chunks w.in_block.opened
 
-  pub got_comes : (n h : ℕ) (x : HeldState) (new : Run) → s.stage ≡ stages.Awaits h → n ≤ most → IsAwaiting b.graph settings.size ticket.index n h s
+  pub got_comes : (n h : ℕ) (x : HeldState) (new : RunState) → s.stage ≡ stages.Awaits h → n ≤ most → IsAwaiting b.graph settings.size ticket.index n h s
       → HasSettled b.graph settings ticket b.reserved begun (stage_of b.graph b.reserved s) n (with_holdings s (with_held s.holdings h (Some x))) new
       → HasGot b settings ticket begun most x s new
   got_comes n h x new stands few w done = record {
@@ -222,29 +217,21 @@ module _ (b : BlockCode) (settings : Settings) (ticket : Ticket) (blocks begun m
         let goes = λ (tree : Synced) (held : ℕ → Option HeldState). progress_after tr (settle settings ticket b.reserved tree
         (record { begun = begun; stage = stage_of b.graph b.reserved s; held = held; chunk = λ j. items_of (chunk_at s.holdings j) })) in
         (λ i. progress_after tr (take_object settings ticket b.reserved c x (stage_by (stands i) b.reserved rest s.position.locals)))
-        ∙ ap (λ (tree : Synced). goes tree (put (held_at s.holdings) h (Some x))) (walk_up b.graph n limit s.position w.few w.within)
-        ∙ ap (goes (walk b.graph n s.position)) (sym (held_put s.holdings h (Some x) (omega (arith, w.handler, w.held))))
+        ∙ ap (λ (tree : Synced). goes tree (put (held_at s.holdings) h (Some x))) (walk_up b.graph n limit s.position w.in_block.few w.in_block.within)
+        ∙ ap (goes (walk b.graph n s.position)) (sym (held_put s.holdings h (Some x) (omega (arith, w.handler, w.in_block.held))))
         ∙ done.same;
   }
 
   -- with an empty chunk
   pub filled_running : (n h : ℕ) → h < most_handlers → 0 < settings.size → IsRunning b.graph settings.size ticket.index n s
       → IsRunning b.graph settings.size ticket.index n (with_holdings s (with_chunk s.holdings h (Some (batch [] settings.size))))
-  filled_running n h eight some w = record {
-    few = w.few;
-    within = w.within;
-    counted = w.counted;
-    sound = w.sound;
-    fits = w.fits;
-    row = w.row;
-    last = w.last;
-    held = w.held;
-    chunks = length-set s.holdings.chunks h (Some (batch [] settings.size)) ∙ w.chunks;
-    opened = chunk_each (λ j x. IsOpen settings.size x) s.holdings h (Some (batch [] settings.size)) (omega (arith, eight, w.chunks))
-        (refl, omega (arith, some)) (λ j other. w.opened j);
-  }
+  filled_running n h eight some w =
+      let chunk = Some (batch [] settings.size) in
+      held_in_block b.graph ticket.index (holding s.holdings) (holding s.holdings) (λ h c. IsOpen settings.size c) (λ h c. IsOpen settings.size c) s s.stage n (with_chunk s.holdings h chunk) w
+      w.sound w.held (length-set s.holdings.chunks h chunk ∙ w.chunks)
+      (chunk_each (λ j x. IsOpen settings.size x) s.holdings h chunk (omega (arith, eight, w.chunks)) (refl, omega (arith, some)) (λ j other. w.opened j))
 
-  pub taken_comes : (n h : ℕ) (new : Run) → s.stage ≡ stages.Runs → n ≤ most → h < most_handlers → IsRunning b.graph settings.size ticket.index n s
+  pub taken_comes : (n h : ℕ) (new : RunState) → s.stage ≡ stages.Runs → n ≤ most → h < most_handlers → IsRunning b.graph settings.size ticket.index n s
       → HasSettled b.graph settings ticket b.reserved begun (stage_of b.graph b.reserved s) n
       (with_holdings s (with_chunk s.holdings h (Some (batch [] settings.size)))) new
       → HasTaken b settings ticket begun most h s new

@@ -10,19 +10,19 @@ use Rattle.qs_chunk.specs.Batch.{Batch, batch}
 use Rattle.qs_client_run.specs.Holdings.{HoldingsState, held_at, chunk_at, with_held, with_chunk}
 use Rattle.qs_objects.specs.Traces.{noted_at}
 use Rattle.qs_client_run.specs.Running.{call_by, call, query_by, query}
-use Rattle.qs_client_run.specs.declared.run.Run.{Run}
+use Rattle.qs_client_run.specs.RunState.{RunState}
 use Rattle.qs_client_run.specs.declared.stage.Stage.TheVariants as stages
 
 pub none_of : {A : Type 0} (x : Option A) → is_some x ≡ false → x ≡ None
 none_of None e = refl
 none_of (Some x) e = cc
 
-module _ (k : ℕ) (r : Request) (t : Spot) (s : Run) where
+module _ (k : ℕ) (r : Request) (t : Spot) (s : RunState) where
   pub called_fills : (b more : Batch Request) (full : Bool) (holdings : HoldingsState)
       → held_at s.holdings r.object ≡ None → chunk_at s.holdings r.object ≡ Some b
       → more ≡ batch (b.items ++ r ∷ []) b.capacity → full ≡ (length more.items == more.capacity)
       → holdings ≡ with_chunk s.holdings r.object (Some more)
-      → ◌≡◌ {A = Run} (record { position = t; holdings = holdings; traces = noted_at s.traces k (logged r); stage = if full then stages.Full r.object else s.stage })
+      → ◌≡◌ {A = RunState} (record { position = t; holdings = holdings; traces = noted_at s.traces k (logged r); stage = if full then stages.Full r.object else s.stage })
       (call k r t s).0
   called_fills b more full holdings none found filled is_full put =
       (λ i. record {
@@ -39,9 +39,9 @@ module _ (k : ℕ) (r : Request) (t : Spot) (s : Run) where
       })
       ∙ (λ i. (call_by k r t s (sym none i) (sym found i)).0)
 
-pub asked_runs : (u : Ticket) (r : Request) (t : ℤ → Spot) (s : Run) (x y : HeldState) (v : Option ℤ) (holdings : HoldingsState)
+pub asked_runs : (u : Ticket) (r : Request) (t : ℤ → Spot) (s : RunState) (x y : HeldState) (v : Option ℤ) (holdings : HoldingsState)
     → held_at s.holdings r.object ≡ Some x → (y, v) ≡ ran x u r → holdings ≡ with_held s.holdings r.object (Some y)
-    → ◌≡◌ {A = Run} (record { position = t (value_of v); holdings = holdings; traces = noted_at s.traces u.index (event r v); stage = s.stage }) (query u r t s).0
+    → ◌≡◌ {A = RunState} (record { position = t (value_of v); holdings = holdings; traces = noted_at s.traces u.index (event r v); stage = s.stage }) (query u r t s).0
 asked_runs u r t s x y v holdings found done put =
     (λ i. record {
       position = t (value_of v);
@@ -57,10 +57,10 @@ asked_runs u r t s x y v holdings found done put =
     })
     ∙ (λ i. (query_by u r t s (sym found i)).0)
 
-by_held : (u : Ticket) (r : Request) (t : ℤ → Spot) (s : Run) (x : Option HeldState) → IsSome x → (query_by u r t s x).1 ≡ true
+by_held : (u : Ticket) (r : Request) (t : ℤ → Spot) (s : RunState) (x : Option HeldState) → IsSome x → (query_by u r t s x).1 ≡ true
 by_held u r t s None h = cc
 by_held u r t s (Some x) h = refl
 
 -- after a query the client goes on
-pub asked_on : (u : Ticket) (r : Request) (t : ℤ → Spot) (s : Run) → IsSome (held_at s.holdings r.object) → (query u r t s).1 ≡ true
+pub asked_on : (u : Ticket) (r : Request) (t : ℤ → Spot) (s : RunState) → IsSome (held_at s.holdings r.object) → (query u r t s).1 ≡ true
 asked_on u r t s h = by_held u r t s (held_at s.holdings r.object) h

@@ -55,14 +55,14 @@ module _ (settings : Settings) (m : Client) where
   home_whole : (h : ℕ) (x : HeldState) → m.held h ≡ Some x → LosesNothing settings m (acts.Send h (parcels.Home x))
   home_whole h x e = record {
     whole =
-        ap (λ f. record { begun = m.begun; stage = m.stage; held = f; chunk = m.chunk }) (put_twice m.held h None (Some x) ∙ put_same m.held h (Some x) e);
+        ap (λ f. record m { held = f }) (put_twice m.held h None (Some x) ∙ put_same m.held h (Some x) e);
     sized = tt;
   }
 
   work_whole : (h : ℕ) (rs : List Request) → m.chunk h ≡ Some rs → LosesNothing settings m (acts.Send h (work settings rs))
   work_whole h rs e = record {
     whole =
-        ap (λ f. record { begun = m.begun; stage = m.stage; held = m.held; chunk = f }) (put_twice m.chunk h None (Some rs) ∙ put_same m.chunk h (Some rs) e);
+        ap (λ f. record m { chunk = f }) (put_twice m.chunk h None (Some rs) ∙ put_same m.chunk h (Some rs) e);
     sized = refl;
   }
 

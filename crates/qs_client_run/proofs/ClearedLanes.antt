@@ -12,14 +12,15 @@ use Rattle.qs_chunk.specs.Batch.{Batch, batch}
 use Rattle.qs_chunk.specs.declared.parcel.Parcel.TheVariants as parcels
 use Rattle.qs_client_run.specs.NextActs.{clear_by, send_full, without_by}
 use Rattle.qs_client_run.specs.Client.{ClientStage, Settings, call_act, clear}
-use Rattle.qs_client_run.specs.Holdings.{HoldingsState, held_at, chunk_at, with_held, with_chunk}
+use Rattle.qs_client_run.specs.Holdings.{HoldingsState, held_at, chunk_at, with_held, with_chunk, holding}
 use Rattle.qs_client_run.specs.ClientOfRun.{client_with, items_of}
 use Rattle.qs_client_run.specs.Running.{IsOpen, IsSized, IsRunning, IsFull, IsOver}
 use Rattle.qs_client_run.specs.BetweenActs.{without_act}
 use Rattle.qs_client_run.specs.declared.act.Act.{Act}
 use Rattle.qs_client_run.specs.declared.act.Act.TheVariants.{Send, NeedChunk, Finished}
-use Rattle.qs_client_run.specs.declared.run.Run.{Run}
-use Rattle.qs_client_run.proofs.HoldingsAsFunctions.{held_put, items_put, holding, holding_put, put_same, put_twice, chunk_each}
+use Rattle.qs_client_run.specs.RunState.{RunState}
+use Rattle.qs_client_run.proofs.HoldingsAsFunctions.{held_put, items_put, holding_put, put_same, put_twice, chunk_each}
+use Rattle.qs_client_run.proofs.InBlock.{held_in_block}
 
 pub clears_sized : (settings : Settings) (h : ℕ) (x : Option HeldState) (c : Option (Batch Request)) (other : Act) → IsSized settings.size c
     → clear_by h x c other ≡ clear settings h x (items_of c) other
@@ -96,24 +97,18 @@ away_at_call f r next w = subst (λ q. IsSoundSynced q next) (sym (put_twice f r
 pub away_at_sync : (f : ℕ → Bool) (h : ℕ) (next : Synced) → IsSoundSynced f (Sync h next) → IsSoundSynced (put f h false) (Sync h next)
 away_at_sync f h next w = subst (λ q. IsSoundSynced q next) (sym (put_twice f h false true)) w
 
-pub cleared_running : (g : List places.Place) (size k n h : ℕ) (s : Run) (x : Option HeldState) → h < most_handlers
+pub cleared_running : (g : List places.Place) (size k n h : ℕ) (s : RunState) (x : Option HeldState) → h < most_handlers
     → IsSoundSynced (put (holding s.holdings) h false) (walk g n s.position) → IsRunning g size k n s
-    → IsRunning g size k n (record { position = s.position; holdings = without_by s.holdings h x; traces = s.traces; stage = s.stage })
-cleared_running g size k n h s x eight sound w = record {
-  few = w.few;
-  within = w.within;
-  counted = w.counted;
-  sound = subst (λ f. IsSoundSynced f (walk g n s.position)) (sym (without_holding s.holdings h (omega (arith, eight, w.held)) x)) sound;
-  fits = w.fits;
-  row = w.row;
-  last = w.last;
-  held = without_held s.holdings h x ∙ w.held;
-  chunks = without_chunks s.holdings h x ∙ w.chunks;
-  opened = without_opened size s.holdings h (omega (arith, eight, w.chunks)) x w.opened;
-}
+    → IsRunning g size k n (record s { holdings = without_by s.holdings h x })
+cleared_running g size k n h s x eight sound w =
+    let new = without_by s.holdings h x in
+    held_in_block g k (holding s.holdings) (holding new) (λ j c. IsOpen size c) (λ j c. IsOpen size c) s s.stage n new w
+    (subst (λ f. IsSoundSynced f (walk g n s.position)) (sym (without_holding s.holdings h (omega (arith, eight, w.held)) x)) sound)
+    (without_held s.holdings h x ∙ w.held) (without_chunks s.holdings h x ∙ w.chunks)
+    (without_opened size s.holdings h (omega (arith, eight, w.chunks)) x w.opened)
 
-pub cleared_over : (g : List places.Place) (size h : ℕ) (s : Run) (x : Option HeldState) → h < most_handlers → IsOver g size s
-    → IsOver g size (record { position = s.position; holdings = without_by s.holdings h x; traces = s.traces; stage = s.stage })
+pub cleared_over : (g : List places.Place) (size h : ℕ) (s : RunState) (x : Option HeldState) → h < most_handlers → IsOver g size s
+    → IsOver g size (record s { holdings = without_by s.holdings h x })
 cleared_over g size h s x eight w = record {
   held = without_held s.holdings h x ∙ w.held;
   chunks = without_chunks s.holdings h x ∙ w.chunks;
@@ -121,19 +116,14 @@ cleared_over g size h s x eight w = record {
 }
 
 -- the full chunk may be away
-pub emptied : (g : List places.Place) (size k n h : ℕ) (s : Run) → IsFull g size k n h s
-    → IsFull g size k n h (record { position = s.position; holdings = with_chunk s.holdings h None; traces = s.traces; stage = s.stage })
-emptied g size k n h s w = record {
-  few = w.few;
-  within = w.within;
-  counted = w.counted;
-  sound = w.sound;
-  fits = w.fits;
-  row = w.row;
-  last = w.last;
-  held = w.held;
-  chunks = length-set s.holdings.chunks h None ∙ w.chunks;
-  handler = w.handler;
-  sized = chunk_each (λ j c. IsSized size c) s.holdings h None (omega (arith, w.handler, w.chunks)) tt (λ j other. w.sized j);
-  others = chunk_each (λ j c. (h == j) ≡ false → IsOpen size c) s.holdings h None (omega (arith, w.handler, w.chunks)) (λ other. tt) (λ j other. w.others j);
-}
+pub emptied : (g : List places.Place) (size k n h : ℕ) (s : RunState) → IsFull g size k n h s
+    → IsFull g size k n h (record s { holdings = with_chunk s.holdings h None })
+emptied g size k n h s w =
+    let IsChunk : ℕ → Option (Batch Request) → Type 0 = λ j c. IsSized size c × ((h == j) ≡ false → IsOpen size c) in
+    let room : h < length s.holdings.chunks = omega (arith, w.handler, w.in_block.chunks) in
+    record {
+      handler = w.handler;
+      in_block = held_in_block g k (holding s.holdings) (holding s.holdings) IsChunk IsChunk s s.stage n (with_chunk s.holdings h None) w.in_block
+          w.in_block.sound w.in_block.held (length-set s.holdings.chunks h None ∙ w.in_block.chunks)
+          (chunk_each IsChunk s.holdings h None room (tt, λ other. tt) (λ j other. w.in_block.opened j));
+    }

@@ -8,7 +8,7 @@ use Rattle.qs_objects.proofs.Choices.{eqb_self, num_cases}
 use Rattle.qs_meaning.specs.Solo.{put}
 use Rattle.qs_meaning.proofs.TreeWalks.{put_here, put_there}
 use Rattle.qs_chunk.specs.Batch.{Batch}
-use Rattle.qs_client_run.specs.Holdings.{HoldingsState, held_at, chunk_at, with_held, with_chunk}
+use Rattle.qs_client_run.specs.Holdings.{HoldingsState, held_at, holding, chunk_at, with_held, with_chunk}
 use Rattle.qs_client_run.specs.ClientOfRun.{items_of}
 
 pub put_set_at : {A : Type 0} (xs : List A) (h : ℕ) (x d : A) → h < length xs → (n : ℕ) → get_or (set xs h x) n d ≡ put (λ m. get_or xs m d) h x n
@@ -53,10 +53,6 @@ chunk_put s h c inside = fun_ext (put_set_at s.chunks h c None inside)
 pub items_put : (s : HoldingsState) (h : ℕ) (c : Option (Batch Request)) → h < length s.chunks
     → (λ n. items_of (chunk_at (with_chunk s h c) n)) ≡ put (λ n. items_of (chunk_at s n)) h (items_of c)
 items_put s h c inside = fun_ext (λ n. ap items_of (put_set_at s.chunks h c None inside n) ∙ put_field items_of (chunk_at s) h c n)
-
--- for each handler whether its object is held
-abbrev pub holding : HoldingsState → ℕ → Bool
-holding s h = is_some (held_at s h)
 
 pub holding_put : (s : HoldingsState) (h : ℕ) (x : Option HeldState) → h < length s.held → holding (with_held s h x) ≡ put (holding s) h (is_some x)
 holding_put s h x inside = fun_ext (λ n. ap is_some (put_set_at s.held h x None inside n) ∙ put_field (λ (y : Option HeldState). is_some y) (held_at s) h x n)

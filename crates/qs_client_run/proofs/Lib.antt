@@ -4,6 +4,7 @@ pub mod CodeBounds
 pub mod ArrivalRefinement
 pub mod StepRefinement
 pub mod HoldingsAsFunctions
+pub mod InBlock
 pub mod StepAtNode
 pub mod CarriedValues
 pub mod NodeRequirements

@@ -7,9 +7,9 @@ use Rattle.qs_syncset.specs.SoundSynced.{IsSoundSynced}
 use Rattle.qs_client_run.specs.Holdings.{held_at}
 use Rattle.qs_objects.specs.Traces.{trace_at}
 use Rattle.qs_client_run.specs.Running.{IsRunning, MakesAtMost}
-use Rattle.qs_client_run.specs.declared.run.Run.{Run}
+use Rattle.qs_client_run.specs.RunState.{RunState}
 
-module _ (g : List Place) (size k : ℕ) (s : Run) where
+module _ (g : List Place) (size k : ℕ) (s : RunState) where
   pub room_for_call : (n : ℕ) (r : Request) (t : Spot) → move g s.position ≡ Calls r t → IsRunning g size k n s → 0 < (trace_at s.traces k).room
   room_for_call zero r t e w = absurd w.within
   room_for_call (suc n) r t e w =

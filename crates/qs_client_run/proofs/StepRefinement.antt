@@ -22,18 +22,19 @@ use Rattle.qs_syncset.specs.SoundSynced.{IsSoundSynced}
 use Rattle.qs_syncset.specs.Codes.{BlockCode}
 use Rattle.qs_chunk.specs.Batch.{Batch, batch}
 use Rattle.qs_client_run.specs.Client.{Client, Settings, Settlement, settle, stop_at, with_event, runs, full}
-use Rattle.qs_client_run.specs.Holdings.{HoldingsState, held_at, chunk_at, with_held, with_chunk}
+use Rattle.qs_client_run.specs.Holdings.{HoldingsState, held_at, chunk_at, with_held, with_chunk, holding}
 use Rattle.qs_objects.proofs.TraceRows.{empty_after_note}
 use Rattle.qs_objects.specs.Traces.{TraceState, trace_state, trace_at, noted, noted_at}
 use Rattle.qs_objects.proofs.Elements.{AllByRecursion-get_or}
 use Rattle.qs_program.specs.Limits.{most_handlers, most_objects}
 use Rattle.qs_client_run.specs.ClientOfRun.{items_of, client_with, client_of, stage_of, stage_by, progress_after, progress_through, progress_at, HasSettled}
 use Rattle.qs_client_run.specs.BetweenActs.{IsStanding, HasSent, resume}
-use Rattle.qs_client_run.specs.Running.{IsRunning, IsFull, IsStopped, IsLoud, IsOpen, IsSized, KeepsRows, MakesAtMost, go_to, call_by, call, query_by, query, sync, leave, step_by, step}
-use Rattle.qs_client_run.specs.declared.run.Run.{Run}
+use Rattle.qs_client_run.specs.Running.{IsInBlock, IsRunning, IsFull, IsStopped, IsLoud, IsOpen, IsSized, KeepsRows, MakesAtMost, go_to, call_by, call, query_by, query, sync, leave, step_by, step}
+use Rattle.qs_client_run.specs.RunState.{RunState}
 use Rattle.qs_client_run.specs.declared.run.BlockContext.{BlockContext}
 use Rattle.qs_client_run.specs.declared.stage.Stage.{Stage}
-use Rattle.qs_client_run.proofs.HoldingsAsFunctions.{held_put, items_put, holding, holding_put, put_same, chunk_each}
+use Rattle.qs_client_run.proofs.HoldingsAsFunctions.{held_put, items_put, holding_put, put_same, chunk_each}
+use Rattle.qs_client_run.proofs.InBlock.{held_in_block, moved_in_block}
 use Rattle.qs_client_run.specs.Client as clients
 use Rattle.qs_client_run.specs.declared.stage.Outgoing.TheVariants as outgoings
 use Rattle.qs_client_run.specs.declared.stage.Stage.TheVariants as stages
@@ -113,36 +114,36 @@ keeps_noted k ts e = record {
   others = λ j other. get_or-set_other ts k j (noted (trace_at ts k) e) (trace_state [] 0) (λ same. apart_eqb k j other (sym same));
 }
 
-called_rows : (k : ℕ) (r : Request) (t : Spot) (s : Run) (x : Option HeldState) (b : Option (Batch Request)) → KeepsRows k s.traces (call_by k r t s x b).0.traces
+called_rows : (k : ℕ) (r : Request) (t : Spot) (s : RunState) (x : Option HeldState) (b : Option (Batch Request)) → KeepsRows k s.traces (call_by k r t s x b).0.traces
 called_rows k r t s (Some x) b = keeps_rows k s.traces
 called_rows k r t s None None = keeps_rows k s.traces
 called_rows k r t s None (Some b) = keeps_noted k s.traces (logged r)
 
-asked_rows : (u : Ticket) (r : Request) (t : ℤ → Spot) (s : Run) (x : Option HeldState) → KeepsRows u.index s.traces (query_by u r t s x).0.traces
+asked_rows : (u : Ticket) (r : Request) (t : ℤ → Spot) (s : RunState) (x : Option HeldState) → KeepsRows u.index s.traces (query_by u r t s x).0.traces
 asked_rows u r t s None = keeps_rows u.index s.traces
 asked_rows u r t s (Some x) = keeps_noted u.index s.traces (event r (ran x u r).1)
 
-synced_rows : (k : ℕ) (b : Bool) (s : Run) (t : Spot) → KeepsRows k s.traces (let z : Run × Bool = if b then (go_to s t, true) else (s, false) in z).0.traces
+synced_rows : (k : ℕ) (b : Bool) (s : RunState) (t : Spot) → KeepsRows k s.traces (let z : RunState × Bool = if b then (go_to s t, true) else (s, false) in z).0.traces
 synced_rows k true s t = keeps_rows k s.traces
 synced_rows k false s t = keeps_rows k s.traces
 
-called_counts : (m k : ℕ) (r : Request) (t : Spot) (s : Run) (x : Option HeldState) (b : Option (Batch Request)) → length s.position.counts ≡ m → length t.counts ≡ m
+called_counts : (m k : ℕ) (r : Request) (t : Spot) (s : RunState) (x : Option HeldState) (b : Option (Batch Request)) → length s.position.counts ≡ m → length t.counts ≡ m
     → length (call_by k r t s x b).0.position.counts ≡ m
 called_counts m k r t s (Some x) b h w = h
 called_counts m k r t s None None h w = h
 called_counts m k r t s None (Some b) h w = w
 
-asked_counts : (m : ℕ) (u : Ticket) (r : Request) (t : ℤ → Spot) (s : Run) (x : Option HeldState) → length s.position.counts ≡ m → ((v : ℤ) → length (t v).counts ≡ m)
+asked_counts : (m : ℕ) (u : Ticket) (r : Request) (t : ℤ → Spot) (s : RunState) (x : Option HeldState) → length s.position.counts ≡ m → ((v : ℤ) → length (t v).counts ≡ m)
     → length (query_by u r t s x).0.position.counts ≡ m
 asked_counts m u r t s None h w = h
 asked_counts m u r t s (Some x) h w = w (value_of (ran x u r).1)
 
-synced_counts : (m : ℕ) (b : Bool) (s : Run) (t : Spot) → length s.position.counts ≡ m → length t.counts ≡ m
-    → length (let z : Run × Bool = if b then (go_to s t, true) else (s, false) in z).0.position.counts ≡ m
+synced_counts : (m : ℕ) (b : Bool) (s : RunState) (t : Spot) → length s.position.counts ≡ m → length t.counts ≡ m
+    → length (let z : RunState × Bool = if b then (go_to s t, true) else (s, false) in z).0.position.counts ≡ m
 synced_counts m true s t h w = w
 synced_counts m false s t h w = h
 
-moved_counts : (context : BlockContext) (reserved : List ℕ) (m : ℕ) (x : Move) (s : Run) → length s.position.counts ≡ m → EachNext (λ t. length t.counts ≡ m) x
+moved_counts : (context : BlockContext) (reserved : List ℕ) (m : ℕ) (x : Move) (s : RunState) → length s.position.counts ≡ m → EachNext (λ t. length t.counts ≡ m) x
     → length (step_by context reserved x s).0.position.counts ≡ m
 moved_counts context reserved m Ends s h w = h
 moved_counts context reserved m (Goes t) s h w = w
@@ -150,21 +151,21 @@ moved_counts context reserved m (Calls r t) s h w = called_counts m context.tick
 moved_counts context reserved m (Syncs o t) s h w = synced_counts m (context.dynamic && is_some (held_at s.holdings o)) s t h w
 moved_counts context reserved m (Queries r t) s h w = asked_counts m context.ticket r t s (held_at s.holdings r.object) h w
 
-all_counts : (g : List Place) (context : BlockContext) (reserved : List ℕ) (s : Run) → length (step g context reserved s).0.position.counts ≡ length s.position.counts
+all_counts : (g : List Place) (context : BlockContext) (reserved : List ℕ) (s : RunState) → length (step g context reserved s).0.position.counts ≡ length s.position.counts
 all_counts g context reserved s = moved_counts context reserved (length s.position.counts) (move g s.position) s refl (counts_kept g s.position)
 
-rows_by : (context : BlockContext) (reserved : List ℕ) (m : Move) (s : Run) → KeepsRows context.ticket.index s.traces (step_by context reserved m s).0.traces
+rows_by : (context : BlockContext) (reserved : List ℕ) (m : Move) (s : RunState) → KeepsRows context.ticket.index s.traces (step_by context reserved m s).0.traces
 rows_by context reserved Ends s = keeps_rows context.ticket.index s.traces
 rows_by context reserved (Goes t) s = keeps_rows context.ticket.index s.traces
 rows_by context reserved (Calls r t) s = called_rows context.ticket.index r t s (held_at s.holdings r.object) (chunk_at s.holdings r.object)
 rows_by context reserved (Syncs h t) s = synced_rows context.ticket.index (context.dynamic && is_some (held_at s.holdings h)) s t
 rows_by context reserved (Queries r t) s = asked_rows context.ticket r t s (held_at s.holdings r.object)
 
-rows_kept : (g : List Place) (context : BlockContext) (reserved : List ℕ) (s : Run) → KeepsRows context.ticket.index s.traces (step g context reserved s).0.traces
+rows_kept : (g : List Place) (context : BlockContext) (reserved : List ℕ) (s : RunState) → KeepsRows context.ticket.index s.traces (step g context reserved s).0.traces
 rows_kept g context reserved s = rows_by context reserved (move g s.position) s
 
 -- within fewer nodes, within more
-pub stopped_up : (g : List Place) (reserved : List ℕ) (size k a b : ℕ) (s : Run) (stage : Stage) → a ≤ b → IsStopped g reserved size k a s stage → IsStopped g reserved size k b s stage
+pub stopped_up : (g : List Place) (reserved : List ℕ) (size k a b : ℕ) (s : RunState) (stage : Stage) → a ≤ b → IsStopped g reserved size k a s stage → IsStopped g reserved size k b s stage
 stopped_up g reserved size k a b s stages.Runs h w = (w.0, omega (arith, h, w.1), w.2, w.3)
 stopped_up g reserved size k a b s (stages.Full x) h w = (w.0, omega (arith, h, w.1), w.2)
 stopped_up g reserved size k a b s (stages.Awaits x) h w = w
@@ -173,12 +174,12 @@ stopped_up g reserved size k a b s stages.Between h w = w
 
 module _ (g : List Place) (settings : Settings) (context : BlockContext) (reserved : List ℕ) (begun : ℕ) (p : clients.ClientStage) where
   -- what a quiet move leaves of the tree: it goes on, or the client has come to its next act
-  abbrev pub Leaves : ℕ → Synced → Run → Run × Bool → Type 0
+  abbrev pub Leaves : ℕ → Synced → RunState → RunState × Bool → Type 0
   Leaves n tree s (s', true) = IsRunning g settings.size context.ticket.index n s' × (s'.stage ≡ s.stage) × (progress_through settings context.ticket reserved begun p tree s ≡ progress_through settings context.ticket reserved begun p (walk g n s'.position) s')
   Leaves n tree s (s', false) = IsStopped g reserved settings.size context.ticket.index (suc n) s' s'.stage × (progress_through settings context.ticket reserved begun p tree s ≡ progress_at g reserved begun context.ticket.index s')
 
   -- what is known of a client before a move m, within n nodes after it
-  pub record Ready (n : ℕ) (s : Run) (m : Move) : Type 0 where
+  pub record Ready (n : ℕ) (s : RunState) (m : Move) : Type 0 where
     pub whole : IsRunning g settings.size context.ticket.index (suc n) s
     pub is : move g s.position ≡ m
     pub next : EachNext (Within g n) m
@@ -191,7 +192,7 @@ module _ (g : List Place) (settings : Settings) (context : BlockContext) (reserv
     pub dynamic : settings.dynamic ≡ context.dynamic
 
   -- the client stays, and its next act is the move's
-  pub stays_here : (n : ℕ) (s : Run) (m : Move) → Ready n s m → IsLoud m
+  pub stays_here : (n : ℕ) (s : RunState) (m : Move) → Ready n s m → IsLoud m
       → IsStopped g reserved settings.size context.ticket.index (suc n) s s.stage
       × (progress_after (trace_at s.traces context.ticket.index).events (stop_at (client_with begun p s.holdings) (runs (said (walk g n) s.position.locals m)))
       ≡ progress_at g reserved begun context.ticket.index s)
@@ -203,25 +204,15 @@ module _ (g : List Place) (settings : Settings) (context : BlockContext) (reserv
     },
   )
 
-  goes_case : (n : ℕ) (s : Run) (t : Spot) → Ready n s (Goes t) → Leaves n (walk g n t) s (go_to s t, true)
+  goes_case : (n : ℕ) (s : RunState) (t : Spot) → Ready n s (Goes t) → Leaves n (walk g n t) s (go_to s t, true)
   goes_case n s t w = (
-    record {
-      few = omega (arith, w.whole.few);
-      within = w.next;
-      counted = w.counted;
-      sound = w.sound;
-      fits = w.fits;
-      row = w.whole.row;
-      last = w.whole.last;
-      held = w.whole.held;
-      chunks = w.whole.chunks;
-      opened = w.whole.opened;
-    },
+    moved_in_block g context.ticket.index (holding s.holdings) (holding s.holdings) (λ h c. IsOpen settings.size c) (λ h c. IsOpen settings.size c) s s.stage (suc n) n t w.whole
+        (omega (arith, w.whole.few)) w.next w.counted w.sound w.fits,
     refl,
     refl,
   )
 
-  ends_case : (n : ℕ) (s : Run) → Ready n s Ends → Leaves n (Done s.position.locals) s (leave reserved s)
+  ends_case : (n : ℕ) (s : RunState) → Ready n s Ends → Leaves n (Done s.position.locals) s (leave reserved s)
   ends_case n s w = by_list reserved
     where
       by_list : (hs : List ℕ) → IsStopped g hs settings.size context.ticket.index (suc n) (leave hs s).0 (leave hs s).0.stage
@@ -229,7 +220,7 @@ module _ (g : List Place) (settings : Settings) (context : BlockContext) (reserv
       by_list [] = (record { held = w.whole.held; chunks = w.whole.chunks; opened = w.whole.opened }, λ i. record { client = client_with begun (clients.between s.position.locals) s.holdings; trace = append-nil (trace_at s.traces context.ticket.index).events i })
       by_list (h ∷ hs) = ((record { held = w.whole.held; chunks = w.whole.chunks; opened = w.whole.opened }, omega arith), λ i. record { client = client_with begun (clients.leaves h hs s.position.locals) s.holdings; trace = append-nil (trace_at s.traces context.ticket.index).events i })
 
-  syncs_case : (n : ℕ) (s : Run) (h : ℕ) (t : Spot) → Ready n s (Syncs h t) → Leaves n (Sync h (walk g n t)) s (sync context.dynamic h t s)
+  syncs_case : (n : ℕ) (s : RunState) (h : ℕ) (t : Spot) → Ready n s (Syncs h t) → Leaves n (Sync h (walk g n t)) s (sync context.dynamic h t s)
   syncs_case n s h t w = by_test (context.dynamic && is_some (held_at s.holdings h)) refl
     where
       tr : List Event
@@ -241,18 +232,10 @@ module _ (g : List Place) (settings : Settings) (context : BlockContext) (reserv
       by_test : (b : Bool) → (context.dynamic && is_some (held_at s.holdings h)) ≡ b
           → Leaves n (Sync h (walk g n t)) s (if b then (go_to s t, true) else (s, false))
       by_test true e = (
-        record {
-          few = omega (arith, w.whole.few);
-          within = w.next;
-          counted = w.counted;
-          sound = subst (λ f. IsSoundSynced f (walk g n t)) (put_same (holding s.holdings) h true (and_cases context.dynamic (is_some (held_at s.holdings h)) e).1) w.sound;
-          fits = w.fits;
-          row = w.whole.row;
-          last = w.whole.last;
-          held = w.whole.held;
-          chunks = w.whole.chunks;
-          opened = w.whole.opened;
-        },
+        moved_in_block g context.ticket.index (holding s.holdings) (holding s.holdings) (λ h c. IsOpen settings.size c) (λ h c. IsOpen settings.size c) s s.stage (suc n) n t w.whole
+            (omega (arith, w.whole.few)) w.next w.counted
+            (subst (λ f. IsSoundSynced f (walk g n t)) (put_same (holding s.holdings) h true (and_cases context.dynamic (is_some (held_at s.holdings h)) e).1) w.sound)
+            w.fits,
         refl,
         ap (λ (b : Bool). progress_after tr (if b then settle settings context.ticket reserved (walk g n t) c else stop_at c (runs (Sync h (walk g n t)))))
             (ap (λ (d : Bool). d && is_some (held_at s.holdings h)) w.dynamic ∙ e),
@@ -264,7 +247,7 @@ module _ (g : List Place) (settings : Settings) (context : BlockContext) (reserv
                 (ap (λ (d : Bool). d && is_some (held_at s.holdings h)) w.dynamic ∙ e) ∙ here.1,
           )
 
-  calls_case : (n : ℕ) (s : Run) (r : Request) (t : Spot) → Ready n s (Calls r t) → Leaves n (Call r (walk g n t)) s (call context.ticket.index r t s)
+  calls_case : (n : ℕ) (s : RunState) (r : Request) (t : Spot) → Ready n s (Calls r t) → Leaves n (Call r (walk g n t)) s (call context.ticket.index r t s)
   calls_case n s r t w = by_hands (held_at s.holdings r.object) (chunk_at s.holdings r.object) refl refl
     where
       k : ℕ
@@ -317,7 +300,7 @@ module _ (g : List Place) (settings : Settings) (context : BlockContext) (reserv
           fits : MakesAtMost (trace_at ts k).room (walk g n t)
           fits = subst (λ (y : TraceState). MakesAtMost y.room (walk g n t)) (sym row) w.fits.1
 
-          new : Bool → Run
+          new : Bool → RunState
           new d = record { position = t; holdings = holdings; traces = ts; stage = if d then stages.Full r.object else s.stage }
 
           after : (ℕ → Option (List Request)) → Client
@@ -334,25 +317,32 @@ module _ (g : List Place) (settings : Settings) (context : BlockContext) (reserv
               ∙ ap (λ q. progress_after tr (with_event (logged r) (ends (after q) d))) (sym (items_put s.holdings r.object (Some more) inside))
               ∙ noted_on tr (logged r) (ends (client_with begun p holdings) d) (trace_at ts k) (ap (λ (y : TraceState). y.events) row)
 
+          in_block : (IsChunk : ℕ → Option (Batch Request) → Type 0) (d : Bool) → ((h : ℕ) → IsChunk h (chunk_at holdings h))
+              → IsInBlock g k n (holding s.holdings) IsChunk (new d)
+          in_block IsChunk d opened = record {
+            few = omega (arith, w.whole.few);
+            within = w.next;
+            counted = w.counted;
+            sound = sound;
+            fits = fits;
+            row = omega (arith, w.whole.row, length-set s.traces k (noted (trace_at s.traces k) (logged r)));
+            last = empty_after_note s.traces k (logged r) w.whole.last;
+            held = w.whole.held;
+            chunks = length-set s.holdings.chunks r.object (Some more) ∙ w.whole.chunks;
+            opened = opened;
+          }
+
           by_full : (d : Bool) → (length items == b.capacity) ≡ d → Leaves n (Call r (walk g n t)) s (new d, not d)
           by_full true i_full = (
             (
               n,
               omega arith,
               record {
-                few = omega (arith, w.whole.few);
-                within = w.next;
-                counted = w.counted;
-                sound = sound;
-                fits = fits;
-                row = omega (arith, w.whole.row, length-set s.traces k (noted (trace_at s.traces k) (logged r)));
-                last = empty_after_note s.traces k (logged r) w.whole.last;
-                held = w.whole.held;
-                chunks = length-set s.holdings.chunks r.object (Some more) ∙ w.whole.chunks;
                 handler = w.eight;
-                sized = chunk_each (λ j c. IsSized settings.size c) s.holdings r.object (Some more) inside open_b.0 (λ j other. sized_of settings.size (chunk_at s.holdings j) (w.whole.opened j));
-                others = λ j other. chunk_each (λ j c. (r.object == j) ≡ false → IsOpen settings.size c) s.holdings r.object (Some more) inside
-                    (λ no. absurd (let yes = eqb_self r.object in cc)) (λ j other no. w.whole.opened j) j other;
+                in_block = in_block (λ j c. IsSized settings.size c × ((r.object == j) ≡ false → IsOpen settings.size c)) true
+                    (chunk_each (λ j c. IsSized settings.size c × ((r.object == j) ≡ false → IsOpen settings.size c)) s.holdings r.object (Some more) inside
+                    (open_b.0, λ no. absurd (let yes = eqb_self r.object in cc))
+                    (λ j other. (sized_of settings.size (chunk_at s.holdings j) (w.whole.opened j), λ no. w.whole.opened j)));
               },
             ),
             begins true i_full
@@ -362,24 +352,14 @@ module _ (g : List Place) (settings : Settings) (context : BlockContext) (reserv
                 }),
           )
           by_full false i_full = (
-            record {
-              few = omega (arith, w.whole.few);
-              within = w.next;
-              counted = w.counted;
-              sound = sound;
-              fits = fits;
-              row = omega (arith, w.whole.row, length-set s.traces k (noted (trace_at s.traces k) (logged r)));
-              last = empty_after_note s.traces k (logged r) w.whole.last;
-              held = w.whole.held;
-              chunks = length-set s.holdings.chunks r.object (Some more) ∙ w.whole.chunks;
-              opened = chunk_each (λ j c. IsOpen settings.size c) s.holdings r.object (Some more) inside
-                  (open_b.0, below (length items) b.capacity settings.size i_full open_b.0 (omega (arith, length-append b.items (r ∷ []), open_b.1))) (λ j other. w.whole.opened j);
-            },
+            in_block (λ j c. IsOpen settings.size c) false
+                (chunk_each (λ j c. IsOpen settings.size c) s.holdings r.object (Some more) inside
+                (open_b.0, below (length items) b.capacity settings.size i_full open_b.0 (omega (arith, length-append b.items (r ∷ []), open_b.1))) (λ j other. w.whole.opened j)),
             refl,
             begins false i_full,
           )
 
-  queries_case : (n : ℕ) (s : Run) (r : Request) (t : ℤ → Spot) → Ready n s (Queries r t)
+  queries_case : (n : ℕ) (s : RunState) (r : Request) (t : ℤ → Spot) → Ready n s (Queries r t)
       → Leaves n (Query r (λ v. walk g n (t v))) s (query context.ticket r t s)
   queries_case n s r t w = by_held (held_at s.holdings r.object) refl
     where
@@ -420,14 +400,14 @@ module _ (g : List Place) (settings : Settings) (context : BlockContext) (reserv
                 ∙ noted_on tr (event r o.1) (settle settings context.ticket reserved (walk g n (t (value_of o.1))) (client_with begun p holdings)) (trace_at (noted_at s.traces k (event r o.1)) k) (ap (λ (y : TraceState). y.events) row),
           )
 
-  by_move : (n : ℕ) (s : Run) (m : Move) → Ready n s m → Leaves n (said (walk g n) s.position.locals m) s (step_by context reserved m s)
+  by_move : (n : ℕ) (s : RunState) (m : Move) → Ready n s m → Leaves n (said (walk g n) s.position.locals m) s (step_by context reserved m s)
   by_move n s Ends w = ends_case n s w
   by_move n s (Goes t) w = goes_case n s t w
   by_move n s (Calls r t) w = calls_case n s r t w
   by_move n s (Syncs h t) w = syncs_case n s h t w
   by_move n s (Queries r t) w = queries_case n s r t w
 
-  pub ready : (n : ℕ) (s : Run) → IsGraph g → settings.dynamic ≡ context.dynamic → s.stage ≡ stages.Runs → IsRunning g settings.size context.ticket.index (suc n) s
+  pub ready : (n : ℕ) (s : RunState) → IsGraph g → settings.dynamic ≡ context.dynamic → s.stage ≡ stages.Runs → IsRunning g settings.size context.ticket.index (suc n) s
       → Ready n s (move g s.position)
   ready n s ok dynamic stands w = record {
     whole = w;
@@ -442,20 +422,20 @@ module _ (g : List Place) (settings : Settings) (context : BlockContext) (reserv
     dynamic = dynamic;
   }
 
-  pub quiet : (n : ℕ) (s : Run) → IsGraph g → settings.dynamic ≡ context.dynamic → s.stage ≡ stages.Runs → IsRunning g settings.size context.ticket.index (suc n) s
+  pub quiet : (n : ℕ) (s : RunState) → IsGraph g → settings.dynamic ≡ context.dynamic → s.stage ≡ stages.Runs → IsRunning g settings.size context.ticket.index (suc n) s
       → Leaves n (walk g (suc n) s.position) s (step g context reserved s)
   quiet n s ok dynamic stands w = by_move n s (move g s.position) (ready n s ok dynamic stands w)
 
-  leaves_on : (n : ℕ) (tree : Synced) (s : Run) (r : Run × Bool) → r.1 ≡ true → Leaves n tree s r → Leaves n tree s (r.0, true)
+  leaves_on : (n : ℕ) (tree : Synced) (s : RunState) (r : RunState × Bool) → r.1 ≡ true → Leaves n tree s r → Leaves n tree s (r.0, true)
   leaves_on n tree s (t, true) e w = w
   leaves_on n tree s (t, false) e w = absurd (cc)
 
-  leaves_off : (n : ℕ) (tree : Synced) (s : Run) (r : Run × Bool) → r.1 ≡ false → Leaves n tree s r → Leaves n tree s (r.0, false)
+  leaves_off : (n : ℕ) (tree : Synced) (s : RunState) (r : RunState × Bool) → r.1 ≡ false → Leaves n tree s r → Leaves n tree s (r.0, false)
   leaves_off n tree s (t, true) e w = absurd (cc)
   leaves_off n tree s (t, false) e w = w
 
   -- the client went on from s to t
-  pub record WentOn (m turn : ℕ) (s t : Run) : Type 0 where
+  pub record WentOn (m turn : ℕ) (s t : RunState) : Type 0 where
     pub stands : t.stage ≡ stages.Runs
     pub left : ℕ
     pub few : left + turn ≤ limit
@@ -465,14 +445,14 @@ module _ (g : List Place) (settings : Settings) (context : BlockContext) (reserv
     pub running : IsRunning g settings.size context.ticket.index left t
     pub same : progress_through settings context.ticket reserved begun p (walk g m s.position) s ≡ progress_through settings context.ticket reserved begun p (walk g left t.position) t
 
-  pub goes_on : (m turn : ℕ) (s t : Run) → IsGraph g → settings.dynamic ≡ context.dynamic → s.stage ≡ stages.Runs → IsRunning g settings.size context.ticket.index m s
+  pub goes_on : (m turn : ℕ) (s t : RunState) → IsGraph g → settings.dynamic ≡ context.dynamic → s.stage ≡ stages.Runs → IsRunning g settings.size context.ticket.index m s
       → m + turn ≤ limit → t ≡ (step g context reserved s).0 → (step g context reserved s).1 ≡ true → WentOn m (turn + 1) s t
   goes_on zero turn s t ok dynamic stands w few new on = absurd w.within
   goes_on (suc m) turn s t ok dynamic stands w few new on =
       let done = leaves_on m (walk g (suc m) s.position) s (step g context reserved s) on (quiet m s ok dynamic stands w) in
       subst (λ u. WentOn (suc m) (turn + 1) s u) (sym new) (record { stands = done.1 ∙ stands; left = m; few = omega (arith, few); fewer = omega arith; rows = rows_kept g context reserved s; counts = all_counts g context reserved s; running = done.0; same = done.2 })
 
-  pub stops : (m : ℕ) (s t : Run) → IsGraph g → settings.dynamic ≡ context.dynamic → s.stage ≡ stages.Runs → IsRunning g settings.size context.ticket.index m s
+  pub stops : (m : ℕ) (s t : RunState) → IsGraph g → settings.dynamic ≡ context.dynamic → s.stage ≡ stages.Runs → IsRunning g settings.size context.ticket.index m s
       → t ≡ (step g context reserved s).0 → (step g context reserved s).1 ≡ false → HasSettled g settings context.ticket reserved begun p m s t
   stops zero s t ok dynamic stands w new off = absurd w.within
   stops (suc m) s t ok dynamic stands w new off =
@@ -480,7 +460,7 @@ module _ (g : List Place) (settings : Settings) (context : BlockContext) (reserv
       subst (HasSettled g settings context.ticket reserved begun p (suc m) s) (sym new) (record { stopped = done.0; rows = rows_kept g context reserved s; counts = all_counts g context reserved s; same = done.1 })
 
 -- where it stopped it may stand until its next act
-pub standing_of : (b : BlockCode) (size k less most : ℕ) (s : Run) (stage : Stage) → less ≤ most → IsStopped b.graph b.reserved size k less s stage
+pub standing_of : (b : BlockCode) (size k less most : ℕ) (s : RunState) (stage : Stage) → less ≤ most → IsStopped b.graph b.reserved size k less s stage
     → IsStanding b size k most s stage
 standing_of b size k less most s stages.Runs h w = stopped_up b.graph b.reserved size k less most s stages.Runs h w
 standing_of b size k less most s (stages.Full x) h w = stopped_up b.graph b.reserved size k less most s (stages.Full x) h w
@@ -493,22 +473,14 @@ room_again size h j c others gone =
     ⊎_elim (λ (is : h ≡ j). subst (IsOpen size) (sym (gone is)) tt) (λ (other : (h == j) ≡ false). others other) (num_cases h j)
 
 -- once the full chunk went, the client may go on
-pub full_running : (g : List Place) (size k n h : ℕ) (s : Run) → chunk_at s.holdings h ≡ None → IsFull g size k n h s → IsRunning g size k n s
-full_running g size k n h s gone w = record {
-  few = w.few;
-  within = w.within;
-  counted = w.counted;
-  sound = w.sound;
-  fits = w.fits;
-  row = w.row;
-  last = w.last;
-  held = w.held;
-  chunks = w.chunks;
-  opened = λ j. room_again size h j (chunk_at s.holdings j) (w.others j) (λ is. subst (λ m. chunk_at s.holdings m ≡ None) is gone);
-}
+pub full_running : (g : List Place) (size k n h : ℕ) (s : RunState) → chunk_at s.holdings h ≡ None → IsFull g size k n h s → IsRunning g size k n s
+full_running g size k n h s gone w =
+    held_in_block g k (holding s.holdings) (holding s.holdings) (λ j c. IsSized size c × ((h == j) ≡ false → IsOpen size c)) (λ j c. IsOpen size c) s s.stage n
+    s.holdings w.in_block w.in_block.sound w.in_block.held w.in_block.chunks
+    (λ j. room_again size h j (chunk_at s.holdings j) (w.in_block.opened j).1 (λ is. subst (λ m. chunk_at s.holdings m ≡ None) is gone))
 
 -- a client that goes on from here, with a stage that lets it
-pub resumes : (b : BlockCode) (settings : Settings) (ticket : Ticket) (begun n most : ℕ) (old new : Run) (stage : Stage) → old.stage ≡ stage → n ≤ most
+pub resumes : (b : BlockCode) (settings : Settings) (ticket : Ticket) (begun n most : ℕ) (old new : RunState) (stage : Stage) → old.stage ≡ stage → n ≤ most
     → ((m : Client) (rest : Synced) → resume settings ticket b.reserved m (stage_by stage b.reserved rest old.position.locals) ≡ settle settings ticket b.reserved rest m)
     → IsRunning b.graph settings.size ticket.index n old
     → HasSettled b.graph settings ticket b.reserved begun (stage_of b.graph b.reserved old) n old new → HasSent b settings ticket begun most outgoings.Value old new
@@ -527,24 +499,14 @@ resumes b settings ticket begun n most old new stage at few on w done = record {
 }
 
 -- where it stands does not matter to its quiet moves
-pub restaged : (g : List Place) (size k n : ℕ) (s : Run) (stage : Stage) → IsRunning g size k n s
-    → IsRunning g size k n (record { position = s.position; holdings = s.holdings; traces = s.traces; stage = stage })
-restaged g size k n s stage w = record {
-  few = w.few;
-  within = w.within;
-  counted = w.counted;
-  sound = w.sound;
-  fits = w.fits;
-  row = w.row;
-  last = w.last;
-  held = w.held;
-  chunks = w.chunks;
-  opened = w.opened;
-}
+pub restaged : (g : List Place) (size k n : ℕ) (s : RunState) (stage : Stage) → IsRunning g size k n s
+    → IsRunning g size k n (record s { stage = stage })
+restaged g size k n s stage w =
+    held_in_block g k (holding s.holdings) (holding s.holdings) (λ h c. IsOpen size c) (λ h c. IsOpen size c) s stage n s.holdings w w.sound w.held w.chunks w.opened
 
-pub settled_at : (g q : List Place) (reserved list : List ℕ) (settings : Settings) (ticket : Ticket) (begun : ℕ) (p : clients.ClientStage) (n : ℕ) (s new : Run) (stage : Stage)
+pub settled_at : (g q : List Place) (reserved list : List ℕ) (settings : Settings) (ticket : Ticket) (begun : ℕ) (p : clients.ClientStage) (n : ℕ) (s new : RunState) (stage : Stage)
     → g ≡ q → reserved ≡ list
-    → HasSettled g settings ticket reserved begun p n (record { position = s.position; holdings = s.holdings; traces = s.traces; stage = stage }) new
+    → HasSettled g settings ticket reserved begun p n (record s { stage = stage }) new
     → HasSettled q settings ticket list begun p n s new
 settled_at g q reserved list settings ticket begun p n s new stage e f w =
     subst (λ x. HasSettled q settings ticket x begun p n s new) f

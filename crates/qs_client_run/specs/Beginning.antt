@@ -6,10 +6,10 @@ use Rattle.qs_syncset.specs.Codes.{BlockCode}
 use Rattle.qs_client_run.specs.Holdings.{no_holdings}
 use Rattle.qs_client_run.specs.BlockSizes.{empty_rows, longest}
 use Rattle.qs_client_run.specs.Restart.{restart}
-use Rattle.qs_client_run.specs.declared.run.Run.{Run}
+use Rattle.qs_client_run.specs.RunState.{RunState}
 use Rattle.qs_client_run.specs.declared.stage.Stage.TheVariants as stages
 
-abbrev pub fresh_run : List BlockCode → Run
+abbrev pub fresh_run : List BlockCode → RunState
 fresh_run blocks = record {
   position = entry zeros (replicate (longest blocks) 0);
   holdings = no_holdings;
@@ -17,5 +17,5 @@ fresh_run blocks = record {
   stage = stages.Between;
 }
 
-abbrev pub at_beginning : Run → Run
-at_beginning s = record { position = restart s.position; holdings = s.holdings; traces = s.traces; stage = s.stage }
+abbrev pub at_beginning : RunState → RunState
+at_beginning s = record s { position = restart s.position }

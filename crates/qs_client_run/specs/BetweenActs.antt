@@ -1,23 +1,19 @@
 -- A client's mind: what it has come to, and what each call does to it.
-use Rattle.std.specs.Prelude.{ℕ, ◌≡◌, ◌<◌, ◌≤◌, ◌+◌, ◌-◌, nat_lt, if◌then◌else◌, true, List, length, None, is_some}
+use Rattle.std.specs.Prelude.{ℕ, ◌≡◌, ◌<◌, ◌≤◌, ◌+◌, ◌-◌, nat_lt, if◌then◌else◌, List, length, None}
 use Rattle.qs_objects.specs.Journals.{HeldState}
 use Rattle.qs_objects.specs.declared.held.Ticket.{Ticket}
-use Rattle.qs_meaning.specs.Solo.{put}
 use Rattle.qs_graph.specs.Nodes.{Place as GraphPlace}
-use Rattle.qs_graph.specs.Steps.{limit}
-use Rattle.qs_graph.specs.Walk.{Move, Syncs, move, walk, Within}
+use Rattle.qs_graph.specs.Walk.{Move, Syncs, move}
 use Rattle.qs_syncset.specs.Codes.{BlockCode}
-use Rattle.qs_syncset.specs.SoundSynced.{IsSoundSynced}
 use Rattle.qs_chunk.specs.declared.parcel.Parcel.TheVariants as parcels
 use Rattle.qs_client_run.specs.declared.stage.Outgoing.{Outgoing}
 use Rattle.qs_client_run.specs.Client.{Client, Settings, Settlement, ClientStage, settle, stop_at, set_held, set_chunk, take_object, take_chunk, after_sync, after_end, runs, full}
-use Rattle.qs_client_run.specs.Holdings.{held_at, chunk_at}
-use Rattle.qs_objects.specs.Traces.{AreEmptyAfter, trace_at}
-use Rattle.qs_program.specs.Limits.{most_handlers}
+use Rattle.qs_client_run.specs.Holdings.{chunk_at}
+use Rattle.qs_objects.specs.Traces.{trace_at}
 use Rattle.qs_client_run.specs.ClientOfRun.{client_of, stage_of, progress_after, progress_at}
-use Rattle.qs_client_run.specs.Running.{IsOpen, IsOver, IsStopped, MakesAtMost, KeepsRows}
+use Rattle.qs_client_run.specs.Running.{IsAwaiting, IsOver, IsStopped, KeepsRows}
 use Rattle.qs_client_run.specs.declared.act.Act.{Act}
-use Rattle.qs_client_run.specs.declared.run.Run.{Run}
+use Rattle.qs_client_run.specs.RunState.{RunState}
 use Rattle.qs_client_run.specs.declared.stage.Stage.{Stage}
 use Rattle.qs_client_run.specs.declared.stage.Outgoing.TheVariants as outgoings
 use Rattle.qs_client_run.specs.declared.act.Act.TheVariants as acts
@@ -56,11 +52,11 @@ module _ (settings : Settings) (ticket : Ticket) (reserved : List ℕ) where
   after_send outgoings.End m = after_end settings ticket reserved m m.stage
 
 -- after a Sync was sent the object is awaited
-abbrev pub await_by : Move → Run → Run
-await_by (Syncs h t) s = record { position = t; holdings = s.holdings; traces = s.traces; stage = stages.Awaits h }
+abbrev pub await_by : Move → RunState → RunState
+await_by (Syncs h t) s = record s { position = t; stage = stages.Awaits h }
 await_by m s = s
 
-abbrev pub await_object : List GraphPlace → Run → Run
+abbrev pub await_object : List GraphPlace → RunState → RunState
 await_object g s = await_by (move g s.position) s
 
 -- after an End was sent the next handler of so many is left, or the block has ended
@@ -68,25 +64,11 @@ abbrev pub leave_next_by : ℕ → Stage → Stage
 leave_next_by handlers (stages.Leaves i) = if nat_lt (i + 1) handlers then stages.Leaves (i + 1) else stages.Between
 leave_next_by handlers stage = stage
 
-abbrev pub leave_next : ℕ → Run → Run
-leave_next handlers s = record { position = s.position; holdings = s.holdings; traces = s.traces; stage = leave_next_by handlers s.stage }
-
--- what holds of a client that waits for an object, within n nodes of its block's end
-pub record IsAwaiting (g : List GraphPlace) (size k n h : ℕ) (s : Run) : Type 0 where
-  pub few : n ≤ limit
-  pub within : Within g n s.position
-  pub counted : length g ≤ length s.position.counts
-  pub sound : IsSoundSynced (put (λ j. is_some (held_at s.holdings j)) h true) (walk g n s.position)
-  pub fits : MakesAtMost (trace_at s.traces k).room (walk g n s.position)
-  pub row : k < length s.traces
-  pub last : AreEmptyAfter s.traces k
-  pub held : length s.holdings.held ≡ most_handlers
-  pub chunks : length s.holdings.chunks ≡ most_handlers
-  pub handler : h < most_handlers
-  pub opened : (j : ℕ) → IsOpen size (chunk_at s.holdings j)
+abbrev pub leave_next : ℕ → RunState → RunState
+leave_next handlers s = record s { stage = leave_next_by handlers s.stage }
 
 -- what holds between two acts of a client in a block of this code, within at most `most` nodes of its end
-abbrev pub IsStanding : BlockCode → ℕ → ℕ → ℕ → Run → Stage → Type 0
+abbrev pub IsStanding : BlockCode → ℕ → ℕ → ℕ → RunState → Stage → Type 0
 IsStanding b size k most s (stages.Awaits h) = (n : ℕ) × (n ≤ most) × IsAwaiting b.graph size k n h s
 IsStanding b size k most s (stages.Leaves i) = IsOver b.graph size s × (i < length b.reserved)
 IsStanding b size k most s stages.Between = IsOver b.graph size s
@@ -99,14 +81,14 @@ IsSyncing (Syncs h t) = Unit {0}
 IsSyncing m = ⊥
 
 -- a full chunk that was handed out is gone, and a Sync was sent at a synchronisation
-abbrev pub IsOutgoingAt : List GraphPlace → Outgoing → Run → Stage → Type 0
+abbrev pub IsOutgoingAt : List GraphPlace → Outgoing → RunState → Stage → Type 0
 IsOutgoingAt g outgoings.Value s (stages.Full h) = chunk_at s.holdings h ≡ None
 IsOutgoingAt g (outgoings.Sync h) s stages.Runs = IsSyncing (move g s.position)
 IsOutgoingAt g (outgoings.Sync h) s stage = ⊥
 IsOutgoingAt g outgoing s stage = Unit {0}
 
 -- a client that has come to its next act, within at most `most` nodes of its block's end, by all that this says
-pub record HasCome (b : BlockCode) (settings : Settings) (ticket : Ticket) (begun most : ℕ) (by : Settlement) (old new : Run) : Type 0 where
+pub record HasCome (b : BlockCode) (settings : Settings) (ticket : Ticket) (begun most : ℕ) (by : Settlement) (old new : RunState) : Type 0 where
   pub standing : IsStanding b settings.size ticket.index most new new.stage
   pub rows : KeepsRows ticket.index old.traces new.traces
   pub counts : length new.position.counts ≡ length old.position.counts
@@ -118,16 +100,16 @@ nodes_left (outgoings.Sync h) most = most - 1
 nodes_left outgoing most = most
 
 -- the client once what it handed out was sent, up to its next act
-abbrev pub HasSent : BlockCode → Settings → Ticket → ℕ → ℕ → Outgoing → Run → Run → Type 0
+abbrev pub HasSent : BlockCode → Settings → Ticket → ℕ → ℕ → Outgoing → RunState → RunState → Type 0
 HasSent b settings ticket begun most outgoing old new =
     HasCome b settings ticket begun (nodes_left outgoing most) (after_send settings ticket b.reserved outgoing (client_of b.graph b.reserved begun old)) old new
 
 -- once the object came that it waited for
-abbrev pub HasGot : BlockCode → Settings → Ticket → ℕ → ℕ → HeldState → Run → Run → Type 0
+abbrev pub HasGot : BlockCode → Settings → Ticket → ℕ → ℕ → HeldState → RunState → RunState → Type 0
 HasGot b settings ticket begun most x old new =
     HasCome b settings ticket begun most (take_object settings ticket b.reserved (client_of b.graph b.reserved begun old) x (stage_of b.graph b.reserved old)) old new
 
 -- once an empty chunk for handler h came
-abbrev pub HasTaken : BlockCode → Settings → Ticket → ℕ → ℕ → ℕ → Run → Run → Type 0
+abbrev pub HasTaken : BlockCode → Settings → Ticket → ℕ → ℕ → ℕ → RunState → RunState → Type 0
 HasTaken b settings ticket begun most h old new =
     HasCome b settings ticket begun most (take_chunk settings ticket b.reserved (client_of b.graph b.reserved begun old) h (stage_of b.graph b.reserved old)) old new

@@ -36,13 +36,13 @@ pub record Settings : Type 0 where
   pub size : ℕ
 
 abbrev pub set_stage : Client → ClientStage → Client
-set_stage m p = record { begun = m.begun; stage = p; held = m.held; chunk = m.chunk }
+set_stage m p = record m { stage = p }
 
 abbrev pub set_held : Client → ℕ → Option HeldState → Client
-set_held m h x = record { begun = m.begun; stage = m.stage; held = put m.held h x; chunk = m.chunk }
+set_held m h x = record m { held = put m.held h x }
 
 abbrev pub set_chunk : Client → ℕ → Option (List Request) → Client
-set_chunk m h rs = record { begun = m.begun; stage = m.stage; held = m.held; chunk = put m.chunk h rs }
+set_chunk m h rs = record m { chunk = put m.chunk h rs }
 
 -- a client with what entered its block's trace meanwhile
 pub record Settlement : Type 0 where
@@ -154,7 +154,7 @@ module _ (settings : Settings) where
 
     -- once the block was reserved
     abbrev pub begin : Client → Synced → Settlement
-    begin m rest = settle rest (record { begun = suc m.begun; stage = m.stage; held = m.held; chunk = m.chunk })
+    begin m rest = settle rest (record m { begun = suc m.begun })
 
 -- before its first block
 abbrev pub first_client : Locals → Client

@@ -14,7 +14,7 @@ use Rattle.qs_client_run.specs.Running.{IsStopped, KeepsRows}
 use Rattle.qs_client_run.specs.Holdings.{HoldingsState, held_at, chunk_at}
 use Rattle.qs_objects.specs.Traces.{trace_at}
 use Rattle.qs_client_run.specs.declared.stage.Stage.{Stage}
-use Rattle.qs_client_run.specs.declared.run.Run.{Run}
+use Rattle.qs_client_run.specs.RunState.{RunState}
 use Rattle.qs_client_run.specs.declared.stage.Stage.TheVariants as stages
 
 abbrev pub items_of : Option (Batch Request) → Option (List Request)
@@ -33,10 +33,10 @@ stage_by (stages.Full h) reserved rest l = full h rest
 stage_by (stages.Awaits h) reserved rest l = awaits h rest
 stage_by (stages.Leaves i) reserved rest l = leaves (slice_index_or reserved i 0) (drop (suc i) reserved) l
 
-abbrev pub stage_of : List GraphPlace → List ℕ → Run → ClientStage
+abbrev pub stage_of : List GraphPlace → List ℕ → RunState → ClientStage
 stage_of g reserved s = stage_by s.stage reserved (walk g limit s.position) s.position.locals
 
-abbrev pub client_of : List GraphPlace → List ℕ → ℕ → Run → Client
+abbrev pub client_of : List GraphPlace → List ℕ → ℕ → RunState → Client
 client_of g reserved begun s = client_with begun (stage_of g reserved s) s.holdings
 
 -- a client and the trace of its block
@@ -48,16 +48,16 @@ abbrev pub progress_after : List Event → Settlement → ClientProgress
 progress_after before s = record { client = s.client; trace = before ++ s.events }
 
 -- all that a client does to its own values up to its next act, with the trace so far, where this tree is to come
-abbrev pub progress_through : Settings → Ticket → List ℕ → ℕ → ClientStage → Synced → Run → ClientProgress
+abbrev pub progress_through : Settings → Ticket → List ℕ → ℕ → ClientStage → Synced → RunState → ClientProgress
 progress_through settings ticket reserved begun p tree s =
     progress_after (trace_at s.traces ticket.index).events (settle settings ticket reserved tree (client_with begun p s.holdings))
 
-abbrev pub progress_at : List GraphPlace → List ℕ → ℕ → ℕ → Run → ClientProgress
+abbrev pub progress_at : List GraphPlace → List ℕ → ℕ → ℕ → RunState → ClientProgress
 progress_at g reserved begun k s = record { client = client_of g reserved begun s; trace = (trace_at s.traces k).events }
 
 -- from the old state within n nodes of the block's end a client has come to its next act: it makes no quiet move, and has done all that it does
 -- to its own values up to there
-pub record HasSettled (g : List GraphPlace) (settings : Settings) (ticket : Ticket) (reserved : List ℕ) (begun : ℕ) (p : ClientStage) (n : ℕ) (old new : Run) : Type 0 where
+pub record HasSettled (g : List GraphPlace) (settings : Settings) (ticket : Ticket) (reserved : List ℕ) (begun : ℕ) (p : ClientStage) (n : ℕ) (old new : RunState) : Type 0 where
   pub stopped : IsStopped g reserved settings.size ticket.index n new new.stage
   pub rows : KeepsRows ticket.index old.traces new.traces
   pub counts : length new.position.counts ≡ length old.position.counts

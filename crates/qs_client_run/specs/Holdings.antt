@@ -1,5 +1,5 @@
 -- The objects that a client holds and its open chunks, by the handlers' numbers.
-use Rattle.std.specs.Prelude.{ℕ, List, Option, None, replicate, slice_index_or, slice_set}
+use Rattle.std.specs.Prelude.{ℕ, Bool, is_some, List, Option, None, replicate, slice_index_or, slice_set}
 use Rattle.qs_objects.specs.Journals.{HeldState}
 use Rattle.qs_objects.specs.declared.Request.{Request}
 use Rattle.qs_program.specs.Limits.{most_handlers}
@@ -15,6 +15,10 @@ held_at s h = slice_index_or s.held h None
 
 abbrev pub chunk_at : HoldingsState → ℕ → Option (Batch Request)
 chunk_at s h = slice_index_or s.chunks h None
+
+-- for each handler whether its object is held
+abbrev pub holding : HoldingsState → ℕ → Bool
+holding s h = is_some (held_at s h)
 
 abbrev pub with_held : HoldingsState → ℕ → Option HeldState → HoldingsState
 with_held s h x = record { held = slice_set s.held h x; chunks = s.chunks }

@@ -8,4 +8,5 @@ pub mod BlockSizes
 pub mod BetweenActs
 pub mod ClientOfRun
 pub mod Restart
+pub mod RunState
 pub mod Running

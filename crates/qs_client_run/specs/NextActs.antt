@@ -12,7 +12,7 @@ use Rattle.qs_client_run.specs.ClientOfRun.{client_of}
 use Rattle.qs_client_run.specs.BetweenActs.{IsOutgoingAt, IsStanding, without_act, outgoing_of}
 use Rattle.qs_client_run.specs.declared.act.Act.{Act}
 use Rattle.qs_client_run.specs.declared.act.Act.TheVariants.{Send, NeedChunk, Finished}
-use Rattle.qs_client_run.specs.declared.run.Run.{Run}
+use Rattle.qs_client_run.specs.RunState.{RunState}
 use Rattle.qs_client_run.specs.declared.stage.Stage.{Stage}
 use Rattle.qs_client_run.specs.declared.stage.Stage.TheVariants as stages
 use Rattle.qs_client_run.specs.declared.act.Act.TheVariants as acts
@@ -51,8 +51,8 @@ send_full h (Some b) = Send h (parcels.Work b)
 send_full h None = Finished
 
 -- with these hands
-abbrev pub with_holdings : Run → HoldingsState → Run
-with_holdings s holdings = record { position = s.position; holdings = holdings; traces = s.traces; stage = s.stage }
+abbrev pub with_holdings : RunState → HoldingsState → RunState
+with_holdings s holdings = record s { holdings = holdings }
 
 -- a client in a block is in one of so many
 abbrev pub IsInside : Stage → ℕ → ℕ → Type 0
@@ -60,7 +60,7 @@ IsInside stages.Between k blocks = Unit {0}
 IsInside stage k blocks = k < blocks
 
 -- the client as its next act comes: without what the act carries, and else as it was
-pub record HasActed (b : BlockCode) (settings : Settings) (blocks k begun most : ℕ) (given : Act) (old new : Run) : Type 0 where
+pub record HasActed (b : BlockCode) (settings : Settings) (blocks k begun most : ℕ) (given : Act) (old new : RunState) : Type 0 where
   pub act : given ≡ act_of settings blocks (client_of b.graph b.reserved begun old)
   pub rest : client_of b.graph b.reserved begun new ≡ without_act (client_of b.graph b.reserved begun old) given
   pub position : new.position ≡ old.position
@@ -70,7 +70,7 @@ pub record HasActed (b : BlockCode) (settings : Settings) (blocks k begun most :
   pub gone : IsOutgoingAt b.graph (outgoing_of given) new new.stage
 
 -- a client in a block that has this to do next
-pub record Wants (b : BlockCode) (settings : Settings) (blocks k begun most : ℕ) (s : Run) (wanted : Act) : Type 0 where
+pub record Wants (b : BlockCode) (settings : Settings) (blocks k begun most : ℕ) (s : RunState) (wanted : Act) : Type 0 where
   pub standing : IsStanding b settings.size k most s s.stage
   pub act : act_of settings blocks (client_of b.graph b.reserved begun s) ≡ wanted
 

@@ -4,30 +4,30 @@ use Rattle.qs_objects.specs.Journals.{HeldState, ran}
 use Rattle.qs_objects.specs.Parts.{logged}
 use Rattle.qs_objects.specs.declared.held.Ticket.{Ticket}
 use Rattle.qs_objects.specs.declared.Request.{Request}
-use Rattle.qs_meaning.specs.Solo.{event, value_of}
+use Rattle.qs_meaning.specs.Solo.{event, put, value_of}
 use Rattle.qs_graph.specs.Nodes.{Place}
 use Rattle.qs_graph.specs.Steps.{limit}
 use Rattle.qs_graph.specs.Synced.{Synced, Done, Call, Sync, Query}
 use Rattle.qs_graph.specs.Walk.{Spot, Move, Ends, Goes, Calls, Syncs, Queries, move, walk, Within}
 use Rattle.qs_syncset.specs.SoundSynced.{IsSoundSynced}
 use Rattle.qs_chunk.specs.Batch.{Batch, batch}
-use Rattle.qs_client_run.specs.Holdings.{held_at, chunk_at, with_held, with_chunk}
+use Rattle.qs_client_run.specs.Holdings.{held_at, holding, chunk_at, with_held, with_chunk}
 use Rattle.qs_objects.specs.Traces.{AreEmptyAfter, TraceState, trace_at, noted_at}
 use Rattle.qs_program.specs.Limits.{most_handlers}
 use Rattle.qs_client_run.specs.declared.stage.Stage.{Stage}
-use Rattle.qs_client_run.specs.declared.run.Run.{Run}
+use Rattle.qs_client_run.specs.RunState.{RunState}
 use Rattle.qs_client_run.specs.declared.run.BlockContext.{BlockContext}
 use Rattle.qs_client_run.specs.declared.stage.Stage.TheVariants as stages
 
-abbrev pub go_to : Run → Spot → Run
-go_to s t = record { position = t; holdings = s.holdings; traces = s.traces; stage = s.stage }
+abbrev pub go_to : RunState → Spot → RunState
+go_to s t = record s { position = t }
 
 -- a command goes into an open chunk, where the object is not held; the client goes on unless the chunk is full then
-abbrev pub fill : ℕ → Request → Spot → Run → Batch Request → Run × Bool
+abbrev pub fill : ℕ → Request → Spot → RunState → Batch Request → RunState × Bool
 fill k r t s b =
     let more = batch (b.items ++ r ∷ []) b.capacity in
     let is_full = length more.items == b.capacity in
-    let new : Run = record {
+    let new : RunState = record {
       position = t;
       holdings = with_chunk s.holdings r.object (Some more);
       traces = noted_at s.traces k (logged r);
@@ -35,20 +35,20 @@ fill k r t s b =
     } in
     (new, not is_full)
 
-abbrev pub call_by : ℕ → Request → Spot → Run → Option HeldState → Option (Batch Request) → Run × Bool
+abbrev pub call_by : ℕ → Request → Spot → RunState → Option HeldState → Option (Batch Request) → RunState × Bool
 call_by k r t s (Some x) c = (s, false)
 call_by k r t s None None = (s, false)
 call_by k r t s None (Some b) = fill k r t s b
 
-abbrev pub call : ℕ → Request → Spot → Run → Run × Bool
+abbrev pub call : ℕ → Request → Spot → RunState → RunState × Bool
 call k r t s = call_by k r t s (held_at s.holdings r.object) (chunk_at s.holdings r.object)
 
 -- a query is run on the object that is held
-abbrev pub query_by : Ticket → Request → (ℤ → Spot) → Run → Option HeldState → Run × Bool
+abbrev pub query_by : Ticket → Request → (ℤ → Spot) → RunState → Option HeldState → RunState × Bool
 query_by u r t s None = (s, false)
 query_by u r t s (Some x) =
     let o = ran x u r in
-    let new : Run = record {
+    let new : RunState = record {
       position = t (value_of o.1);
       holdings = with_held s.holdings r.object (Some o.0);
       traces = noted_at s.traces u.index (event r o.1);
@@ -56,11 +56,11 @@ query_by u r t s (Some x) =
     } in
     (new, true)
 
-abbrev pub query : Ticket → Request → (ℤ → Spot) → Run → Run × Bool
+abbrev pub query : Ticket → Request → (ℤ → Spot) → RunState → RunState × Bool
 query u r t s = query_by u r t s (held_at s.holdings r.object)
 
 -- a synchronisation with an object that is held is skipped, where the client tests that
-abbrev pub sync : Bool → ℕ → Spot → Run → Run × Bool
+abbrev pub sync : Bool → ℕ → Spot → RunState → RunState × Bool
 sync dynamic h t s = if dynamic && is_some (held_at s.holdings h) then (go_to s t, true) else (s, false)
 
 -- at the end of the block the handlers of its list are left in order
@@ -68,10 +68,10 @@ abbrev pub stage_at_end : List ℕ → Stage
 stage_at_end [] = stages.Between
 stage_at_end (h ∷ hs) = stages.Leaves 0
 
-abbrev pub leave : List ℕ → Run → Run × Bool
-leave reserved s = (record { position = s.position; holdings = s.holdings; traces = s.traces; stage = stage_at_end reserved }, false)
+abbrev pub leave : List ℕ → RunState → RunState × Bool
+leave reserved s = (record s { stage = stage_at_end reserved }, false)
 
-abbrev pub step_by : BlockContext → List ℕ → Move → Run → Run × Bool
+abbrev pub step_by : BlockContext → List ℕ → Move → RunState → RunState × Bool
 step_by context reserved Ends s = leave reserved s
 step_by context reserved (Goes t) s = (go_to s t, true)
 step_by context reserved (Calls r t) s = call context.ticket.index r t s
@@ -79,7 +79,7 @@ step_by context reserved (Syncs h t) s = sync context.dynamic h t s
 step_by context reserved (Queries r t) s = query context.ticket r t s
 
 -- one quiet move, and whether another may follow
-abbrev pub step : List Place → BlockContext → List ℕ → Run → Run × Bool
+abbrev pub step : List Place → BlockContext → List ℕ → RunState → RunState × Bool
 step g context reserved s = step_by context reserved (move g s.position) s
 
 -- each path, whatever the replies, makes at most n requests
@@ -94,28 +94,28 @@ abbrev pub IsOpen : ℕ → Option (Batch Request) → Type 0
 IsOpen size None = Unit {0}
 IsOpen size (Some b) = (b.capacity ≡ size) × (length b.items < size)
 
--- what holds of a client in a block, within n nodes of its end
-pub record IsRunning (g : List Place) (size k n : ℕ) (s : Run) : Type 0 where
+-- what holds of a client within a block, at most n nodes from its end, where the rest of the block may rely on these objects being held, and
+-- where this holds of the open chunk of each handler
+pub record IsInBlock (g : List Place) (k n : ℕ) (relied : ℕ → Bool) (IsChunk : ℕ → Option (Batch Request) → Type 0) (s : RunState) : Type 0 where
   pub few : n ≤ limit
   pub within : Within g n s.position
   pub counted : length g ≤ length s.position.counts
-  pub sound : IsSoundSynced (λ h. is_some (held_at s.holdings h)) (walk g n s.position)
+  pub sound : IsSoundSynced relied (walk g n s.position)
   pub fits : MakesAtMost (trace_at s.traces k).room (walk g n s.position)
   pub row : k < length s.traces
   pub last : AreEmptyAfter s.traces k
   pub held : length s.holdings.held ≡ most_handlers
   pub chunks : length s.holdings.chunks ≡ most_handlers
-  pub opened : (h : ℕ) → IsOpen size (chunk_at s.holdings h)
+  pub opened : (h : ℕ) → IsChunk h (chunk_at s.holdings h)
+
+-- it goes on by itself: each open chunk has room
+abbrev pub IsRunning : List Place → ℕ → ℕ → ℕ → RunState → Type 0
+IsRunning g size k n s = IsInBlock g k n (holding s.holdings) (λ h c. IsOpen size c) s
 
 -- an open chunk has the size of all chunks
 abbrev pub IsSized : ℕ → Option (Batch Request) → Type 0
 IsSized size None = Unit {0}
 IsSized size (Some b) = b.capacity ≡ size
-
--- it has room, unless the client stands with this chunk full
-abbrev pub HasRoom : Stage → ℕ → ℕ → Option (Batch Request) → Type 0
-HasRoom (stages.Full h) size j c = (h == j) ≡ false → IsOpen size c
-HasRoom stage size j c = IsOpen size c
 
 -- a move at which a client may have to send or to wait
 abbrev pub IsLoud : Move → Type 0
@@ -123,29 +123,24 @@ IsLoud (Calls r t) = Unit {0}
 IsLoud (Syncs h t) = Unit {0}
 IsLoud m = ⊥
 
--- what holds of a client with a full chunk, within n nodes of its block's end
-pub record IsFull (g : List Place) (size k n h : ℕ) (s : Run) : Type 0 where
-  pub few : n ≤ limit
-  pub within : Within g n s.position
-  pub counted : length g ≤ length s.position.counts
-  pub sound : IsSoundSynced (λ j. is_some (held_at s.holdings j)) (walk g n s.position)
-  pub fits : MakesAtMost (trace_at s.traces k).room (walk g n s.position)
-  pub row : k < length s.traces
-  pub last : AreEmptyAfter s.traces k
-  pub held : length s.holdings.held ≡ most_handlers
-  pub chunks : length s.holdings.chunks ≡ most_handlers
+-- it has a full chunk for handler h, or has handed that chunk out: each other chunk has room
+pub record IsFull (g : List Place) (size k n h : ℕ) (s : RunState) : Type 0 where
   pub handler : h < most_handlers
-  pub sized : (j : ℕ) → IsSized size (chunk_at s.holdings j)
-  pub others : (j : ℕ) → (h == j) ≡ false → IsOpen size (chunk_at s.holdings j)
+  pub in_block : IsInBlock g k n (holding s.holdings) (λ j c. IsSized size c × ((h == j) ≡ false → IsOpen size c)) s
+
+-- it waits for the object of handler h, on which the rest of the block may rely
+pub record IsAwaiting (g : List Place) (size k n h : ℕ) (s : RunState) : Type 0 where
+  pub handler : h < most_handlers
+  pub in_block : IsInBlock g k n (put (holding s.holdings) h true) (λ j c. IsOpen size c) s
 
 -- what holds of a client at the end of its block
-pub record IsOver (g : List Place) (size : ℕ) (s : Run) : Type 0 where
+pub record IsOver (g : List Place) (size : ℕ) (s : RunState) : Type 0 where
   pub held : length s.holdings.held ≡ most_handlers
   pub chunks : length s.holdings.chunks ≡ most_handlers
   pub opened : (h : ℕ) → IsOpen size (chunk_at s.holdings h)
 
 -- what holds of a client that makes no quiet move, within at most `most` nodes of its block's end
-abbrev pub IsStopped : List Place → List ℕ → ℕ → ℕ → ℕ → Run → Stage → Type 0
+abbrev pub IsStopped : List Place → List ℕ → ℕ → ℕ → ℕ → RunState → Stage → Type 0
 IsStopped g reserved size k most s stages.Runs = (n : ℕ) × (n ≤ most) × IsRunning g size k n s × IsLoud (move g s.position)
 IsStopped g reserved size k most s (stages.Full h) = (n : ℕ) × (n ≤ most) × IsFull g size k n h s
 IsStopped g reserved size k most s (stages.Awaits h) = ⊥

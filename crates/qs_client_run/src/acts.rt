@@ -82,8 +82,8 @@ impl Run {
             }
             Node::Sync(name) => {
                 let handler = bound(*name);
-                self.holdings
-                    .clear(handler, Act::Send(handler, Parcel::Sync))
+                let sync = Act::Send(handler, Parcel::Sync);
+                self.holdings.clear(handler, sync)
             }
             _ => unreachable!(),
         }
@@ -116,8 +116,8 @@ impl Run {
             Stage::Awaits(handler) => Act::Await(handler),
             Stage::Leaves(place) => {
                 let handler = code.reserved(block)[place];
-                self.holdings
-                    .clear(handler, Act::Send(handler, Parcel::End))
+                let end = Act::Send(handler, Parcel::End);
+                self.holdings.clear(handler, end)
             }
         }
     }

@@ -1,6 +1,6 @@
 //! A client within a block: what it does to its own values.
 
-ghost use Rattle.std.specs.Prelude.{◌≡◌, ◌<◌, ◌≤◌, ℕ, IsSome, length};
+ghost use Rattle.std.specs.Prelude.{◌≡◌, ◌<◌, ◌≤◌, ℕ, IsSome, length, option_copied};
 ghost use Rattle.qs_program.specs.Values.{request_of};
 ghost use Rattle.qs_graph.specs.Walk.{at_node, with_value};
 ghost use Rattle.qs_client_run.specs.Holdings.{chunk_at, held_at};
@@ -15,15 +15,16 @@ use crate::holdings::Holdings;
 use crate::position::Position;
 use crate::stage::Stage;
 use qs_graph::{Graph, Node, bound};
-use qs_objects::{Event, Ticket, Traces};
-use qs_program::Call;
+use qs_objects::{Event, Held, Ticket, Traces};
+use qs_program::{Call, Locals};
+use std::marker::Model;
 
-/// A client's place in its block's graph, its objects and open chunks, its traces, and where it stands.
+/// A client's position in its block's graph, the objects that it holds and its open chunks, its traces, and its stage.
 pub struct Run {
-    pub position: Position,
-    pub holdings: Holdings,
-    pub traces: Traces,
-    pub stage: Stage,
+    pub(crate) position: Position,
+    pub(crate) holdings: Holdings,
+    pub(crate) traces: Traces,
+    pub(crate) stage: Stage,
 }
 
 impl Drop for Run {
@@ -37,6 +38,14 @@ impl Drop for Run {
     }
 }
 
+impl Model for Run {
+    ghost use Rattle.qs_client_run.specs.RunState.{RunState};
+
+    ghost Value = { RunState };
+
+    ghost view = { λ r. record { position = r.position; holdings = r.holdings; traces = r.traces; stage = r.stage } };
+}
+
 // No walk through a block of a checked program takes more nodes.
 const LIMIT: u32 = 3_000_002;
 
@@ -48,6 +57,35 @@ pub struct BlockContext {
 }
 
 impl Run {
+    /// Where the client stands.
+    pub fn stage(&self) -> Stage
+        ensures value { result ≡ self.now.stage }
+    {
+        self.stage
+    }
+
+    /// The client's variables.
+    pub fn locals(&self) -> Locals
+        ensures value { result ≡ self.now.position.locals }
+    {
+        *self.position.locals()
+    }
+
+    /// The traces of all blocks.
+    pub fn traces(&self) -> &Traces
+        ensures value { result.now ≡ self.now.traces }
+    {
+        &self.traces
+    }
+
+    /// The object of a handler, where the client holds it.
+    pub fn held(&self, handler: u8) -> Option<&Held>
+        requires handler { handler < most_handlers }
+        ensures value { option_copied result ≡ held_at self.now.holdings handler }
+    {
+        self.holdings.held(handler)
+    }
+
     /// The traces of all blocks, by move.
     pub fn into_traces(self) -> Traces
         ensures value { result ≡ self.traces }

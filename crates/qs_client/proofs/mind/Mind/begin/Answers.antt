@@ -39,15 +39,10 @@ invariant_of-self c =
     c.push_reserved.ensures.items ∙ ap (λ (l : Locals). m.entries ++ l ∷ []) c.locals-locals.ensures.value in
     let settled = c.begin.ensures.settled (settings_in m) (length (entered m t).entries) (between m.run.position.locals) limit refl (entered_running m w t asked is) in (
       omega (arith, c.self.invariant.0, c.push_reserved.ensures.capacity),
-      subst (λ (es : List Locals). IsSoundMind (record {
-        code = m.code;
-        size = m.size;
+      subst (λ (es : List Locals). IsSoundMind (record m {
         ticket = t;
         run = c.begin.new.self;
         entries = es;
-        syncs = m.syncs;
-        counts = m.counts;
-        outgoing = m.outgoing;
       })) (sym entries) (entered_kept m w t asked is c.begin.new.self (entered_comes m w t asked is c.begin.new.self settled)),
     )
 
@@ -62,15 +57,10 @@ returns c =
     c.push_reserved.ensures.items ∙ ap (λ (l : Locals). m.entries ++ l ∷ []) c.locals-locals.ensures.value in
     let settled = c.begin.ensures.settled (settings_in m) (length (entered m t).entries) (between m.run.position.locals) limit refl (entered_running m w t asked is) in
     record {
-      begun = ap (λ (es : List Locals). mind_of (record {
-        code = m.code;
-        size = m.size;
+      begun = ap (λ (es : List Locals). mind_of (record m {
         ticket = t;
         run = c.begin.new.self;
         entries = es;
-        syncs = m.syncs;
-        counts = m.counts;
-        outgoing = m.outgoing;
       })) entries
           ∙ booked_is m w t asked is c.begin.new.self (entered_comes m w t asked is c.begin.new.self settled)
           ∙ ap (λ (x : MindState). mind_after_begin (mind_of x) t) c.self.view_is;

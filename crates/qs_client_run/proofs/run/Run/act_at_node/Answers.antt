@@ -8,7 +8,8 @@ use Rattle.qs_client_run.specs.NextActs.{act_by, clear, holdings_by, with_holdin
 use Rattle.qs_client_run.specs.declared.act.Act.TheVariants as acts
 use Rattle.qs_chunk.specs.declared.parcel.Parcel.TheVariants as parcels
 use Rattle.qs_client_run.specs.Running.{IsLoud}
-use Rattle.qs_client_run.specs.declared.run.Run.{Run}
+use Rattle.qs_client_run.specs.RunState.{RunState}
+use Rattle.qs_client_run.specs.contracts.run.Run.{the_view}
 use Rattle.qs_client_run.proofs.StepAtNode.{moves}
 use Rattle.qs_client_run.proofs.run.Run.act_at_node.Goals as goal
 
@@ -23,17 +24,19 @@ neither nodes.Exit s a b loud sync call = loud
 
 pub unreachable-requires : goal.unreachable-requires
 unreachable-requires c =
-    let s : Run = c.args.self.now in
+    let s : RunState = the_view c.self.inside in
     let g = c.args.graph.now.nodes in
     let is : c.node-2.result.now ≡ (place_at g s.position.node).node = c.node-2.ensures.value ∙ ap (λ n. (place_at g n).node) c.node.ensures.value in
     neither (place_at g s.position.node).node s.position (first_target (place_at g s.position.node)) (second_target (place_at g s.position.node))
-    (subst IsLoud (moves g s.position (place_at g s.position.node).node refl) c.requires.loud)
+    (subst IsLoud (moves g s.position (place_at g s.position.node).node refl) (rw (← c.self.view_is) at c.requires.loud))
     (λ x e. c.in_default.not-Sync x (is ∙ e))
     (λ x e. c.in_default.not-Call x (is ∙ e))
 
 pub returns-in-Call : goal.returns-in-Call
 returns-in-Call c =
-    let s : Run = c.args.self.now in
+    rw (← c.self.view_is)
+    (
+    let s : RunState = the_view c.self.inside in
     let g = c.args.graph.now.nodes in
     let is = ap (λ n. (place_at g n).node) (sym c.node.ensures.value) ∙ sym c.node-2.ensures.value ∙ c.in-Call.is in
     let at = sym (moves g s.position (nodes.Call c.in-Call.call) is) in
@@ -41,10 +44,13 @@ returns-in-Call c =
       act = c.clear.ensures.act ∙ ap (λ n. clear s.holdings n (acts.NeedChunk n)) c.bound-object.ensures.object ∙ ap (λ (m : Move). act_by s.holdings m) at;
       rest = ap (with_holdings s) (c.clear.ensures.rest ∙ ap (without s.holdings) c.bound-object.ensures.object ∙ ap (λ (m : Move). holdings_by s.holdings m) at);
     }
+    )
 
 pub returns-in-Sync : goal.returns-in-Sync
 returns-in-Sync c =
-    let s : Run = c.args.self.now in
+    rw (← c.self.view_is)
+    (
+    let s : RunState = the_view c.self.inside in
     let g = c.args.graph.now.nodes in
     let is = ap (λ n. (place_at g n).node) (sym c.node.ensures.value) ∙ sym c.node-2.ensures.value ∙ c.in-Sync.is in
     let at = sym (moves g s.position (nodes.Sync c.in-Sync.name) is) in
@@ -52,3 +58,4 @@ returns-in-Sync c =
       act = c.clear-in-Sync.ensures.act ∙ ap (λ n. clear s.holdings n (acts.Send n parcels.Sync)) c.bound-handler.ensures.object ∙ ap (λ (m : Move). act_by s.holdings m) at;
       rest = ap (with_holdings s) (c.clear-in-Sync.ensures.rest ∙ ap (without s.holdings) c.bound-handler.ensures.object ∙ ap (λ (m : Move). holdings_by s.holdings m) at);
     }
+    )

@@ -4,18 +4,22 @@ use Rattle.qs_syncset.specs.Codes.{BlockCode, code_at}
 use Rattle.qs_client_run.specs.Beginning.{at_beginning}
 use Rattle.qs_client_run.specs.ClientOfRun.{HasSettled}
 use Rattle.qs_client_run.specs.Running.{IsRunning}
-use Rattle.qs_client_run.specs.declared.run.Run.{Run}
+use Rattle.qs_client_run.specs.RunState.{RunState}
+use Rattle.qs_client_run.specs.contracts.run.Run.{the_view}
 use Rattle.qs_client_run.proofs.run.Run.begin.Goals as goal
 
 pub returns : goal.returns
 returns c =
-    let s : Run = c.args.self.now in
+    rw (← c.self.view_is)
+    (
+    let s : RunState = the_view c.self.inside in
     let k = c.args.ticket.index in
     let b : BlockCode = code_at c.args.code.now k in
-    let at : ◌≡◌ {A = Run} (record { position = c.restart.new.self; holdings = s.holdings; traces = s.traces; stage = s.stage }) (at_beginning s) =
-    ap (λ (w : Spot). record { position = w; holdings = s.holdings; traces = s.traces; stage = s.stage }) c.restart.ensures.value in
+    let at : ◌≡◌ {A = RunState} (record s { position = c.restart.new.self }) (at_beginning s) =
+    ap (λ (w : Spot). record s { position = w }) c.restart.ensures.value in
     record {
       settled = λ settings begun p n dynamic w.
-          subst (λ (t : Run). HasSettled b.graph settings c.args.ticket b.reserved begun p n t c.resume.new.self) at
+          subst (λ (t : RunState). HasSettled b.graph settings c.args.ticket b.reserved begun p n t c.resume.new.self) at
           (c.resume.ensures.settled settings begun p n dynamic (subst (IsRunning b.graph settings.size k n) (sym at) w));
     }
+    )

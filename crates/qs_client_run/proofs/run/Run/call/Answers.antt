@@ -8,7 +8,8 @@ use Rattle.qs_chunk.specs.Batch.{batch}
 use Rattle.qs_client_run.specs.Holdings.{HoldingsState, with_chunk}
 use Rattle.qs_client_run.specs.Running.{call}
 use Rattle.qs_objects.specs.Traces.{noted_at}
-use Rattle.qs_client_run.specs.declared.run.Run.{Run}
+use Rattle.qs_client_run.specs.RunState.{RunState}
+use Rattle.qs_client_run.specs.contracts.run.Run.{the_view}
 use Rattle.qs_client_run.proofs.CallAndQuery.{none_of, called_fills}
 use Rattle.qs_client_run.proofs.run.Run.call.Goals.{then-is_full, else-is_full}
 use Rattle.qs_client_run.specs.declared.stage.Stage.TheVariants as stages
@@ -16,7 +17,9 @@ use Rattle.qs_client_run.proofs.run.Run.call.Goals as goal
 
 pub returns-clause-new : goal.returns-clause-new
 returns-clause-new c =
-    let s : Run = c.args.self.now in
+    rw (← c.self.view_is)
+    (
+    let s : RunState = the_view c.self.inside in
     let h = c.bound-object.result in
     let to = λ (n : ℕ). record (request_of s.position.locals c.args.command.now) { object = n } in
     let r : Request = to h in
@@ -44,3 +47,4 @@ returns-clause-new c =
           ∙ (λ i. record { position = position i; holdings = c.put_chunk.new.self; traces = event i; stage = if sym (ne_eqb c.len.result c.capacity.result (λ e. omega (arith, e, w.if-is_full.false))) i then stages.Full h else s.stage })
           ∙ rest
     ]
+    )

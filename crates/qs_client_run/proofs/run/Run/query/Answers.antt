@@ -9,7 +9,8 @@ use Rattle.qs_graph.specs.Walk.{Spot, at_node, with_value}
 use Rattle.qs_client_run.specs.Holdings.{HoldingsState, with_held}
 use Rattle.qs_client_run.specs.Running.{query}
 use Rattle.qs_objects.specs.Traces.{noted_at}
-use Rattle.qs_client_run.specs.declared.run.Run.{Run}
+use Rattle.qs_client_run.specs.RunState.{RunState}
+use Rattle.qs_client_run.specs.contracts.run.Run.{the_view}
 use Rattle.qs_client_run.proofs.CallAndQuery.{asked_runs}
 use Rattle.qs_client_run.proofs.run.Run.query.Goals as goal
 use mir.Val.{to_z, of_z}
@@ -21,7 +22,9 @@ unwrapped (Some v) = refl
 
 pub returns : goal.returns
 returns c =
-    let s : Run = c.args.self.now in
+    rw (← c.self.view_is)
+    (
+    let s : RunState = the_view c.self.inside in
     let h = c.bound-object.result in
     let u = c.args.ticket in
     let to = λ (n : ℕ). record (request_of s.position.locals c.args.call.now) { object = n } in
@@ -46,3 +49,4 @@ returns c =
           ∙ asked_runs u r spot s c.in-Some.held c.run-reply.new.self c.run-reply.result c.put_held.new.self (sym c.take_held.ensures.value ∙ c.in-Some.is) done holdings
           ∙ ap (λ n. (query u (to n) spot s).0) c.bound-object.ensures.object;
     }
+    )

@@ -10,16 +10,17 @@ use Rattle.qs_client_run.specs.Holdings.{HoldingsState, with_chunk}
 use Rattle.qs_client_run.specs.ClientOfRun.{HasSettled, stage_of}
 use Rattle.qs_client_run.specs.Running.{IsRunning}
 use Rattle.qs_client_run.specs.BetweenActs.{HasTaken, IsStanding}
-use Rattle.qs_client_run.specs.declared.run.Run.{Run}
+use Rattle.qs_client_run.specs.RunState.{RunState}
+use Rattle.qs_client_run.specs.contracts.run.Run.{the_view}
 use Rattle.qs_client_run.proofs.ArrivalRefinement.{at_call, called_here, eight_here, filled_running, is_call, node_inside, taken_comes}
 use Rattle.qs_client_run.proofs.run.Run.take_chunk.Goals as goal
 
 pub node-requires-2 : goal.node-requires-2
 node-requires-2 c =
-    let s : Run = c.args.self.now in
+    let s : RunState = the_view c.self.inside in
     let k = c.args.ticket.index in
     let b : BlockCode = code_at c.args.code.now k in
-    let w = c.requires.asked in
+    let w = (rw (← c.self.view_is) at c.requires.asked) in
     let graph : c.graph-graph.result.now.nodes ≡ b.graph = c.graph-graph.ensures.value ∙ ap (λ n. (code_at c.args.code.now n).graph) c.from.ensures in
     let at = subst (IsStanding b w.0.size k w.3 s) (at_call b w.0 c.args.ticket w.1 w.2 w.3 s w.4 w.6).stands w.6.standing in
     record {
@@ -28,9 +29,9 @@ node-requires-2 c =
 
 pub unreachable-requires : goal.unreachable-requires
 unreachable-requires c =
-    let s : Run = c.args.self.now in
+    let s : RunState = the_view c.self.inside in
     let b : BlockCode = code_at c.args.code.now c.args.ticket.index in
-    let w = c.requires.asked in
+    let w = (rw (← c.self.view_is) at c.requires.asked) in
     let graph : c.graph-graph.result.now.nodes ≡ b.graph = c.graph-graph.ensures.value ∙ ap (λ n. (code_at c.args.code.now n).graph) c.from.ensures in
     let node : c.node-2.result.now ≡ (places.place_at b.graph s.position.node).node =
     c.node-2.ensures.value ∙ (λ i. (places.place_at (graph i) (c.node.ensures.value i)).node) in
@@ -38,11 +39,11 @@ unreachable-requires c =
 
 pub resume-requires : goal.resume-requires
 resume-requires c =
-    let s : Run = c.args.self.now in
+    let s : RunState = the_view c.self.inside in
     let k = c.args.ticket.index in
     let b : BlockCode = code_at c.args.code.now k in
     let h = c.in-Call.call.object in
-    let w = c.requires.asked in
+    let w = (rw (← c.self.view_is) at c.requires.asked) in
     let graph : c.graph-graph.result.now.nodes ≡ b.graph = c.graph-graph.ensures.value ∙ ap (λ n. (code_at c.args.code.now n).graph) c.from.ensures in
     let node : c.node-2.result.now ≡ (places.place_at b.graph s.position.node).node =
     c.node-2.ensures.value ∙ (λ i. (places.place_at (graph i) (c.node.ensures.value i)).node) in
@@ -63,7 +64,9 @@ resume-requires c =
 
 pub returns : goal.returns
 returns c =
-    let s : Run = c.args.self.now in
+    rw (← c.self.view_is)
+    (
+    let s : RunState = the_view c.self.inside in
     let u = c.args.ticket in
     let b : BlockCode = code_at c.args.code.now u.index in
     let h = c.in-Call.call.object in
@@ -87,3 +90,4 @@ returns c =
           subst (λ x. HasTaken b settings u begun most x s c.resume.new.self) (called_here b.graph s g c.in-Call.call (sym node ∙ c.in-Call.is) call)
           (taken_comes b settings u blocks begun most s at.0 h c.resume.new.self call.stands at.1 eight at.2 settled);
     }
+    )

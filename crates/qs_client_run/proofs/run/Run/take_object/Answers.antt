@@ -5,21 +5,22 @@ use Rattle.qs_client_run.specs.Holdings.{HoldingsState, with_held}
 use Rattle.qs_client_run.specs.ClientOfRun.{HasSettled, stage_of}
 use Rattle.qs_client_run.specs.Running.{IsRunning}
 use Rattle.qs_client_run.specs.BetweenActs.{IsStanding}
-use Rattle.qs_client_run.specs.declared.run.Run.{Run}
+use Rattle.qs_client_run.specs.RunState.{RunState}
+use Rattle.qs_client_run.specs.contracts.run.Run.{the_view}
 use Rattle.qs_client_run.proofs.ArrivalRefinement.{awaits_here, held_running, got_comes}
 use Rattle.qs_client_run.proofs.run.Run.take_object.Goals as goal
 
 pub unreachable-requires : goal.unreachable-requires
 unreachable-requires c =
-    let w = c.requires.asked in
-    c.in_default.not-Awaits w.4 (awaits_here (code_at c.args.code.now c.args.ticket.index) w.0 c.args.ticket w.1 w.2 w.3 c.args.self.now w.4 w.5)
+    let w = (rw (← c.self.view_is) at c.requires.asked) in
+    c.in_default.not-Awaits w.4 (awaits_here (code_at c.args.code.now c.args.ticket.index) w.0 c.args.ticket w.1 w.2 w.3 (the_view c.self.inside) w.4 w.5)
 
 pub resume-requires : goal.resume-requires
 resume-requires c =
-    let s : Run = c.args.self.now in
+    let s : RunState = the_view c.self.inside in
     let b : BlockCode = code_at c.args.code.now c.args.ticket.index in
     let h = c.in-Awaits.handler in
-    let w = c.requires.asked in
+    let w = (rw (← c.self.view_is) at c.requires.asked) in
     let at = subst (IsStanding b w.0.size c.args.ticket.index w.3 s) c.in-Awaits.is w.5.standing in
     record {
       block = c.requires.block;
@@ -33,7 +34,9 @@ resume-requires c =
 
 pub returns : goal.returns
 returns c =
-    let s : Run = c.args.self.now in
+    rw (← c.self.view_is)
+    (
+    let s : RunState = the_view c.self.inside in
     let b : BlockCode = code_at c.args.code.now c.args.ticket.index in
     let h = c.in-Awaits.handler in
     record {
@@ -47,3 +50,4 @@ returns c =
           (subst (λ (x : HoldingsState). IsRunning b.graph settings.size c.args.ticket.index at.0 (with_holdings s x)) (sym holdings) running)) in
           got_comes b settings c.args.ticket blocks begun most s at.0 h c.args.held c.resume.new.self c.in-Awaits.is at.1 at.2 settled;
     }
+    )
