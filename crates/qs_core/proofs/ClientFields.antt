@@ -22,7 +22,7 @@ use Rattle.qs_client_run.specs.declared.act.Act.{Act}
 use Rattle.qs_client_run.proofs.HoldingsAsFunctions.{put_same, put_set_at}
 use Rattle.qs_client_run.specs.ClientLaws.{SendsAreParted}
 use Rattle.qs_client_run.specs.declared.act.Act.TheVariants as acts
-use Rattle.qs_played.specs.declared.actor.Actor.TheVariants as actor
+use Rattle.qs_played.specs.declared.schedule.actor.Actor.TheVariants as actor
 use Rattle.qs_core_laws.specs.Core.{Core, core_step, current, settled, lies}
 use Rattle.qs_core_parts.specs.CoreClients.{lane_step, turns_to}
 use Rattle.qs_core_parts.specs.LaneStates.{LaneState, lane_at, with_down}

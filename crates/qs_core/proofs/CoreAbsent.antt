@@ -1,7 +1,7 @@
 -- An actor that is not there has no step.
 use Rattle.std.proofs.Common.{◌≡◌, ◌≤◌, ℕ, length, None, refl, sym, ap, subst, ◌∙◌, arith}
-use Rattle.qs_played.specs.declared.actor.Actor.{Actor}
-use Rattle.qs_played.specs.declared.actor.Actor.TheVariants as actor
+use Rattle.qs_played.specs.declared.schedule.actor.Actor.{Actor}
+use Rattle.qs_played.specs.declared.schedule.actor.Actor.TheVariants as actor
 use Rattle.qs_core_laws.specs.Core.{core_step}
 use Rattle.qs_core_laws.specs.CoreReached.{ReachedCore}
 use Rattle.qs_core.specs.CoreState.{CoreKeeps, CoreState, IsCoreState, codes_of, core_of}

@@ -26,8 +26,8 @@ use Rattle.qs_client.specs.MindState.{IsMind, mind_of}
 use Rattle.qs_client_run.specs.declared.act.Act.{Act}
 use Rattle.qs_client_run.specs.declared.act.Act.TheVariants as wants
 use Rattle.qs_played.specs.Played.{ticket}
-use Rattle.qs_played.specs.declared.actor.Actor.{Actor}
-use Rattle.qs_played.specs.declared.actor.Actor.TheVariants as actor
+use Rattle.qs_played.specs.declared.schedule.actor.Actor.{Actor}
+use Rattle.qs_played.specs.declared.schedule.actor.Actor.TheVariants as actor
 use Rattle.qs_core_laws.specs.Core.{AreCodes, Core, core_step}
 use Rattle.qs_core_laws.specs.CoreReached.{CoreStands, IsBegun, ReachedCore}
 use Rattle.qs_core_laws.specs.CoreSchedule.{before_it}

@@ -6,7 +6,7 @@ use Rattle.qs_program.specs.Sound.{IsSound}
 use Rattle.qs_syncset.specs.declared.mode.Mode.{Mode}
 use Rattle.qs_played.specs.Schedule.{schedule}
 use Rattle.qs_played.specs.SyncSums.{AreSyncsCounted}
-use Rattle.qs_played.specs.declared.actor.Actor.{Actor}
+use Rattle.qs_played.specs.declared.schedule.actor.Actor.{Actor}
 use Rattle.qs_played.specs.Played.{Played}
 use Rattle.qs_core_laws.specs.Core.{AreCodes}
 use Rattle.qs_core_laws.specs.CoreSchedule.{core_played}

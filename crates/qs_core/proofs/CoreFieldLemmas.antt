@@ -14,7 +14,7 @@ use Rattle.qs_client_run.specs.declared.act.Act.{Act}
 use Rattle.qs_client_run.specs.declared.act.Act.TheVariants as wants
 use Rattle.qs_played.specs.Played.{ticket}
 use Rattle.qs_played.proofs.Lists.{get_or-any}
-use Rattle.qs_played.specs.declared.actor.Actor.TheVariants as actor
+use Rattle.qs_played.specs.declared.schedule.actor.Actor.TheVariants as actor
 use Rattle.qs_core_laws.specs.Core.{blocks, core_step, settings_of}
 use Rattle.qs_core_laws.specs.CoreReached.{ReachedCore}
 use Rattle.qs_core_parts.specs.CoreClients.{AreStocked, CoreClientState, HasLane, IsCoreClient, LaneStays, LaneSteps, turns_to, whole_of}

@@ -17,7 +17,7 @@ use Rattle.qs_client_run.specs.declared.act.Act.{Act}
 use Rattle.qs_client_run.proofs.CarriedValues.{sends_are_parted}
 use Rattle.qs_client_run.specs.declared.act.Act.TheVariants as wants
 use Rattle.qs_played.specs.Played.{ticket}
-use Rattle.qs_played.specs.declared.actor.Actor.TheVariants as actor
+use Rattle.qs_played.specs.declared.schedule.actor.Actor.TheVariants as actor
 use Rattle.qs_core_laws.specs.Core.{AreCodes, Core, client_step, core_step}
 use Rattle.qs_core_parts.specs.CoreClients.{AreStocked, CoreClientState, HasLane, IsCoreClient, LaneStays, LaneSteps, lane_step, turns_to, whole_of}
 use Rattle.qs_core_parts.specs.CoreHandlers.{CoreHandlerState, IsCoreHandler, handler_of}

@@ -7,7 +7,7 @@ use Rattle.qs_syncset.specs.declared.mode.Mode.{Mode}
 use Rattle.qs_played.specs.Isolation.{IsIsolated}
 use Rattle.qs_played.specs.Schedule.{actors_of, repeated, schedule}
 use Rattle.qs_played.specs.Played.{Played}
-use Rattle.qs_played.specs.declared.actor.Actor.{Actor}
+use Rattle.qs_played.specs.declared.schedule.actor.Actor.{Actor}
 use Rattle.qs_played.proofs.Lists.{range_more}
 use Rattle.qs_core_laws.specs.Core.{AreCodes, core_begin, core_step}
 use Rattle.qs_core_laws.specs.CoreSchedule.{IsShown, core_or_stay, core_played, core_plays, core_scheduled, on_way}

@@ -5,7 +5,7 @@ use Rattle.qs_program.specs.Sound.{IsSound}
 use Rattle.qs_syncset.specs.declared.mode.Mode.{Mode}
 use Rattle.qs_syncset.specs.Codes.{ClientCode}
 use Rattle.qs_played.specs.Isolation.{IsIsolated}
-use Rattle.qs_played.specs.declared.actor.Actor.{Actor}
+use Rattle.qs_played.specs.declared.schedule.actor.Actor.{Actor}
 use Rattle.qs_core_laws.specs.Core.{AreCodes, Core, core_begin, core_step}
 use Rattle.qs_core_laws.specs.CoreReached.{ReachedCore}
 use Rattle.qs_core_laws.specs.CoreSchedule.{core_or_stay, core_played, core_plays, on_way}

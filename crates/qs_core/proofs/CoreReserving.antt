@@ -12,7 +12,7 @@ use Rattle.qs_client.specs.ClientModel.{ClientModel, act_due, mind_after_begin_w
 use Rattle.qs_client_run.proofs.HoldingsAsFunctions.{put_set_at}
 use Rattle.qs_client_run.specs.declared.act.Act.TheVariants as acts
 use Rattle.qs_played.specs.Played.{ticket}
-use Rattle.qs_played.specs.declared.actor.Actor.TheVariants as actor
+use Rattle.qs_played.specs.declared.schedule.actor.Actor.TheVariants as actor
 use Rattle.qs_core_laws.specs.Core.{core_step, may, reserves_from}
 use Rattle.qs_core_parts.specs.LaneStates.{LaneState}
 use Rattle.qs_core.specs.CoreState.{Side, core_from}

@@ -5,7 +5,7 @@ use Rattle.std.proofs.lemmas.List.{length-map}
 use Rattle.qs_objects.specs.declared.held.Ticket.{Ticket}
 use Rattle.qs_client.specs.MindState.{IsMind}
 use Rattle.qs_played.specs.Played.{ClientRows, HasRows, HaveRows, rows_at, shown_with}
-use Rattle.qs_played.specs.declared.played.Endings.{Endings}
+use Rattle.qs_played.specs.declared.shown.played.Endings.{Endings}
 use Rattle.qs_core_parts.specs.CoreClients.{CoreClientState, rows_of, whole_of}
 use Rattle.qs_core_parts.specs.CoreHandlers.{CoreHandlerState}
 use Rattle.qs_core.specs.CoreShown.{AreBegunBy, AreMinds, IsBegunBy, endings_by, rows_by, shown_by}

@@ -12,7 +12,7 @@ use Rattle.qs_chunk.specs.declared.parcel.Parcel.{Parcel}
 use Rattle.qs_handler.specs.Handler.{Handler, act_of, gave, received, taken}
 use Rattle.qs_handler.specs.declared.mind.Act.{Act}
 use Rattle.qs_handler.specs.declared.mind.Act.TheVariants as acts
-use Rattle.qs_played.specs.declared.actor.Actor.TheVariants as actor
+use Rattle.qs_played.specs.declared.schedule.actor.Actor.TheVariants as actor
 use Rattle.qs_core_laws.specs.Core.{Core, core_step, gives, handled, handler_step, put_lane, takes_parcel}
 use Rattle.qs_core_laws.specs.Core as core
 use Rattle.qs_core_parts.specs.CoreHandlers.{beside, gives_up, lane_step, takes_first, turns_to}

@@ -11,7 +11,7 @@ use Rattle.qs_chunk.specs.Lanes.{may_stand}
 use Rattle.qs_handler.specs.Handler.{Handler, act_of, away, closed, free, gives, is_away, serves, spares}
 use Rattle.qs_handler.specs.declared.mind.Act.{Act}
 use Rattle.qs_handler.specs.declared.mind.Act.TheVariants as acts
-use Rattle.qs_played.specs.declared.actor.Actor.TheVariants as actor
+use Rattle.qs_played.specs.declared.schedule.actor.Actor.TheVariants as actor
 use Rattle.qs_core_laws.specs.Core.{core_step}
 use Rattle.qs_core_laws.specs.CoreReached.{ReachedCore}
 use Rattle.qs_core_parts.specs.CoreClients.{AreStocked, CoreClientState, Meets, whole_of}

@@ -7,7 +7,7 @@ use Rattle.qs_program.specs.Limits.{most_clients, most_handlers}
 use Rattle.qs_handler.specs.Handler.{act_of}
 use Rattle.qs_client.specs.ClientModel.{ClientModel, is_between, has_ended}
 use Rattle.qs_played.specs.Played.{ClientRows, Played}
-use Rattle.qs_played.specs.declared.played.Endings.{Endings}
+use Rattle.qs_played.specs.declared.shown.played.Endings.{Endings}
 use Rattle.qs_client.specs.MindState.{IsMind}
 use Rattle.qs_core_laws.specs.Core.{Core}
 use Rattle.qs_core_laws.specs.CoreSchedule.{all_of, found_by, held_or_none}

@@ -10,7 +10,7 @@ use Rattle.qs_syncset.specs.Codes.{ClientCode, IsCodeOf}
 use Rattle.qs_handler.specs.Handler.{Handler, free}
 use Rattle.qs_client.specs.ClientModel.{ClientModel, fresh_mind}
 use Rattle.qs_played.specs.Isolation.{IsIsolated}
-use Rattle.qs_played.specs.declared.actor.Actor.{Actor}
+use Rattle.qs_played.specs.declared.schedule.actor.Actor.{Actor}
 use Rattle.qs_played.specs.Played.{Played}
 use Rattle.qs_played.specs.SyncSums.{AreSyncsCounted}
 use Rattle.qs_plain.specs.Rules.{ticket_code}

@@ -8,7 +8,7 @@ ghost use Rattle.qs_core.specs.CoreState.{AreFreshClients, AreFreshHandlers, Cor
 ghost use Rattle.qs_core_parts.specs.CoreClients.{CoreClientState};
 ghost use Rattle.qs_core_parts.specs.CoreHandlers.{CanEnterAll, CoreHandlerState, entered_all, entered_at, seat_at, turns_to};
 ghost use Rattle.qs_client_run.specs.declared.act.Act.TheVariants as wants;
-ghost use Rattle.qs_played.specs.declared.actor.Actor.TheVariants as actors;
+ghost use Rattle.qs_played.specs.declared.schedule.actor.Actor.TheVariants as actors;
 
 use crate::core_showing;
 use qs_chunk::ChunkSize;

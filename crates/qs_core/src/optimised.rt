@@ -5,7 +5,7 @@ ghost use Rattle.qs_program.specs.Program.{ProgramShape};
 ghost use Rattle.qs_syncset.specs.declared.mode.Mode.{Mode as ModeShape};
 ghost use Rattle.qs_core_laws.specs.CoreSchedule.{core_played};
 ghost use Rattle.qs_played.specs.Schedule.{actors_of, repeated};
-ghost use Rattle.qs_played.specs.declared.actor.Actor.{Actor as ActorShape};
+ghost use Rattle.qs_played.specs.declared.schedule.actor.Actor.{Actor as ActorShape};
 ghost use Rattle.std.specs.Bool.{OnTrue};
 ghost use Rattle.qs_core_laws.specs.Core.{core_step};
 ghost use Rattle.qs_core.specs.CoreState.{CoreIsCounted};

@@ -34,14 +34,14 @@ use Rattle.qs_client_run.specs.BlockSizes.{longest}
 use Rattle.qs_client_run.specs.declared.act.Act.{Act}
 use Rattle.qs_client_run.specs.declared.act.Act.TheVariants.{Reserve, Send, Await, NeedChunk, Finished}
 use Rattle.qs_played.specs.Played.{ticket}
-use Rattle.qs_played.specs.declared.actor.Actor.{Actor}
+use Rattle.qs_played.specs.declared.schedule.actor.Actor.{Actor}
 use Rattle.qs_played.proofs.ReservedObjects.{distinct_objects, reserved_inside}
 use Rattle.qs_played.proofs.SyncTallies.{none_for, objects_none, objects_stay, sent_for}
 use Rattle.qs_played.proofs.Orders.{each_among, among_once, legal_among}
 use Rattle.qs_played.proofs.FunctionUpdate.{put_all, put_at_here, put_at_there}
 use Rattle.qs_played.proofs.JournalRooms.{no_block_beyond}
 use Rattle.qs_played.proofs.SyncLists.{legal_blocks, sum_tickets, sum_up, sum_zero, sum_of, total_of}
-use Rattle.qs_played.specs.declared.actor.Actor.TheVariants as actor
+use Rattle.qs_played.specs.declared.schedule.actor.Actor.TheVariants as actor
 use Rattle.qs_protocol.proofs.ActObjects.{not_send, not_await, not_need, send_at, settle_begun, sent_begun, got_begun, chunk_begun}
 use Rattle.qs_protocol.proofs.ClientCounts.{CountAt, Counts, Even, Over, chunk_counts, count_up, got_counts, send_counts, settle_counts}
 use Rattle.qs_protocol.proofs.ClientInvariants.{PlaceOk, Leaving}

@@ -31,7 +31,7 @@ use Rattle.qs_client_run.specs.Client.{act_of, between}
 use Rattle.qs_client_run.specs.declared.act.Act.{Act}
 use Rattle.qs_client_run.specs.declared.act.Act.TheVariants as wants
 use Rattle.qs_played.specs.Played.{ticket}
-use Rattle.qs_played.specs.declared.actor.Actor.{Actor}
+use Rattle.qs_played.specs.declared.schedule.actor.Actor.{Actor}
 use Rattle.qs_played.proofs.ReservedObjects.{reserved_inside}
 use Rattle.qs_played.proofs.Orders.{apart_kept, counts_after}
 use Rattle.qs_played.proofs.JournalRooms.{no_block_beyond, sum_changed, sum_same}

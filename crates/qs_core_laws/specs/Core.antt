@@ -28,8 +28,8 @@ use Rattle.qs_client_run.specs.declared.act.Act as client_acts
 use Rattle.qs_client_run.specs.declared.act.Act.TheVariants as wants
 use Rattle.qs_played.specs.JournalRooms.{fresh_held}
 use Rattle.qs_played.specs.Played.{ticket}
-use Rattle.qs_played.specs.declared.actor.Actor.{Actor}
-use Rattle.qs_played.specs.declared.actor.Actor.TheVariants as actor
+use Rattle.qs_played.specs.declared.schedule.actor.Actor.{Actor}
+use Rattle.qs_played.specs.declared.schedule.actor.Actor.TheVariants as actor
 
 -- The order of reservations; each client, and the Syncs that it sent, also apart for each ticket and object of its block's list; of the lane from a client to a handler the parcels that lie there, the
 -- object on its way up, and how many empty chunks lie ready; each handler and its queue of tickets; of each ticket the variables at entry

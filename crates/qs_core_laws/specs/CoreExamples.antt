@@ -14,9 +14,9 @@ use Rattle.qs_syncset.specs.Codes.{BlockCode, ClientCode}
 use Rattle.qs_sync_counts.specs.declared.sync_counts.SyncCount.{SyncCount}
 use Rattle.qs_syncset.specs.declared.mode.Mode.TheVariants as modes
 use Rattle.qs_played.specs.ExampleRuns.{answers, holding, in_transfer}
-use Rattle.qs_played.specs.declared.actor.Actor.{Actor}
+use Rattle.qs_played.specs.declared.schedule.actor.Actor.{Actor}
 use Rattle.qs_played.specs.Played.{Played}
-use Rattle.qs_played.specs.declared.actor.Actor.TheVariants as actor
+use Rattle.qs_played.specs.declared.schedule.actor.Actor.TheVariants as actor
 use Rattle.qs_core_laws.specs.Core.{AreCodes}
 use Rattle.qs_core_laws.specs.CoreSchedule.{core_played, core_scheduled, on_way}
 

@@ -16,7 +16,7 @@ use Rattle.qs_handler.specs.Handler as handlers
 use Rattle.qs_handler.specs.declared.mind.Act.TheVariants as acts
 use Rattle.qs_client_run.specs.Client.{act_of, first_client}
 use Rattle.qs_client_run.specs.declared.act.Act.TheVariants as wants
-use Rattle.qs_played.specs.declared.actor.Actor.TheVariants as actor
+use Rattle.qs_played.specs.declared.schedule.actor.Actor.TheVariants as actor
 use Rattle.qs_played.specs.JournalRooms.{fresh_held}
 use Rattle.qs_core_laws.specs.Core.{Core, blocks, core_step, settings_of}
 use Rattle.qs_core_laws.specs.CoreSchedule.{before_it, found_by}

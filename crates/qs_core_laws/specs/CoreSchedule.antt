@@ -15,7 +15,7 @@ use Rattle.qs_client_run.specs.Client.{Client}
 use Rattle.qs_client.specs.ClientModel.{is_between, has_ended}
 use Rattle.qs_played.specs.Isolation.{IsIsolated}
 use Rattle.qs_played.specs.Schedule.{all_named, most_rounds, schedule}
-use Rattle.qs_played.specs.declared.actor.Actor.{Actor}
+use Rattle.qs_played.specs.declared.schedule.actor.Actor.{Actor}
 use Rattle.qs_played.specs.declared.fault.PlayFault.{PlayFault}
 use Rattle.qs_played.specs.Played.{Played}
 use Rattle.qs_played.specs.declared.fault.PlayFault.TheVariants as fault

@@ -7,8 +7,8 @@ use Rattle.std.proofs.lemmas.Bool.{eqb-true, false_from_ne_true, le-leb, leb-tru
 use Rattle.std.proofs.lemmas.List.{length-map}
 use Rattle.std.proofs.lemmas.List.Splits.{join_with_byte-slice_split, length-slice_split, slice_split-cons_no, slice_split-cons_yes}
 use Rattle.clap.proofs.WalkLemmas.{both}
-use Rattle.qs_played.specs.declared.actor.Actor.{Actor}
-use Rattle.qs_played.specs.declared.actor.Actor.TheVariants.{Client, Handler}
+use Rattle.qs_played.specs.declared.schedule.actor.Actor.{Actor}
+use Rattle.qs_played.specs.declared.schedule.actor.Actor.TheVariants.{Client, Handler}
 use Rattle.qs_line.specs.Picks.{HaveOneDigit, PicksAreJoined, actor_by, actor_in, actor_text, actors_in, is_digit, number_of, picks_in}
 
 abbrev comma : ℕ → Bool

@@ -1,6 +1,6 @@
 -- One more actor of a list of picks.
 use Rattle.std.proofs.Common.{◌≡◌, ℕ, List, [], ◌∷◌, ◌++◌, Option, Some, None, refl, sym, ap, append_assoc, option_map}
-use Rattle.qs_played.specs.declared.actor.Actor.{Actor}
+use Rattle.qs_played.specs.declared.schedule.actor.Actor.{Actor}
 use Rattle.qs_line.specs.Picks.{actor_in, actors_in}
 
 -- the picks so far, and then those of the texts that are left

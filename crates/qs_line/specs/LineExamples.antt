@@ -1,7 +1,7 @@
 -- Lines, and what they come to.
 use Rattle.std.specs.Prelude.{◌≡◌, List, [], ◌∷◌, codes, true, false}
 use Rattle.clap.specs.Words.{Text}
-use Rattle.qs_played.specs.declared.actor.Actor.TheVariants.{Client, Handler}
+use Rattle.qs_played.specs.declared.schedule.actor.Actor.TheVariants.{Client, Handler}
 use Rattle.qs_syncset.specs.declared.mode.Mode.TheVariants.{Dynamic, Static, Both}
 use Rattle.qs_line.specs.Line.{Line, asks, check, graph, help, line_in, play, refused, rules, run, version}
 

@@ -1,8 +1,8 @@
 -- A list of picks.
 use Rattle.std.specs.Prelude.{◌≡◌, ◌+◌, ◌-◌, ◌<◌, ◌≤◌, ◌↔◌, ◌==◌, ◌&&◌, ⊤, ℕ, Bool, length, map, List, [], ◌∷◌, Option, Some, None, nat_le, if◌then◌else◌, option_map, option_and_then}
 use Rattle.std.specs.List.{join_with_byte, slice_split}
-use Rattle.qs_played.specs.declared.actor.Actor.{Actor}
-use Rattle.qs_played.specs.declared.actor.Actor.TheVariants.{Client, Handler}
+use Rattle.qs_played.specs.declared.schedule.actor.Actor.{Actor}
+use Rattle.qs_played.specs.declared.schedule.actor.Actor.TheVariants.{Client, Handler}
 
 -- a byte of `0` to `9`
 abbrev pub is_digit : ℕ → Bool

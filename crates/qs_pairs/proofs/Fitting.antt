@@ -8,7 +8,7 @@ use Rattle.qs_syncset.specs.declared.mode.Mode.{Mode}
 use Rattle.qs_core.specs.CoreState.{IsShownIsolated}
 use Rattle.qs_played.specs.Isolation.{IsFitting, IsIsolated}
 use Rattle.qs_played.specs.Played.{Played}
-use Rattle.qs_played.specs.declared.actor.Actor.{Actor}
+use Rattle.qs_played.specs.declared.schedule.actor.Actor.{Actor}
 use Rattle.qs_played.specs.declared.fault.PlayFault.{PlayFault}
 
 module _ (p : ProgramShape) (mode : Mode) (size : ℕ) (picks : List Actor) (rounds : ℕ) where

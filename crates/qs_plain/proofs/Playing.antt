@@ -7,7 +7,7 @@ use Rattle.std.specs.List.{range_with_len}
 use Rattle.qs_program.specs.Program.{ProgramShape}
 use Rattle.qs_played.specs.Schedule.{actors_of, repeated, schedule}
 use Rattle.qs_played.specs.Played.{Played}
-use Rattle.qs_played.specs.declared.actor.Actor.{Actor}
+use Rattle.qs_played.specs.declared.schedule.actor.Actor.{Actor}
 use Rattle.qs_played.proofs.Lists.{range_more}
 use Rattle.qs_plain_laws.specs.Plain.{Plain, step}
 use Rattle.qs_plain_laws.specs.PlainSchedule.{or_stay, played_of, plays}

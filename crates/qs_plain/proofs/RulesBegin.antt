@@ -12,7 +12,7 @@ use Rattle.qs_program.specs.Sound.{IsSound, IsSoundBlock}
 use Rattle.qs_program.proofs.Bounds.{sound_block}
 use Rattle.qs_meaning.specs.Interaction.{tree_of}
 use Rattle.qs_played.specs.Played.{ticket}
-use Rattle.qs_played.specs.declared.actor.Actor.TheVariants as actor
+use Rattle.qs_played.specs.declared.schedule.actor.Actor.TheVariants as actor
 use Rattle.qs_plain_laws.specs.Plain.{Client, step, client_step, at_each, enter}
 use Rattle.qs_plain_laws.specs.Plain as plain
 use Rattle.qs_plain_client.specs.ClientMoves.{Begins}

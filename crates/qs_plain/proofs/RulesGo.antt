@@ -13,7 +13,7 @@ use Rattle.qs_meaning.specs.Solo.{event}
 use Rattle.qs_program.specs.Sound.{IsSound, IsSoundBlock, is_in}
 use Rattle.qs_program.proofs.Bounds.{sound_block}
 use Rattle.qs_played.specs.Played.{ticket}
-use Rattle.qs_played.specs.declared.actor.Actor.TheVariants as actor
+use Rattle.qs_played.specs.declared.schedule.actor.Actor.TheVariants as actor
 use Rattle.qs_plain_laws.specs.Plain.{Client, step, client_step, goes_on}
 use Rattle.qs_plain_laws.specs.declared.item.QueueItem.{QueueItem}
 use Rattle.qs_plain_laws.specs.Plain as plain

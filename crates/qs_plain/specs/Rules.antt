@@ -8,7 +8,7 @@ use Rattle.qs_program.specs.Program.{ProgramShape}
 use Rattle.qs_program.specs.Shapes.{program_code}
 use Rattle.qs_played.specs.Isolation.{IsIsolated}
 use Rattle.qs_played.specs.Played.{ticket}
-use Rattle.qs_played.specs.declared.actor.Actor.{Actor}
+use Rattle.qs_played.specs.declared.schedule.actor.Actor.{Actor}
 use Rattle.qs_plain_laws.specs.PlainIsolation.{queued}
 use Rattle.qs_plain_laws.specs.Plain.{Plain, begin, step}
 use Rattle.qs_plain_laws.specs.PlainSchedule.{played_of, plays}

@@ -3,7 +3,7 @@
 ghost use Rattle.std.specs.Prelude.{◌≡◌, ◌<◌, None, false, length, IfOk};
 ghost use Rattle.std.specs.Bool.{OnTrue};
 ghost use Rattle.qs_plain_laws.specs.Plain.{begin, step as the_step};
-ghost use Rattle.qs_played.specs.declared.actor.Actor.TheVariants as actors;
+ghost use Rattle.qs_played.specs.declared.schedule.actor.Actor.TheVariants as actors;
 ghost use Rattle.qs_plain_client.specs.declared.stage.Stage.TheVariants as stages;
 
 use crate::handler::{HandlerState, Served};

@@ -14,9 +14,9 @@ use Rattle.qs_meaning.specs.Serial.{LegalFrom, IsLegal}
 use Rattle.qs_meaning.specs.Solo.{put}
 use Rattle.qs_played.specs.Played.{ticket}
 use Rattle.qs_played.proofs.Lists.{apart}
-use Rattle.qs_played.specs.declared.actor.Actor.{Actor}
+use Rattle.qs_played.specs.declared.schedule.actor.Actor.{Actor}
 use Rattle.qs_played.proofs.Orders.{counts_after, legal-more, counts-more, counts_grow}
-use Rattle.qs_played.specs.declared.actor.Actor.TheVariants as actor
+use Rattle.qs_played.specs.declared.schedule.actor.Actor.TheVariants as actor
 use Rattle.qs_plain_laws.specs.Plain.{Plain, Client, Handler, Private, Stage, out, within, waiting, begin, begun, client_at, handler_at, client_step, goes_on, separate, item_step, queue_step, replied, reply_to, step, fresh_client, no_client}
 use Rattle.qs_plain_laws.specs.PlainSchedule.{or_stay, plays}
 use Rattle.qs_plain_laws.specs.declared.item.QueueItem.{QueueItem}

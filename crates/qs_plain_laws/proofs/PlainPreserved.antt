@@ -29,10 +29,10 @@ use Rattle.qs_meaning.specs.BlockRecords.{Begins}
 use Rattle.qs_meaning.proofs.TreeWalks.{put_here, put_there}
 use Rattle.qs_played.specs.Played.{ticket}
 use Rattle.qs_played.specs.JournalRooms.{room_of}
-use Rattle.qs_played.specs.declared.actor.Actor.{Actor}
+use Rattle.qs_played.specs.declared.schedule.actor.Actor.{Actor}
 use Rattle.qs_played.proofs.Lists.{apart}
 use Rattle.qs_played.proofs.FunctionUpdate.{put_at, put_at_here, put_at_there}
-use Rattle.qs_played.specs.declared.actor.Actor.TheVariants as actor
+use Rattle.qs_played.specs.declared.schedule.actor.Actor.TheVariants as actor
 use Rattle.qs_plain_laws.specs.Plain.{Plain, Client, counted, Handler, Private, Stage, out, within, waiting, begin, begun, client_at, handler_at, client_step, goes_on, item_step, queue_step, at_handler, at_each, log_in, enter, serves, stands, traced, begins, replied, reply_to, step, fresh_client, fresh_handler, no_client, no_handler, calls, asks, ends, runs_command, runs_query, leaves_queue}
 use Rattle.qs_plain_laws.specs.PlainSchedule.{or_stay, plays, entry_at, trace_at}
 use Rattle.qs_plain_laws.specs.declared.item.QueueItem.{QueueItem}

@@ -12,8 +12,8 @@ use Rattle.qs_meaning.specs.MeaningExamples.{withdrawals, ticket, left_with}
 use Rattle.qs_meaning.specs.Serial.{declared}
 use Rattle.qs_played.specs.Isolation.{journal_of, place_of}
 use Rattle.qs_played.specs.ExampleRuns.{holding}
-use Rattle.qs_played.specs.declared.actor.Actor.{Actor}
-use Rattle.qs_played.specs.declared.actor.Actor.TheVariants as actor
+use Rattle.qs_played.specs.declared.schedule.actor.Actor.{Actor}
+use Rattle.qs_played.specs.declared.schedule.actor.Actor.TheVariants as actor
 use Rattle.qs_plain_laws.specs.PlainIsolation.{queued}
 use Rattle.qs_plain_laws.specs.PlayExamples.{shown}
 use Rattle.qs_plain_laws.specs.PlainSchedule.{scheduled}

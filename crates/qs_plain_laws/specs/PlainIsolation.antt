@@ -5,7 +5,7 @@ use Rattle.qs_objects.specs.declared.held.Ticket.{Ticket}
 use Rattle.qs_objects.specs.declared.Request.{Request}
 use Rattle.qs_program.specs.Program.{ProgramShape}
 use Rattle.qs_program.specs.Sound.{IsSound}
-use Rattle.qs_played.specs.declared.actor.Actor.{Actor}
+use Rattle.qs_played.specs.declared.schedule.actor.Actor.{Actor}
 use Rattle.qs_played.specs.Isolation.{IsIsolated}
 use Rattle.qs_plain_laws.specs.Plain.{Plain, Private, begin, handler_at}
 use Rattle.qs_plain_laws.specs.PlainSchedule.{played_of, plays}

@@ -5,7 +5,7 @@ use Rattle.qs_objects.specs.declared.held.Ticket.{Ticket}
 use Rattle.qs_program.specs.Program.{ProgramShape, blocks_of}
 use Rattle.qs_program.specs.Values.{Locals}
 use Rattle.qs_sync_counts.specs.declared.sync_counts.SyncCount.{SyncCount}
-use Rattle.qs_played.specs.declared.actor.Actor.{Actor}
+use Rattle.qs_played.specs.declared.schedule.actor.Actor.{Actor}
 use Rattle.qs_played.specs.declared.fault.PlayFault.{PlayFault}
 use Rattle.qs_played.specs.Played.{Played}
 use Rattle.qs_played.specs.Schedule.{schedule, all_named, queries_in, most_rounds}

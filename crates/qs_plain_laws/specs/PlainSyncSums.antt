@@ -7,7 +7,7 @@ use Rattle.qs_syncset.specs.SyncCounts.{queries}
 use Rattle.qs_sync_counts.specs.SyncRows.{syncs_of}
 use Rattle.qs_played.specs.Isolation.{ended_of, ticket_at, trace_of}
 use Rattle.qs_played.specs.Schedule.{queries_in}
-use Rattle.qs_played.specs.declared.actor.Actor.{Actor}
+use Rattle.qs_played.specs.declared.schedule.actor.Actor.{Actor}
 use Rattle.qs_played.specs.Played.{Played}
 use Rattle.qs_played.specs.SyncSums.{AreAll, AreListed, AreSent, counts_at, syncs_at}
 use Rattle.qs_plain_laws.specs.Plain.{begin, begun, client_at}

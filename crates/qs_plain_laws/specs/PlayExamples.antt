@@ -4,10 +4,10 @@ use Rattle.qs_objects.specs.Act.{State, account, buffer}
 use Rattle.qs_objects.specs.declared.held.Ticket.{Ticket}
 use Rattle.qs_meaning.specs.MeaningExamples.{deposit_of_5, withdrawals, full_buffer, left_at_once, transfer, ticket, only, some, left_with}
 use Rattle.qs_program.specs.Program.{ProgramShape}
-use Rattle.qs_played.specs.declared.actor.Actor.{Actor}
+use Rattle.qs_played.specs.declared.schedule.actor.Actor.{Actor}
 use Rattle.qs_played.specs.Played.{Played}
 use Rattle.qs_played.specs.ExampleRuns.{answers, holding, in_transfer}
-use Rattle.qs_played.specs.declared.actor.Actor.TheVariants as actor
+use Rattle.qs_played.specs.declared.schedule.actor.Actor.TheVariants as actor
 use Rattle.qs_plain_laws.specs.PlainSchedule.{played_of, scheduled}
 
 abbrev pub shown : ProgramShape → List Actor → ℕ → Played

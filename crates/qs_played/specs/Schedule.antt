@@ -4,8 +4,8 @@ use Rattle.std.specs.List.{range_with_len}
 use Rattle.qs_objects.specs.Operations.{is_query}
 use Rattle.qs_objects.specs.declared.held.Event.{Event}
 use Rattle.qs_program.specs.Program.{ProgramShape}
-use Rattle.qs_played.specs.declared.actor.Actor.{Actor}
-use Rattle.qs_played.specs.declared.actor.Actor.TheVariants as actor
+use Rattle.qs_played.specs.declared.schedule.actor.Actor.{Actor}
+use Rattle.qs_played.specs.declared.schedule.actor.Actor.TheVariants as actor
 
 -- a round: all clients, then all handlers, in text order
 abbrev pub actors_of : ProgramShape → List Actor

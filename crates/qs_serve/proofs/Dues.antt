@@ -3,7 +3,7 @@ use Rattle.std.proofs.Common.{◌≡◌, ◌⊎◌, ℕ, Bool, List, Option, Ok,
 use Rattle.qs_program.specs.Program.{ProgramShape}
 use Rattle.qs_core_laws.specs.CoreSchedule.{IsPlayedIn}
 use Rattle.qs_plain_laws.specs.PlainSchedule.{IsPlayed}
-use Rattle.qs_played.specs.declared.actor.Actor.{Actor}
+use Rattle.qs_played.specs.declared.schedule.actor.Actor.{Actor}
 use Rattle.qs_played.specs.Played.{Played}
 use Rattle.qs_syncset.specs.declared.mode.Mode.{Mode}
 use Rattle.qs_report.specs.declared.faults.Fault.{Fault}

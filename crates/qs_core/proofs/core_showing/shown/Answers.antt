@@ -1,6 +1,6 @@
 use Rattle.std.proofs.Common.{◌≡◌, ap, sym, subst, ◌∙◌}
 use Rattle.qs_played.specs.Played.{HaveRows, shown_with}
-use Rattle.qs_played.specs.declared.played.Endings.{Endings}
+use Rattle.qs_played.specs.declared.shown.played.Endings.{Endings}
 use Rattle.qs_core.specs.CoreShown.{endings_by}
 use Rattle.qs_core.proofs.CoreRows.{have_rows, shown_are}
 use Rattle.qs_core.proofs.core_showing.shown.Goals as goal

@@ -4,7 +4,7 @@ use Rattle.qs_objects.specs.declared.held.Ticket.{Ticket}
 use Rattle.qs_program.specs.Program.{BlockShape, block_at}
 use Rattle.qs_program.specs.Sound.{IsSound, is_in}
 use Rattle.qs_played.specs.Played.{ticket}
-use Rattle.qs_played.specs.declared.actor.Actor.TheVariants as actor
+use Rattle.qs_played.specs.declared.schedule.actor.Actor.TheVariants as actor
 use Rattle.qs_plain_laws.specs.declared.item.QueueItem.TheVariants as item
 use Rattle.qs_plain_client.specs.ClientMoves.{Goes}
 use Rattle.qs_plain_client.specs.Clients.{ClientState, IsClient, client_at, current_block}

@@ -2,8 +2,8 @@ use Rattle.std.proofs.Common.{◌≡◌, ◌∙◌, ap, sym, map, length, ℕ, �
 use Rattle.std.specs.List.{range_with_len}
 use Rattle.qs_program.specs.Program.{ProgramShape}
 use Rattle.std.proofs.lemmas.Bool.{or_parts}
-use Rattle.qs_played.specs.declared.actor.Actor.{Actor}
-use Rattle.qs_played.specs.declared.actor.Actor.TheVariants as actors
+use Rattle.qs_played.specs.declared.schedule.actor.Actor.{Actor}
+use Rattle.qs_played.specs.declared.schedule.actor.Actor.TheVariants as actors
 use Rattle.qs_plain_laws.specs.Plain.{Plain, step}
 use Rattle.qs_plain_laws.specs.PlainSchedule.{or_stay, plays}
 use Rattle.qs_plain.specs.Rules.{RulesState, plain_of}

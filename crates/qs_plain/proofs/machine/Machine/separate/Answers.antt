@@ -1,6 +1,6 @@
 use Rattle.std.proofs.Common.{length, ap, subst, arith}
 use Rattle.std.proofs.Math.ListN.{set}
-use Rattle.qs_played.specs.declared.actor.Actor.TheVariants as actor
+use Rattle.qs_played.specs.declared.schedule.actor.Actor.TheVariants as actor
 use Rattle.qs_plain_client.specs.ClientMoves.{Begins}
 use Rattle.qs_plain_client.specs.Clients.{ClientState, IsClient}
 use Rattle.qs_plain_client.specs.declared.stage.Stage.TheVariants as stage

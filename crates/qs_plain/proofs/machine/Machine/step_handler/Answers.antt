@@ -1,5 +1,5 @@
 use Rattle.std.proofs.Common.{ap, subst, arith}
-use Rattle.qs_played.specs.declared.actor.Actor.TheVariants as actor
+use Rattle.qs_played.specs.declared.schedule.actor.Actor.TheVariants as actor
 use Rattle.qs_plain.specs.Rules.{RulesState}
 use Rattle.qs_plain.specs.Served.{ServesFirst}
 use Rattle.qs_plain.proofs.RulesServe.{done_steps, served_rules, replied_rules, replied_to_come, reply_steps}

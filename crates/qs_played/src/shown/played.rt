@@ -5,7 +5,7 @@ ghost use Rattle.qs_objects.specs.Traces.{events_of};
 ghost use Rattle.qs_sync_counts.specs.SyncRows.{count_of, object_of};
 ghost use Rattle.qs_played.specs.Played.{HaveRows, no_events, shown_with};
 
-use crate::row::Row;
+use crate::shown::Row;
 use qs_objects::{Event, Journal, Object, Ticket, Traces};
 use qs_program::Locals;
 use qs_sync_counts::SyncCounts;

@@ -3,7 +3,7 @@
 ghost use Rattle.std.specs.Prelude.{◌≡◌};
 ghost use Rattle.qs_played.specs.Schedule.{all_named, names_actor};
 
-use crate::actor::Actor;
+use crate::schedule::Actor;
 use qs_program::Program;
 
 /// Rounds of a schedule.

@@ -5,7 +5,7 @@ ghost use Rattle.qs_sync_counts.specs.SyncRows.{count_of, object_of};
 ghost use Rattle.qs_played.specs.Outcomes.{IsOver};
 ghost use Rattle.qs_played.specs.Played.{no_events};
 
-use crate::played::Played;
+use crate::shown::Played;
 use qs_objects::{Event, Journal, Object, Ticket};
 use std::marker::Model;
 
