@@ -10,7 +10,8 @@ use Rattle.qs_played.specs.Played.{Played}
 use Rattle.qs_played.specs.declared.schedule.actor.Actor.{Actor}
 use Rattle.qs_played.proofs.Lists.{range_more}
 use Rattle.qs_core_laws.specs.Core.{AreCodes, core_begin, core_step}
-use Rattle.qs_core_laws.specs.CoreSchedule.{IsShown, core_or_stay, core_played, core_plays, core_scheduled, on_way}
+use Rattle.qs_core_laws.specs.CoreSchedule.{IsShown, core_played, core_plays, core_scheduled, on_way}
+use Rattle.qs_played.specs.Schedule.{or_stay}
 use Rattle.qs_core.specs.CoreState.{CoreIsIsolated, CoreState, CoreSteps, IsFreshCore, IsPlayedOn, IsShownIsolated, codes_of, core_of}
 use Rattle.qs_core.proofs.CoreReaching.{core_plays_more}
 
@@ -22,8 +23,8 @@ played_more p mode size actors old new a true on steps none same = record {
   size = steps.size ∙ on.size;
   codes = subst (AreCodes p mode) (sym steps.codes) on.codes;
   played =
-      sym (ap (core_or_stay (core_of old)) steps.steps)
-      ∙ (λ k. core_or_stay (on.played k) (core_step (codes_of old) (on.size k) (on.played k) a))
+      sym (ap (or_stay (core_of old)) steps.steps)
+      ∙ (λ k. or_stay (on.played k) (core_step (codes_of old) (on.size k) (on.played k) a))
       ∙ sym (core_plays_more (codes_of old) size actors a (core_begin p))
       ∙ (λ k. core_plays (sym steps.codes k) size (actors ++ a ∷ []) (core_begin p));
 }
@@ -33,8 +34,8 @@ played_more p mode size actors old new a false on steps none same =
       size = on.size;
       codes = on.codes;
       played =
-          sym (ap (core_or_stay (core_of old)) (none refl))
-          ∙ (λ k. core_or_stay (on.played k) (core_step (codes_of old) (on.size k) (on.played k) a))
+          sym (ap (or_stay (core_of old)) (none refl))
+          ∙ (λ k. or_stay (on.played k) (core_step (codes_of old) (on.size k) (on.played k) a))
           ∙ sym (core_plays_more (codes_of old) size actors a (core_begin p));
     })
 

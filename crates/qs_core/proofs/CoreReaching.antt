@@ -8,22 +8,23 @@ use Rattle.qs_played.specs.Isolation.{IsIsolated}
 use Rattle.qs_played.specs.declared.schedule.actor.Actor.{Actor}
 use Rattle.qs_core_laws.specs.Core.{AreCodes, Core, core_begin, core_step}
 use Rattle.qs_core_laws.specs.CoreReached.{ReachedCore}
-use Rattle.qs_core_laws.specs.CoreSchedule.{core_or_stay, core_played, core_plays, on_way}
+use Rattle.qs_core_laws.specs.CoreSchedule.{core_played, core_plays, on_way}
+use Rattle.qs_played.specs.Schedule.{or_stay}
 use Rattle.qs_core_laws.proofs.CoreIsolating.{core_isolated}
 use Rattle.qs_core_laws.proofs.CoreReached.{reached_keeps}
 use Rattle.qs_core.specs.CoreState.{CoreIsIsolated, CoreKeeps, CoreState, CoreSteps, GoesOn, IsCoreState, IsReachedCore, codes_of, core_of}
 
 pub core_plays_more : (code : ℕ → ClientCode) (size : ℕ) (actors : List Actor) (a : Actor) (s : Core)
-    → core_plays code size (actors ++ a ∷ []) s ≡ core_or_stay (core_plays code size actors s) (core_step code size (core_plays code size actors s) a)
+    → core_plays code size (actors ++ a ∷ []) s ≡ or_stay (core_plays code size actors s) (core_step code size (core_plays code size actors s) a)
 core_plays_more code size [] a s = refl
-core_plays_more code size (b ∷ actors) a s = core_plays_more code size actors a (core_or_stay s (core_step code size s b))
+core_plays_more code size (b ∷ actors) a s = core_plays_more code size actors a (or_stay s (core_step code size s b))
 
 -- one step more from where a list of actors leads
 one_more : (s : CoreState) (a : Actor) (x : Core) (reached : IsReachedCore s) → core_step (codes_of s) s.size (core_of s) a ≡ Some x
     → core_plays (codes_of s) s.size (reached.0 ++ a ∷ []) (core_begin s.program) ≡ x
 one_more s a x (actors, is) e =
     core_plays_more (codes_of s) s.size actors a (core_begin s.program)
-    ∙ (sym (ap (λ y. core_or_stay y (core_step (codes_of s) s.size y a)) is) ∙ ap (core_or_stay (core_of s)) e)
+    ∙ (sym (ap (λ y. or_stay y (core_step (codes_of s) s.size y a)) is) ∙ ap (or_stay (core_of s)) e)
 
 pub core_keeps : (s : CoreState) → IsSound s.program → IsCoreState s → IsReachedCore s → CoreKeeps s
 core_keeps s sound kept reached =

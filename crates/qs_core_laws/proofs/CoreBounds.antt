@@ -36,7 +36,8 @@ use Rattle.qs_protocol.proofs.ActKinds.{outside_not_send}
 use Rattle.qs_protocol.proofs.ActObjects.{sent_begun, got_begun, chunk_begun, settle_begun, not_send, not_await, not_need}
 use Rattle.qs_chunk.specs.Limits.{lane_room, spare_room}
 use Rattle.qs_core_laws.specs.Core.{Core, AreCodes, blocks, client_step, core_begin, core_step, gets, gives_chunk, handled, handler_step, put_lane, reserved_of, reserves_from, settings_of, takes_chunk, takes_parcel, takes_ticket, tree_of, with_down, with_tickets}
-use Rattle.qs_core_laws.specs.CoreSchedule.{core_or_stay, core_plays}
+use Rattle.qs_core_laws.specs.CoreSchedule.{core_plays}
+use Rattle.qs_played.specs.Schedule.{or_stay}
 use Rattle.qs_core_laws.proofs.CoreCodes.{blocks_are}
 use Rattle.qs_core_laws.proofs.HandlerSteps.{some_is}
 use Rattle.qs_core_laws.proofs.CoreSteps.{Kept, begin_kept, begun_by, is_between, step_kept}
@@ -301,14 +302,14 @@ module _ (program : ProgramShape) (sound : IsSound program) (mode : Mode) (code 
     step_bounded (actor.Client c) s' e = client_acts c (asks_for c) s' refl e
     step_bounded (actor.Handler h) s' e = handler_acts h (s.handler h) s' e
 
-  stays_both : (s : Core) (o : Option Core) → ((s' : Core) → o ≡ Some s' → KeptOf s' × CoreBounded s') → KeptOf s × CoreBounded s → KeptOf (core_or_stay s o) × CoreBounded (core_or_stay s o)
+  stays_both : (s : Core) (o : Option Core) → ((s' : Core) → o ≡ Some s' → KeptOf s' × CoreBounded s') → KeptOf s × CoreBounded s → KeptOf (or_stay s o) × CoreBounded (or_stay s o)
   stays_both s None step k = k
   stays_both s (Some s') step k = step s' refl
 
   pub plays_both : (actors : List Actor) (s : Core) → KeptOf s × CoreBounded s → KeptOf (core_plays code size actors s) × CoreBounded (core_plays code size actors s)
   plays_both [] s k = k
   plays_both (a ∷ rest) s k =
-      plays_both rest (core_or_stay s (core_step code size s a))
+      plays_both rest (or_stay s (core_step code size s a))
       (stays_both s (core_step code size s a) (λ s' e. (step_kept program sound mode code codes size s k.0.0 k.0.1 k.0.2 a s' e, step_bounded s k.0 k.1 a s' e)) k)
 
   begin_bounded : CoreBounded (core_begin program)

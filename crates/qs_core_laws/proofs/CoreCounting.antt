@@ -48,7 +48,8 @@ use Rattle.qs_protocol.proofs.ClientInvariants.{PlaceOk, Leaving}
 use Rattle.qs_protocol.proofs.ObjectViews.{HandlerLog}
 use Rattle.qs_chunk.specs.Limits.{lane_room, spare_room}
 use Rattle.qs_core_laws.specs.Core.{Core, AreCodes, blocks, client_step, core_begin, core_step, gets, gives, gives_chunk, handled, handler_step, handles, lies, put_ticket, reserved, reserved_of, reserves_from, sends, settings_of, settled, takes_chunk, takes_parcel, takes_ticket, tree_of, with_down, with_spare, with_tickets, with_up}
-use Rattle.qs_core_laws.specs.CoreSchedule.{core_or_stay, core_plays}
+use Rattle.qs_core_laws.specs.CoreSchedule.{core_plays}
+use Rattle.qs_played.specs.Schedule.{or_stay}
 use Rattle.qs_client_run.proofs.CodeBounds.{longest_covers}
 use Rattle.qs_core_laws.proofs.CoreInvariant.{LaneHistory, CoreInvariant}
 use Rattle.qs_core_laws.proofs.CoreSteps.{Kept, begin_kept, begun_by, has_more, is_between, next_of, step_kept}
@@ -422,14 +423,14 @@ module _ (program : ProgramShape) (sound : IsSound program) (mode : Mode) (code 
   abbrev KeptCounted : Core → Type 0
   KeptCounted s = Kept program sound mode code codes size s × AreCounted s
 
-  stays_both : (s : Core) (o : Option Core) → ((s' : Core) → o ≡ Some s' → KeptCounted s') → KeptCounted s → KeptCounted (core_or_stay s o)
+  stays_both : (s : Core) (o : Option Core) → ((s' : Core) → o ≡ Some s' → KeptCounted s') → KeptCounted s → KeptCounted (or_stay s o)
   stays_both s None step k = k
   stays_both s (Some s') step k = step s' refl
 
   plays_both : (actors : List Actor) (s : Core) → KeptCounted s → KeptCounted (core_plays code size actors s)
   plays_both [] s k = k
   plays_both (a ∷ rest) s k =
-      plays_both rest (core_or_stay s (core_step code size s a))
+      plays_both rest (or_stay s (core_step code size s a))
       (stays_both s (core_step code size s a) (λ s' e. (
         step_kept program sound mode code codes size s k.0.0 k.0.1 k.0.2 a s' e,
         step_counted s k.1.0 k.1.1 k.1.2 k.0.0 k.0.1 k.0.2 a s' e,

@@ -27,7 +27,8 @@ use Rattle.qs_protocol.proofs.ActObjects.{not_send, not_await, not_need, reserve
 use Rattle.qs_played.specs.JournalRooms.{fresh_held}
 use Rattle.qs_chunk.specs.Limits.{lane_room, spare_room}
 use Rattle.qs_core_laws.specs.Core.{Core, AreCodes, blocks, client_step, core_begin, core_step, gets, gives_chunk, handled, handler_step, handles, lies, put_lane, reserves_from, settings_of, settled, synced, takes_chunk, takes_parcel, takes_ticket, tree_of, with_down, with_spare, with_tickets, with_up}
-use Rattle.qs_core_laws.specs.CoreSchedule.{core_or_stay, core_plays}
+use Rattle.qs_core_laws.specs.CoreSchedule.{core_plays}
+use Rattle.qs_played.specs.Schedule.{or_stay}
 use Rattle.qs_core_laws.proofs.CoreInvariant.{LaneHistory, CoreInvariant}
 use Rattle.qs_protocol.proofs.ReservedLists.{lined}
 use Rattle.qs_core_laws.proofs.CoreCodes.{blocks_are, reserved_is, block_walk}
@@ -184,13 +185,13 @@ module _ (program : ProgramShape) (sound : IsSound program) (mode : Mode) (code 
     step_kept (actor.Client c) s' e = client_does c (next_of c) s' refl e
     step_kept (actor.Handler h) s' e = handler_does h (s.handler h) s' refl e
 
-  stays_kept : (s : Core) (o : Option Core) → ((s' : Core) → o ≡ Some s' → Kept s') → Kept s → Kept (core_or_stay s o)
+  stays_kept : (s : Core) (o : Option Core) → ((s' : Core) → o ≡ Some s' → Kept s') → Kept s → Kept (or_stay s o)
   stays_kept s None step k = k
   stays_kept s (Some s') step k = step s' refl
 
   pub plays_kept : (actors : List Actor) (s : Core) → Kept s → Kept (core_plays code size actors s)
   plays_kept [] s k = k
-  plays_kept (a ∷ rest) s k = plays_kept rest (core_or_stay s (core_step code size s a)) (stays_kept s (core_step code size s a) (λ s' e. step_kept s k.0 k.1 k.2 a s' e) k)
+  plays_kept (a ∷ rest) s k = plays_kept rest (or_stay s (core_step code size s a)) (stays_kept s (core_step code size s a) (λ s' e. step_kept s k.0 k.1 k.2 a s' e) k)
 
   pub begin_kept : Kept (core_begin program)
   begin_kept = (

@@ -1,5 +1,5 @@
 -- Schedules of the optimised machine, and what a run shows after them.
-use Rattle.std.specs.Prelude.{◌≡◌, ◌<◌, ◌≤◌, ℕ, suc, Bool, true, false, ◌&&◌, nat_eq, ◌==◌, if◌then◌else◌, List, [], ◌∷◌, ◌++◌, map, filter, length, sum_by, Option, Some, None, Result, Ok, Err}
+use Rattle.std.specs.Prelude.{◌≡◌, ℕ, suc, Bool, true, false, ◌&&◌, nat_eq, ◌==◌, if◌then◌else◌, List, [], ◌∷◌, ◌++◌, map, filter, length, sum_by, Option, Some, None, Result}
 use Rattle.std.specs.List.{range_with_len}
 use Rattle.qs_objects.specs.Journals.{HeldState}
 use Rattle.qs_objects.specs.declared.held.Ticket.{Ticket}
@@ -14,22 +14,15 @@ use Rattle.qs_handler.specs.Handler.{Handler, free, serves, spares, gives, away,
 use Rattle.qs_client_run.specs.Client.{Client}
 use Rattle.qs_client.specs.ClientModel.{is_between, has_ended}
 use Rattle.qs_played.specs.Isolation.{IsIsolated}
-use Rattle.qs_played.specs.Schedule.{all_named, most_rounds, schedule}
+use Rattle.qs_played.specs.Schedule.{schedule, plays_by, IsPlayedAs}
 use Rattle.qs_played.specs.declared.schedule.actor.Actor.{Actor}
 use Rattle.qs_played.specs.declared.fault.PlayFault.{PlayFault}
 use Rattle.qs_played.specs.Played.{Played}
-use Rattle.qs_played.specs.declared.fault.PlayFault.TheVariants as fault
 use Rattle.qs_core_laws.specs.Core.{Core, AreCodes, core_begin, core_step}
-
--- an actor without a step changes nothing
-abbrev pub core_or_stay : Core → Option Core → Core
-core_or_stay s None = s
-core_or_stay s (Some t) = t
 
 -- one step of each actor of a list, in this order
 abbrev pub core_plays : (ℕ → ClientCode) → ℕ → List Actor → Core → Core
-core_plays code size [] s = s
-core_plays code size (a ∷ rest) s = core_plays code size rest (core_or_stay s (core_step code size s a))
+core_plays code size actors s = plays_by (core_step code size) actors s
 
 -- the state after the picks, and then so many rounds
 unfoldable pub core_scheduled : ProgramShape → (ℕ → ClientCode) → ℕ → List Actor → ℕ → Core
@@ -104,12 +97,9 @@ core_played p s = record {
 abbrev pub IsShown : ProgramShape → Mode → ℕ → List Actor → ℕ → Played → Type 0
 IsShown p mode size picks rounds played = (code : ℕ → ClientCode) × AreCodes p mode code × (played ≡ core_played p (core_scheduled p code size picks rounds))
 
--- the result of playing: the rounds are looked at first, then the picks, and memory last
+-- the result of playing
 abbrev pub IsPlayedIn : ProgramShape → Mode → ℕ → List Actor → ℕ → Result Played PlayFault → Type 0
-IsPlayedIn p mode size picks rounds (Ok played) = (rounds ≤ most_rounds) × (all_named p picks ≡ true) × IsShown p mode size picks rounds played
-IsPlayedIn p mode size picks rounds (Err fault.Rounds) = most_rounds < rounds
-IsPlayedIn p mode size picks rounds (Err fault.Actor) = (rounds ≤ most_rounds) × (all_named p picks ≡ false)
-IsPlayedIn p mode size picks rounds (Err fault.Memory) = (rounds ≤ most_rounds) × (all_named p picks ≡ true)
+IsPlayedIn p mode size picks rounds result = IsPlayedAs (IsShown p mode size picks rounds) p picks rounds result
 
 -- for every program, mode, chunk size and list of actors
 abbrev pub CoreRunsAreIsolated : Type 0

@@ -10,7 +10,8 @@ use Rattle.qs_played.specs.Played.{Played}
 use Rattle.qs_played.specs.declared.schedule.actor.Actor.{Actor}
 use Rattle.qs_played.proofs.Lists.{range_more}
 use Rattle.qs_plain_laws.specs.Plain.{Plain, step}
-use Rattle.qs_plain_laws.specs.PlainSchedule.{or_stay, played_of, plays}
+use Rattle.qs_plain_laws.specs.PlainSchedule.{played_of, plays}
+use Rattle.qs_played.specs.Schedule.{or_stay}
 use Rattle.qs_plain.specs.Rules.{RulesState, Steps, plain_of}
 
 pub plays-append : (p : ProgramShape) (xs ys : List Actor) (s : Plain) → plays p (xs ++ ys) s ≡ plays p ys (plays p xs s)

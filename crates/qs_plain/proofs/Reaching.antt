@@ -5,7 +5,8 @@ use Rattle.qs_program.specs.Sound.{IsSound}
 use Rattle.qs_program.specs.Program.{ProgramShape}
 use Rattle.qs_played.specs.Isolation.{IsIsolated}
 use Rattle.qs_played.specs.declared.schedule.actor.Actor.{Actor}
-use Rattle.qs_plain_laws.specs.PlainSchedule.{played_of, or_stay, plays}
+use Rattle.qs_plain_laws.specs.PlainSchedule.{played_of, plays}
+use Rattle.qs_played.specs.Schedule.{or_stay}
 use Rattle.qs_plain_laws.specs.PlainSyncSums.{AreQueriesCounted}
 use Rattle.qs_plain_laws.proofs.PlainSyncs.{plain_syncs_counted}
 use Rattle.qs_plain_laws.specs.PlainIsolation.{queued}

@@ -18,7 +18,8 @@ use Rattle.qs_played.specs.declared.schedule.actor.Actor.{Actor}
 use Rattle.qs_played.proofs.Orders.{counts_after, legal-more, counts-more, counts_grow}
 use Rattle.qs_played.specs.declared.schedule.actor.Actor.TheVariants as actor
 use Rattle.qs_plain_laws.specs.Plain.{Plain, Client, Handler, Private, Stage, out, within, waiting, begin, begun, client_at, handler_at, client_step, goes_on, separate, item_step, queue_step, replied, reply_to, step, fresh_client, no_client}
-use Rattle.qs_plain_laws.specs.PlainSchedule.{or_stay, plays}
+use Rattle.qs_plain_laws.specs.PlainSchedule.{plays}
+use Rattle.qs_played.specs.Schedule.{or_stay}
 use Rattle.qs_plain_laws.specs.declared.item.QueueItem.{QueueItem}
 use Rattle.qs_plain_laws.specs.declared.item.QueueItem.TheVariants as item
 

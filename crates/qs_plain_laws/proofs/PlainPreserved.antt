@@ -34,7 +34,8 @@ use Rattle.qs_played.proofs.Lists.{apart}
 use Rattle.qs_played.proofs.FunctionUpdate.{put_at, put_at_here, put_at_there}
 use Rattle.qs_played.specs.declared.schedule.actor.Actor.TheVariants as actor
 use Rattle.qs_plain_laws.specs.Plain.{Plain, Client, counted, Handler, Private, Stage, out, within, waiting, begin, begun, client_at, handler_at, client_step, goes_on, item_step, queue_step, at_handler, at_each, log_in, enter, serves, stands, traced, begins, replied, reply_to, step, fresh_client, fresh_handler, no_client, no_handler, calls, asks, ends, runs_command, runs_query, leaves_queue}
-use Rattle.qs_plain_laws.specs.PlainSchedule.{or_stay, plays, entry_at, trace_at}
+use Rattle.qs_plain_laws.specs.PlainSchedule.{plays, entry_at, trace_at}
+use Rattle.qs_played.specs.Schedule.{or_stay}
 use Rattle.qs_plain_laws.specs.declared.item.QueueItem.{QueueItem}
 use Rattle.qs_plain_laws.proofs.PlainTallies.{Tallied, asked_of, tallied_ask, tallied_begin, tallied_call, tallied_reply, tallied_stand}
 use Rattle.qs_plain_laws.proofs.ServedRuns.{ServedRun}

@@ -1,5 +1,5 @@
 -- Schedules under the plain rules, and what a run shows after them.
-use Rattle.std.specs.Prelude.{◌≡◌, ◌<◌, ◌≤◌, ℕ, suc, ◌+◌, Bool, true, false, ◌&&◌, ◌||◌, nat_lt, nat_eq, List, [], ◌∷◌, map, length, slice_index_or, sum_by, Option, Some, None, Result, Ok, Err}
+use Rattle.std.specs.Prelude.{◌≡◌, ℕ, suc, ◌+◌, Bool, true, false, ◌&&◌, ◌||◌, nat_lt, nat_eq, List, [], ◌∷◌, map, length, slice_index_or, sum_by, Result}
 use Rattle.qs_objects.specs.declared.held.Event.{Event}
 use Rattle.qs_objects.specs.declared.held.Ticket.{Ticket}
 use Rattle.qs_program.specs.Program.{ProgramShape, blocks_of}
@@ -8,19 +8,12 @@ use Rattle.qs_sync_counts.specs.declared.sync_counts.SyncCount.{SyncCount}
 use Rattle.qs_played.specs.declared.schedule.actor.Actor.{Actor}
 use Rattle.qs_played.specs.declared.fault.PlayFault.{PlayFault}
 use Rattle.qs_played.specs.Played.{Played}
-use Rattle.qs_played.specs.Schedule.{schedule, all_named, queries_in, most_rounds}
-use Rattle.qs_played.specs.declared.fault.PlayFault.TheVariants as fault
+use Rattle.qs_played.specs.Schedule.{schedule, plays_by, queries_in, IsPlayedAs}
 use Rattle.qs_plain_laws.specs.Plain.{Plain, Client, Handler, Stage, out, within, waiting, begin, step, begun, client_at}
-
--- an actor without a step changes nothing
-abbrev pub or_stay : Plain → Option Plain → Plain
-or_stay s None = s
-or_stay s (Some t) = t
 
 -- one step of each actor of a list, in this order
 abbrev pub plays : ProgramShape → List Actor → Plain → Plain
-plays p [] s = s
-plays p (a ∷ rest) s = plays p rest (or_stay s (step p s a))
+plays p actors s = plays_by (step p) actors s
 
 -- the state after them
 unfoldable pub scheduled : ProgramShape → List Actor → ℕ → Plain
@@ -86,9 +79,6 @@ played_of p s = record {
   finished = is_finished p s;
 }
 
--- the result of playing: the rounds are looked at first, then the picks, and memory last
+-- the result of playing
 abbrev pub IsPlayed : ProgramShape → List Actor → ℕ → Result Played PlayFault → Type 0
-IsPlayed p picks rounds (Ok played) = (rounds ≤ most_rounds) × (all_named p picks ≡ true) × (played ≡ played_of p (scheduled p picks rounds))
-IsPlayed p picks rounds (Err fault.Rounds) = most_rounds < rounds
-IsPlayed p picks rounds (Err fault.Actor) = (rounds ≤ most_rounds) × (all_named p picks ≡ false)
-IsPlayed p picks rounds (Err fault.Memory) = (rounds ≤ most_rounds) × (all_named p picks ≡ true)
+IsPlayed p picks rounds result = IsPlayedAs (λ played. played ≡ played_of p (scheduled p picks rounds)) p picks rounds result

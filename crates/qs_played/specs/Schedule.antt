@@ -1,9 +1,12 @@
 -- Schedules: first the picks, one step each, then rounds, each of them one step of every client and of every handler in text order.
-use Rattle.std.specs.Prelude.{ℕ, zero, suc, Bool, true, ◌&&◌, nat_lt, if◌then◌else◌, List, [], ◌∷◌, ◌++◌, map, length, sum_by}
+use Rattle.std.specs.Prelude.{◌≡◌, ◌<◌, ◌≤◌, ℕ, zero, suc, Bool, true, false, ◌&&◌, nat_lt, if◌then◌else◌, List, [], ◌∷◌, ◌++◌, map, length, sum_by, Option, Some, None, Result, Ok, Err}
 use Rattle.std.specs.List.{range_with_len}
 use Rattle.qs_objects.specs.Operations.{is_query}
 use Rattle.qs_objects.specs.declared.held.Event.{Event}
 use Rattle.qs_program.specs.Program.{ProgramShape}
+use Rattle.qs_played.specs.Played.{Played}
+use Rattle.qs_played.specs.declared.fault.PlayFault.{PlayFault}
+use Rattle.qs_played.specs.declared.fault.PlayFault.TheVariants as fault
 use Rattle.qs_played.specs.declared.schedule.actor.Actor.{Actor}
 use Rattle.qs_played.specs.declared.schedule.actor.Actor.TheVariants as actor
 
@@ -32,3 +35,21 @@ queries_in events = sum_by (λ (e : Event). if is_query e.request.op then 1 else
 
 abbrev pub most_rounds : ℕ
 most_rounds = 1000000
+
+module _ {S : Type 0} where
+  -- an actor without a step changes nothing
+  abbrev pub or_stay : S → Option S → S
+  or_stay s None = s
+  or_stay s (Some t) = t
+
+  -- by a machine's step function: one step of each actor of a list, in this order
+  abbrev pub plays_by : (S → Actor → Option S) → List Actor → S → S
+  plays_by step [] s = s
+  plays_by step (a ∷ rest) s = plays_by step rest (or_stay s (step s a))
+
+-- The result of playing, of which the first says what is shown: the rounds are looked at first, then the picks, and memory last.
+abbrev pub IsPlayedAs : (Played → Type 0) → ProgramShape → List Actor → ℕ → Result Played PlayFault → Type 0
+IsPlayedAs IsShown p picks rounds (Ok played) = (rounds ≤ most_rounds) × (all_named p picks ≡ true) × IsShown played
+IsPlayedAs IsShown p picks rounds (Err fault.Rounds) = most_rounds < rounds
+IsPlayedAs IsShown p picks rounds (Err fault.Actor) = (rounds ≤ most_rounds) × (all_named p picks ≡ false)
+IsPlayedAs IsShown p picks rounds (Err fault.Memory) = (rounds ≤ most_rounds) × (all_named p picks ≡ true)

@@ -5,7 +5,8 @@ use Rattle.std.proofs.lemmas.Bool.{or_parts}
 use Rattle.qs_played.specs.declared.schedule.actor.Actor.{Actor}
 use Rattle.qs_played.specs.declared.schedule.actor.Actor.TheVariants as actors
 use Rattle.qs_plain_laws.specs.Plain.{Plain, step}
-use Rattle.qs_plain_laws.specs.PlainSchedule.{or_stay, plays}
+use Rattle.qs_plain_laws.specs.PlainSchedule.{plays}
+use Rattle.qs_played.specs.Schedule.{or_stay}
 use Rattle.qs_plain.specs.Rules.{RulesState, plain_of}
 use Rattle.qs_plain.proofs.Playing.{plays-append, plays-more, stepped}
 use Rattle.qs_plain.proofs.machine.Machine.round.Goals as goal
