@@ -8,7 +8,7 @@ use Rattle.qs_played.specs.Isolation.{IsIsolated}
 use Rattle.qs_played.specs.Schedule.{actors_of, repeated, schedule}
 use Rattle.qs_played.specs.Played.{Played}
 use Rattle.qs_played.specs.declared.schedule.actor.Actor.{Actor}
-use Rattle.qs_played.proofs.Lists.{range_more}
+use Rattle.qs_played.proofs.Playing.{round_more}
 use Rattle.qs_core_laws.specs.Core.{AreCodes, core_begin, core_step}
 use Rattle.qs_core_laws.specs.CoreSchedule.{IsShown, core_played, core_plays, core_scheduled, on_way}
 use Rattle.qs_played.specs.Schedule.{or_stay}
@@ -39,16 +39,6 @@ played_more p mode size actors old new a false on steps none same =
           ∙ sym (core_plays_more (codes_of old) size actors a (core_begin p));
     })
 
-mapped_more : (f : ℕ → Actor) (xs : List ℕ) (n : ℕ) → map f (xs ++ n ∷ []) ≡ map f xs ++ f n ∷ []
-mapped_more f [] n = refl
-mapped_more f (x ∷ xs) n = ap (λ zs. f x ∷ zs) (mapped_more f xs n)
-
--- one actor more of a row
-pub row_more : (actors : List Actor) (f : ℕ → Actor) (n : ℕ) → actors ++ map f (range_with_len 0 (n + 1)) ≡ (actors ++ map f (range_with_len 0 n)) ++ f n ∷ []
-row_more actors f n =
-    ap (λ xs. actors ++ xs) (ap (λ m. map f (range_with_len 0 m)) (add-one n) ∙ ap (map f) (range_more 0 n ∙ ap (λ m. range_with_len 0 n ++ m ∷ []) (zero-add n)) ∙ mapped_more f (range_with_len 0 n) n)
-    ∙ sym (append_assoc actors (map f (range_with_len 0 n)) (f n ∷ []))
-
 -- before the first actor
 pub fresh_played : (p : ProgramShape) (mode : Mode) (size : ℕ) (s : CoreState) → IsFreshCore p mode size s → IsPlayedOn p mode size [] s
 fresh_played p mode size s fresh = record { program = fresh.program; size = fresh.size; codes = fresh.codes; played = fresh.begins }
@@ -60,10 +50,6 @@ take_next (x ∷ xs) (suc i) d less = ap (λ zs. x ∷ zs) (take_next xs i d (om
 
 pub take_more : {A : Type 0} (xs : List A) (i : ℕ) (d : A) → i < length xs → take (i + 1) xs ≡ take i xs ++ get_or xs i d ∷ []
 take_more xs i d less = ap (λ n. take n xs) (add-one i) ∙ take_next xs i d less
-
--- one round more
-pub round_more : (p : ProgramShape) (picks : List Actor) (n : ℕ) → schedule p picks (n + 1) ≡ schedule p picks n ++ actors_of p
-round_more p picks n = ap (schedule p picks) (add-one n) ∙ sym (append_assoc picks (repeated n (actors_of p)) (actors_of p))
 
 -- where a round leads to the state that it began with, so do all further ones
 pub still_rounds : (p : ProgramShape) (mode : Mode) (size : ℕ) (picks : List Actor) (n k : ℕ) (s : CoreState) → ((actors : List Actor) → IsPlayedOn p mode size actors s → IsPlayedOn p mode size (actors ++ actors_of p) s)

@@ -6,6 +6,7 @@ use Rattle.qs_syncset.specs.declared.mode.Mode.{Mode}
 use Rattle.qs_syncset.specs.Codes.{ClientCode}
 use Rattle.qs_played.specs.Isolation.{IsIsolated}
 use Rattle.qs_played.specs.declared.schedule.actor.Actor.{Actor}
+use Rattle.qs_played.proofs.Playing.{plays_by-append}
 use Rattle.qs_core_laws.specs.Core.{AreCodes, Core, core_begin, core_step}
 use Rattle.qs_core_laws.specs.CoreReached.{ReachedCore}
 use Rattle.qs_core_laws.specs.CoreSchedule.{core_played, core_plays, on_way}
@@ -16,8 +17,7 @@ use Rattle.qs_core.specs.CoreState.{CoreIsIsolated, CoreKeeps, CoreState, CoreSt
 
 pub core_plays_more : (code : ℕ → ClientCode) (size : ℕ) (actors : List Actor) (a : Actor) (s : Core)
     → core_plays code size (actors ++ a ∷ []) s ≡ or_stay (core_plays code size actors s) (core_step code size (core_plays code size actors s) a)
-core_plays_more code size [] a s = refl
-core_plays_more code size (b ∷ actors) a s = core_plays_more code size actors a (or_stay s (core_step code size s b))
+core_plays_more code size actors a s = plays_by-append (core_step code size) actors (a ∷ []) s
 
 -- one step more from where a list of actors leads
 one_more : (s : CoreState) (a : Actor) (x : Core) (reached : IsReachedCore s) → core_step (codes_of s) s.size (core_of s) a ≡ Some x

@@ -7,3 +7,4 @@ pub mod Lists
 pub mod AbstractRun
 pub mod FunctionUpdate
 pub mod JournalRooms
+pub mod Playing

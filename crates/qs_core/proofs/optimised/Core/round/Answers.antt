@@ -4,7 +4,8 @@ use Rattle.qs_program.specs.Program.{ProgramShape}
 use Rattle.std.proofs.lemmas.Bool.{or_parts}
 use Rattle.qs_played.specs.declared.schedule.actor.Actor.TheVariants as actors
 use Rattle.qs_core.specs.CoreState.{CoreState, IsPlayedOn}
-use Rattle.qs_core.proofs.CorePlaying.{played_more, row_more}
+use Rattle.qs_core.proofs.CorePlaying.{played_more}
+use Rattle.qs_played.proofs.Playing.{row_more}
 use Rattle.qs_core.proofs.optimised.Core.round.Goals as goal
 
 pub loop-client-preserved : goal.loop-client-preserved

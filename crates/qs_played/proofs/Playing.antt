@@ -1,0 +1,27 @@
+-- Lists of actors, one actor and one round longer, and what playing them comes to, whatever the step function is: both machines' loops over
+-- actors and rounds keep their invariants by these.
+use Rattle.std.proofs.Common.{◌≡◌, ℕ, ◌+◌, List, [], ◌∷◌, ◌++◌, Option, map, refl, ap, sym, ◌∙◌, add-one, zero-add, append_assoc}
+use Rattle.std.specs.List.{range_with_len}
+use Rattle.qs_program.specs.Program.{ProgramShape}
+use Rattle.qs_played.specs.Schedule.{actors_of, or_stay, plays_by, repeated, schedule}
+use Rattle.qs_played.specs.declared.schedule.actor.Actor.{Actor}
+use Rattle.qs_played.proofs.Lists.{range_more}
+
+mapped_more : (f : ℕ → Actor) (xs : List ℕ) (n : ℕ) → map f (xs ++ n ∷ []) ≡ map f xs ++ f n ∷ []
+mapped_more f [] n = refl
+mapped_more f (x ∷ xs) n = ap (λ zs. f x ∷ zs) (mapped_more f xs n)
+
+-- one actor more of a row
+pub row_more : (actors : List Actor) (f : ℕ → Actor) (n : ℕ) → actors ++ map f (range_with_len 0 (n + 1)) ≡ (actors ++ map f (range_with_len 0 n)) ++ f n ∷ []
+row_more actors f n =
+    ap (λ xs. actors ++ xs) (ap (λ m. map f (range_with_len 0 m)) (add-one n) ∙ ap (map f) (range_more 0 n ∙ ap (λ m. range_with_len 0 n ++ m ∷ []) (zero-add n)) ∙ mapped_more f (range_with_len 0 n) n)
+    ∙ sym (append_assoc actors (map f (range_with_len 0 n)) (f n ∷ []))
+
+-- one round more
+pub round_more : (p : ProgramShape) (picks : List Actor) (n : ℕ) → schedule p picks (n + 1) ≡ schedule p picks n ++ actors_of p
+round_more p picks n = ap (schedule p picks) (add-one n) ∙ sym (append_assoc picks (repeated n (actors_of p)) (actors_of p))
+
+-- one list after another
+pub plays_by-append : {S : Type 0} (step : S → Actor → Option S) (xs ys : List Actor) (s : S) → plays_by step (xs ++ ys) s ≡ plays_by step ys (plays_by step xs s)
+plays_by-append step [] ys s = refl
+plays_by-append step (a ∷ xs) ys s = plays_by-append step xs ys (or_stay s (step s a))
