@@ -19,7 +19,7 @@ A report lists the blocks in the order of their reservations, each with its requ
 objects' last states and how many synchronisations were sent. `qs WORD --help` says more of a word.";
 
 pub const CHECK: &str =
-    "Checks the script and counts its objects, clients, blocks, load and weight";
+    "Checks the script and counts its objects, clients, blocks, load (requests at most) and weight (steps at most)";
 
 pub const CHECK_EXAMPLE: &str = "\
 Example:
@@ -50,7 +50,8 @@ Example:
   qs play --mode static --chunk 4 --pick c1,c1,h0 < my.script
 
 First the actors of LIST step, one after another; then, N times, every client steps once and every handler once.
-Neither the mode nor the size of chunks changes what a block sees: only how many synchronisations are sent, and when.";
+Along one order of reservations neither the mode nor the size of chunks changes what a block sees. They change how many
+synchronisations are sent, and may change who comes first.";
 
 pub const RUN: &str = "Runs the script with each client and each handler on a thread of its own";
 
