@@ -18,7 +18,7 @@ use Rattle.qs_run_laws.specs.Outcomes.{IsOutcome}
 use Rattle.qs_run.specs.Workers.{HaveRun}
 use Rattle.qs_run.specs.declared.worker.ClientWorker.{ClientWorker}
 use Rattle.qs_run.specs.declared.worker.HandlerWorker.{HandlerWorker}
-use Rattle.qs_run.specs.Collected.{AreAllJoined, AreCountsShort, HasTakenAll, IsBooked, journal_of, rows_of, shown_when_over, state_of, without_lanes_below}
+use Rattle.qs_run.specs.Collected.{AreAllJoined, AreCountsShort, HasTakenAll, IsBooked, worker_journal, worker_rows, shown_when_over, worker_state, without_lanes_below}
 use Rattle.qs_run.proofs.CollectedWorkers.{all_collected, journals_still, states_still}
 use Rattle.qs_run.proofs.ShownOutcome.{have_rows, outcome, short}
 use Rattle.qs_run.proofs.CollectedRun.{IsCollected}
@@ -32,7 +32,7 @@ pub record IsShowable (p : ProgramShape) (mode : Mode) (order : List Ticket) (ro
 
 module _ {D : Type 0} (p : ProgramShape) (sound : IsSound p) (mode : Mode) (size : ℕ) (handlers : List (HandlerWorker D)) (clients : List (ClientWorker D))
     (ran : HaveRun p mode size handlers clients) where
-  by_collected : (order : List Ticket) → IsCollected p order handlers clients → IsShowable p mode order (map rows_of clients) (map journal_of handlers) (map state_of handlers)
+  by_collected : (order : List Ticket) → IsCollected p order handlers clients → IsShowable p mode order (map worker_rows clients) (map worker_journal handlers) (map worker_state handlers)
   by_collected order joined = record {
     few = orders.short p order sound joined.legal;
     rows_there = have_rows p sound mode size order handlers clients ran joined;
@@ -45,7 +45,7 @@ module _ {D : Type 0} (p : ProgramShape) (sound : IsSound p) (mode : Mode) (size
       (journals : List (List Entry)) (states : List State)
       → old ≡ handlers → after ≡ before → last ≡ after → left ≡ map (without_lanes_below n) old
       → AllByRecursion (IsBooked before.history) clients → AreAllJoined old clients → AllByRecursion (HasTakenAll p after.history) left
-      → order ≡ last.history → IsLegal p last.history → rows ≡ map rows_of clients → journals ≡ map journal_of left → states ≡ map state_of left
+      → order ≡ last.history → IsLegal p last.history → rows ≡ map worker_rows clients → journals ≡ map worker_journal left → states ≡ map worker_state left
       → IsShowable p mode order rows journals states
   all_showable before after last old left n order rows journals states old_is after_is last_is left_is booked joined taken_all order_is legal rows_are journals_are states_are =
       let desk : last ≡ before = last_is ∙ after_is in
@@ -53,7 +53,7 @@ module _ {D : Type 0} (p : ProgramShape) (sound : IsSound p) (mode : Mode) (size
       let all = all_collected p before.history n handlers left clients (subst (λ (d : DeskView). IsLegal p d.history) desk legal) booked
       (subst (λ hs. AreAllJoined hs clients) old_is joined) left_of (subst (λ (d : DeskView). AllByRecursion (HasTakenAll p d.history) left) after_is taken_all) in
       let orders_are : order ≡ before.history = order_is ∙ ap (λ (d : DeskView). d.history) desk in
-      let journals_of : journals ≡ map journal_of handlers = journals_are ∙ (ap (map journal_of) left_of ∙ journals_still n handlers) in
-      let states_of : states ≡ map state_of handlers = states_are ∙ (ap (map state_of) left_of ∙ states_still n handlers) in
+      let journals_of : journals ≡ map worker_journal handlers = journals_are ∙ (ap (map worker_journal) left_of ∙ journals_still n handlers) in
+      let states_of : states ≡ map worker_state handlers = states_are ∙ (ap (map worker_state) left_of ∙ states_still n handlers) in
       subst (λ (q : List Ticket × (List ClientRows × (List (List Entry) × List State))). IsShowable p mode q.0 q.1.0 q.1.1.0 q.1.1.1)
       (λ i. (sym orders_are i, (sym rows_are i, (sym journals_of i, sym states_of i)))) (by_collected before.history all)

@@ -22,7 +22,7 @@ use Rattle.qs_lane.specs.Views.{InView, OutView}
 use Rattle.qs_run.specs.Workers.{AreOneLane, ClientHasRun, HandlerHasServed, HaveRun}
 use Rattle.qs_run.specs.declared.worker.ClientWorker.{ClientWorker}
 use Rattle.qs_run.specs.declared.worker.HandlerWorker.{HandlerWorker}
-use Rattle.qs_run.specs.Collected.{AreAllJoined, AreAllPaired, HasTakenAll, IsBooked, journal_of, state_of, without_lanes_below}
+use Rattle.qs_run.specs.Collected.{AreAllJoined, AreAllPaired, HasTakenAll, IsBooked, worker_journal, worker_state, without_lanes_below}
 use Rattle.qs_run.proofs.ListPlaces.{first_of, map_still}
 use Rattle.qs_run.proofs.CollectedRun.{IsCollected, clients_many, handlers_many}
 
@@ -73,11 +73,11 @@ module _ {D : Type 0} where
   held_still zero w = refl
   held_still (suc n) w = held_still n w
 
-  pub journals_still : (n : ℕ) (hs : List (HandlerWorker D)) → map journal_of (map (without_lanes_below n) hs) ≡ map journal_of hs
-  journals_still n = map_still journal_of (without_lanes_below n) (λ w. ap (λ (x : HeldState). x.journal) (held_still n w))
+  pub journals_still : (n : ℕ) (hs : List (HandlerWorker D)) → map worker_journal (map (without_lanes_below n) hs) ≡ map worker_journal hs
+  journals_still n = map_still worker_journal (without_lanes_below n) (λ w. ap (λ (x : HeldState). x.journal) (held_still n w))
 
-  pub states_still : (n : ℕ) (hs : List (HandlerWorker D)) → map state_of (map (without_lanes_below n) hs) ≡ map state_of hs
-  states_still n = map_still state_of (without_lanes_below n) (λ w. ap (λ (x : HeldState). x.object) (held_still n w))
+  pub states_still : (n : ℕ) (hs : List (HandlerWorker D)) → map worker_state (map (without_lanes_below n) hs) ≡ map worker_state hs
+  states_still n = map_still worker_state (without_lanes_below n) (λ w. ap (λ (x : HeldState). x.object) (held_still n w))
 
   all_taken_before : (p : ProgramShape) (order : List Ticket) (n : ℕ) (hs : List (HandlerWorker D)) → AllByRecursion (HasTakenAll p order) (map (without_lanes_below n) hs)
       → AllByRecursion (HasTakenAll p order) hs

@@ -25,22 +25,22 @@ no_ends size wanted out inside unwanted no_out no_in =
 
 module _ (p : ProgramShape) (size : ℕ) (outs : List (List (Option OutView))) (ins : List (List (Option InView))) where
   -- the ends between client c and handler h are in their places
-  abbrev pub Between : ℕ → ℕ → Type 0
-  Between c h = AreNewEnds size (ever_reserves p c h) (out_at outs c h) (in_at ins c h)
+  abbrev pub AreEndsBetween : ℕ → ℕ → Type 0
+  AreEndsBetween c h = AreNewEnds size (ever_reserves p c h) (out_at outs c h) (in_at ins c h)
 
   -- or there are none yet
-  abbrev pub NoneAt : ℕ → ℕ → Type 0
-  NoneAt c h = (out_at outs c h ≡ None) × (in_at ins c h ≡ None)
+  abbrev pub AreNoEndsAt : ℕ → ℕ → Type 0
+  AreNoEndsAt c h = (out_at outs c h ≡ None) × (in_at ins c h ≡ None)
 
   -- with the lanes to the handlers of the program a client has all of its lanes
-  pub all_handlers : IsSound p → (c n : ℕ) → length p.objects ≤ n → ((h : ℕ) → h < n → Between c h) → ((h : ℕ) → n ≤ h → NoneAt c h) → (h : ℕ) → Between c h
+  pub all_handlers : IsSound p → (c n : ℕ) → length p.objects ≤ n → ((h : ℕ) → h < n → AreEndsBetween c h) → ((h : ℕ) → n ≤ h → AreNoEndsAt c h) → (h : ℕ) → AreEndsBetween c h
   all_handlers sound c n many done rest h = elim (cases_lt h n) [
     | inl less ↦ done h less
     | inr past ↦ no_ends size (ever_reserves p c h) (out_at outs c h) (in_at ins c h) (past_handlers p sound c h (omega (arith, many, past))) (rest h past).0 (rest h past).1
   ]
 
   -- with the lanes of the clients of the program all lanes are there
-  pub all_clients : (n : ℕ) → length p.clients ≤ n → ((c h : ℕ) → c < n → Between c h) → ((c h : ℕ) → n ≤ c → NoneAt c h) → (c h : ℕ) → Between c h
+  pub all_clients : (n : ℕ) → length p.clients ≤ n → ((c h : ℕ) → c < n → AreEndsBetween c h) → ((c h : ℕ) → n ≤ c → AreNoEndsAt c h) → (c h : ℕ) → AreEndsBetween c h
   all_clients n many done rest c h = elim (cases_lt c n) [
     | inl less ↦ done c h less
     | inr past ↦ no_ends size (ever_reserves p c h) (out_at outs c h) (in_at ins c h) (past_clients p c h (omega (arith, many, past))) (rest c h past).0 (rest c h past).1
@@ -48,16 +48,16 @@ module _ (p : ProgramShape) (size : ℕ) (outs : List (List (Option OutView))) (
 
   module _ (outs_before : List (List (Option OutView))) (ins_before : List (List (Option InView))) where
     -- the places of a client are as they were before
-    abbrev pub SameAt : ℕ → ℕ → Type 0
-    SameAt c h = (out_at outs c h ≡ out_at outs_before c h) × (in_at ins c h ≡ in_at ins_before c h)
+    abbrev pub AreEndsSame : ℕ → ℕ → Type 0
+    AreEndsSame c h = (out_at outs c h ≡ out_at outs_before c h) × (in_at ins c h ≡ in_at ins_before c h)
 
 -- the lanes of one client more
 pub one_client_more : (p : ProgramShape) (size : ℕ) (outs outs_before : List (List (Option OutView))) (ins ins_before : List (List (Option InView))) (n : ℕ)
-    → ((c h : ℕ) → c < n → Between p size outs_before ins_before c h) → ((h : ℕ) → Between p size outs ins n h)
-    → ((c h : ℕ) → (c ≡ n → ⊥) → SameAt p size outs ins outs_before ins_before c h)
-    → (c h : ℕ) → c < n + 1 → Between p size outs ins c h
+    → ((c h : ℕ) → c < n → AreEndsBetween p size outs_before ins_before c h) → ((h : ℕ) → AreEndsBetween p size outs ins n h)
+    → ((c h : ℕ) → (c ≡ n → ⊥) → AreEndsSame p size outs ins outs_before ins_before c h)
+    → (c h : ℕ) → c < n + 1 → AreEndsBetween p size outs ins c h
 one_client_more p size outs outs_before ins ins_before n done here others = λ c h less.
-    below_more (λ k. (h : ℕ) → Between p size outs ins k h) n
+    below_more (λ k. (h : ℕ) → AreEndsBetween p size outs ins k h) n
     (λ k below h.
     let same = others k h (λ (e : k ≡ n). omega (arith, e, below)) in
     ends_moved size (ever_reserves p k h) (out_at outs_before k h) (out_at outs k h) (in_at ins_before k h) (in_at ins k h) (done k h below) same.0 same.1)
@@ -65,9 +65,9 @@ one_client_more p size outs outs_before ins ins_before n done here others = λ c
 
 -- and the places of those after it are as free as before
 pub rest_free : (p : ProgramShape) (size : ℕ) (outs outs_before : List (List (Option OutView))) (ins ins_before : List (List (Option InView))) (n : ℕ)
-    → ((c h : ℕ) → n ≤ c → NoneAt p size outs_before ins_before c h)
-    → ((c h : ℕ) → (c ≡ n → ⊥) → SameAt p size outs ins outs_before ins_before c h)
-    → (c h : ℕ) → n + 1 ≤ c → NoneAt p size outs ins c h
+    → ((c h : ℕ) → n ≤ c → AreNoEndsAt p size outs_before ins_before c h)
+    → ((c h : ℕ) → (c ≡ n → ⊥) → AreEndsSame p size outs ins outs_before ins_before c h)
+    → (c h : ℕ) → n + 1 ≤ c → AreNoEndsAt p size outs ins c h
 rest_free p size outs outs_before ins ins_before n rest others c h past =
     let same = others c h (λ (e : c ≡ n). omega (arith, e, past)) in
     let free = rest c h (omega (arith, past)) in

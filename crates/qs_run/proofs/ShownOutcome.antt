@@ -30,7 +30,7 @@ use Rattle.qs_run_laws.proofs.RunOutcomes.{runs_have_outcomes}
 use Rattle.qs_run.specs.Workers.{HaveRun}
 use Rattle.qs_run.specs.declared.worker.ClientWorker.{ClientWorker}
 use Rattle.qs_run.specs.declared.worker.HandlerWorker.{HandlerWorker}
-use Rattle.qs_run.specs.Collected.{AreCountsShort, journal_of, shown_when_over, rows_of, state_of}
+use Rattle.qs_run.specs.Collected.{AreCountsShort, worker_journal, shown_when_over, worker_rows, worker_state}
 use Rattle.qs_run.proofs.ListPlaces.{from_places}
 use Rattle.qs_run.proofs.CollectedRun.{IsCollected, clients_many, code, codes, handlers_many, held_in, mind_in, threads, threads_run}
 
@@ -38,7 +38,7 @@ abbrev pub mind_rows : ClientModel → ClientRows
 mind_rows m = record { traces = m.traces; entries = m.entries; counts = m.counts }
 
 module _ {D : Type 0} where
-  rows_are : (cs : List (ClientWorker D)) (c : ℕ) → rows_at (map rows_of cs) c ≡ mind_rows (mind_in (slice_get cs c))
+  rows_are : (cs : List (ClientWorker D)) (c : ℕ) → rows_at (map worker_rows cs) c ≡ mind_rows (mind_in (slice_get cs c))
   rows_are [] c = refl
   rows_are (w ∷ cs) zero = refl
   rows_are (w ∷ cs) (suc c) = rows_are cs c
@@ -55,7 +55,7 @@ module _ {D : Type 0} (p : ProgramShape) (sound : IsSound p) (mode : Mode) (size
   r = threads p sound mode size order handlers clients ran joined
 
   abbrev rows : List ClientRows
-  rows = map rows_of clients
+  rows = map worker_rows clients
 
   helds_are : {X : Type 0} (f : HeldState → X) (d : X)
       → map (λ (w : HandlerWorker D). f w.held) handlers ≡ map (λ h. f (r.held h)) (range_with_len 0 (length p.objects))
@@ -64,7 +64,7 @@ module _ {D : Type 0} (p : ProgramShape) (sound : IsSound p) (mode : Mode) (size
       (length-map handlers (λ (w : HandlerWorker D). f w.held) ∙ handlers_many p mode size handlers clients ran)
       (λ h own. held_at f d (fresh_held p h) handlers h (let many = handlers_many p mode size handlers clients ran in omega (arith, own, many)))
 
-  shown_are : shown_when_over order rows (map journal_of handlers) (map state_of handlers) ≡ shown_by p r
+  shown_are : shown_when_over order rows (map worker_journal handlers) (map worker_state handlers) ≡ shown_by p r
   shown_are =
       let journals = helds_are (λ x. x.journal) [] in
       let states = helds_are (λ x. x.object) no_state in
@@ -85,7 +85,7 @@ module _ {D : Type 0} (p : ProgramShape) (sound : IsSound p) (mode : Mode) (size
       runs_have_outcomes p sound mode (code p sound mode size order handlers clients ran joined) (codes p sound mode size order handlers clients ran joined) size r
       (threads_run p sound mode size order handlers clients ran joined)
 
-  pub outcome : IsOutcome p mode (shown_when_over order rows (map journal_of handlers) (map state_of handlers))
+  pub outcome : IsOutcome p mode (shown_when_over order rows (map worker_journal handlers) (map worker_state handlers))
   outcome = subst (IsOutcome p mode) (sym shown_are) law
 
   pub have_rows : HaveRows rows order
@@ -95,7 +95,7 @@ module _ {D : Type 0} (p : ProgramShape) (sound : IsSound p) (mode : Mode) (size
       (threads_run p sound mode size order handlers clients ran joined) in
       let here = AllByRecursion-get_or (λ (t : Ticket). (t.client < length p.clients) × HasRow (r.mind t.client) t.index) order i d all few in
       let own = here.0 in
-      let many = length-map clients rows_of in
+      let many = length-map clients worker_rows in
       let same = clients_many p mode size handlers clients ran in
       record {
         client = omega (arith, own, many, same);

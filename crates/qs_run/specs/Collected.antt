@@ -41,14 +41,14 @@ module _ {D : Type 0} where
   HasTakenAll p order w = (before : List Next) → w.tickets.taken ≡ before ++ Closed ∷ [] → pushed_to p w.tickets.handler order true ≡ w.tickets.taken
 
   -- what is shown of a client, and of a handler
-  abbrev pub rows_of : ClientWorker D → ClientRows
-  rows_of w = rows_in w.mind
+  abbrev pub worker_rows : ClientWorker D → ClientRows
+  worker_rows w = rows_in w.mind
 
-  abbrev pub journal_of : HandlerWorker D → List Entry
-  journal_of w = w.held.journal
+  abbrev pub worker_journal : HandlerWorker D → List Entry
+  worker_journal w = w.held.journal
 
-  abbrev pub state_of : HandlerWorker D → State
-  state_of w = w.held.object
+  abbrev pub worker_state : HandlerWorker D → State
+  worker_state w = w.held.object
 
   -- a handler's worker once its end of the lane from client c was taken out, and once those from the first n clients were
   abbrev pub without_lane_of : ℕ → HandlerWorker D → HandlerWorker D

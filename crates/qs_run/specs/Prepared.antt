@@ -17,15 +17,15 @@ abbrev pub ever_reserves : ProgramShape → ℕ → ℕ → Bool
 ever_reserves p c h = list_any (λ (b : BlockShape). is_in b.reserved h) (client_at p c).blocks
 
 -- the end of a lane at a place of a row, where rows of ends are kept
-abbrev pub end_at : {T : Type 0} → List (List (Option T)) → ℕ → ℕ → Option T
-end_at rows row place = slice_index_or (slice_index_or rows row []) place None
+abbrev pub lane_end_at : {T : Type 0} → List (List (Option T)) → ℕ → ℕ → Option T
+lane_end_at rows row place = slice_index_or (slice_index_or rows row []) place None
 
 -- the end of the lane from client c to handler h: among the rows of all clients, and among the rows of all handlers
 abbrev pub out_at : List (List (Option OutView)) → ℕ → ℕ → Option OutView
-out_at outs c h = end_at outs c h
+out_at outs c h = lane_end_at outs c h
 
 abbrev pub in_at : List (List (Option InView)) → ℕ → ℕ → Option InView
-in_at ins c h = end_at ins h c
+in_at ins c h = lane_end_at ins h c
 
 -- A client's end of a lane is there exactly if it is wanted; nothing has passed in the lane, and its chunks have this size.
 pub record IsNewOut (size : ℕ) (wanted : Bool) (out : Option OutView) : Type 0 where

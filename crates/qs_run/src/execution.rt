@@ -88,9 +88,10 @@ fn run_parts<D: DeskName + Send + Sync, G: Gate, R: Threads + Wait + Sync>(
 
 /// Runs a program in a mode and with chunks of a size, each client and each handler on a thread of its own.
 ///
-/// `Memory` says that an allocation failed, `Threads` that a thread could not be started. Both come before the first step: all memory is taken
-/// before the first thread is started, and all threads are started before any of them does anything. The gate is passed on a handler's
-/// own thread as the handler begins each ticket. Waits for all threads, so it returns only if each of them ends.
+/// `Memory` says that an allocation failed, `Threads` that a thread could not be started. Both come before the first step, though no contract
+/// says so: all memory is taken before the first thread is started, and all threads are started before any of them does anything. The
+/// gate is passed on a handler's own thread as the handler begins each ticket. Waits for all threads, so it returns only if each of them
+/// ends.
 ///
 /// Whatever the threads did at once, the outcome shows what the blocks do alone, one after another along the order of reservations.
 pub fn execute<G: Gate, R: Threads + Wait + Sync>(

@@ -1,4 +1,6 @@
--- An object's journal goes on along the order of reservations, block by block, where its handler served whole what each client sent.
+-- An object's journal grows along the order of reservations, one block after another. Its handler served whole what each client sent, so for
+-- each ticket the journal gets what the block's trace says of the object; a block that does not reserve the object adds nothing. The
+-- room suffices, as no block's part is longer than its load.
 use Rattle.std.proofs.Common.{◌≡◌, ◌+◌, ◌≤◌, arith, ℕ, Bool, true, false, true≢false, if◌then◌else◌, List, [], ◌∷◌, ◌++◌, map, flat_map, filter, length, refl, sym, ap, ◌∙◌, subst, inl, append_assoc, append-nil}
 use Rattle.std.specs.List.{AllByRecursion}
 use Rattle.qs_objects.specs.Journals.{HeldState, replay, unstamped, IsHonest}
@@ -40,7 +42,7 @@ module _ (p : ProgramShape) (page : Ticket → Page) (h : ℕ) (sent : Ticket �
   over_line = record { may = λ t. reserves p t h; parts = parts; done = done_of page; waits = λ t. []; busy = ⊥; present = end.object }
 
   -- what the journal got from here on, and where it leads
-  pub record Goes (x : HeldState) (ts : List Ticket) : Type 0 where
+  pub record JournalGrowth (x : HeldState) (ts : List Ticket) : Type 0 where
     pub more : List Entry
     pub journal : end.journal ≡ x.journal ++ more
     pub by_tickets : more ≡ flat_map (λ t. map (stamp t) (parts t)) ts
@@ -57,8 +59,8 @@ module _ (p : ProgramShape) (page : Ticket → Page) (h : ℕ) (sent : Ticket �
       no_requests t (sent t) (got t) (parts t) none.0 none.1
       (subst (λ b. ClientLane t false (sent t) (got t) (parts t) (if b then gone else sends [])) out over.lane)
 
-  goes_past : (t : Ticket) (ts : List Ticket) (x : HeldState) → IsOver t → reserves p t h ≡ false → Goes x ts → Goes x (t ∷ ts)
-  goes_past t ts x over out next = record {
+  grows_past : (t : Ticket) (ts : List Ticket) (x : HeldState) → IsOver t → reserves p t h ≡ false → JournalGrowth x ts → JournalGrowth x (t ∷ ts)
+  grows_past t ts x over out next = record {
     more = next.more;
     journal = next.journal;
     by_tickets = next.by_tickets ∙ ap (λ es. map (stamp t) es ++ flat_map (λ t. map (stamp t) (parts t)) ts) (sym (none_at t over out));
@@ -70,8 +72,8 @@ module _ (p : ProgramShape) (page : Ticket → Page) (h : ℕ) (sent : Ticket �
     replayed = next.replayed;
   }
 
-  goes_over : (t : Ticket) (ts : List Ticket) (x y : HeldState) → IsOver t → Extends t x (parts t) y → Grown t x (parts t) y → Goes y ts → Goes x (t ∷ ts)
-  goes_over t ts x y over extends e next = record {
+  grows_over : (t : Ticket) (ts : List Ticket) (x y : HeldState) → IsOver t → Extends t x (parts t) y → Grown t x (parts t) y → JournalGrowth y ts → JournalGrowth x (t ∷ ts)
+  grows_over t ts x y over extends e next = record {
     more = map (stamp t) (parts t) ++ next.more;
     journal = next.journal ∙ (ap (λ j. j ++ next.more) e.journal ∙ append_assoc x.journal (map (stamp t) (parts t)) next.more);
     by_tickets = ap (λ j. map (stamp t) (parts t) ++ j) next.by_tickets;
@@ -84,9 +86,9 @@ module _ (p : ProgramShape) (page : Ticket → Page) (h : ℕ) (sent : Ticket �
   }
 
   -- along the order, where the journal has room
-  pub goes : (ts : List Ticket) (x : HeldState) → AllByRecursion IsOver ts → PastOf sent got x (filter (λ t. reserves p t h) ts) end
-      → length x.journal + size_of ts ≤ x.room → Goes x ts
-  goes [] x over past room = record {
+  pub grows : (ts : List Ticket) (x : HeldState) → AllByRecursion IsOver ts → PastOf sent got x (filter (λ t. reserves p t h) ts) end
+      → length x.journal + size_of ts ≤ x.room → JournalGrowth x ts
+  grows [] x over past room = record {
     more = [];
     journal = ap (λ (o : HeldState). o.journal) (sym past) ∙ sym (append-nil x.journal);
     by_tickets = refl;
@@ -94,15 +96,15 @@ module _ (p : ProgramShape) (page : Ticket → Page) (h : ℕ) (sent : Ticket �
     honest = tt;
     replayed = ap (λ (o : HeldState). o.object) past;
   }
-  goes (t ∷ ts) x over past room = by_case (reserves p t h) refl past (λ x past room. goes ts x over.1 past room)
+  grows (t ∷ ts) x over past room = by_case (reserves p t h) refl past (λ x past room. grows ts x over.1 past room)
     where
       by_case : (b : Bool) → reserves p t h ≡ b → PastOf sent got x (if b then t ∷ filter (λ t. reserves p t h) ts else filter (λ t. reserves p t h) ts) end
-          → ((x : HeldState) → PastOf sent got x (filter (λ t. reserves p t h) ts) end → length x.journal + size_of ts ≤ x.room → Goes x ts)
-          → Goes x (t ∷ ts)
-      by_case false out past next = goes_past t ts x over.0 out (next x past (omega (arith, room)))
+          → ((x : HeldState) → PastOf sent got x (filter (λ t. reserves p t h) ts) end → length x.journal + size_of ts ≤ x.room → JournalGrowth x ts)
+          → JournalGrowth x (t ∷ ts)
+      by_case false out past next = grows_past t ts x over.0 out (next x past (omega (arith, room)))
       by_case true own past next =
           let y = past.0 in
           let lane = subst (λ b. ClientLane t false (sent t) (got t) (parts t) (if b then gone else sends [])) own over.0.lane in
           let met = match_over t x y (sent t) (got t) past.1 (parts t) gone lane past.2 past.3 in
           let e = grown t x (parts t) y met.0 (omega (arith, room)) in
-          goes_over t ts x y over.0 met.0 e (next y past.4 (grown_room t x y (parts t) (size_of ts) e room))
+          grows_over t ts x y over.0 met.0 e (next y past.4 (grown_room t x y (parts t) (size_of ts) e room))

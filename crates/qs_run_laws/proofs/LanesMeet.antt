@@ -1,4 +1,6 @@
--- What each client sent and got for a block is what each handler received and gave in its turn.
+-- What a client sent and got for a block is what each handler received and gave in its turn. The desk gives that the blocks of a client are
+-- its tickets in the order and that a handler's turns are the tickets of the order that reserve it; the lanes give that the two ends
+-- had the same. So a handler served whole what the clients of its tickets sent, one ticket after another.
 use Rattle.std.proofs.Common.{◌≡◌, ◌<◌, arith, ℕ, true, false, if◌then◌else◌, nat_lt, ◌==◌, List, [], ◌∷◌, map, flat_map, length, refl, sym, ap, ◌∙◌, subst, append-nil}
 use Rattle.std.specs.List.{AllByRecursion}
 use Rattle.qs_objects.specs.Journals.{HeldState}
@@ -26,7 +28,7 @@ use Rattle.qs_played.specs.JournalRooms.{fresh_held}
 use Rattle.qs_core_laws.specs.Core.{AreCodes}
 use Rattle.qs_desk.specs.Tickets.{of_client, of_handler}
 use Rattle.qs_run_laws.specs.ThreadRuns.{IsThreadRun, ThreadRun}
-use Rattle.qs_run_laws.proofs.ClientLines.{along_turns, legal_line, upto_line, without_others}
+use Rattle.qs_run_laws.proofs.ClientTickets.{along_turns, legal_tickets, upto_tickets, without_others}
 use Rattle.qs_run_laws.proofs.LaneCuts.{AreFronts, IsMet, Sent, block_whole, turns_meet}
 use Rattle.qs_run_laws.proofs.ThreadTales.{block_told, count_is, count_of, deeds_of, held_of, inside, tale, tasks_of, turned, turns_are}
 
@@ -95,8 +97,8 @@ module _ (p : ProgramShape) (sound : IsSound p) (mode : Mode) (code : ℕ → Cl
       ≡ flat_map (λ (u : Turn). f u.ticket) (turns_for c (turned p sound mode code codes size r run h).turns)
   along f c h own none =
       ap (upto (λ k. f (ticket c k))) (sym (tickets_count c own))
-      ∙ (upto_line f c (length (of_client c r.order))
-      ∙ (ap (flat_map f) (sym (legal_line p c (λ _. 0) r.order run.legal))
+      ∙ (upto_tickets f c (length (of_client c r.order))
+      ∙ (ap (flat_map f) (sym (legal_tickets p c (λ _. 0) r.order run.legal))
       ∙ (without_others f c (λ t. reserves p t h) r.order none
       ∙ (ap (λ ts. flat_map f (of_client c ts)) (sym (turns_are p sound mode code codes size r run h))
       ∙ along_turns f c (turned p sound mode code codes size r run h).turns))))

@@ -1,5 +1,5 @@
 pub mod LaneCuts
-pub mod ClientLines
+pub mod ClientTickets
 pub mod JournalFlows
 pub mod ThreadTales
 pub mod LanesMeet

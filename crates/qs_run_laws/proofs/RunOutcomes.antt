@@ -30,7 +30,7 @@ use Rattle.qs_core_laws.proofs.CountedTraces.{trace_counted, tree_count}
 use Rattle.qs_run_laws.specs.Outcomes.{IsOutcome, ThreadRunsHaveOutcomes, part_at}
 use Rattle.qs_run_laws.specs.ThreadRuns.{IsThreadRun, ThreadRun, counts_by, entry_by, shown_by, trace_by}
 use Rattle.qs_run_laws.proofs.ThreadTales.{block_told, inside, tale, tale_counts}
-use Rattle.qs_run_laws.proofs.ThreadsIsolated.{abstract_run, end, end_is, entry_is, every, isolated, mind_is, object_goes, page, shown, ticket_inside, trace_is}
+use Rattle.qs_run_laws.proofs.ThreadsIsolated.{abstract_run, end, end_is, entry_is, every, isolated, mind_is, journal_of_object, page, shown, ticket_inside, trace_is}
 
 -- the same for each number of a range
 same_range : {A : Type 0} (f g : ℕ → A) (a n : ℕ) → ((i : ℕ) → a ≤ i → i < a + n → f i ≡ g i) → map f (range_with_len a n) ≡ map g (range_with_len a n)
@@ -106,7 +106,7 @@ module _ (p : ProgramShape) (sound : IsSound p) (mode : Mode) (code : ℕ → Cl
 
   journals : (h : ℕ) → h < length p.objects → (r.held h).journal ≡ flat_map (part_at h) (serial p r.order).places
   journals h own =
-      let g = object_goes p sound mode code codes size r run h in
+      let g = journal_of_object p sound mode code codes size r run h in
       ap (λ (o : HeldState). o.journal) (end_is p sound mode code codes size r run h own)
       ∙ (g.journal ∙ (g.by_tickets
       ∙ zip_flat (entered h) (part_at h) r.order (serial p r.order).places

@@ -1,4 +1,6 @@
--- What each client and each handler of a run did, block by block and turn by turn; beyond the program nobody does anything.
+-- What each client and each handler of a run did: a client one block after another, a handler one turn after another. The laws on one client
+-- and on one handler say so from the deeds and the tasks alone. Beyond the clients and objects of the program nobody does anything, so
+-- that the later lemmas need not ask whether a number is one of them.
 use Rattle.std.proofs.Common.{◌≡◌, ◌<◌, ◌≤◌, arith, ℕ, Bool, true, false, if◌then◌else◌, nat_lt, List, [], ◌∷◌, ◌++◌, map, length, refl, sym, ap, ap₂, ◌∙◌, subst}
 use Rattle.std.specs.List.{AllByRecursion}
 use Rattle.qs_objects.specs.Journals.{HeldState}

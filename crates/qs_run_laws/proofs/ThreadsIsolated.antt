@@ -1,5 +1,5 @@
--- A run of threads is isolated: the blocks of its clients and the turns of its handlers make up an abstract run, whose journals flow along the
--- order of reservations; by the one lemma on abstract runs it does what the serial run does.
+-- A run of threads is isolated. The blocks of its clients and the turns of its handlers make up an abstract run, whose journals grow along the
+-- order of reservations; and by the one lemma on abstract runs such a run does what the serial run does.
 use Rattle.std.proofs.Common.{◌≡◌, ◌<◌, ◌≤◌, arith, ℕ, zero, suc, Bool, true, false, nat_lt, get_or, [], map, length, refl, sym, ap, ◌∙◌, subst}
 use Rattle.std.proofs.lemmas.List.{get_or-map, get_or_past, length-map}
 use Rattle.std.proofs.lemmas.List.FromFn.{get_or-map-range_with_len, length-range_with_len}
@@ -29,8 +29,8 @@ use Rattle.qs_played.proofs.JournalRooms.{all_left, cost, leads_within, no_block
 use Rattle.qs_played.proofs.Orders.{legal_among}
 use Rattle.qs_core_laws.specs.Core.{AreCodes}
 use Rattle.qs_run_laws.specs.ThreadRuns.{IsThreadRun, ThreadRun, counts_by, entry_by, shown_by, trace_by}
-use Rattle.qs_run_laws.proofs.ClientLines.{legal_counts}
-use Rattle.qs_run_laws.proofs.JournalFlows.{Goes, IsOver, goes, size_of}
+use Rattle.qs_run_laws.proofs.ClientTickets.{legal_counts}
+use Rattle.qs_run_laws.proofs.JournalFlows.{JournalGrowth, IsOver, grows, size_of}
 use Rattle.qs_run_laws.proofs.LanesMeet.{all_counted, got_for, sent_for, served_whole}
 use Rattle.qs_run_laws.proofs.ThreadTales.{block_told, held_of, inside, mind_of, tale}
 
@@ -80,9 +80,9 @@ module _ (p : ProgramShape) (sound : IsSound p) (mode : Mode) (code : ℕ → Cl
       let room = all_left p h in
       omega (arith, short, whole, room)
 
-  pub object_goes : (h : ℕ) → Goes p page h (sent_for p sound mode code codes size r run h) (got_for p sound mode code codes size r run h) (end h) (fresh_held p h) r.order
-  object_goes h =
-      goes p page h (sent_for p sound mode code codes size r run h) (got_for p sound mode code codes size r run h) (end h) r.order (fresh_held p h)
+  pub journal_of_object : (h : ℕ) → JournalGrowth p page h (sent_for p sound mode code codes size r run h) (got_for p sound mode code codes size r run h) (end h) (fresh_held p h) r.order
+  journal_of_object h =
+      grows p page h (sent_for p sound mode code codes size r run h) (got_for p sound mode code codes size r run h) (end h) r.order (fresh_held p h)
       (all_over h) (served_whole p sound mode code codes size r run h) (let fit = parts_fit h in omega (arith, fit))
 
   pub end_is : (h : ℕ) → h < length p.objects → r.held h ≡ end h
@@ -135,7 +135,7 @@ module _ (p : ProgramShape) (sound : IsSound p) (mode : Mode) (code : ℕ → Cl
 
   pub flows : (h : ℕ) → Flow (line p sound page (λ h t. []) (λ h. (end h).object) (λ h. ⊥) (λ h. (end h).journal) h) (declared p h) (end h).journal r.order
   flows h =
-      let g = object_goes h in
+      let g = journal_of_object h in
       subst (λ j. Flow (line p sound page (λ h t. []) (λ h. (end h).object) (λ h. ⊥) (λ h. (end h).journal) h) (declared p h) j r.order) (sym g.journal) g.flow
 
   pub abstract_run : IsRun p sound shown page (λ h t. []) (λ h. (end h).object) (λ h. ⊥) (λ h. (end h).journal)
@@ -152,8 +152,8 @@ module _ (p : ProgramShape) (sound : IsSound p) (mode : Mode) (code : ℕ → Cl
     pages = pages;
     begins = begins;
     flows = flows;
-    honest = λ h own. let g = object_goes h in subst (λ j. IsHonest (declared p h) (unstamped j)) (sym g.journal) g.honest;
-    replayed = λ h own. let g = object_goes h in ap (λ j. replay (declared p h) (unstamped j)) g.journal ∙ g.replayed;
+    honest = λ h own. let g = journal_of_object h in subst (λ j. IsHonest (declared p h) (unstamped j)) (sym g.journal) g.honest;
+    replayed = λ h own. let g = journal_of_object h in ap (λ j. replay (declared p h) (unstamped j)) g.journal ∙ g.replayed;
     entry = λ i few. get_or-map (entry_by r) r.order i (ticket 0 0) [] few ∙ entry_is (ticket_at shown i) (ticket_inside i few);
     trace = λ i few. get_or-map (trace_by r) r.order i (ticket 0 0) [] few ∙ trace_is (ticket_at shown i) (ticket_inside i few);
     ended = λ i few e.

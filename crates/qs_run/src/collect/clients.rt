@@ -3,7 +3,7 @@
 ghost use Rattle.std.specs.Prelude.{◌≡◌, ◌<◌, ◌≤◌, length, map, vec_len, vec_capacity};
 ghost use Rattle.std.specs.List.{AllByRecursion};
 ghost use Rattle.qs_program.specs.Limits.{most_clients, most_handlers};
-ghost use Rattle.qs_run.specs.Collected.{AreAllJoined, AreAllPaired, AreLanesJoined, AreLanesPaired, IsBooked, rows_of, without_lane_of, without_lanes_below};
+ghost use Rattle.qs_run.specs.Collected.{AreAllJoined, AreAllPaired, AreLanesJoined, AreLanesPaired, IsBooked, worker_rows, without_lane_of, without_lanes_below};
 
 use crate::collect::lanes::join_lanes;
 use crate::worker::{ClientWorker, HandlerWorker};
@@ -26,7 +26,7 @@ fn collect_client<D: DeskName>(
     ensures booked { IsBooked desk.old.history client }
     ensures joined { AreLanesJoined client.lanes number handlers.old }
     ensures lanes_taken { handlers.new ≡ map (without_lane_of number) handlers.old }
-    ensures rows { result ≡ rows_of client }
+    ensures rows { result ≡ worker_rows client }
 {
     let ClientWorker {
         mind,
@@ -53,7 +53,7 @@ pub(crate) fn collect_clients<D: DeskName>(
     ensures booked { AllByRecursion (IsBooked desk.old.history) clients.items }
     ensures joined { AreAllJoined handlers.old clients.items }
     ensures lanes_taken { handlers.new ≡ map (without_lanes_below (vec_len clients)) handlers.old }
-    ensures rows { result.items ≡ map rows_of clients.items }
+    ensures rows { result.items ≡ map worker_rows clients.items }
 {
     let mut rows = rows;
     let mut number = 0;

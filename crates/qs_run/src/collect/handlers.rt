@@ -2,7 +2,7 @@
 
 ghost use Rattle.std.specs.Prelude.{◌≡◌, ◌≤◌, true, map, vec_len, vec_capacity};
 ghost use Rattle.std.specs.List.{AllByRecursion};
-ghost use Rattle.qs_run.specs.Collected.{HasTakenAll, journal_of, state_of};
+ghost use Rattle.qs_run.specs.Collected.{HasTakenAll, worker_journal, worker_state};
 
 use crate::worker::HandlerWorker;
 use qs_desk::laws::follows;
@@ -15,8 +15,8 @@ fn collect_handler<D: DeskName>(desk: &mut Desk<D>, handler: HandlerWorker<D>) -
     requires closed { desk.old.closed ≡ true }
     ensures desk { desk.new ≡ desk.old }
     ensures taken_all { HasTakenAll D.program desk.old.history handler }
-    ensures state { result.0 ≡ state_of handler }
-    ensures journal { result.1 ≡ journal_of handler }
+    ensures state { result.0 ≡ worker_state handler }
+    ensures journal { result.1 ≡ worker_journal handler }
 {
     let HandlerWorker {
         held,
@@ -39,8 +39,8 @@ pub(crate) fn collect_handlers<D: DeskName>(
     requires states_room { (vec_len states ≡ 0) × (vec_len handlers ≤ vec_capacity states) }
     ensures desk { desk.new ≡ desk.old }
     ensures taken_all { AllByRecursion (HasTakenAll D.program desk.old.history) handlers.items }
-    ensures journals { result.0.items ≡ map journal_of handlers.items }
-    ensures states { result.1.items ≡ map state_of handlers.items }
+    ensures journals { result.0.items ≡ map worker_journal handlers.items }
+    ensures states { result.1.items ≡ map worker_state handlers.items }
 {
     let mut journals = journals;
     let mut states = states;

@@ -2,7 +2,7 @@
 
 ghost use Rattle.std.specs.Prelude.{◌≡◌, ℕ, ◌<◌, None, length, IfOk};
 ghost use Rattle.qs_program.specs.Limits.{most_handlers};
-ghost use Rattle.qs_run.specs.Prepared.{AreNewEnds, end_at, ever_reserves, in_at, out_at};
+ghost use Rattle.qs_run.specs.Prepared.{AreNewEnds, lane_end_at, ever_reserves, in_at, out_at};
 
 use qs_chunk::ChunkSize;
 use qs_client_thread::Lanes as ClientLanes;
@@ -54,7 +54,7 @@ fn empty_rows<T: Drop>(
     count: usize,
 ) -> Result<Vec<[Option<T>; MOST_ENDS]>, AllocError>
     ensures len { IfOk result (λ rows. length rows.items ≡ count) }
-    ensures none { IfOk result (λ rows. (row place : ℕ) → end_at rows.items row place ≡ None) }
+    ensures none { IfOk result (λ rows. (row place : ℕ) → lane_end_at rows.items row place ≡ None) }
 {
     let mut rows = Vec::with_capacity(alloc, count)?;
     for _row in 0..count {
@@ -68,9 +68,9 @@ fn put_end<T: Drop>(rows: &mut Vec<[Option<T>; MOST_ENDS]>, row: u8, place: u8, 
     requires row { row < length rows.old.items }
     requires place { place < most_handlers }
     ensures len { length rows.new.items ≡ length rows.old.items }
-    ensures here { end_at rows.new.items row place ≡ end }
-    ensures other_rows { (r k : ℕ) → (r ≡ row → ⊥) → end_at rows.new.items r k ≡ end_at rows.old.items r k }
-    ensures other_places { (r k : ℕ) → (k ≡ place → ⊥) → end_at rows.new.items r k ≡ end_at rows.old.items r k }
+    ensures here { lane_end_at rows.new.items row place ≡ end }
+    ensures other_rows { (r k : ℕ) → (r ≡ row → ⊥) → lane_end_at rows.new.items r k ≡ lane_end_at rows.old.items r k }
+    ensures other_places { (r k : ℕ) → (k ≡ place → ⊥) → lane_end_at rows.new.items r k ≡ lane_end_at rows.old.items r k }
 {
     rows[usize::from(row)][usize::from(place)] = end;
 }

@@ -10,7 +10,7 @@ use Rattle.qs_desk.specs.Views.{DeskView}
 use Rattle.qs_played.specs.Played.{ClientRows}
 use Rattle.qs_played.proofs.Lists.{empty_of}
 use Rattle.qs_run.specs.declared.worker.ClientWorker.{ClientWorker}
-use Rattle.qs_run.specs.Collected.{AreLanesJoined, AreLanesPaired, IsBooked, rows_of, without_lane_of}
+use Rattle.qs_run.specs.Collected.{AreLanesJoined, AreLanesPaired, IsBooked, worker_rows, without_lane_of}
 use Rattle.qs_run.proofs.LanesTaken.{joined_before, none_taken, one_more_taken, paired_still}
 use Rattle.qs_run.proofs.ListPlaces.{pushed}
 use Rattle.qs_run.proofs.collect.clients.collect_clients.Goals as goal
@@ -45,7 +45,7 @@ push_reserved-requires g c =
     let turn = YieldsList-turn (YieldsList-from_vec {s = c.into_iter-client-iterator.result} c.args.clients.items (search rules) (search rules))
     c.loop-client.yielded c.loop-client.client-iterator c.loop-client.yielded_by c.next.result c.next.new.self client c.in-Some.is c.next.ensures.steps in
     let less = turn.0 in
-    let rows : length c.loop-client.rows.items ≡ length c.loop-client.yielded = ap length inv.rows ∙ length-map c.loop-client.yielded rows_of in
+    let rows : length c.loop-client.rows.items ≡ length c.loop-client.yielded = ap length inv.rows ∙ length-map c.loop-client.yielded worker_rows in
     omega (arith, less, rows, c.loop-client.rows.ok.0, c.args.clients.ok.0, inv.room, c.requires.room.1)
 
 pub loop-client-preserved : goal.loop-client-preserved
@@ -59,7 +59,7 @@ loop-client-preserved g c =
       number = (let more = length_push c.loop-client.yielded c.in-Some.client in omega (arith, more, inv.number));
       desk = c.collect_client.ensures.desk ∙ inv.desk;
       rows = ◌∙◌ {A = List ClientRows} c.push_reserved.ensures.items
-          ((λ k. inv.rows k ++ c.collect_client.ensures.rows k ∷ []) ∙ sym (map_push rows_of yielded client));
+          ((λ k. inv.rows k ++ c.collect_client.ensures.rows k ∷ []) ∙ sym (map_push worker_rows yielded client));
       room = c.push_reserved.ensures.capacity ∙ inv.room;
       booked = each_snoc (IsBooked c.args.desk.now.history) yielded client inv.booked (subst (λ (d : DeskView). IsBooked d.history client) inv.desk c.collect_client.ensures.booked);
       joined = pushed (λ k (s : ClientWorker _). AreLanesJoined s.lanes k c.args.handlers.now) yielded client inv.joined

@@ -1,4 +1,6 @@
--- A client's tickets in a legal order are the first so many of its blocks, and lists along them.
+-- The tickets of one client in a legal order are those of its first blocks, one after another. A client's own lists go block by block, and an
+-- object's journal goes along the order; these lemmas lead from one to the other, as lists along a client's tickets are lists along its
+-- blocks, and tickets of which nothing came may be left out.
 use Rattle.std.proofs.Common.{◌≡◌, ◌+◌, arith, ℕ, zero, suc, Bool, true, false, if◌then◌else◌, ◌==◌, List, [], ◌∷◌, ◌++◌, map, filter, flat_map, length, refl, sym, ap, ap₂, ◌∙◌, subst, ⊎_elim, append_assoc, append-nil}
 use Rattle.std.specs.List.{AllByRecursion}
 use Rattle.qs_objects.specs.declared.held.Ticket.{Ticket}
@@ -14,26 +16,26 @@ use Rattle.qs_protocol.specs.ClientHistories.{upto}
 use Rattle.qs_desk.specs.Tickets.{of_client}
 
 -- the d tickets of client c from the a-th on
-abbrev pub line : ℕ → ℕ → ℕ → List Ticket
-line c a zero = []
-line c a (suc d) = ticket c a ∷ line c (suc a) d
+abbrev pub tickets_from : ℕ → ℕ → ℕ → List Ticket
+tickets_from c a zero = []
+tickets_from c a (suc d) = ticket c a ∷ tickets_from c (suc a) d
 
 module _ (p : ProgramShape) (c : ℕ) where
-  pub legal_line : (n : ℕ → ℕ) (ts : List Ticket) → LegalFrom p n ts → of_client c ts ≡ line c (n c) (length (of_client c ts))
-  legal_line n [] g = refl
-  legal_line n (t ∷ ts) g =
-      let ih = legal_line (put n t.client (suc t.index)) ts g.2 in
+  pub legal_tickets : (n : ℕ → ℕ) (ts : List Ticket) → LegalFrom p n ts → of_client c ts ≡ tickets_from c (n c) (length (of_client c ts))
+  legal_tickets n [] g = refl
+  legal_tickets n (t ∷ ts) g =
+      let ih = legal_tickets (put n t.client (suc t.index)) ts g.2 in
       ⊎_elim
       (λ (is : t.client ≡ c).
       let here : put n t.client (suc t.index) c ≡ suc t.index = subst (λ c. put n t.client (suc t.index) c ≡ suc t.index) is (put_here n t.client (suc t.index)) in
       let at : t.index ≡ n c = g.0 ∙ ap n is in
-      subst (λ b. (if b then t ∷ of_client c ts else of_client c ts) ≡ line c (n c) (length (if b then t ∷ of_client c ts else of_client c ts)))
+      subst (λ b. (if b then t ∷ of_client c ts else of_client c ts) ≡ tickets_from c (n c) (length (if b then t ∷ of_client c ts else of_client c ts)))
       (sym (ap (λ x. x == c) is ∙ eqb_self c))
-      (ap₂ (λ (t : Ticket) ts. t ∷ ts) (ticket_path is at) (ih ∙ ap (λ a. line c a (length (of_client c ts))) (here ∙ ap suc at))))
+      (ap₂ (λ (t : Ticket) ts. t ∷ ts) (ticket_path is at) (ih ∙ ap (λ a. tickets_from c a (length (of_client c ts))) (here ∙ ap suc at))))
       (λ (other : (t.client == c) ≡ false).
       let there = put_there n t.client (suc t.index) c other in
-      subst (λ b. (if b then t ∷ of_client c ts else of_client c ts) ≡ line c (n c) (length (if b then t ∷ of_client c ts else of_client c ts)))
-      (sym other) (ih ∙ ap (λ a. line c a (length (of_client c ts))) there))
+      subst (λ b. (if b then t ∷ of_client c ts else of_client c ts) ≡ tickets_from c (n c) (length (if b then t ∷ of_client c ts else of_client c ts)))
+      (sym other) (ih ∙ ap (λ a. tickets_from c a (length (of_client c ts))) there))
       (num_cases t.client c)
 
   -- as many were begun as stand in the order
@@ -54,18 +56,18 @@ module _ (p : ProgramShape) (c : ℕ) where
       (num_cases t.client c)
 
 module _ {A : Type 0} (f : Ticket → List A) (c : ℕ) where
-  line_more : (a d : ℕ) → flat_map f (line c a (suc d)) ≡ flat_map f (line c a d) ++ f (ticket c (a + d))
-  line_more a zero = append-nil (f (ticket c a)) ∙ ap (λ n. f (ticket c n)) (let e : a ≡ a + 0 = omega arith in e)
-  line_more a (suc d) =
-      ap (λ xs. f (ticket c a) ++ xs) (line_more (suc a) d)
-      ∙ (sym (append_assoc (f (ticket c a)) (flat_map f (line c (suc a) d)) (f (ticket c (suc a + d))))
-      ∙ ap (λ n. (f (ticket c a) ++ flat_map f (line c (suc a) d)) ++ f (ticket c n)) (let e : suc a + d ≡ a + suc d = omega arith in e))
+  tickets_more : (a d : ℕ) → flat_map f (tickets_from c a (suc d)) ≡ flat_map f (tickets_from c a d) ++ f (ticket c (a + d))
+  tickets_more a zero = append-nil (f (ticket c a)) ∙ ap (λ n. f (ticket c n)) (let e : a ≡ a + 0 = omega arith in e)
+  tickets_more a (suc d) =
+      ap (λ xs. f (ticket c a) ++ xs) (tickets_more (suc a) d)
+      ∙ (sym (append_assoc (f (ticket c a)) (flat_map f (tickets_from c (suc a) d)) (f (ticket c (suc a + d))))
+      ∙ ap (λ n. (f (ticket c a) ++ flat_map f (tickets_from c (suc a) d)) ++ f (ticket c n)) (let e : suc a + d ≡ a + suc d = omega arith in e))
 
-  pub upto_line : (n : ℕ) → upto (λ k. f (ticket c k)) n ≡ flat_map f (line c 0 n)
-  upto_line zero = refl
-  upto_line (suc n) =
-      ap (λ xs. xs ++ f (ticket c n)) (upto_line n)
-      ∙ (ap (λ k. flat_map f (line c 0 n) ++ f (ticket c k)) (let e : n ≡ 0 + n = omega arith in e) ∙ sym (line_more 0 n))
+  pub upto_tickets : (n : ℕ) → upto (λ k. f (ticket c k)) n ≡ flat_map f (tickets_from c 0 n)
+  upto_tickets zero = refl
+  upto_tickets (suc n) =
+      ap (λ xs. xs ++ f (ticket c n)) (upto_tickets n)
+      ∙ (ap (λ k. flat_map f (tickets_from c 0 n) ++ f (ticket c k)) (let e : n ≡ 0 + n = omega arith in e) ∙ sym (tickets_more 0 n))
 
   -- tickets with nothing may be left out
   pub without_others : (mine : Ticket → Bool) (ts : List Ticket) → AllByRecursion (λ t. mine t ≡ false → f t ≡ []) ts
