@@ -1,4 +1,6 @@
--- The beginning of a block: all is in place, and there is room for all its requests.
+-- A block begins: `Mind::begin` does what the model says, and what holds of every mind holds again. The hard part is that the run may go through
+-- the new block: its walk ends, no query comes without its object, and its trace has room for all requests, since on each path the
+-- requests on an object are at most the block's load on it, and the room is the sum of the loads.
 use Rattle.std.proofs.Common.{◌≡◌, ℕ, zero, suc, ◌+◌, ◌-◌, ◌*◌, ◌<◌, ◌≤◌, Bool, true, false, ◌==◌, if◌then◌else◌, inl, inr, List, [], ◌∷◌, ◌++◌, is_some, length, length-append, replicate, refl, sym, ap, ◌∙◌, subst, arith, ⊎_elim}
 use Rattle.std.proofs.lemmas.Bool.{cases_lt}
 use Rattle.std.proofs.lemmas.List.{length-replicate}
@@ -41,9 +43,9 @@ use Rattle.qs_client_run.specs.declared.stage.Stage.TheVariants as stages
 use Rattle.qs_client.specs.SoundMind.{IsSoundMind}
 use Rattle.qs_client.specs.ClientModel.{Asks, mind_after_begin, mind_after_begin_with, locals_at, tree_at}
 use Rattle.qs_client.specs.MindState.{MindState, block_of, client_in, mind_of, settings_in}
-use Rattle.qs_client.proofs.MindRefinement.{IsSteady, asks_nothing, come_kept, comes_mind, hands_over, nothing_left, wants_of}
+use Rattle.qs_client.proofs.MindRefinement.{IsSteady, asks_nothing, come_sound, comes_mind, hands_over, nothing_left, wants_of}
 
--- the sum falls by one where one of the numbers does
+-- a sum falls by one where one of its numbers does
 module _ (f : ℕ → ℕ) (o : ℕ) where
   abbrev pub less : ℕ → ℕ
   less h = f h - (if o == h then 1 else 0)
@@ -153,9 +155,9 @@ empty_after ts n k same none j after = elim (cases_lt j n) [
   | inr beyond ↦ ap (λ (x : TraceState). x.events) (get_or-eq_default ts (trace_state [] 0) {n = j} (omega (arith, beyond, same)))
 ]
 
--- the data of a mind whose next block begins
-abbrev pub entered : MindState → Ticket → MindState
-entered m t = record m {
+-- the data of a mind as its next block begins
+abbrev pub state_at_begin : MindState → Ticket → MindState
+state_at_begin m t = record m {
   ticket = t;
   run = at_beginning m.run;
   entries = m.entries ++ m.run.position.locals ∷ [];
@@ -169,28 +171,28 @@ pub next_ticket : (m : MindState) (t : Ticket) → t.index ≡ (mind_of m).clien
 unfolding mind_of
 next_ticket m t e = e
 
-length_entered : (m : MindState) (t : Ticket) → length (entered m t).entries ≡ length m.entries + 1
-length_entered m t = length-append m.entries (m.run.position.locals ∷ [])
+length_at_begin : (m : MindState) (t : Ticket) → length (state_at_begin m t).entries ≡ length m.entries + 1
+length_at_begin m t = length-append m.entries (m.run.position.locals ∷ [])
 
 module _ (m : MindState) (w : IsSoundMind m) (t : Ticket) (asked : Asks (mind_of m) acts.Reserve) (is : t.index ≡ length m.entries) where
   inside : t.index < length m.code.blocks
   inside = omega (arith, is, (reserves m w asked).1)
 
-  pub entered_steady : IsSteady (entered m t)
-  entered_steady = record {
+  pub begin_steady : IsSteady (state_at_begin m t)
+  begin_steady = record {
     code = w.code;
     size = w.size;
-    blocks = omega (arith, length_entered m t, (reserves m w asked).1);
+    blocks = omega (arith, length_at_begin m t, (reserves m w asked).1);
     rows = w.rows;
     counts = length-replicate {A = ℕ} (length m.run.position.counts) 0 ∙ w.counts;
-    ticket = omega (arith, length_entered m t, is);
-    later = λ k past below. w.later k (omega (arith, past, length_entered m t)) below;
+    ticket = omega (arith, length_at_begin m t, is);
+    later = λ k past below. w.later k (omega (arith, past, length_at_begin m t)) below;
     tallies = w.tallies;
     few_each = w.few_each;
   }
 
-  pub entered_running : IsRunning (code_at m.code t.index).graph m.size t.index limit (at_beginning m.run)
-  entered_running =
+  pub begin_running : IsRunning (code_at m.code t.index).graph m.size t.index limit (at_beginning m.run)
+  begin_running =
       let over = subst (IsStanding (block_of m) m.size m.ticket.index w.left m.run) (reserves m w asked).0 w.standing in
       let counts : List ℕ = replicate (length m.run.position.counts) 0 in
       let long : length (code_at m.code t.index).graph ≤ length counts =
@@ -212,21 +214,21 @@ module _ (m : MindState) (w : IsSoundMind m) (t : Ticket) (asked : Asks (mind_of
       }
 
   -- all that the client does to its own values up to its next act
-  abbrev pub its_booking : Settlement
-  its_booking = begin (settings_in m) t (code_at m.code t.index).reserved (client_in m) (tree_at m.code t.index m.run.position.locals)
+  abbrev pub its_beginning : Settlement
+  its_beginning = begin (settings_in m) t (code_at m.code t.index).reserved (client_in m) (tree_at m.code t.index m.run.position.locals)
 
-  pub entered_comes : (new : RunState)
-      → HasSettled (code_at m.code t.index).graph (settings_in m) t (code_at m.code t.index).reserved (length (entered m t).entries) (between m.run.position.locals) limit
+  pub begin_comes : (new : RunState)
+      → HasSettled (code_at m.code t.index).graph (settings_in m) t (code_at m.code t.index).reserved (length (state_at_begin m t).entries) (between m.run.position.locals) limit
       (at_beginning m.run) new
-      → HasCome (code_at m.code t.index) (settings_in m) t (length (entered m t).entries) limit its_booking (at_beginning m.run) new
-  entered_comes new done = record {
+      → HasCome (code_at m.code t.index) (settings_in m) t (length (state_at_begin m t).entries) limit its_beginning (at_beginning m.run) new
+  begin_comes new done = record {
     standing = standing_of (code_at m.code t.index) m.size t.index limit limit new new.stage (omega arith) done.stopped;
     rows = done.rows;
     counts = done.counts;
     same =
         let b = code_at m.code t.index in
         let tr = (trace_at m.run.traces t.index).events in
-        let begun : suc (length m.entries) ≡ length (entered m t).entries = omega (arith, length_entered m t) in
+        let begun : suc (length m.entries) ≡ length (state_at_begin m t).entries = omega (arith, length_at_begin m t) in
         let stands = (reserves m w asked).0 in
         (λ i. progress_after tr (settle (settings_in m) t b.reserved (walk b.graph limit (entry m.run.position.locals (replicate (sym w.counts i) 0)))
         (record {
@@ -238,21 +240,21 @@ module _ (m : MindState) (w : IsSoundMind m) (t : Ticket) (asked : Asks (mind_of
         ∙ done.same;
   }
 
-  few_entered : m.syncs + limit ≤ length (entered m t).entries * limit
+  few_at_begin : m.syncs + limit ≤ length (state_at_begin m t).entries * limit
   unfolding limit
-  few_entered = omega (arith, w.few, length_entered m t)
+  few_at_begin = omega (arith, w.few, length_at_begin m t)
 
-  pub entered_kept : (new : RunState) → HasCome (code_at m.code t.index) (settings_in m) t (length (entered m t).entries) limit its_booking (at_beginning m.run) new
-      → IsSoundMind (hands_over (entered m t) new m.outgoing)
-  entered_kept new come =
-      subst IsSoundMind (nothing_left (entered m t) new (asks_nothing m acts.Reserve asked))
-      (come_kept (entered m t) its_booking limit new entered_steady come few_entered)
+  pub begin_sound : (new : RunState) → HasCome (code_at m.code t.index) (settings_in m) t (length (state_at_begin m t).entries) limit its_beginning (at_beginning m.run) new
+      → IsSoundMind (hands_over (state_at_begin m t) new m.outgoing)
+  begin_sound new come =
+      subst IsSoundMind (nothing_left (state_at_begin m t) new (asks_nothing m acts.Reserve asked))
+      (come_sound (state_at_begin m t) its_beginning limit new begin_steady come few_at_begin)
 
-  pub booked_is : (new : RunState) → HasCome (code_at m.code t.index) (settings_in m) t (length (entered m t).entries) limit its_booking (at_beginning m.run) new
-      → mind_of (hands_over (entered m t) new m.outgoing) ≡ mind_after_begin (mind_of m) t
+  pub begin_is : (new : RunState) → HasCome (code_at m.code t.index) (settings_in m) t (length (state_at_begin m t).entries) limit its_beginning (at_beginning m.run) new
+      → mind_of (hands_over (state_at_begin m t) new m.outgoing) ≡ mind_after_begin (mind_of m) t
   unfolding mind_of
-  booked_is new come =
-      ap mind_of (sym (nothing_left (entered m t) new (asks_nothing m acts.Reserve asked)))
-      ∙ comes_mind (entered m t) its_booking limit new come
+  begin_is new come =
+      ap mind_of (sym (nothing_left (state_at_begin m t) new (asks_nothing m acts.Reserve asked)))
+      ∙ comes_mind (state_at_begin m t) its_beginning limit new come
       ∙ (λ i. mind_after_begin_with (mind_of m) t
       (locals_at (stage_by (sym (reserves m w asked).0 i) (block_of m).reserved (walk (block_of m).graph limit m.run.position) m.run.position.locals)))

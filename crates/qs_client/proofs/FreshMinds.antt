@@ -1,4 +1,5 @@
--- A mind before its first block.
+-- What `Mind::new` makes is the model's `fresh_mind`, and what holds of every mind holds of it. The idea: nothing was begun, so each fact about
+-- blocks that were begun is empty, and the counts and traces are as fresh as their constructors say.
 use Rattle.std.proofs.Common.{◌≡◌, ℕ, zero, suc, ◌+◌, ◌*◌, ◌≤◌, List, [], ◌∷◌, Option, None, length, map, replicate, get_or, refl, sym, ap, ◌∙◌, subst, arith}
 use Rattle.std.proofs.Math.Path.{fun_ext}
 use Rattle.std.proofs.lemmas.List.{get_or-map, length-map, length-replicate}
@@ -59,8 +60,8 @@ no_nodes : 0 + 0 ≤ 0 * limit
 unfolding limit
 no_nodes = omega arith
 
-pub fresh_kept : (code : ClientCode) (size room : ℕ) → IsCode code → (1 ≤ size) × (size ≤ largest_chunk) → IsSoundMind (fresh_state code size room)
-fresh_kept code size room ok sized = record {
+pub fresh_sound : (code : ClientCode) (size room : ℕ) → IsCode code → (1 ≤ size) × (size ≤ largest_chunk) → IsSoundMind (fresh_state code size room)
+fresh_sound code size room ok sized = record {
   code = ok;
   size = sized;
   blocks = omega arith;

@@ -1,5 +1,5 @@
--- What a client sends to a handler may follow what it sent there before. The one fact to keep: the last parcel is a Sync exactly where the
--- client waits for the object or holds it. All quiet work leaves it as it is, since that awaits nothing, and neither takes an object up
+-- What a client sends to a handler may follow what it sent there before (the law `sends_may_follow`): so each lane keeps its form, for threads
+-- as for the optimised machine. The one fact to keep: the last parcel is a Sync exactly where the client waits for the object or holds it. All quiet work leaves it as it is, since that awaits nothing, and neither takes an object up
 -- nor gives one away.
 use Rattle.std.proofs.Common.{◌≡◌, ◌≢◌, ℕ, suc, Bool, true, false, ◌==◌, ◌&&◌, ◌||◌, if◌then◌else◌, is_some, nat_lt, List, [], ◌∷◌, ◌++◌, length, Option, Some, None, ℤ, refl, sym, ap, ◌∙◌, subst, ⊎_elim}
 use Rattle.qs_objects.specs.Journals.{HeldState, ran}
@@ -96,7 +96,7 @@ module _ (settings : Settings) (ticket : Ticket) (reserved : List ℕ) where
   sent_at m g parcels.Sync p = after_sync settings ticket reserved m p
   sent_at m g parcels.End p = after_end settings ticket reserved m p
 
-  -- what holds where a client at a place sends a parcel to g
+  -- what holds where a client at a stage sends a parcel to g
   record Sends (m : Client) (g : ℕ) (p : ClientStage) (parcel : Parcel) : Type 0 where
     pub quiet : (h : ℕ) → is_awaited p h ≡ false
     pub may : IsFree p m g → MayFollow settings.size (is_some (m.held g)) parcel
@@ -205,7 +205,7 @@ module _ (settings : Settings) (ticket : Ticket) (reserved : List ℕ) where
 abbrev client_of : ClientModel → Client
 client_of m = (finish m).client
 
--- once the parcel that it handed out was sent
+-- once the parcel that it gave out was sent
 sent_is : (settings : Settings) (ticket : Ticket) (reserved : List ℕ) (m : Client) (g : ℕ) (parcel : Parcel)
     → sent_at settings ticket reserved m g parcel m.stage ≡ after_parcel settings ticket reserved m g parcel
 sent_is settings ticket reserved m g (parcels.Home x) = refl

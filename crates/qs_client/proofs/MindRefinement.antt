@@ -1,4 +1,6 @@
--- What a mind's call does is what its definition says, and keeps what holds of every mind.
+-- What each call of a mind does is what the model says, and what holds of every mind is kept. The contracts of `next`, `take_object` and
+-- `take_chunk` need both. The idea: the run's contracts say what became of the client and its block's trace (`HasCome`, `HasActed`); the
+-- rest of the data stays, and of the invariant only the number of Syncs needs an argument, as each of them took a node.
 use Rattle.std.proofs.Common.{◌≡◌, inl, inr, ℕ, zero, suc, ◌+◌, ◌*◌, ◌<◌, ◌≤◌, true, false, ◌==◌, List, [], ◌++◌, length, length-set, get_or, get_or-set_same, get_or-set_other, set, refl, sym, ap, ◌∙◌, subst, arith, append-nil, ⊎_elim}
 use Rattle.std.proofs.Math.ListN.{get_or-map}
 use Rattle.std.proofs.lemmas.Bool.{cases_lt, ne_eqb}
@@ -41,9 +43,9 @@ length_events : (rows : List TraceState) → length (events_of rows) ≡ length 
 length_events rows = length-map rows (λ (t : TraceState). t.events)
 
 -- the rows with events at the end of one
-pub extended_rows : (old new : List TraceState) (k : ℕ) (es : List Event) → KeepsRows k old new
+pub extend_rows : (old new : List TraceState) (k : ℕ) (es : List Event) → KeepsRows k old new
     → (trace_at old k).events ++ es ≡ (trace_at new k).events → events_of new ≡ extend (events_of old) k es
-extended_rows old new k es keeps same =
+extend_rows old new k es keeps same =
     let row : List Event = get_or (events_of old) k [] ++ es in
     ext_get_or [] (events_of new) (set (events_of old) k row)
     (omega (arith, length_events new, length_events old, keeps.count, length-set (events_of old) k row))
@@ -63,10 +65,10 @@ extended_rows old new k es keeps same =
     no_self k e = let yes = eqb_self k in cc
 
 -- with no event nothing changes
-pub extended_none : (ts : List (List Event)) (k : ℕ) → extend ts k [] ≡ ts
-extended_none ts k = ap (set ts k) (append-nil (get_or ts k [])) ∙ set-get_or ts k []
+pub extend_none : (ts : List (List Event)) (k : ℕ) → extend ts k [] ≡ ts
+extend_none ts k = ap (set ts k) (append-nil (get_or ts k [])) ∙ set-get_or ts k []
 
--- the mind of these data with another run, and with nothing handed out
+-- these data with another run, and with nothing outgoing
 abbrev pub with_run : MindState → RunState → MindState
 with_run m run = record m { run = run; outgoing = outgoings.Nothing }
 
@@ -76,7 +78,7 @@ pub comes_mind : (m : MindState) (by : Settlement) (most : ℕ) (new : RunState)
 unfolding mind_of
 comes_mind m by most new w =
     let client = ap (λ (o : ClientProgress). o.client) w.same in
-    let rows = extended_rows m.run.traces new.traces m.ticket.index by.events w.rows (ap (λ (o : ClientProgress). o.trace) w.same) in
+    let rows = extend_rows m.run.traces new.traces m.ticket.index by.events w.rows (ap (λ (o : ClientProgress). o.trace) w.same) in
     λ i. record {
       code = m.code;
       size = m.size;
@@ -89,7 +91,7 @@ comes_mind m by most new w =
       outgoing = outgoings.Nothing;
     }
 
--- what does not depend on where a client stands in its block
+-- the part of the invariant that does not depend on where a client stands in its block
 pub record IsSteady (m : MindState) : Type 0 where
   pub code : IsCode m.code
   pub size : (1 ≤ m.size) × (m.size ≤ largest_chunk)
@@ -121,10 +123,10 @@ nothing_gone g s (stages.Full h) = tt
 nothing_gone g s (stages.Awaits h) = tt
 nothing_gone g s (stages.Leaves i) = tt
 
-pub come_kept : (m : MindState) (by : Settlement) (most : ℕ) (new : RunState) → IsSteady m
+pub come_sound : (m : MindState) (by : Settlement) (most : ℕ) (new : RunState) → IsSteady m
     → HasCome (block_of m) (settings_in m) m.ticket (length m.entries) most by m.run new
     → m.syncs + most ≤ length m.entries * limit → IsSoundMind (with_run m new)
-come_kept m by most new s w few = record {
+come_sound m by most new s w few = record {
   code = s.code;
   size = s.size;
   blocks = s.blocks;
@@ -142,9 +144,9 @@ come_kept m by most new s w few = record {
       w.rows.others k (ne_eqb m.ticket.index k (λ e. omega (arith, e, past, s.ticket))) ∙ s.later k past inside;
 }
 
--- a block was begun where something was handed out, or the client does not stand between blocks
-pub begun_handed : (m : MindState) → IsSoundMind m → (m.outgoing ≡ outgoings.Nothing → ⊥) → 0 < length m.entries
-begun_handed m w other = elim (cases_lt 0 (length m.entries)) [ inl lt ↦ lt | inr le ↦ absurd (other (w.first (omega (arith, le))).1) ]
+-- a block was begun where something is outgoing, or where the client does not stand between blocks
+pub begun_outgoing : (m : MindState) → IsSoundMind m → (m.outgoing ≡ outgoings.Nothing → ⊥) → 0 < length m.entries
+begun_outgoing m w other = elim (cases_lt 0 (length m.entries)) [ inl lt ↦ lt | inr le ↦ absurd (other (w.first (omega (arith, le))).1) ]
 
 pub begun_inside : (m : MindState) → IsSoundMind m → (m.run.stage ≡ stages.Between → ⊥) → 0 < length m.entries
 begun_inside m w other = elim (cases_lt 0 (length m.entries)) [ inl lt ↦ lt | inr le ↦ absurd (other (w.first (omega (arith, le))).0) ]
@@ -216,9 +218,9 @@ few_after m w = by_handed m.outgoing w.gone
         omega (arith, w.few, node_left (block_of m) m.size m.ticket.index w.left h m.run m.run.stage w.standing gone)
     by_handed outgoings.End gone = omega (arith, w.few)
 
-pub kept_mind : (m : MindState) → IsSoundMind m → IsMind (mind_of m)
+pub sound_mind : (m : MindState) → IsSoundMind m → IsMind (mind_of m)
 unfolding mind_of
-kept_mind m w = record {
+sound_mind m w = record {
   code = w.code;
   size = w.size;
   entries = refl;
@@ -230,7 +232,7 @@ kept_mind m w = record {
   first = λ none. ap (λ (stage : Stage). is_between (stage_by stage (block_of m).reserved (walk (block_of m).graph limit m.run.position) m.run.position.locals)) (w.first none).0;
 }
 
--- the mind of these data with another run and something handed out
+-- these data with another run, and with this outgoing
 abbrev pub hands_over : MindState → RunState → Outgoing → MindState
 hands_over m run outgoing = record m { run = run; outgoing = outgoing }
 
@@ -255,43 +257,43 @@ needs_begun m w h asked =
     let at : m.run.stage ≡ stages.Runs =
     (at_call (block_of m) (settings_in m) m.ticket (length m.code.blocks) (length m.entries) w.left m.run h (wants_of m w (acts.NeedChunk h) asked)).stands in cc)
 
--- a mind for which nothing is left to be done
+-- a mind with nothing outgoing
 pub nothing_left : (m : MindState) (run : RunState) → m.outgoing ≡ outgoings.Nothing → with_run m run ≡ hands_over m run m.outgoing
 nothing_left m run e = λ i. hands_over m run (sym e i)
 
-pub got_is : (m : MindState) (most : ℕ) (x : HeldState) (new : RunState) → m.outgoing ≡ outgoings.Nothing
+pub object_is : (m : MindState) (most : ℕ) (x : HeldState) (new : RunState) → m.outgoing ≡ outgoings.Nothing
     → HasGot (block_of m) (settings_in m) m.ticket (length m.entries) most x m.run new → mind_of (hands_over m new m.outgoing) ≡ mind_after_object (mind_of m) x
 unfolding mind_of
-got_is m most x new none w =
+object_is m most x new none w =
     ap mind_of (sym (nothing_left m new none))
     ∙ comes_mind m (take_object (settings_in m) m.ticket (block_of m).reserved (client_in m) x (client_in m).stage) most new w
 
-pub taken_is : (m : MindState) (most h : ℕ) (new : RunState) → m.outgoing ≡ outgoings.Nothing
+pub chunk_is : (m : MindState) (most h : ℕ) (new : RunState) → m.outgoing ≡ outgoings.Nothing
     → HasTaken (block_of m) (settings_in m) m.ticket (length m.entries) most h m.run new → mind_of (hands_over m new m.outgoing) ≡ mind_after_chunk (mind_of m) h
 unfolding mind_of
-taken_is m most h new none w =
+chunk_is m most h new none w =
     ap mind_of (sym (nothing_left m new none))
     ∙ comes_mind m (take_chunk (settings_in m) m.ticket (block_of m).reserved (client_in m) h (client_in m).stage) most new w
 
--- what was sent is done
+-- what was sent is finished
 abbrev pub with_syncs : MindState → ℕ → CountsState → MindState
 with_syncs m syncs counts = record m { syncs = syncs; counts = counts }
 
 -- with the Sync counted that was sent, if one was
-abbrev pub tallied_state : MindState → CountsState
-tallied_state m = counts_state (tally m.outgoing m.ticket.index m.counts.rows) m.counts.room
+abbrev pub tally_state : MindState → CountsState
+tally_state m = counts_state (tally m.outgoing m.ticket.index m.counts.rows) m.counts.room
 
-pub done_is : (m : MindState) (most : ℕ) (new : RunState) → HasSent (block_of m) (settings_in m) m.ticket (length m.entries) most m.outgoing m.run new
-    → mind_of (with_run (with_syncs m (m.syncs + count_sync m.outgoing) (tallied_state m)) new) ≡ finish (mind_of m)
+pub finish_is : (m : MindState) (most : ℕ) (new : RunState) → HasSent (block_of m) (settings_in m) m.ticket (length m.entries) most m.outgoing m.run new
+    → mind_of (with_run (with_syncs m (m.syncs + count_sync m.outgoing) (tally_state m)) new) ≡ finish (mind_of m)
 unfolding mind_of
-done_is m most new w =
-    comes_mind (with_syncs m (m.syncs + count_sync m.outgoing) (tallied_state m))
+finish_is m most new w =
+    comes_mind (with_syncs m (m.syncs + count_sync m.outgoing) (tally_state m))
     (after_send (settings_in m) m.ticket (block_of m).reserved m.outgoing (client_in m)) (nodes_left m.outgoing most) new w
 
--- with nothing to be done a mind stays as it is
-pub done_none : (m : MindState) → m.outgoing ≡ outgoings.Nothing → mind_of m ≡ finish (mind_of m)
+-- with nothing outgoing a mind stays as it is
+pub finish_none : (m : MindState) → m.outgoing ≡ outgoings.Nothing → mind_of m ≡ finish (mind_of m)
 unfolding mind_of
-done_none m none =
+finish_none m none =
     (λ i. mind_of (hands_over m m.run (none i)))
     ∙ (λ i. record {
       code = m.code;
@@ -299,19 +301,19 @@ done_none m none =
       ticket = m.ticket;
       client = client_in m;
       entries = m.entries;
-      traces = sym (extended_none (events_of m.run.traces) m.ticket.index) i;
+      traces = sym (extend_none (events_of m.run.traces) m.ticket.index) i;
       syncs = (let same : m.syncs ≡ m.syncs + 0 = omega arith in same) i;
       counts = m.counts.rows;
       outgoing = outgoings.Nothing;
     })
     ∙ (λ i. finish (mind_of (hands_over m m.run (sym none i))))
 
-pub finish_kept : (m : MindState) (new : RunState) (w : IsSoundMind m) → 0 < length m.entries
+pub finish_sound : (m : MindState) (new : RunState) (w : IsSoundMind m) → 0 < length m.entries
     → HasSent (block_of m) (settings_in m) m.ticket (length m.entries) w.left m.outgoing m.run new
-    → IsSoundMind (with_run (with_syncs m (m.syncs + count_sync m.outgoing) (tallied_state m)) new)
-finish_kept m new w some sent =
+    → IsSoundMind (with_run (with_syncs m (m.syncs + count_sync m.outgoing) (tally_state m)) new)
+finish_sound m new w some sent =
     let s = steady m some w in
-    come_kept (with_syncs m (m.syncs + count_sync m.outgoing) (tallied_state m))
+    come_sound (with_syncs m (m.syncs + count_sync m.outgoing) (tally_state m))
     (after_send (settings_in m) m.ticket (block_of m).reserved m.outgoing (client_in m)) (nodes_left m.outgoing w.left) new
     (record {
       code = s.code;
@@ -328,10 +330,10 @@ finish_kept m new w some sent =
 
 -- the next act
 
-pub acts_kept : (m : MindState) (w : IsSoundMind m) (given : Act) (new : RunState)
+pub acts_sound : (m : MindState) (w : IsSoundMind m) (given : Act) (new : RunState)
     → HasActed (block_of m) (settings_in m) (length m.code.blocks) m.ticket.index (length m.entries) w.left given m.run new
     → IsSoundMind (hands_over m new (outgoing_of given))
-acts_kept m w given new a = record {
+acts_sound m w given new a = record {
   code = w.code;
   size = w.size;
   blocks = w.blocks;

@@ -38,7 +38,7 @@ MindStandsAt m h sent = StandsAt (finish m).client h sent
 abbrev pub BeginsAtLanes : Type 0
 BeginsAtLanes = (code : ClientCode) (size h : ℕ) → MindStandsAt (fresh_mind code size) h []
 
--- what it hands out to be sent to a handler may follow what it sent there before, in chunks of its size; and it goes on with it sent
+-- what it sends to a handler may follow what it sent there before, in chunks of its size; and it stands to the lane so again once that was sent
 abbrev pub SendsMayFollow : Type 0
 SendsMayFollow =
     (m : ClientModel) (h : ℕ) (parcel : Parcel) (sent : List Parcel)

@@ -1,4 +1,6 @@
--- A client's mind: what it has come to, and what each call does to it.
+-- The model of a mind: what a client has come to, and what each call of `Mind` does to it. `next` finishes the last act (`finish`), answers the
+-- next (`next_act`) and gives out what it carries (`next_mind`); `begin`, `take_object` and `take_chunk` are `mind_after_begin`,
+-- `mind_after_object` and `mind_after_chunk`.
 use Rattle.std.specs.Prelude.{◌≡◌, ℕ, suc, ◌&&◌, ◌||◌, nat_lt, nat_eq, ◌+◌, ◌-◌, Bool, true, false, if◌then◌else◌, List, [], ◌∷◌, ◌++◌, length, map, replicate, slice_index_or, slice_set}
 use Rattle.qs_objects.specs.Journals.{HeldState}
 use Rattle.qs_objects.specs.declared.held.Event.{Event}
@@ -28,7 +30,8 @@ abbrev pub lists_of : List BlockCode → List (List ℕ)
 lists_of blocks = map (λ (b : BlockCode). b.reserved) blocks
 
 -- the code and the chunks' size; the ticket of the block that was begun last; the client; for each block that was begun the variables at
--- entry, and for each block the trace so far; the Syncs that were sent, all and for each block and each object of its list; and what is still to be done for the last act once it was done
+-- entry, and for each block the trace so far; the Syncs that were sent, all and for each block and each object of its list; and what the last
+-- act gave out and was not yet confirmed as sent
 pub record ClientModel : Type 0 where
   pub code : ClientCode
   pub size : ℕ
@@ -51,7 +54,7 @@ reserved_by m = (code_at m.code m.ticket.index).reserved
 abbrev pub extend : List (List Event) → ℕ → List Event → List (List Event)
 extend ts k es = slice_set ts k (slice_index_or ts k [] ++ es)
 
--- the client, and what entered its block's trace
+-- with the client that has settled, and with the events that entered its block's trace
 abbrev pub comes_to : ClientModel → Settlement → ClientModel
 comes_to m s = record m {
   client = s.client;
@@ -69,11 +72,11 @@ tally outgoings.End k rows = rows
 abbrev pub count_syncs : ClientModel → ClientModel
 count_syncs m = record m { syncs = m.syncs + count_sync m.outgoing; counts = tally m.outgoing m.ticket.index m.counts }
 
--- once the last act was done
+-- with the last act finished: what is left to be done once it was sent is done
 abbrev pub finish : ClientModel → ClientModel
 finish m = comes_to (count_syncs m) (after_send (settings_of m) m.ticket (reserved_by m) m.outgoing m.client)
 
--- the next act
+-- the act that is due
 abbrev pub act_due : ClientModel → Act
 act_due m = act_of (settings_of m) (length m.code.blocks) m.client
 
@@ -91,7 +94,7 @@ next_mind m = hands_out (finish m) (next_act m)
 abbrev pub with_act_again : ClientModel → Act → ClientModel
 with_act_again m act = record m { client = with_act m.client act; outgoing = outgoings.Nothing }
 
--- the last act, for which nothing is left to be done, asks for something to come
+-- the last act, of which nothing is outgoing, asks for something to come
 abbrev pub Asks : ClientModel → Act → Type 0
 Asks m act = (m.outgoing ≡ outgoings.Nothing) × (act_due m ≡ act)
 
@@ -105,7 +108,7 @@ locals_at (leaves h hs l) = l
 abbrev pub enters : ClientModel → Ticket → Locals → ClientModel
 enters m t l = record m { ticket = t; entries = m.entries ++ l ∷ [] }
 
--- its next block was reserved, which begins with these variables
+-- once its next block was reserved, which begins with these variables
 abbrev pub mind_after_begin_with : ClientModel → Ticket → Locals → ClientModel
 mind_after_begin_with m t l =
     comes_to (enters m t l) (begin (settings_of m) t (code_at m.code t.index).reserved m.client (tree_at m.code t.index l))
@@ -113,11 +116,11 @@ mind_after_begin_with m t l =
 abbrev pub mind_after_begin : ClientModel → Ticket → ClientModel
 mind_after_begin m t = mind_after_begin_with m t (locals_at m.client.stage)
 
--- the object came
+-- once the object came
 abbrev pub mind_after_object : ClientModel → HeldState → ClientModel
 mind_after_object m x = comes_to m (take_object (settings_of m) m.ticket (reserved_by m) m.client x m.client.stage)
 
--- an empty chunk for h came
+-- once an empty chunk for h came
 abbrev pub mind_after_chunk : ClientModel → ℕ → ClientModel
 mind_after_chunk m h = comes_to m (take_chunk (settings_of m) m.ticket (reserved_by m) m.client h m.client.stage)
 
@@ -128,7 +131,7 @@ is_between (full h rest) = false
 is_between (awaits h rest) = false
 is_between (leaves h hs l) = false
 
--- the blocks that have ended: the last End of each was sent
+-- how many blocks have ended: the last End of each was sent
 abbrev pub blocks_ended : Client → ℕ
 blocks_ended m = if is_between m.stage then m.begun else m.begun - 1
 

@@ -1,4 +1,4 @@
--- A client's mind as it is kept, and as the acts are defined on it; what holds of every mind.
+-- The data that a mind keeps, the model that they stand for, and what holds of every mind.
 use Rattle.std.specs.Prelude.{◌≡◌, ◌<◌, ◌≤◌, ℕ, ◌+◌, ◌*◌, List, length, true}
 use Rattle.qs_objects.specs.declared.held.Ticket.{Ticket}
 use Rattle.qs_program.specs.Values.{Locals}
@@ -14,7 +14,7 @@ use Rattle.qs_client_run.specs.declared.stage.Outgoing.{Outgoing}
 use Rattle.qs_client.specs.ClientModel.{ClientModel, is_between}
 
 -- the code and the chunks' size; the ticket of the block that was begun last, and where the client stands in it; the variables at entry of
--- the blocks that were begun; the Syncs that were sent, all and for each block and each object of its list; and what the last act carried
+-- the blocks that were begun; the Syncs that were sent, all and for each block and each object of its list; and what the last act gave out
 pub record MindState : Type 0 where
   pub code : ClientCode
   pub size : ℕ
@@ -36,7 +36,7 @@ settings_in m = record { dynamic = m.code.dynamic; size = m.size }
 abbrev pub client_in : MindState → Client
 client_in m = client_of (block_of m).graph (block_of m).reserved (length m.entries) m.run
 
--- a mind as its acts are defined
+-- the model that the data stand for
 unfoldable pub mind_of : MindState → ClientModel
 mind_of m = record {
   code = m.code;

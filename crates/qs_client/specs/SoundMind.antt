@@ -1,4 +1,4 @@
--- What holds of a client's mind as it is kept.
+-- The invariant of a mind: what holds of its data whenever it is whole.
 use Rattle.std.specs.Prelude.{◌≡◌, ◌<◌, ◌≤◌, ℕ, suc, ◌+◌, ◌*◌, [], length, slice_index_or}
 use Rattle.qs_graph.specs.Steps.{limit}
 use Rattle.qs_sync_counts.specs.SyncRows.{AreFew}

@@ -1,4 +1,4 @@
-//! A client's mind.
+//! A client's mind: what its run keeps, with its code, its tickets and its counts.
 
 ghost use Rattle.std.specs.Prelude.{◌≡◌, ◌<◌, ℕ, [], IfOk, IsErr, length, option_copied, slice_index_or};
 ghost use Rattle.qs_chunk.specs.Batch.{batch};
@@ -139,7 +139,7 @@ impl Mind {
         let _ = &self.code;
     }
 
-    // What is left to be done for the last act, once it was done.
+    // The last act was sent: what is left to be done for it is done.
     fn finish(&mut self)
         ensures done { mind_of self.new ≡ finish (mind_of self.old) }
     {

@@ -1,4 +1,6 @@
--- The next act of a client's data is the client's.
+-- The act that `Run::act` answers is the one that `act_of` defines, and what stays behind is the client without what the act carries
+-- (`HasActed`). The contract of `act` needs it at each stage. The idea: at each stage the code looks at the holdings of one handler, so a case
+-- for the object, for the open chunk and for neither suffices; that the walk's tree is the one that the client has comes from `walk_up`.
 use Rattle.std.proofs.Common.{◌≡◌, ℕ, zero, suc, ◌<◌, ◌≤◌, false, Option, Some, None, List, length, get_or, refl, sym, ap, ◌∙◌, subst, arith}
 use Rattle.std.proofs.lemmas.List.{get_or-set_same}
 use Rattle.qs_objects.specs.Journals.{HeldState}
@@ -24,11 +26,11 @@ use Rattle.qs_client_run.specs.declared.act.Act.{Act}
 use Rattle.qs_client_run.specs.declared.act.Act.TheVariants.{Send, NeedChunk}
 use Rattle.qs_client_run.specs.RunState.{RunState}
 use Rattle.qs_client_run.proofs.StepRefinement.{IsAmongEight, among_eight, sized_of}
-use Rattle.qs_client_run.proofs.ClearedLanes.{clears_sized, calls_sized, gave_cleared, full_sized, gave_full, away_at_call, away_at_sync, cleared_running, cleared_over, emptied}
+use Rattle.qs_client_run.proofs.ClearedLanes.{clears_sized, calls_sized, without_cleared, full_sized, without_full, away_at_call, away_at_sync, cleared_running, cleared_over, emptied}
 use Rattle.qs_client_run.specs.Client as clients
 use Rattle.qs_client_run.specs.declared.stage.Stage.TheVariants as stages
 
--- what is handed out leaves nothing else to be known
+-- what is known of what is outgoing, at a node, at the end, and with a full chunk
 gone_at_node : (g : List places.Place) (s : RunState) (h : ℕ) (x : Option HeldState) (c : Option (Batch Request)) (other : Act)
     → IsOutgoingAt g (outgoing_of other) s stages.Runs → IsOutgoingAt g (outgoing_of (clear_by h x c other)) s stages.Runs
 gone_at_node g s h (Some x) c other w = tt
@@ -69,7 +71,7 @@ module _ (b : BlockCode) (settings : Settings) (blocks k begun most : ℕ) where
             act
             ∙ sym (λ i. act_at settings blocks (client_of b.graph b.reserved begun s) (stage_by (stands i) b.reserved (tree i) s.position.locals));
         rest =
-            gave_cleared begun (stage_by s.stage b.reserved (walk b.graph limit s.position) s.position.locals) s.holdings h other
+            without_cleared begun (stage_by s.stage b.reserved (walk b.graph limit s.position) s.position.locals) s.holdings h other
             (same _) (omega (arith, eight, w.held)) (omega (arith, eight, w.chunks)) x c refl refl;
         position = refl;
         traces = refl;
@@ -122,7 +124,7 @@ module _ (b : BlockCode) (settings : Settings) (blocks k begun most : ℕ) where
         act =
             full_sized settings h c (w.in_block.opened h).0
             ∙ sym (λ i. act_at settings blocks (client_of b.graph b.reserved begun s) (stage_by (stands i) b.reserved (walk b.graph limit s.position) s.position.locals));
-        rest = gave_full begun (stage_by s.stage b.reserved (walk b.graph limit s.position) s.position.locals) s.holdings h room c refl;
+        rest = without_full begun (stage_by s.stage b.reserved (walk b.graph limit s.position) s.position.locals) s.holdings h room c refl;
         position = refl;
         traces = refl;
         stage = refl;
@@ -146,7 +148,7 @@ module _ (b : BlockCode) (settings : Settings) (blocks k begun most : ℕ) where
             clears_sized settings h x c (Send h parcels.End) (sized_of settings.size c (w.opened h))
             ∙ sym (λ j. act_at settings blocks (client_of b.graph b.reserved begun s) (stage_by (stands j) b.reserved (walk b.graph limit s.position) s.position.locals));
         rest =
-            gave_cleared begun (stage_by s.stage b.reserved (walk b.graph limit s.position) s.position.locals) s.holdings h (Send h parcels.End)
+            without_cleared begun (stage_by s.stage b.reserved (walk b.graph limit s.position) s.position.locals) s.holdings h (Send h parcels.End)
             refl (omega (arith, eight, w.held)) (omega (arith, eight, w.chunks)) x c refl refl;
         position = refl;
         traces = refl;

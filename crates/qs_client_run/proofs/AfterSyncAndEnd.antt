@@ -1,4 +1,6 @@
--- Once a wish for the object or the end of the block was sent.
+-- What `Run::await_object` and `Run::leave_next` do once a Sync or an End was sent is what the model's `after_sync` and `after_end` do. The
+-- contract of `after_send` needs it (`HasSent`). The idea: neither makes a quiet move, so the trace stays, and it only has to be shown
+-- that the new stage stands for the model's: the rest of the tree after the synchronisation, or the rest of the list of handlers.
 use Rattle.std.proofs.Common.{◌≡◌, ℕ, zero, suc, ◌+◌, ◌<◌, ◌≤◌, Bool, true, false, nat_lt, if◌then◌else◌, List, [], ◌∷◌, length, get_or, drop, refl, sym, ap, ◌∙◌, subst, arith, append-nil, add-one, drop-cons}
 use Rattle.std.proofs.lemmas.List.{drop_all}
 use Rattle.std.proofs.lemmas.Bool.{ltb-true, ltb-false}
@@ -19,7 +21,7 @@ use Rattle.qs_client_run.specs.BetweenActs.{IsStanding, IsSyncing, HasSent, awai
 use Rattle.qs_client_run.specs.RunState.{RunState}
 use Rattle.qs_client_run.specs.declared.run.BlockContext.{BlockContext}
 use Rattle.qs_client_run.specs.declared.stage.Stage.{Stage}
-use Rattle.qs_client_run.proofs.StepRefinement.{Ready, ready, keeps_rows, counts_kept}
+use Rattle.qs_client_run.proofs.StepRefinement.{IsBeforeMove, ready, keeps_rows, counts_kept}
 use Rattle.qs_client_run.proofs.InBlock.{moved_in_block}
 use Rattle.qs_client_run.specs.Client as clients
 use Rattle.qs_client_run.specs.declared.stage.Outgoing.TheVariants as outgoings
@@ -32,7 +34,7 @@ module _ (b : BlockCode) (settings : Settings) (ticket : Ticket) (begun : ℕ) w
   abbrev tr : RunState → List Event
   tr s = (trace_at s.traces ticket.index).events
 
-  awaits_by : (o n most : ℕ) (s : RunState) (m : Move) → suc n ≤ most → Ready b.graph settings context b.reserved begun (between []) n s m → IsSyncing m
+  awaits_by : (o n most : ℕ) (s : RunState) (m : Move) → suc n ≤ most → IsBeforeMove b.graph settings context b.reserved begun (between []) n s m → IsSyncing m
       → HasSent b settings ticket begun most (outgoings.Sync o) s (await_by m s)
   awaits_by o n most s (Goes t) few w loud = absurd loud
   awaits_by o n most s Ends few w loud = absurd loud
@@ -65,7 +67,7 @@ module _ (b : BlockCode) (settings : Settings) (ticket : Ticket) (begun : ℕ) w
   awaits_sent o (suc n) most s few ok stands w loud =
       awaits_by o n most s (move b.graph s.position) few (ready b.graph settings context b.reserved begun (between []) n s ok refl stands w) loud
 
-  -- a client that stands here
+  -- a run that keeps these
   abbrev at : Spot → HoldingsState → List TraceState → Stage → RunState
   at position holdings traces stage = record { position = position; holdings = holdings; traces = traces; stage = stage }
 

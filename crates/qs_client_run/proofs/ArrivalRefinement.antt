@@ -1,4 +1,7 @@
--- What came to a client that waited for it.
+-- What `Run::take_object` and `Run::take_chunk` do is what the model does as an object or an empty chunk comes (`HasGot`, `HasTaken`), and the
+-- client then stood where it may come. The code finds the stage or the node in its data, while the caller knows only the client's next act;
+-- so it is shown first that an act that sends nothing names the stage: who awaits an object is at the stage `Awaits`, who needs a chunk
+-- is at a command, and who reserves is between blocks.
 use Rattle.std.proofs.Common.{◌≡◌, ℕ, zero, suc, ◌<◌, ◌≤◌, Bool, true, false, nat_lt, if◌then◌else◌, Option, Some, None, List, [], length, length-set, get_or, refl, sym, ap, ◌∙◌, subst, arith}
 use Rattle.std.proofs.lemmas.Bool.{ltb-true}
 use Rattle.qs_objects.specs.Journals.{HeldState}
@@ -83,9 +86,9 @@ node_inside g zero s w = absurd w
 node_inside g (suc n) s w = w.0
 
 -- a call's request is the node's
-pub called_here : (g : List places.Place) (s : RunState) (h : ℕ) (call : calls.Call) → (places.place_at g s.position.node).node ≡ nodes.Call call → IsAtCall g s h
+pub call_here : (g : List places.Place) (s : RunState) (h : ℕ) (call : calls.Call) → (places.place_at g s.position.node).node ≡ nodes.Call call → IsAtCall g s h
     → call.object ≡ h
-called_here g s h call is w =
+call_here g s h call is w =
     let same : Calls (request_of s.position.locals call) (at_node s.position (places.first_target (places.place_at g s.position.node))) ≡ Calls w.request w.to =
     sym (moves g s.position (nodes.Call call) is) ∙ w.is in
     let request : request_of s.position.locals call ≡ w.request = cc in
@@ -187,27 +190,27 @@ module _ (b : BlockCode) (settings : Settings) (ticket : Ticket) (blocks begun m
   reserves_here w =
       let at = reserves_at s.stage (quiet_at acts.Reserve s.stage tt refl w.standing w.act) in (at.0, ltb-true begun blocks at.1)
 
-  -- between blocks nothing is handed out
+  -- between blocks nothing is outgoing
   pub nothing_between : (given : Act) → s.stage ≡ stages.Between → given ≡ act_of settings blocks c → outgoing_of given ≡ outgoings.Nothing
   nothing_between given stands e =
       ap outgoing_of e
       ∙ (λ i. outgoing_of (act_at settings blocks c (stage_by (stands i) b.reserved (walk b.graph limit s.position) s.position.locals)))
       ∙ between_leaves (nat_lt begun blocks)
 
-  -- with the object
-  pub held_running : (n h : ℕ) (x : HeldState) → IsAwaiting b.graph settings.size ticket.index n h s
+  -- with the object that came
+  pub object_running : (n h : ℕ) (x : HeldState) → IsAwaiting b.graph settings.size ticket.index n h s
       → IsRunning b.graph settings.size ticket.index n (with_holdings s (with_held s.holdings h (Some x)))
-  held_running n h x w =
+  object_running n h x w =
       let room : h < length s.holdings.held = omega (arith, w.handler, w.in_block.held) in
       let new = with_held s.holdings h (Some x) in
       held_in_block b.graph ticket.index (put (holding s.holdings) h true) (holding new) (λ h c. IsOpen settings.size c) (λ h c. IsOpen settings.size c) s s.stage n new w.in_block
       (subst (λ f. IsSoundSynced f (walk b.graph n s.position)) (sym (holding_put s.holdings h (Some x) room)) w.in_block.sound)
       (length-set s.holdings.held h (Some x) ∙ w.in_block.held) w.in_block.chunks w.in_block.opened
 
-  pub got_comes : (n h : ℕ) (x : HeldState) (new : RunState) → s.stage ≡ stages.Awaits h → n ≤ most → IsAwaiting b.graph settings.size ticket.index n h s
+  pub object_comes : (n h : ℕ) (x : HeldState) (new : RunState) → s.stage ≡ stages.Awaits h → n ≤ most → IsAwaiting b.graph settings.size ticket.index n h s
       → HasSettled b.graph settings ticket b.reserved begun (stage_of b.graph b.reserved s) n (with_holdings s (with_held s.holdings h (Some x))) new
       → HasGot b settings ticket begun most x s new
-  got_comes n h x new stands few w done = record {
+  object_comes n h x new stands few w done = record {
     standing = standing_of b settings.size ticket.index n most new new.stage few done.stopped;
     rows = done.rows;
     counts = done.counts;
@@ -222,20 +225,20 @@ module _ (b : BlockCode) (settings : Settings) (ticket : Ticket) (blocks begun m
         ∙ done.same;
   }
 
-  -- with an empty chunk
-  pub filled_running : (n h : ℕ) → h < most_handlers → 0 < settings.size → IsRunning b.graph settings.size ticket.index n s
+  -- with the empty chunk that came
+  pub chunk_running : (n h : ℕ) → h < most_handlers → 0 < settings.size → IsRunning b.graph settings.size ticket.index n s
       → IsRunning b.graph settings.size ticket.index n (with_holdings s (with_chunk s.holdings h (Some (batch [] settings.size))))
-  filled_running n h eight some w =
+  chunk_running n h eight some w =
       let chunk = Some (batch [] settings.size) in
       held_in_block b.graph ticket.index (holding s.holdings) (holding s.holdings) (λ h c. IsOpen settings.size c) (λ h c. IsOpen settings.size c) s s.stage n (with_chunk s.holdings h chunk) w
       w.sound w.held (length-set s.holdings.chunks h chunk ∙ w.chunks)
       (chunk_each (λ j x. IsOpen settings.size x) s.holdings h chunk (omega (arith, eight, w.chunks)) (refl, omega (arith, some)) (λ j other. w.opened j))
 
-  pub taken_comes : (n h : ℕ) (new : RunState) → s.stage ≡ stages.Runs → n ≤ most → h < most_handlers → IsRunning b.graph settings.size ticket.index n s
+  pub chunk_comes : (n h : ℕ) (new : RunState) → s.stage ≡ stages.Runs → n ≤ most → h < most_handlers → IsRunning b.graph settings.size ticket.index n s
       → HasSettled b.graph settings ticket b.reserved begun (stage_of b.graph b.reserved s) n
       (with_holdings s (with_chunk s.holdings h (Some (batch [] settings.size)))) new
       → HasTaken b settings ticket begun most h s new
-  taken_comes n h new stands few eight w done = record {
+  chunk_comes n h new stands few eight w done = record {
     standing = standing_of b settings.size ticket.index n most new new.stage few done.stopped;
     rows = done.rows;
     counts = done.counts;

@@ -1,4 +1,6 @@
--- One quiet move, by what was found and done.
+-- The quiet moves at a command and at a query, put together from what the code found and did. `Run::call` and `Run::query` take the chunk or
+-- the object out, change it and put it back; these lemmas say that the values which are kept then are those of `call` and `query` in
+-- `Running.antt`. The idea: each is a chain of equal records, one for each thing that the code looked up.
 use Rattle.std.proofs.Common.{◌≡◌, ℕ, ◌==◌, Bool, true, false, IsSome, if◌then◌else◌, is_some, [], ◌∷◌, ◌++◌, length, Option, Some, None, ℤ, refl, sym, ◌∙◌}
 use Rattle.qs_objects.specs.Journals.{HeldState, ran}
 use Rattle.qs_objects.specs.Parts.{logged}
@@ -18,13 +20,13 @@ none_of None e = refl
 none_of (Some x) e = cc
 
 module _ (k : ℕ) (r : Request) (t : Spot) (s : RunState) where
-  pub called_fills : (b more : Batch Request) (full : Bool) (holdings : HoldingsState)
+  pub call_fills : (b more : Batch Request) (full : Bool) (holdings : HoldingsState)
       → held_at s.holdings r.object ≡ None → chunk_at s.holdings r.object ≡ Some b
       → more ≡ batch (b.items ++ r ∷ []) b.capacity → full ≡ (length more.items == more.capacity)
       → holdings ≡ with_chunk s.holdings r.object (Some more)
       → ◌≡◌ {A = RunState} (record { position = t; holdings = holdings; traces = noted_at s.traces k (logged r); stage = if full then stages.Full r.object else s.stage })
       (call k r t s).0
-  called_fills b more full holdings none found filled is_full put =
+  call_fills b more full holdings none found filled is_full put =
       (λ i. record {
         position = t;
         holdings = put i;
@@ -39,10 +41,10 @@ module _ (k : ℕ) (r : Request) (t : Spot) (s : RunState) where
       })
       ∙ (λ i. (call_by k r t s (sym none i) (sym found i)).0)
 
-pub asked_runs : (u : Ticket) (r : Request) (t : ℤ → Spot) (s : RunState) (x y : HeldState) (v : Option ℤ) (holdings : HoldingsState)
+pub query_runs : (u : Ticket) (r : Request) (t : ℤ → Spot) (s : RunState) (x y : HeldState) (v : Option ℤ) (holdings : HoldingsState)
     → held_at s.holdings r.object ≡ Some x → (y, v) ≡ ran x u r → holdings ≡ with_held s.holdings r.object (Some y)
     → ◌≡◌ {A = RunState} (record { position = t (value_of v); holdings = holdings; traces = noted_at s.traces u.index (event r v); stage = s.stage }) (query u r t s).0
-asked_runs u r t s x y v holdings found done put =
+query_runs u r t s x y v holdings found done put =
     (λ i. record {
       position = t (value_of v);
       holdings = put i;
@@ -62,5 +64,5 @@ by_held u r t s None h = cc
 by_held u r t s (Some x) h = refl
 
 -- after a query the client goes on
-pub asked_on : (u : Ticket) (r : Request) (t : ℤ → Spot) (s : RunState) → IsSome (held_at s.holdings r.object) → (query u r t s).1 ≡ true
-asked_on u r t s h = by_held u r t s (held_at s.holdings r.object) h
+pub query_goes_on : (u : Ticket) (r : Request) (t : ℤ → Spot) (s : RunState) → IsSome (held_at s.holdings r.object) → (query u r t s).1 ≡ true
+query_goes_on u r t s h = by_held u r t s (held_at s.holdings r.object) h

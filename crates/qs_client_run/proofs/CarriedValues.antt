@@ -1,4 +1,6 @@
--- Why what an act carries is the client's own, and what it leaves behind is the rest.
+-- The laws `sends_are_parted` and `acts_lose_nothing`: what a client does once a parcel was sent does not need what the parcel carried, and with
+-- what an act carries the client is as it was. The mind keeps only what is left to be done, and gives the object or the chunk away, so the
+-- layers above need both laws to say that nothing was lost. The idea: a case for each stage and for what is held.
 use Rattle.std.proofs.Common.{◌≡◌, ℕ, Bool, true, false, nat_lt, if◌then◌else◌, List, Option, Some, None, refl, ap, ◌∙◌}
 use Rattle.qs_objects.specs.Journals.{HeldState}
 use Rattle.qs_objects.specs.declared.held.Ticket.{Ticket}

@@ -1,4 +1,6 @@
--- What a client hands out, and what it has left.
+-- What goes to a handler before anything else: the code's `clear` and `send_full` are the model's `clear`, given that an open chunk has the
+-- size of all chunks; and what is kept after them is the client without what went, of which all still holds that held before. The proofs
+-- of the acts stand on it. The idea: a case for the object, for the chunk, and for neither.
 use Rattle.std.proofs.Common.{◌≡◌, ℕ, ◌<◌, ◌==◌, Bool, true, false, Option, Some, None, List, length, length-set, refl, sym, ap, ◌∙◌, subst, arith}
 use Rattle.qs_objects.specs.Journals.{HeldState}
 use Rattle.qs_objects.specs.declared.Request.{Request}
@@ -39,20 +41,20 @@ pub full_sized : (settings : Settings) (h : ℕ) (c : Option (Batch Request)) �
 full_sized settings h (Some b) w = ap (λ n. Send h (parcels.Work (batch b.items n))) w
 full_sized settings h None w = refl
 
--- what an act leaves, by what it is
-pub gave_cleared : (begun : ℕ) (p : ClientStage) (s : HoldingsState) (h : ℕ) (other : Act) → without_act (client_with begun p s) other ≡ client_with begun p s
+-- what is kept after an act, by what the act is
+pub without_cleared : (begun : ℕ) (p : ClientStage) (s : HoldingsState) (h : ℕ) (other : Act) → without_act (client_with begun p s) other ≡ client_with begun p s
     → h < length s.held → h < length s.chunks → (x : Option HeldState) (c : Option (Batch Request)) → held_at s h ≡ x → chunk_at s h ≡ c
     → client_with begun p (without_by s h x) ≡ without_act (client_with begun p s) (clear_by h x c other)
-gave_cleared begun p s h other same inside room (Some x) c e f =
+without_cleared begun p s h other same inside room (Some x) c e f =
     λ i. record { begun = begun; stage = p; held = held_put s h None inside i; chunk = λ n. items_of (chunk_at s n) }
-gave_cleared begun p s h other same inside room None (Some b) e f =
+without_cleared begun p s h other same inside room None (Some b) e f =
     λ i. record {
       begun = begun;
       stage = p;
       held = (held_put s h None inside ∙ put_same (held_at s) h None e) i;
       chunk = items_put (with_held s h None) h None room i;
     }
-gave_cleared begun p s h other same inside room None None e f =
+without_cleared begun p s h other same inside room None None e f =
     (λ i. record {
       begun = begun;
       stage = p;
@@ -61,11 +63,11 @@ gave_cleared begun p s h other same inside room None None e f =
     })
     ∙ sym same
 
-pub gave_full : (begun : ℕ) (p : ClientStage) (s : HoldingsState) (h : ℕ) → h < length s.chunks → (c : Option (Batch Request)) → chunk_at s h ≡ c
+pub without_full : (begun : ℕ) (p : ClientStage) (s : HoldingsState) (h : ℕ) → h < length s.chunks → (c : Option (Batch Request)) → chunk_at s h ≡ c
     → client_with begun p (with_chunk s h None) ≡ without_act (client_with begun p s) (send_full h c)
-gave_full begun p s h room (Some b) f =
+without_full begun p s h room (Some b) f =
     λ i. record { begun = begun; stage = p; held = held_at s; chunk = items_put s h None room i }
-gave_full begun p s h room None f =
+without_full begun p s h room None f =
     λ i. record {
       begun = begun;
       stage = p;

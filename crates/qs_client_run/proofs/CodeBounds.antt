@@ -1,4 +1,5 @@
--- What a client relies on in its code: few blocks, handlers among 8, and room for all requests.
+-- What a client relies on in its code: a block reserves at most 8 handlers, each among the 8, a client has few blocks, and no graph is longer
+-- than the longest. The code needs it for its indexes and its room. The idea: a code is that of a sound program (`IsCode`), whose checks say it.
 use Rattle.std.proofs.Common.{◌≡◌, inl, inr, ℕ, zero, suc, ◌<◌, ◌≤◌, true, false, ◌==◌, ◌||◌, List, [], ◌∷◌, length, get_or, sym, ap, ◌∙◌, subst, arith, ⊎_elim}
 use Rattle.std.proofs.lemmas.Bool.{cases_lt}
 use Rattle.std.proofs.lemmas.List.{get_or_past}

@@ -1,4 +1,6 @@
--- Lists of eight places as functions of the handlers' numbers.
+-- Holdings are lists of eight places in the data, and functions of the handlers' numbers in the model. That writing into the list is `put` into
+-- the function is needed wherever the data are shown to be the model's. The idea: two functions are equal where their values are, and a
+-- handler is the one that was written to or another.
 use Rattle.std.proofs.Common.{◌≡◌, ℕ, ◌<◌, Bool, true, false, ◌==◌, List, Option, None, is_some, length, get_or, set, refl, sym, ap, ◌∙◌, subst, ⊎_elim, if◌then◌else◌}
 use Rattle.std.proofs.Math.Path.{fun_ext}
 use Rattle.std.proofs.lemmas.List.{get_or-set_same, get_or-set_other}

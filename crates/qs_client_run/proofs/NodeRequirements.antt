@@ -1,4 +1,6 @@
--- What a client in a block relies on at its node.
+-- What `Run::call` and `Run::query` require where the client comes to them: room in the trace, and for a query the object in the client's
+-- holdings. So a query needs no wait once the client has come to it: the walk's tree is sound, as a synchronisation or an earlier one
+-- stands before each query. The idea: `IsInBlock` says it of the whole tree, whose first node this is.
 use Rattle.std.proofs.Common.{◌≡◌, ℕ, zero, suc, ◌<◌, List, ℤ, IsSome, is_some, arith, subst}
 use Rattle.qs_objects.specs.declared.Request.{Request}
 use Rattle.qs_graph.specs.Nodes.{Place}

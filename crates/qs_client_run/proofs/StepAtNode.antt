@@ -1,4 +1,5 @@
--- The move of a walk and the quiet move of a client, by what the node is.
+-- The quiet move of a client by the kind of its node. `Run::step` matches on the node, while the definition goes by the walk's move; each arm of
+-- the code needs that the two are one. The idea: a move is a function of the node that is found, and of the nodes to which it leads.
 use Rattle.std.proofs.Common.{◌≡◌, ℕ, List, refl, ap, sym, ◌∙◌}
 use Rattle.qs_graph.specs.declared.node.Node.{Node}
 use Rattle.qs_graph.specs.Nodes.{Place, place_at, first_target, second_target}
@@ -15,20 +16,20 @@ unfolding move
 moves g s v e = ap (λ (w : Node). move_by w s (first_target (place_at g s.node)) (second_target (place_at g s.node))) e
 
 -- n is the client's node, next and other are where it leads
-pub moved_at : (g : List Place) (context : BlockContext) (reserved : List ℕ) (s : RunState) (n next other : ℕ) (v : Node)
+pub step_at : (g : List Place) (context : BlockContext) (reserved : List ℕ) (s : RunState) (n next other : ℕ) (v : Node)
     → n ≡ s.position.node → next ≡ first_target (place_at g n) → other ≡ second_target (place_at g n) → (place_at g n).node ≡ v
     → step_by context reserved (move_by v s.position next other) s ≡ step g context reserved s
-moved_at g context reserved s n next other v at first second is =
+step_at g context reserved s n next other v at first second is =
     (λ i. step_by context reserved (move_by v s.position (first i) (second i)) s)
     ∙ (λ i. step_by context reserved (move_by v s.position (first_target (place_at g (at i))) (second_target (place_at g (at i)))) s)
     ∙ ap (λ (m : Move). step_by context reserved m s) (sym (moves g s.position v (ap (λ m. (place_at g m).node) (sym at) ∙ is)))
 
 -- at no synchronisation there is nothing to wait for
-pub not_synced : (v : Node) (s : RunState) (a b : ℕ) → ((x : ℕ) → v ≡ nodes.Sync x → ⊥) → await_by (move_by v s.position a b) s ≡ s
-not_synced nodes.Entry s a b h = refl
-not_synced (nodes.Local x) s a b h = refl
-not_synced (nodes.Branch x) s a b h = refl
-not_synced (nodes.Sync x) s a b h = absurd (h x refl)
-not_synced (nodes.Query x c) s a b h = refl
-not_synced (nodes.Call c) s a b h = refl
-not_synced nodes.Exit s a b h = refl
+pub no_sync : (v : Node) (s : RunState) (a b : ℕ) → ((x : ℕ) → v ≡ nodes.Sync x → ⊥) → await_by (move_by v s.position a b) s ≡ s
+no_sync nodes.Entry s a b h = refl
+no_sync (nodes.Local x) s a b h = refl
+no_sync (nodes.Branch x) s a b h = refl
+no_sync (nodes.Sync x) s a b h = absurd (h x refl)
+no_sync (nodes.Query x c) s a b h = refl
+no_sync (nodes.Call c) s a b h = refl
+no_sync nodes.Exit s a b h = refl

@@ -1,4 +1,7 @@
--- A quiet move of the data is what the client does, and keeps what it relies on.
+-- Quiet work of the data is quiet work of the client. The contracts of `settle` and of all that resumes need it (`HasSettled`).
+-- The idea: one step either goes on, and then what remains of the block's tree makes the same of the client and its trace, or it stops, and
+-- then nothing remains to be done (`IsAfterStep`); each kind of move is a case, and what holds within a block is kept by each (`IsInBlock`).
+-- The loop of `settle` joins steps by `goes_on` and `stops`, and ends since each step is a node nearer to the block's end.
 use Rattle.std.proofs.Common.{◌≡◌, ℕ, zero, suc, ◌+◌, ◌<◌, ◌≤◌, Bool, true, false, not, ◌==◌, ◌&&◌, if◌then◌else◌, List, [], ◌∷◌, ◌++◌, ℤ, Option, Some, None, is_some, length, get_or, refl, sym, ap, ◌∙◌, subst, arith, append-nil, append_assoc, ⊎_elim, length-append, length-set}
 use Rattle.std.proofs.lemmas.List.{get_or-set_same, get_or-set_other}
 use Rattle.qs_objects.specs.Journals.{HeldState, ran}
@@ -114,57 +117,57 @@ keeps_noted k ts e = record {
   others = λ j other. get_or-set_other ts k j (noted (trace_at ts k) e) (trace_state [] 0) (λ same. apart_eqb k j other (sym same));
 }
 
-called_rows : (k : ℕ) (r : Request) (t : Spot) (s : RunState) (x : Option HeldState) (b : Option (Batch Request)) → KeepsRows k s.traces (call_by k r t s x b).0.traces
-called_rows k r t s (Some x) b = keeps_rows k s.traces
-called_rows k r t s None None = keeps_rows k s.traces
-called_rows k r t s None (Some b) = keeps_noted k s.traces (logged r)
+call_rows : (k : ℕ) (r : Request) (t : Spot) (s : RunState) (x : Option HeldState) (b : Option (Batch Request)) → KeepsRows k s.traces (call_by k r t s x b).0.traces
+call_rows k r t s (Some x) b = keeps_rows k s.traces
+call_rows k r t s None None = keeps_rows k s.traces
+call_rows k r t s None (Some b) = keeps_noted k s.traces (logged r)
 
-asked_rows : (u : Ticket) (r : Request) (t : ℤ → Spot) (s : RunState) (x : Option HeldState) → KeepsRows u.index s.traces (query_by u r t s x).0.traces
-asked_rows u r t s None = keeps_rows u.index s.traces
-asked_rows u r t s (Some x) = keeps_noted u.index s.traces (event r (ran x u r).1)
+query_rows : (u : Ticket) (r : Request) (t : ℤ → Spot) (s : RunState) (x : Option HeldState) → KeepsRows u.index s.traces (query_by u r t s x).0.traces
+query_rows u r t s None = keeps_rows u.index s.traces
+query_rows u r t s (Some x) = keeps_noted u.index s.traces (event r (ran x u r).1)
 
-synced_rows : (k : ℕ) (b : Bool) (s : RunState) (t : Spot) → KeepsRows k s.traces (let z : RunState × Bool = if b then (go_to s t, true) else (s, false) in z).0.traces
-synced_rows k true s t = keeps_rows k s.traces
-synced_rows k false s t = keeps_rows k s.traces
+sync_rows : (k : ℕ) (b : Bool) (s : RunState) (t : Spot) → KeepsRows k s.traces (let z : RunState × Bool = if b then (go_to s t, true) else (s, false) in z).0.traces
+sync_rows k true s t = keeps_rows k s.traces
+sync_rows k false s t = keeps_rows k s.traces
 
-called_counts : (m k : ℕ) (r : Request) (t : Spot) (s : RunState) (x : Option HeldState) (b : Option (Batch Request)) → length s.position.counts ≡ m → length t.counts ≡ m
+call_counts : (m k : ℕ) (r : Request) (t : Spot) (s : RunState) (x : Option HeldState) (b : Option (Batch Request)) → length s.position.counts ≡ m → length t.counts ≡ m
     → length (call_by k r t s x b).0.position.counts ≡ m
-called_counts m k r t s (Some x) b h w = h
-called_counts m k r t s None None h w = h
-called_counts m k r t s None (Some b) h w = w
+call_counts m k r t s (Some x) b h w = h
+call_counts m k r t s None None h w = h
+call_counts m k r t s None (Some b) h w = w
 
-asked_counts : (m : ℕ) (u : Ticket) (r : Request) (t : ℤ → Spot) (s : RunState) (x : Option HeldState) → length s.position.counts ≡ m → ((v : ℤ) → length (t v).counts ≡ m)
+query_counts : (m : ℕ) (u : Ticket) (r : Request) (t : ℤ → Spot) (s : RunState) (x : Option HeldState) → length s.position.counts ≡ m → ((v : ℤ) → length (t v).counts ≡ m)
     → length (query_by u r t s x).0.position.counts ≡ m
-asked_counts m u r t s None h w = h
-asked_counts m u r t s (Some x) h w = w (value_of (ran x u r).1)
+query_counts m u r t s None h w = h
+query_counts m u r t s (Some x) h w = w (value_of (ran x u r).1)
 
-synced_counts : (m : ℕ) (b : Bool) (s : RunState) (t : Spot) → length s.position.counts ≡ m → length t.counts ≡ m
+sync_counts : (m : ℕ) (b : Bool) (s : RunState) (t : Spot) → length s.position.counts ≡ m → length t.counts ≡ m
     → length (let z : RunState × Bool = if b then (go_to s t, true) else (s, false) in z).0.position.counts ≡ m
-synced_counts m true s t h w = w
-synced_counts m false s t h w = h
+sync_counts m true s t h w = w
+sync_counts m false s t h w = h
 
-moved_counts : (context : BlockContext) (reserved : List ℕ) (m : ℕ) (x : Move) (s : RunState) → length s.position.counts ≡ m → EachNext (λ t. length t.counts ≡ m) x
+step_counts : (context : BlockContext) (reserved : List ℕ) (m : ℕ) (x : Move) (s : RunState) → length s.position.counts ≡ m → EachNext (λ t. length t.counts ≡ m) x
     → length (step_by context reserved x s).0.position.counts ≡ m
-moved_counts context reserved m Ends s h w = h
-moved_counts context reserved m (Goes t) s h w = w
-moved_counts context reserved m (Calls r t) s h w = called_counts m context.ticket.index r t s (held_at s.holdings r.object) (chunk_at s.holdings r.object) h w
-moved_counts context reserved m (Syncs o t) s h w = synced_counts m (context.dynamic && is_some (held_at s.holdings o)) s t h w
-moved_counts context reserved m (Queries r t) s h w = asked_counts m context.ticket r t s (held_at s.holdings r.object) h w
+step_counts context reserved m Ends s h w = h
+step_counts context reserved m (Goes t) s h w = w
+step_counts context reserved m (Calls r t) s h w = call_counts m context.ticket.index r t s (held_at s.holdings r.object) (chunk_at s.holdings r.object) h w
+step_counts context reserved m (Syncs o t) s h w = sync_counts m (context.dynamic && is_some (held_at s.holdings o)) s t h w
+step_counts context reserved m (Queries r t) s h w = query_counts m context.ticket r t s (held_at s.holdings r.object) h w
 
 all_counts : (g : List Place) (context : BlockContext) (reserved : List ℕ) (s : RunState) → length (step g context reserved s).0.position.counts ≡ length s.position.counts
-all_counts g context reserved s = moved_counts context reserved (length s.position.counts) (move g s.position) s refl (counts_kept g s.position)
+all_counts g context reserved s = step_counts context reserved (length s.position.counts) (move g s.position) s refl (counts_kept g s.position)
 
 rows_by : (context : BlockContext) (reserved : List ℕ) (m : Move) (s : RunState) → KeepsRows context.ticket.index s.traces (step_by context reserved m s).0.traces
 rows_by context reserved Ends s = keeps_rows context.ticket.index s.traces
 rows_by context reserved (Goes t) s = keeps_rows context.ticket.index s.traces
-rows_by context reserved (Calls r t) s = called_rows context.ticket.index r t s (held_at s.holdings r.object) (chunk_at s.holdings r.object)
-rows_by context reserved (Syncs h t) s = synced_rows context.ticket.index (context.dynamic && is_some (held_at s.holdings h)) s t
-rows_by context reserved (Queries r t) s = asked_rows context.ticket r t s (held_at s.holdings r.object)
+rows_by context reserved (Calls r t) s = call_rows context.ticket.index r t s (held_at s.holdings r.object) (chunk_at s.holdings r.object)
+rows_by context reserved (Syncs h t) s = sync_rows context.ticket.index (context.dynamic && is_some (held_at s.holdings h)) s t
+rows_by context reserved (Queries r t) s = query_rows context.ticket r t s (held_at s.holdings r.object)
 
 rows_kept : (g : List Place) (context : BlockContext) (reserved : List ℕ) (s : RunState) → KeepsRows context.ticket.index s.traces (step g context reserved s).0.traces
 rows_kept g context reserved s = rows_by context reserved (move g s.position) s
 
--- within fewer nodes, within more
+-- who has stopped within fewer nodes has stopped within more
 pub stopped_up : (g : List Place) (reserved : List ℕ) (size k a b : ℕ) (s : RunState) (stage : Stage) → a ≤ b → IsStopped g reserved size k a s stage → IsStopped g reserved size k b s stage
 stopped_up g reserved size k a b s stages.Runs h w = (w.0, omega (arith, h, w.1), w.2, w.3)
 stopped_up g reserved size k a b s (stages.Full x) h w = (w.0, omega (arith, h, w.1), w.2)
@@ -173,13 +176,13 @@ stopped_up g reserved size k a b s (stages.Leaves i) h w = w
 stopped_up g reserved size k a b s stages.Between h w = w
 
 module _ (g : List Place) (settings : Settings) (context : BlockContext) (reserved : List ℕ) (begun : ℕ) (p : clients.ClientStage) where
-  -- what a quiet move leaves of the tree: it goes on, or the client has come to its next act
-  abbrev pub Leaves : ℕ → Synced → RunState → RunState × Bool → Type 0
-  Leaves n tree s (s', true) = IsRunning g settings.size context.ticket.index n s' × (s'.stage ≡ s.stage) × (progress_through settings context.ticket reserved begun p tree s ≡ progress_through settings context.ticket reserved begun p (walk g n s'.position) s')
-  Leaves n tree s (s', false) = IsStopped g reserved settings.size context.ticket.index (suc n) s' s'.stage × (progress_through settings context.ticket reserved begun p tree s ≡ progress_at g reserved begun context.ticket.index s')
+  -- what holds after a quiet move: the client goes on with the rest of the tree, or it has come to its next act
+  abbrev pub IsAfterStep : ℕ → Synced → RunState → RunState × Bool → Type 0
+  IsAfterStep n tree s (s', true) = IsRunning g settings.size context.ticket.index n s' × (s'.stage ≡ s.stage) × (progress_through settings context.ticket reserved begun p tree s ≡ progress_through settings context.ticket reserved begun p (walk g n s'.position) s')
+  IsAfterStep n tree s (s', false) = IsStopped g reserved settings.size context.ticket.index (suc n) s' s'.stage × (progress_through settings context.ticket reserved begun p tree s ≡ progress_at g reserved begun context.ticket.index s')
 
   -- what is known of a client before a move m, within n nodes after it
-  pub record Ready (n : ℕ) (s : RunState) (m : Move) : Type 0 where
+  pub record IsBeforeMove (n : ℕ) (s : RunState) (m : Move) : Type 0 where
     pub whole : IsRunning g settings.size context.ticket.index (suc n) s
     pub is : move g s.position ≡ m
     pub next : EachNext (Within g n) m
@@ -192,7 +195,7 @@ module _ (g : List Place) (settings : Settings) (context : BlockContext) (reserv
     pub dynamic : settings.dynamic ≡ context.dynamic
 
   -- the client stays, and its next act is the move's
-  pub stays_here : (n : ℕ) (s : RunState) (m : Move) → Ready n s m → IsLoud m
+  pub stays_here : (n : ℕ) (s : RunState) (m : Move) → IsBeforeMove n s m → IsLoud m
       → IsStopped g reserved settings.size context.ticket.index (suc n) s s.stage
       × (progress_after (trace_at s.traces context.ticket.index).events (stop_at (client_with begun p s.holdings) (runs (said (walk g n) s.position.locals m)))
       ≡ progress_at g reserved begun context.ticket.index s)
@@ -204,7 +207,7 @@ module _ (g : List Place) (settings : Settings) (context : BlockContext) (reserv
     },
   )
 
-  goes_case : (n : ℕ) (s : RunState) (t : Spot) → Ready n s (Goes t) → Leaves n (walk g n t) s (go_to s t, true)
+  goes_case : (n : ℕ) (s : RunState) (t : Spot) → IsBeforeMove n s (Goes t) → IsAfterStep n (walk g n t) s (go_to s t, true)
   goes_case n s t w = (
     moved_in_block g context.ticket.index (holding s.holdings) (holding s.holdings) (λ h c. IsOpen settings.size c) (λ h c. IsOpen settings.size c) s s.stage (suc n) n t w.whole
         (omega (arith, w.whole.few)) w.next w.counted w.sound w.fits,
@@ -212,7 +215,7 @@ module _ (g : List Place) (settings : Settings) (context : BlockContext) (reserv
     refl,
   )
 
-  ends_case : (n : ℕ) (s : RunState) → Ready n s Ends → Leaves n (Done s.position.locals) s (leave reserved s)
+  ends_case : (n : ℕ) (s : RunState) → IsBeforeMove n s Ends → IsAfterStep n (Done s.position.locals) s (leave reserved s)
   ends_case n s w = by_list reserved
     where
       by_list : (hs : List ℕ) → IsStopped g hs settings.size context.ticket.index (suc n) (leave hs s).0 (leave hs s).0.stage
@@ -220,7 +223,7 @@ module _ (g : List Place) (settings : Settings) (context : BlockContext) (reserv
       by_list [] = (record { held = w.whole.held; chunks = w.whole.chunks; opened = w.whole.opened }, λ i. record { client = client_with begun (clients.between s.position.locals) s.holdings; trace = append-nil (trace_at s.traces context.ticket.index).events i })
       by_list (h ∷ hs) = ((record { held = w.whole.held; chunks = w.whole.chunks; opened = w.whole.opened }, omega arith), λ i. record { client = client_with begun (clients.leaves h hs s.position.locals) s.holdings; trace = append-nil (trace_at s.traces context.ticket.index).events i })
 
-  syncs_case : (n : ℕ) (s : RunState) (h : ℕ) (t : Spot) → Ready n s (Syncs h t) → Leaves n (Sync h (walk g n t)) s (sync context.dynamic h t s)
+  syncs_case : (n : ℕ) (s : RunState) (h : ℕ) (t : Spot) → IsBeforeMove n s (Syncs h t) → IsAfterStep n (Sync h (walk g n t)) s (sync context.dynamic h t s)
   syncs_case n s h t w = by_test (context.dynamic && is_some (held_at s.holdings h)) refl
     where
       tr : List Event
@@ -230,7 +233,7 @@ module _ (g : List Place) (settings : Settings) (context : BlockContext) (reserv
       c = client_with begun p s.holdings
 
       by_test : (b : Bool) → (context.dynamic && is_some (held_at s.holdings h)) ≡ b
-          → Leaves n (Sync h (walk g n t)) s (if b then (go_to s t, true) else (s, false))
+          → IsAfterStep n (Sync h (walk g n t)) s (if b then (go_to s t, true) else (s, false))
       by_test true e = (
         moved_in_block g context.ticket.index (holding s.holdings) (holding s.holdings) (λ h c. IsOpen settings.size c) (λ h c. IsOpen settings.size c) s s.stage (suc n) n t w.whole
             (omega (arith, w.whole.few)) w.next w.counted
@@ -247,8 +250,8 @@ module _ (g : List Place) (settings : Settings) (context : BlockContext) (reserv
                 (ap (λ (d : Bool). d && is_some (held_at s.holdings h)) w.dynamic ∙ e) ∙ here.1,
           )
 
-  calls_case : (n : ℕ) (s : RunState) (r : Request) (t : Spot) → Ready n s (Calls r t) → Leaves n (Call r (walk g n t)) s (call context.ticket.index r t s)
-  calls_case n s r t w = by_hands (held_at s.holdings r.object) (chunk_at s.holdings r.object) refl refl
+  calls_case : (n : ℕ) (s : RunState) (r : Request) (t : Spot) → IsBeforeMove n s (Calls r t) → IsAfterStep n (Call r (walk g n t)) s (call context.ticket.index r t s)
+  calls_case n s r t w = by_holdings (held_at s.holdings r.object) (chunk_at s.holdings r.object) refl refl
     where
       k : ℕ
       k = context.ticket.index
@@ -265,13 +268,13 @@ module _ (g : List Place) (settings : Settings) (context : BlockContext) (reserv
       does : Option HeldState → Option (Batch Request) → Settlement
       does x b = clients.call settings context.ticket reserved c r (walk g n t) go x (items_of b)
 
-      by_hands : (x : Option HeldState) (b : Option (Batch Request)) → held_at s.holdings r.object ≡ x → chunk_at s.holdings r.object ≡ b
-          → Leaves n (Call r (walk g n t)) s (call_by k r t s x b)
-      by_hands (Some x) b e f =
+      by_holdings : (x : Option HeldState) (b : Option (Batch Request)) → held_at s.holdings r.object ≡ x → chunk_at s.holdings r.object ≡ b
+          → IsAfterStep n (Call r (walk g n t)) s (call_by k r t s x b)
+      by_holdings (Some x) b e f =
           let here = stays_here n s (Calls r t) w tt in (here.0, (λ i. progress_after tr (does (e i) (f i))) ∙ here.1)
-      by_hands None None e f =
+      by_holdings None None e f =
           let here = stays_here n s (Calls r t) w tt in (here.0, (λ i. progress_after tr (does (e i) (f i))) ∙ here.1)
-      by_hands None (Some b) e f = by_full (length items == b.capacity) refl
+      by_holdings None (Some b) e f = by_full (length items == b.capacity) refl
         where
           items : List Request
           items = b.items ++ r ∷ []
@@ -332,7 +335,7 @@ module _ (g : List Place) (settings : Settings) (context : BlockContext) (reserv
             opened = opened;
           }
 
-          by_full : (d : Bool) → (length items == b.capacity) ≡ d → Leaves n (Call r (walk g n t)) s (new d, not d)
+          by_full : (d : Bool) → (length items == b.capacity) ≡ d → IsAfterStep n (Call r (walk g n t)) s (new d, not d)
           by_full true i_full = (
             (
               n,
@@ -359,8 +362,8 @@ module _ (g : List Place) (settings : Settings) (context : BlockContext) (reserv
             begins false i_full,
           )
 
-  queries_case : (n : ℕ) (s : RunState) (r : Request) (t : ℤ → Spot) → Ready n s (Queries r t)
-      → Leaves n (Query r (λ v. walk g n (t v))) s (query context.ticket r t s)
+  queries_case : (n : ℕ) (s : RunState) (r : Request) (t : ℤ → Spot) → IsBeforeMove n s (Queries r t)
+      → IsAfterStep n (Query r (λ v. walk g n (t v))) s (query context.ticket r t s)
   queries_case n s r t w = by_held (held_at s.holdings r.object) refl
     where
       k : ℕ
@@ -372,7 +375,7 @@ module _ (g : List Place) (settings : Settings) (context : BlockContext) (reserv
       after : (ℕ → Option HeldState) → Client
       after held = record { begun = begun; stage = p; held = held; chunk = λ h. items_of (chunk_at s.holdings h) }
 
-      by_held : (x : Option HeldState) → held_at s.holdings r.object ≡ x → Leaves n (Query r (λ v. walk g n (t v))) s (query_by context.ticket r t s x)
+      by_held : (x : Option HeldState) → held_at s.holdings r.object ≡ x → IsAfterStep n (Query r (λ v. walk g n (t v))) s (query_by context.ticket r t s x)
       by_held None e = absurd (let no : is_some (held_at s.holdings r.object) ≡ false = ap (λ (y : Option HeldState). is_some y) e in let yes = w.sound.0 in cc)
       by_held (Some x) e =
           let o : HeldState × Option ℤ = ran x context.ticket r in
@@ -400,7 +403,7 @@ module _ (g : List Place) (settings : Settings) (context : BlockContext) (reserv
                 ∙ noted_on tr (event r o.1) (settle settings context.ticket reserved (walk g n (t (value_of o.1))) (client_with begun p holdings)) (trace_at (noted_at s.traces k (event r o.1)) k) (ap (λ (y : TraceState). y.events) row),
           )
 
-  by_move : (n : ℕ) (s : RunState) (m : Move) → Ready n s m → Leaves n (said (walk g n) s.position.locals m) s (step_by context reserved m s)
+  by_move : (n : ℕ) (s : RunState) (m : Move) → IsBeforeMove n s m → IsAfterStep n (said (walk g n) s.position.locals m) s (step_by context reserved m s)
   by_move n s Ends w = ends_case n s w
   by_move n s (Goes t) w = goes_case n s t w
   by_move n s (Calls r t) w = calls_case n s r t w
@@ -408,7 +411,7 @@ module _ (g : List Place) (settings : Settings) (context : BlockContext) (reserv
   by_move n s (Queries r t) w = queries_case n s r t w
 
   pub ready : (n : ℕ) (s : RunState) → IsGraph g → settings.dynamic ≡ context.dynamic → s.stage ≡ stages.Runs → IsRunning g settings.size context.ticket.index (suc n) s
-      → Ready n s (move g s.position)
+      → IsBeforeMove n s (move g s.position)
   ready n s ok dynamic stands w = record {
     whole = w;
     is = refl;
@@ -423,19 +426,19 @@ module _ (g : List Place) (settings : Settings) (context : BlockContext) (reserv
   }
 
   pub quiet : (n : ℕ) (s : RunState) → IsGraph g → settings.dynamic ≡ context.dynamic → s.stage ≡ stages.Runs → IsRunning g settings.size context.ticket.index (suc n) s
-      → Leaves n (walk g (suc n) s.position) s (step g context reserved s)
+      → IsAfterStep n (walk g (suc n) s.position) s (step g context reserved s)
   quiet n s ok dynamic stands w = by_move n s (move g s.position) (ready n s ok dynamic stands w)
 
-  leaves_on : (n : ℕ) (tree : Synced) (s : RunState) (r : RunState × Bool) → r.1 ≡ true → Leaves n tree s r → Leaves n tree s (r.0, true)
+  leaves_on : (n : ℕ) (tree : Synced) (s : RunState) (r : RunState × Bool) → r.1 ≡ true → IsAfterStep n tree s r → IsAfterStep n tree s (r.0, true)
   leaves_on n tree s (t, true) e w = w
   leaves_on n tree s (t, false) e w = absurd (cc)
 
-  leaves_off : (n : ℕ) (tree : Synced) (s : RunState) (r : RunState × Bool) → r.1 ≡ false → Leaves n tree s r → Leaves n tree s (r.0, false)
+  leaves_off : (n : ℕ) (tree : Synced) (s : RunState) (r : RunState × Bool) → r.1 ≡ false → IsAfterStep n tree s r → IsAfterStep n tree s (r.0, false)
   leaves_off n tree s (t, true) e w = absurd (cc)
   leaves_off n tree s (t, false) e w = w
 
   -- the client went on from s to t
-  pub record WentOn (m turn : ℕ) (s t : RunState) : Type 0 where
+  pub record HasGoneOn (m turn : ℕ) (s t : RunState) : Type 0 where
     pub stands : t.stage ≡ stages.Runs
     pub left : ℕ
     pub few : left + turn ≤ limit
@@ -446,11 +449,11 @@ module _ (g : List Place) (settings : Settings) (context : BlockContext) (reserv
     pub same : progress_through settings context.ticket reserved begun p (walk g m s.position) s ≡ progress_through settings context.ticket reserved begun p (walk g left t.position) t
 
   pub goes_on : (m turn : ℕ) (s t : RunState) → IsGraph g → settings.dynamic ≡ context.dynamic → s.stage ≡ stages.Runs → IsRunning g settings.size context.ticket.index m s
-      → m + turn ≤ limit → t ≡ (step g context reserved s).0 → (step g context reserved s).1 ≡ true → WentOn m (turn + 1) s t
+      → m + turn ≤ limit → t ≡ (step g context reserved s).0 → (step g context reserved s).1 ≡ true → HasGoneOn m (turn + 1) s t
   goes_on zero turn s t ok dynamic stands w few new on = absurd w.within
   goes_on (suc m) turn s t ok dynamic stands w few new on =
       let done = leaves_on m (walk g (suc m) s.position) s (step g context reserved s) on (quiet m s ok dynamic stands w) in
-      subst (λ u. WentOn (suc m) (turn + 1) s u) (sym new) (record { stands = done.1 ∙ stands; left = m; few = omega (arith, few); fewer = omega arith; rows = rows_kept g context reserved s; counts = all_counts g context reserved s; running = done.0; same = done.2 })
+      subst (λ u. HasGoneOn (suc m) (turn + 1) s u) (sym new) (record { stands = done.1 ∙ stands; left = m; few = omega (arith, few); fewer = omega arith; rows = rows_kept g context reserved s; counts = all_counts g context reserved s; running = done.0; same = done.2 })
 
   pub stops : (m : ℕ) (s t : RunState) → IsGraph g → settings.dynamic ≡ context.dynamic → s.stage ≡ stages.Runs → IsRunning g settings.size context.ticket.index m s
       → t ≡ (step g context reserved s).0 → (step g context reserved s).1 ≡ false → HasSettled g settings context.ticket reserved begun p m s t
@@ -459,7 +462,7 @@ module _ (g : List Place) (settings : Settings) (context : BlockContext) (reserv
       let done = leaves_off m (walk g (suc m) s.position) s (step g context reserved s) off (quiet m s ok dynamic stands w) in
       subst (HasSettled g settings context.ticket reserved begun p (suc m) s) (sym new) (record { stopped = done.0; rows = rows_kept g context reserved s; counts = all_counts g context reserved s; same = done.1 })
 
--- where it stopped it may stand until its next act
+-- where it stopped it may stay until its next act
 pub standing_of : (b : BlockCode) (size k less most : ℕ) (s : RunState) (stage : Stage) → less ≤ most → IsStopped b.graph b.reserved size k less s stage
     → IsStanding b size k most s stage
 standing_of b size k less most s stages.Runs h w = stopped_up b.graph b.reserved size k less most s stages.Runs h w
@@ -498,7 +501,7 @@ resumes b settings ticket begun n most old new stage at few on w done = record {
       ∙ done.same;
 }
 
--- where it stands does not matter to its quiet moves
+-- its stage does not matter to its quiet moves
 pub restaged : (g : List Place) (size k n : ℕ) (s : RunState) (stage : Stage) → IsRunning g size k n s
     → IsRunning g size k n (record s { stage = stage })
 restaged g size k n s stage w =

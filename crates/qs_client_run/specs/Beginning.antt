@@ -1,4 +1,4 @@
--- A client before its first block, and at the beginning of a block, by its data.
+-- What a run keeps before the client's first block, and what it keeps as a block begins.
 use Rattle.std.specs.Prelude.{List, replicate}
 use Rattle.qs_meaning.specs.Serial.{zeros}
 use Rattle.qs_graph.specs.Walk.{entry}

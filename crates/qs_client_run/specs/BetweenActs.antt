@@ -1,4 +1,5 @@
--- A client's mind: what it has come to, and what each call does to it.
+-- A client between two acts: what its last act left to be done, what then holds of what its run keeps, and what the run keeps once that was
+-- done, once an object came, or once an empty chunk came. The contracts of `after_send`, `take_object` and `take_chunk` say it by these.
 use Rattle.std.specs.Prelude.{ℕ, ◌≡◌, ◌<◌, ◌≤◌, ◌+◌, ◌-◌, nat_lt, if◌then◌else◌, List, length, None}
 use Rattle.qs_objects.specs.Journals.{HeldState}
 use Rattle.qs_objects.specs.declared.held.Ticket.{Ticket}
@@ -19,11 +20,12 @@ use Rattle.qs_client_run.specs.declared.stage.Outgoing.TheVariants as outgoings
 use Rattle.qs_client_run.specs.declared.act.Act.TheVariants as acts
 use Rattle.qs_client_run.specs.declared.stage.Stage.TheVariants as stages
 
+-- how many Syncs went out
 abbrev pub count_sync : Outgoing → ℕ
 count_sync (outgoings.Sync h) = 1
 count_sync outgoing = 0
 
--- what a parcel leaves to be done once it was sent
+-- what an act gives out, as far as something is left to be done once that was sent
 abbrev pub outgoing_of : Act → Outgoing
 outgoing_of (acts.Send h (parcels.Home x)) = outgoings.Value
 outgoing_of (acts.Send h (parcels.Work c)) = outgoings.Value
@@ -31,20 +33,20 @@ outgoing_of (acts.Send h parcels.Sync) = outgoings.Sync h
 outgoing_of (acts.Send h parcels.End) = outgoings.End
 outgoing_of act = outgoings.Nothing
 
--- without what an act carries
+-- a client without what an act carries
 abbrev pub without_act : Client → Act → Client
 without_act m (acts.Send h (parcels.Home x)) = set_held m h None
 without_act m (acts.Send h (parcels.Work c)) = set_chunk m h None
 without_act m act = m
 
 module _ (settings : Settings) (ticket : Ticket) (reserved : List ℕ) where
-  -- without the object or the chunk that it waited to send, a client goes on
+  -- a client goes on, once the object or the chunk that was in its way has gone
   abbrev pub resume : Client → ClientStage → Settlement
   resume m (runs rest) = settle settings ticket reserved rest m
   resume m (full h rest) = settle settings ticket reserved rest m
   resume m p = stop_at m p
 
-  -- once what it handed out was sent
+  -- what a client does once its last act was sent
   abbrev pub after_send : Outgoing → Client → Settlement
   after_send outgoings.Nothing m = stop_at m m.stage
   after_send outgoings.Value m = resume m m.stage
@@ -67,7 +69,7 @@ leave_next_by handlers stage = stage
 abbrev pub leave_next : ℕ → RunState → RunState
 leave_next handlers s = record s { stage = leave_next_by handlers s.stage }
 
--- what holds between two acts of a client in a block of this code, within at most `most` nodes of its end
+-- what holds between two acts of a client in a block of this code, at most `most` nodes from its end
 abbrev pub IsStanding : BlockCode → ℕ → ℕ → ℕ → RunState → Stage → Type 0
 IsStanding b size k most s (stages.Awaits h) = (n : ℕ) × (n ≤ most) × IsAwaiting b.graph size k n h s
 IsStanding b size k most s (stages.Leaves i) = IsOver b.graph size s × (i < length b.reserved)
@@ -75,41 +77,41 @@ IsStanding b size k most s stages.Between = IsOver b.graph size s
 IsStanding b size k most s stages.Runs = IsStopped b.graph b.reserved size k most s stages.Runs
 IsStanding b size k most s (stages.Full h) = IsStopped b.graph b.reserved size k most s (stages.Full h)
 
--- at a synchronisation
+-- the client is at a synchronisation
 abbrev pub IsSyncing : Move → Type 0
 IsSyncing (Syncs h t) = Unit {0}
 IsSyncing m = ⊥
 
--- a full chunk that was handed out is gone, and a Sync was sent at a synchronisation
+-- what is outgoing left from here: a full chunk is no more among the holdings, and a Sync was given out at a synchronisation
 abbrev pub IsOutgoingAt : List GraphPlace → Outgoing → RunState → Stage → Type 0
 IsOutgoingAt g outgoings.Value s (stages.Full h) = chunk_at s.holdings h ≡ None
 IsOutgoingAt g (outgoings.Sync h) s stages.Runs = IsSyncing (move g s.position)
 IsOutgoingAt g (outgoings.Sync h) s stage = ⊥
 IsOutgoingAt g outgoing s stage = Unit {0}
 
--- a client that has come to its next act, within at most `most` nodes of its block's end, by all that this says
+-- a client that has come to its next act, at most `most` nodes from its block's end, and has done just what `by` says
 pub record HasCome (b : BlockCode) (settings : Settings) (ticket : Ticket) (begun most : ℕ) (by : Settlement) (old new : RunState) : Type 0 where
   pub standing : IsStanding b settings.size ticket.index most new new.stage
   pub rows : KeepsRows ticket.index old.traces new.traces
   pub counts : length new.position.counts ≡ length old.position.counts
   pub same : progress_after (trace_at old.traces ticket.index).events by ≡ progress_at b.graph b.reserved begun ticket.index new
 
--- a Sync that was sent took one of so many nodes
+-- how many nodes are left of so many: a Sync that was sent took one
 abbrev pub nodes_left : Outgoing → ℕ → ℕ
 nodes_left (outgoings.Sync h) most = most - 1
 nodes_left outgoing most = most
 
--- the client once what it handed out was sent, up to its next act
+-- a client once its last act was sent, up to its next act
 abbrev pub HasSent : BlockCode → Settings → Ticket → ℕ → ℕ → Outgoing → RunState → RunState → Type 0
 HasSent b settings ticket begun most outgoing old new =
     HasCome b settings ticket begun (nodes_left outgoing most) (after_send settings ticket b.reserved outgoing (client_of b.graph b.reserved begun old)) old new
 
--- once the object came that it waited for
+-- a client once the object came that it waited for, up to its next act
 abbrev pub HasGot : BlockCode → Settings → Ticket → ℕ → ℕ → HeldState → RunState → RunState → Type 0
 HasGot b settings ticket begun most x old new =
     HasCome b settings ticket begun most (take_object settings ticket b.reserved (client_of b.graph b.reserved begun old) x (stage_of b.graph b.reserved old)) old new
 
--- once an empty chunk for handler h came
+-- a client once an empty chunk for handler h came, up to its next act
 abbrev pub HasTaken : BlockCode → Settings → Ticket → ℕ → ℕ → ℕ → RunState → RunState → Type 0
 HasTaken b settings ticket begun most h old new =
     HasCome b settings ticket begun most (take_chunk settings ticket b.reserved (client_of b.graph b.reserved begun old) h (stage_of b.graph b.reserved old)) old new

@@ -9,7 +9,7 @@ abbrev pub sum_below : ℕ → (ℕ → ℕ) → ℕ
 sum_below zero f = 0
 sum_below (suc n) f = f n + sum_below n f
 
--- no more requests are made in the block
+-- at most so many requests are made in a block
 abbrev pub room_for : BlockCode → ℕ
 room_for b = sum_below most_objects (load_at b)
 
@@ -17,7 +17,7 @@ room_for b = sum_below most_objects (load_at b)
 abbrev pub empty_rows : List BlockCode → List TraceState
 empty_rows blocks = map empty_trace (map room_for blocks)
 
--- the nodes of the longest graph
+-- how many nodes the longest graph has
 abbrev pub longest : List BlockCode → ℕ
 longest [] = 0
 longest (b ∷ bs) = max (length b.graph) (longest bs)

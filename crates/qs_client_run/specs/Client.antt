@@ -1,4 +1,7 @@
--- What a client does next, with objects that it holds, open chunks, and coalescing; what comes to it, and what that changes.
+-- What a client of the optimised machine does next, and what each act and each arrival changes. The client is a pure record: its stage, the
+-- objects that it holds, and its open chunks. Here stand the rules of coalescing, each at its function: `settle` skips a synchronisation,
+-- `query` runs a query on an object that the client holds, `call` puts a command into a chunk, and `clear` sends an object home or a chunk
+-- away before anything else goes to that handler.
 use Rattle.std.specs.Prelude.{ℕ, suc, nat_lt, ℤ, Bool, if◌then◌else◌, ◌==◌, ◌&&◌, is_some, List, [], ◌∷◌, ◌++◌, length, Option, Some, None}
 use Rattle.qs_objects.specs.Journals.{HeldState, ran}
 use Rattle.qs_objects.specs.Parts.{logged}
@@ -14,8 +17,8 @@ use Rattle.qs_chunk.specs.declared.parcel.Parcel.TheVariants as parcels
 use Rattle.qs_client_run.specs.declared.act.Act.{Act}
 use Rattle.qs_client_run.specs.declared.act.Act.TheVariants.{Reserve, Send, Await, NeedChunk, Finished}
 
--- where a client stands: between blocks; in a block, with the rest of it; there with a full chunk; waiting for an object; at a block's end,
--- leaving this object and then the others
+-- the stage of a client: between blocks; in a block, with the rest of it; there with a full chunk; waiting for an object; or at a block's
+-- end, leaving this object and then the others
 pub data ClientStage : Type 0 where
   between : (locals : Locals) → ClientStage
   runs : (rest : Synced) → ClientStage
@@ -23,7 +26,7 @@ pub data ClientStage : Type 0 where
   awaits : (object : ℕ) → (rest : Synced) → ClientStage
   leaves : (object : ℕ) → (others : List ℕ) → (locals : Locals) → ClientStage
 
--- the blocks that it has begun, where it stands, the objects that it holds, and its open chunks
+-- how many blocks it has begun, its stage, the objects that it holds, and its open chunks
 pub record Client : Type 0 where
   pub begun : ℕ
   pub stage : ClientStage
@@ -44,11 +47,12 @@ set_held m h x = record m { held = put m.held h x }
 abbrev pub set_chunk : Client → ℕ → Option (List Request) → Client
 set_chunk m h rs = record m { chunk = put m.chunk h rs }
 
--- a client with what entered its block's trace meanwhile
+-- a client that has settled, with the events that entered its block's trace meanwhile
 pub record Settlement : Type 0 where
   pub client : Client
   pub events : List Event
 
+-- the client stops here
 abbrev pub stop_at : Client → ClientStage → Settlement
 stop_at m p = record { client = set_stage m p; events = [] }
 
@@ -59,18 +63,19 @@ module _ (settings : Settings) where
   abbrev pub work : List Request → Parcel
   work rs = parcels.Work (batch rs settings.size)
 
-  -- with the object, it goes home; else with an open chunk, the chunk goes; else this
+  -- what goes to a handler first: a held object goes home; else an open chunk goes; else this act is next
   abbrev pub clear : ℕ → Option HeldState → Option (List Request) → Act → Act
   clear h (Some x) c other = Send h (parcels.Home x)
   clear h None (Some rs) other = Send h (work rs)
   clear h None None other = other
 
-  -- before a command: the object goes home, a chunk is taken, or a full one goes
+  -- the act before a command: the object goes home, a chunk is taken, or a full one goes
   abbrev pub call_act : ℕ → Option HeldState → Option (List Request) → Act
   call_act h (Some x) c = Send h (parcels.Home x)
   call_act h None None = NeedChunk h
   call_act h None (Some rs) = Send h (work rs)
 
+  -- the next act of a client in its block, by the rest of the block
   abbrev pub rest_act : Client → Synced → Act
   rest_act m (Done l) = Finished
   rest_act m (Call r next) = call_act r.object (m.held r.object) (m.chunk r.object)
@@ -90,6 +95,7 @@ module _ (settings : Settings) where
 
   -- all that a client does to its own values up to its next act, in the block of this ticket that reserves these objects
   module _ (ticket : Ticket) (reserved : List ℕ) where
+    -- a client leaves its block: these objects are left, in this order
     abbrev pub leave : Client → List ℕ → Locals → Settlement
     leave m [] l = stop_at m (between l)
     leave m (h ∷ hs) l = stop_at m (leaves h hs l)
@@ -103,13 +109,14 @@ module _ (settings : Settings) where
         let m' = set_chunk m r.object (Some more) in
         with_event (logged r) (if length more == settings.size then stop_at m' (full r.object next) else go m')
 
-    -- a query is run on the object that is held
+    -- a query is run by the client itself on an object that it holds; where it does not hold the object, it waits
     abbrev pub query : Client → Request → (ℤ → Synced) → (ℤ → Client → Settlement) → Option HeldState → Settlement
     query m r next go (Some x) =
         let o = ran x ticket r in
         with_event (event r o.1) (go (value_of o.1) (set_held m r.object (Some o.0)))
     query m r next go None = stop_at m (runs (Query r next))
 
+    -- all quiet work up to the next act; a synchronisation is skipped only where the client tests and holds the object
     abbrev pub settle : Synced → Client → Settlement
     settle (Done l) m = leave m reserved l
     settle (Call r next) m = call m r next (λ m. settle next m) (m.held r.object) (m.chunk r.object)

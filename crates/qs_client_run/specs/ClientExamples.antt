@@ -43,7 +43,7 @@ chunks_of n = record { dynamic = false; size = n }
 abbrev pub begins : Settings → Synced → Client
 begins s tree = (begin s (block 0) (0 ∷ []) (first_client []) tree).client
 
--- once it took an empty chunk for object 0, and once it sent what it sends next
+-- the client once it took an empty chunk for object 0, and once it sent what it sends next
 abbrev pub takes : Settings → Client → Client
 takes s m = (take_chunk s (block 0) (0 ∷ []) m 0 m.stage).client
 
@@ -54,7 +54,7 @@ sends_by s m act = m
 abbrev pub sends : Settings → Client → Client
 sends s m = sends_by s m (act_of s 2 m)
 
--- once the object came
+-- the client once the object came
 abbrev pub gets : Settings → HeldState → Client → Client
 gets s x m = (take_object s (block 0) (0 ∷ []) m x m.stage).client
 

@@ -1,4 +1,4 @@
--- What holds of each client's acts.
+-- What holds of every client's acts: what an act carries was the client's own, and what follows once it was sent does not depend on it.
 use Rattle.std.specs.Prelude.{◌≡◌, ℕ, List, Some}
 use Rattle.qs_objects.specs.declared.held.Ticket.{Ticket}
 use Rattle.qs_chunk.specs.declared.parcel.Parcel.{Parcel}

@@ -1,4 +1,5 @@
--- A client as contracts see it, and as what it does next is defined.
+-- The client that a run's data stand for: its stage and the rest of its block, its objects and its chunks, as `Client.antt` has them; and what
+-- it means that a run has settled.
 use Rattle.std.specs.Prelude.{◌≡◌, ℕ, suc, List, ◌++◌, length, drop, Option, Some, None, slice_index_or}
 use Rattle.qs_objects.specs.declared.held.Event.{Event}
 use Rattle.qs_objects.specs.declared.held.Ticket.{Ticket}
@@ -17,15 +18,16 @@ use Rattle.qs_client_run.specs.declared.stage.Stage.{Stage}
 use Rattle.qs_client_run.specs.RunState.{RunState}
 use Rattle.qs_client_run.specs.declared.stage.Stage.TheVariants as stages
 
+-- the requests in a chunk, where there is one
 abbrev pub items_of : Option (Batch Request) → Option (List Request)
 items_of None = None
 items_of (Some b) = Some b.items
 
--- a client with these hands, that has begun so many blocks and stands here
+-- a client with these holdings, that has begun so many blocks and is at this stage
 abbrev pub client_with : ℕ → ClientStage → HoldingsState → Client
-client_with begun place s = record { begun = begun; stage = place; held = held_at s; chunk = λ h. items_of (chunk_at s h) }
+client_with begun stage s = record { begun = begun; stage = stage; held = held_at s; chunk = λ h. items_of (chunk_at s h) }
 
--- where it stands, in a block with this list of handlers whose rest is this
+-- the stage of a client in a block that reserves this list and whose rest is this
 abbrev pub stage_by : Stage → List ℕ → Synced → Locals → ClientStage
 stage_by stages.Between reserved rest l = between l
 stage_by stages.Runs reserved rest l = runs rest
@@ -39,7 +41,7 @@ stage_of g reserved s = stage_by s.stage reserved (walk g limit s.position) s.po
 abbrev pub client_of : List GraphPlace → List ℕ → ℕ → RunState → Client
 client_of g reserved begun s = client_with begun (stage_of g reserved s) s.holdings
 
--- a client and the trace of its block
+-- how far a client has come: the client, and the trace of its block
 pub record ClientProgress : Type 0 where
   pub client : Client
   pub trace : List Event
@@ -47,7 +49,7 @@ pub record ClientProgress : Type 0 where
 abbrev pub progress_after : List Event → Settlement → ClientProgress
 progress_after before s = record { client = s.client; trace = before ++ s.events }
 
--- all that a client does to its own values up to its next act, with the trace so far, where this tree is to come
+-- how far it comes by all quiet work up to its next act, where this tree is the rest of its block
 abbrev pub progress_through : Settings → Ticket → List ℕ → ℕ → ClientStage → Synced → RunState → ClientProgress
 progress_through settings ticket reserved begun p tree s =
     progress_after (trace_at s.traces ticket.index).events (settle settings ticket reserved tree (client_with begun p s.holdings))
@@ -55,8 +57,8 @@ progress_through settings ticket reserved begun p tree s =
 abbrev pub progress_at : List GraphPlace → List ℕ → ℕ → ℕ → RunState → ClientProgress
 progress_at g reserved begun k s = record { client = client_of g reserved begun s; trace = (trace_at s.traces k).events }
 
--- from the old state within n nodes of the block's end a client has come to its next act: it makes no quiet move, and has done all that it does
--- to its own values up to there
+-- from the old state, n nodes from the block's end at most, a client has come to its next act: it makes no quiet move, and it has done exactly
+-- what `settle` says
 pub record HasSettled (g : List GraphPlace) (settings : Settings) (ticket : Ticket) (reserved : List ℕ) (begun : ℕ) (p : ClientStage) (n : ℕ) (old new : RunState) : Type 0 where
   pub stopped : IsStopped g reserved settings.size ticket.index n new new.stage
   pub rows : KeepsRows ticket.index old.traces new.traces

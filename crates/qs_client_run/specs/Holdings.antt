@@ -1,4 +1,4 @@
--- The objects that a client holds and its open chunks, by the handlers' numbers.
+-- The holdings of a client: the objects that it holds and its open chunks, by the handlers' numbers.
 use Rattle.std.specs.Prelude.{ℕ, Bool, is_some, List, Option, None, replicate, slice_index_or, slice_set}
 use Rattle.qs_objects.specs.Journals.{HeldState}
 use Rattle.qs_objects.specs.declared.Request.{Request}

@@ -1,4 +1,4 @@
--- What a client in a block hands out with its next act, by its data.
+-- The next act of a client, by what its run keeps: what the act carries, what is left, and what the contract of `act` says of both.
 use Rattle.std.specs.Prelude.{◌≡◌, ◌<◌, ℕ, Option, Some, None}
 use Rattle.qs_objects.specs.Journals.{HeldState}
 use Rattle.qs_objects.specs.declared.Request.{Request}
@@ -17,7 +17,7 @@ use Rattle.qs_client_run.specs.declared.stage.Stage.{Stage}
 use Rattle.qs_client_run.specs.declared.stage.Stage.TheVariants as stages
 use Rattle.qs_client_run.specs.declared.act.Act.TheVariants as acts
 
--- with the object, it goes home; else with an open chunk, the chunk goes; else this
+-- what goes to handler h first: a held object goes home; else an open chunk goes; else this act is next
 abbrev pub clear_by : ℕ → Option HeldState → Option (Batch Request) → Act → Act
 clear_by h (Some x) c other = Send h (parcels.Home x)
 clear_by h None (Some b) other = Send h (parcels.Work b)
@@ -26,7 +26,7 @@ clear_by h None None other = other
 abbrev pub clear : HoldingsState → ℕ → Act → Act
 clear s h other = clear_by h (held_at s h) (chunk_at s h) other
 
--- without what went
+-- the holdings without what went
 abbrev pub without_by : HoldingsState → ℕ → Option HeldState → HoldingsState
 without_by s h (Some x) = with_held s h None
 without_by s h None = with_chunk (with_held s h None) h None
@@ -34,7 +34,7 @@ without_by s h None = with_chunk (with_held s h None) h None
 abbrev pub without : HoldingsState → ℕ → HoldingsState
 without s h = without_by s h (held_at s h)
 
--- at a node
+-- the act at a node, and the holdings after it
 abbrev pub act_by : HoldingsState → Move → Act
 act_by s (Calls r t) = clear s r.object (NeedChunk r.object)
 act_by s (Syncs h t) = clear s h (Send h parcels.Sync)
@@ -50,16 +50,16 @@ abbrev pub send_full : ℕ → Option (Batch Request) → Act
 send_full h (Some b) = Send h (parcels.Work b)
 send_full h None = Finished
 
--- with these hands
+-- a run with these holdings
 abbrev pub with_holdings : RunState → HoldingsState → RunState
 with_holdings s holdings = record s { holdings = holdings }
 
--- a client in a block is in one of so many
+-- a client within a block is in one of so many
 abbrev pub IsInside : Stage → ℕ → ℕ → Type 0
 IsInside stages.Between k blocks = Unit {0}
 IsInside stage k blocks = k < blocks
 
--- the client as its next act comes: without what the act carries, and else as it was
+-- a run as its next act comes: without what the act carries, and else as it was
 pub record HasActed (b : BlockCode) (settings : Settings) (blocks k begun most : ℕ) (given : Act) (old new : RunState) : Type 0 where
   pub act : given ≡ act_of settings blocks (client_of b.graph b.reserved begun old)
   pub rest : client_of b.graph b.reserved begun new ≡ without_act (client_of b.graph b.reserved begun old) given
@@ -69,7 +69,7 @@ pub record HasActed (b : BlockCode) (settings : Settings) (blocks k begun most :
   pub standing : IsStanding b settings.size k most new new.stage
   pub gone : IsOutgoingAt b.graph (outgoing_of given) new new.stage
 
--- a client in a block that has this to do next
+-- a run whose client has this to do next
 pub record Wants (b : BlockCode) (settings : Settings) (blocks k begun most : ℕ) (s : RunState) (wanted : Act) : Type 0 where
   pub standing : IsStanding b settings.size k most s s.stage
   pub act : act_of settings blocks (client_of b.graph b.reserved begun s) ≡ wanted

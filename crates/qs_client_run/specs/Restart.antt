@@ -1,4 +1,4 @@
--- The beginning of a block's walk.
+-- The position at which a block's walk begins.
 use Rattle.std.specs.Prelude.{length, replicate}
 use Rattle.qs_graph.specs.Walk.{Spot, entry}
 

@@ -1,12 +1,11 @@
--- What the run of a client keeps, as contracts see it.
+-- What a run keeps, as contracts see it.
 use Rattle.std.specs.Prelude.{List}
 use Rattle.qs_graph.specs.Walk.{Spot}
 use Rattle.qs_objects.specs.Traces.{TraceState}
 use Rattle.qs_client_run.specs.Holdings.{HoldingsState}
 use Rattle.qs_client_run.specs.declared.stage.Stage.{Stage}
 
--- where the client stands in its block's graph, the objects that it holds and its open chunks, the traces of all its blocks, and where it
--- stands in its blocks
+-- the position in the block's graph, the objects that the client holds and its open chunks, the traces of all its blocks, and its stage
 pub record RunState : Type 0 where
   pub position : Spot
   pub holdings : HoldingsState

@@ -1,4 +1,5 @@
--- A client within a block, by its data: one quiet move of its own, and what it relies on.
+-- A client within a block, by what its run keeps: one quiet move, which the code makes by `step`, and what holds of the client at each stage.
+-- The rules have the names of `Client.antt` and of the code: `call`, `query`, `sync`, `leave`.
 use Rattle.std.specs.Prelude.{◌≡◌, ◌<◌, ◌≤◌, ℕ, ◌-◌, ◌==◌, ℤ, Bool, true, false, not, ◌&&◌, if◌then◌else◌, is_some, List, [], ◌∷◌, ◌++◌, length, Option, Some, None}
 use Rattle.qs_objects.specs.Journals.{HeldState, ran}
 use Rattle.qs_objects.specs.Parts.{logged}
@@ -19,6 +20,7 @@ use Rattle.qs_client_run.specs.RunState.{RunState}
 use Rattle.qs_client_run.specs.declared.run.BlockContext.{BlockContext}
 use Rattle.qs_client_run.specs.declared.stage.Stage.TheVariants as stages
 
+-- to another position
 abbrev pub go_to : RunState → Spot → RunState
 go_to s t = record s { position = t }
 
@@ -43,7 +45,7 @@ call_by k r t s None (Some b) = fill k r t s b
 abbrev pub call : ℕ → Request → Spot → RunState → RunState × Bool
 call k r t s = call_by k r t s (held_at s.holdings r.object) (chunk_at s.holdings r.object)
 
--- a query is run on the object that is held
+-- a query is run by the client itself on the object that it holds
 abbrev pub query_by : Ticket → Request → (ℤ → Spot) → RunState → Option HeldState → RunState × Bool
 query_by u r t s None = (s, false)
 query_by u r t s (Some x) =
@@ -63,7 +65,7 @@ query u r t s = query_by u r t s (held_at s.holdings r.object)
 abbrev pub sync : Bool → ℕ → Spot → RunState → RunState × Bool
 sync dynamic h t s = if dynamic && is_some (held_at s.holdings h) then (go_to s t, true) else (s, false)
 
--- at the end of the block the handlers of its list are left in order
+-- at the end of a block the handlers of its list are left in order
 abbrev pub stage_at_end : List ℕ → Stage
 stage_at_end [] = stages.Between
 stage_at_end (h ∷ hs) = stages.Leaves 0
@@ -94,8 +96,8 @@ abbrev pub IsOpen : ℕ → Option (Batch Request) → Type 0
 IsOpen size None = Unit {0}
 IsOpen size (Some b) = (b.capacity ≡ size) × (length b.items < size)
 
--- what holds of a client within a block, at most n nodes from its end, where the rest of the block may rely on these objects being held, and
--- where this holds of the open chunk of each handler
+-- what holds of a client within a block, at most n nodes from its end: the rest of the block may rely on these objects as held, and this holds
+-- of the open chunk of each handler
 pub record IsInBlock (g : List Place) (k n : ℕ) (relied : ℕ → Bool) (IsChunk : ℕ → Option (Batch Request) → Type 0) (s : RunState) : Type 0 where
   pub few : n ≤ limit
   pub within : Within g n s.position
@@ -108,7 +110,7 @@ pub record IsInBlock (g : List Place) (k n : ℕ) (relied : ℕ → Bool) (IsChu
   pub chunks : length s.holdings.chunks ≡ most_handlers
   pub opened : (h : ℕ) → IsChunk h (chunk_at s.holdings h)
 
--- it goes on by itself: each open chunk has room
+-- a client that goes on by itself: each open chunk has room
 abbrev pub IsRunning : List Place → ℕ → ℕ → ℕ → RunState → Type 0
 IsRunning g size k n s = IsInBlock g k n (holding s.holdings) (λ h c. IsOpen size c) s
 
@@ -123,23 +125,23 @@ IsLoud (Calls r t) = Unit {0}
 IsLoud (Syncs h t) = Unit {0}
 IsLoud m = ⊥
 
--- it has a full chunk for handler h, or has handed that chunk out: each other chunk has room
+-- a client with a full chunk for handler h, or which has just given that chunk out: each other chunk has room
 pub record IsFull (g : List Place) (size k n h : ℕ) (s : RunState) : Type 0 where
   pub handler : h < most_handlers
   pub in_block : IsInBlock g k n (holding s.holdings) (λ j c. IsSized size c × ((h == j) ≡ false → IsOpen size c)) s
 
--- it waits for the object of handler h, on which the rest of the block may rely
+-- a client that waits for the object of handler h, on which the rest of the block may rely as held
 pub record IsAwaiting (g : List Place) (size k n h : ℕ) (s : RunState) : Type 0 where
   pub handler : h < most_handlers
   pub in_block : IsInBlock g k n (put (holding s.holdings) h true) (λ j c. IsOpen size c) s
 
--- what holds of a client at the end of its block
+-- a client at the end of its block
 pub record IsOver (g : List Place) (size : ℕ) (s : RunState) : Type 0 where
   pub held : length s.holdings.held ≡ most_handlers
   pub chunks : length s.holdings.chunks ≡ most_handlers
   pub opened : (h : ℕ) → IsOpen size (chunk_at s.holdings h)
 
--- what holds of a client that makes no quiet move, within at most `most` nodes of its block's end
+-- a client that makes no quiet move at its stage, at most `most` nodes from its block's end
 abbrev pub IsStopped : List Place → List ℕ → ℕ → ℕ → ℕ → RunState → Stage → Type 0
 IsStopped g reserved size k most s stages.Runs = (n : ℕ) × (n ≤ most) × IsRunning g size k n s × IsLoud (move g s.position)
 IsStopped g reserved size k most s (stages.Full h) = (n : ℕ) × (n ≤ most) × IsFull g size k n h s
@@ -147,7 +149,7 @@ IsStopped g reserved size k most s (stages.Awaits h) = ⊥
 IsStopped g reserved size k most s (stages.Leaves i) = IsOver g size s × (i < length reserved)
 IsStopped g reserved size k most s stages.Between = IsOver g size s
 
--- the traces of the other blocks stay
+-- the traces of the other blocks stay as they are
 pub record KeepsRows (k : ℕ) (old new : List TraceState) : Type 0 where
   pub count : length new ≡ length old
   pub others : (j : ℕ) → (k == j) ≡ false → trace_at new j ≡ trace_at old j

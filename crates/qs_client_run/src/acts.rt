@@ -21,7 +21,7 @@ use qs_objects::{Held, Request, Ticket};
 use qs_syncset::Code;
 
 impl Act {
-    /// What is left to be done once the act was done.
+    /// What the act gives out, as far as something is left to be done once that was sent.
     pub fn outgoing(&self) -> Outgoing
         ensures value { result ≡ outgoing_of self.now }
     {
@@ -38,7 +38,7 @@ impl Act {
 }
 
 impl Holdings {
-    // With the object, it goes home; else with an open chunk, the chunk goes; else this act is next.
+    // What goes to a handler first: a held object goes home; else an open chunk goes; else this act is next.
     fn clear(&mut self, handler: u8, other: Act) -> Act
         requires handler { handler < most_handlers }
         ensures act { result ≡ clear self.old handler other }
@@ -67,7 +67,7 @@ impl Holdings {
 }
 
 impl Run {
-    // At a call or a synchronisation.
+    // The act at a command or a synchronisation.
     fn act_at_node(&mut self, graph: &Graph) -> Act
         requires inside { self.old.position.node < length graph.now.nodes }
         requires loud { IsLoud (move graph.now.nodes self.old.position) }
@@ -138,7 +138,7 @@ impl Run {
         self.resume(code, ticket);
     }
 
-    /// An empty chunk came for the call where the client stands.
+    /// An empty chunk came for the command at which the client stands.
     pub fn take_chunk(&mut self, code: &Code, ticket: Ticket, chunk: Chunk<Request>)
         requires block { ticket.index < length code.now.blocks }
         requires room { 0 < chunk.capacity }

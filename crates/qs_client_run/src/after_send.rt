@@ -14,8 +14,8 @@ use qs_objects::Ticket;
 use qs_syncset::Code;
 
 impl Run {
-    /// Without the object or the chunk that it waited to send, the client goes on.
-    pub fn resume(&mut self, code: &Code, ticket: Ticket)
+    /// The client goes on, once the object or the chunk that was in its way has gone.
+    pub(crate) fn resume(&mut self, code: &Code, ticket: Ticket)
         requires block { ticket.index < length code.now.blocks }
         requires running { (size : ℕ) × (n : ℕ) × IsRunning (code_at code.now ticket.index).graph size ticket.index n self.old }
         ensures settled { (settings : Settings) (begun : ℕ) (p : ClientStage) (n : ℕ) → settings.dynamic ≡ code.now.dynamic
@@ -33,7 +33,7 @@ impl Run {
     }
 
     /// After a Sync was sent: the object is awaited.
-    pub fn await_object(&mut self, graph: &Graph)
+    pub(crate) fn await_object(&mut self, graph: &Graph)
         requires inside { self.old.position.node < length graph.now.nodes }
         ensures new { self.new ≡ await_object graph.now.nodes self.old }
     {
@@ -46,7 +46,7 @@ impl Run {
     }
 
     /// After an End was sent: the next handler of the list is left, or the block has ended.
-    pub fn leave_next(&mut self, handlers: usize)
+    pub(crate) fn leave_next(&mut self, handlers: usize)
         ensures new { self.new ≡ leave_next handlers self.old }
     {
         if let Stage::Leaves(place) = self.stage {
@@ -58,7 +58,7 @@ impl Run {
         }
     }
 
-    /// Once what was handed out last was sent.
+    /// What the client does once its last act was sent, up to its next act.
     pub fn after_send(&mut self, code: &Code, ticket: Ticket, outgoing: Outgoing)
         requires block { ticket.index < length code.now.blocks }
         requires standing { (size : ℕ) × (most : ℕ)

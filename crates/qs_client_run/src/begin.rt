@@ -1,6 +1,7 @@
 //! All the memory of a client, and the beginning of a block.
 
-ghost use Rattle.std.specs.Prelude.{◌≡◌, ◌<◌, ◌≤◌, ℕ, IfOk, IsErr, length, replicate};
+ghost use Rattle.std.specs.Prelude.{◌≡◌, ◌<◌, ◌≤◌, ◌*◌, ℕ, IfOk, IsErr, length, replicate};
+ghost use Rattle.qs_program.specs.Limits.{most_handlers, most_requests};
 ghost use Rattle.qs_syncset.specs.Codes.{code_at};
 ghost use Rattle.qs_client_run.specs.Beginning.{at_beginning, fresh_run};
 ghost use Rattle.qs_client_run.specs.Client.{ClientStage, Settings};
@@ -14,7 +15,7 @@ use crate::position::Position;
 use crate::run::Run;
 use crate::stage::Stage;
 use qs_objects::{Ticket, Traces};
-use qs_program::MOST_VARIABLES;
+use qs_program::{MOST_HANDLERS, MOST_VARIABLES};
 use qs_syncset::Code;
 use std::alloc::{AllocError, Global};
 
@@ -33,10 +34,10 @@ fn longest_graph(code: &Code) -> usize
 fn room_of(code: &Code, block: usize) -> usize
     requires block { block < length code.now.blocks }
     ensures value { result ≡ room_for (code_at code.now block) }
-    ensures few { result ≤ 800000 }
+    ensures few { result ≤ most_handlers * most_requests }
 {
     let mut room = 0;
-    for handler in 0..8u8 {
+    for handler in 0..MOST_HANDLERS as u8 {
         room += code.load(block, handler) as usize;
     }
     room

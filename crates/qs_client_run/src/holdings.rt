@@ -45,7 +45,7 @@ impl Holdings {
         }
     }
 
-    /// What holds of all hands: there are 8 places of each kind. It does nothing.
+    /// What holds of all holdings: there are 8 places of each kind. It does nothing.
     pub fn are_8(&self)
         ensures held { length self.now.held ≡ most_handlers }
         ensures chunks { length self.now.chunks ≡ most_handlers }

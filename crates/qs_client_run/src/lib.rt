@@ -13,7 +13,5 @@ mod run;
 mod stage;
 
 pub use act::Act;
-pub use holdings::Holdings;
-pub use position::Position;
 pub use run::Run;
 pub use stage::{Outgoing, Stage};

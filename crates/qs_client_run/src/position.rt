@@ -1,4 +1,4 @@
-//! Where a client stands in the graph of a block.
+//! The position of a client in the graph of a block.
 
 ghost use Rattle.std.specs.Prelude.{◌≡◌, ◌<◌, ◌≤◌, length};
 ghost use Rattle.qs_program.specs.Values.{request_of};
@@ -61,7 +61,7 @@ impl Position {
         &self.locals
     }
 
-    /// The request that a call makes here.
+    /// The request that a command or a query makes here.
     pub fn request(&self, call: &Call) -> Request
         requires few { length call.now.args ≤ 3 }
         ensures value { result ≡ request_of self.now.locals call.now }

@@ -1,4 +1,4 @@
-//! A client within a block: what it does to its own values.
+//! The run of a client through its blocks, and its quiet work within a block: what it does to its own values.
 
 ghost use Rattle.std.specs.Prelude.{◌≡◌, ◌<◌, ◌≤◌, ℕ, IsSome, length, option_copied};
 ghost use Rattle.qs_program.specs.Values.{request_of};
@@ -57,7 +57,7 @@ pub struct BlockContext {
 }
 
 impl Run {
-    /// Where the client stands.
+    /// The client's stage.
     pub fn stage(&self) -> Stage
         ensures value { result ≡ self.now.stage }
     {
@@ -99,7 +99,7 @@ impl Run {
         traces
     }
 
-    // A command: into the open chunk, where the object is not held.
+    // A command: into the open chunk, where the object is not held. Answers whether another quiet move may follow.
     fn call(&mut self, block: usize, command: &Call, next: usize) -> bool
         requires object { command.now.object < most_objects }
         requires few { length command.now.args ≤ 3 }
@@ -135,7 +135,7 @@ impl Run {
         !is_full
     }
 
-    // A query on an object that is held.
+    // A query on an object that the client holds: the client runs it itself, without a wait.
     fn query(&mut self, ticket: Ticket, variable: u8, call: &Call, next: usize)
         requires object { call.now.object < most_objects }
         requires few { length call.now.args ≤ 3 }
@@ -159,7 +159,7 @@ impl Run {
         self.position.go_to(next);
     }
 
-    // A synchronisation, skipped where the object is held and the client tests that.
+    // A synchronisation, skipped only where the client tests and holds the object. Answers whether another quiet move may follow.
     fn sync(&mut self, dynamic: bool, handler: u8, next: usize) -> bool
         requires handler { handler < most_handlers }
         ensures new { self.new ≡ (sync dynamic handler (at_node self.old.position next) self.old).0 }
@@ -221,7 +221,7 @@ impl Run {
     }
 
     /// All quiet moves, up to the next act.
-    pub fn settle(&mut self, graph: &Graph, reserved: &[u8], context: BlockContext)
+    pub(crate) fn settle(&mut self, graph: &Graph, reserved: &[u8], context: BlockContext)
         requires stands { self.old.stage ≡ stages.Runs }
         requires running { (size : ℕ) × (n : ℕ) × IsRunning graph.now.nodes size context.ticket.index n self.old }
         ensures settled { (settings : Settings) (begun : ℕ) (p : ClientStage) (n : ℕ) → settings.dynamic ≡ context.dynamic

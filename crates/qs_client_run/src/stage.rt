@@ -1,4 +1,4 @@
-//! Where a client stands.
+//! The stage of a client, and what its last act gave out.
 
 ghost use Rattle.std.specs.Prelude.{◌≡◌};
 ghost use Rattle.qs_client_run.specs.BetweenActs.{count_sync};
@@ -14,7 +14,7 @@ pub enum Stage {
     Leaves(usize),
 }
 
-/// What the last act carried: nothing that is sent, an object or a chunk, a wish for this handler's object, or the end of the block.
+/// What the last act gave out and is still to be confirmed as sent: nothing, an object or a chunk, a Sync to this handler, or an End.
 #[derive(Clone, Copy)]
 pub enum Outgoing {
     Nothing,

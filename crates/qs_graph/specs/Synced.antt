@@ -1,8 +1,8 @@
 -- A block as an interaction tree with its synchronisations: one with the handler before each query.
-use Rattle.std.specs.Prelude.{ℕ, zero, suc, ℤ, if◌then◌else◌, slice_set}
+use Rattle.std.specs.Prelude.{ℕ, ℤ}
 use Rattle.qs_objects.specs.declared.Request.{Request}
-use Rattle.qs_program.specs.Statements.{Statements, end, command, query, assign, choose, again, leave}
-use Rattle.qs_program.specs.Values.{Locals, expr_value, test_value, request_of}
+use Rattle.qs_program.specs.Statements.{Statements}
+use Rattle.qs_program.specs.Values.{Locals}
 use Rattle.qs_meaning.specs.Interaction.{Interaction}
 use Rattle.qs_meaning.specs.Interaction as tree
 
@@ -17,23 +17,17 @@ pub data Synced : Type 0 where
 abbrev pub Next : Type 0
 Next = Locals → Synced
 
+-- a query, after a synchronisation with its object's handler
+abbrev pub sync_and_query : Request → (ℤ → Synced) → Synced
+sync_and_query r next = Sync r.object (Query r next)
+
 -- n turns of a repeat's body, and then what comes after the repeat
 abbrev pub turns : ℕ → (Next → Next) → Next → Next
-turns zero body next = next
-turns (suc n) body next = body (turns n body next)
+turns n body next = tree.turns_in n body next
 
 -- the tree of statements, by what comes after them and what comes after the innermost repeat
 abbrev pub meaning : Statements → Next → Next → Next
-meaning end next leaves l = next l
-meaning (command c rest) next leaves l = Call (request_of l c) (meaning rest next leaves l)
-meaning (query x c rest) next leaves l =
-    Sync c.object (Query (request_of l c) (λ v. meaning rest next leaves (slice_set l x v)))
-meaning (assign x e rest) next leaves l = meaning rest next leaves (slice_set l x (expr_value l e))
-meaning (choose t has_else first other rest) next leaves l =
-    let later = meaning rest next leaves in if test_value l t then meaning first later leaves l else meaning other later leaves l
-meaning (again n body rest) next leaves l =
-    let later = meaning rest next leaves in turns n (λ turn. meaning body turn later) later l
-meaning (leave rest) next leaves l = leaves l
+meaning body next leaves l = tree.meaning_in Call sync_and_query body next leaves l
 
 -- the tree of a whole block
 abbrev pub synced_of : Statements → Locals → Synced

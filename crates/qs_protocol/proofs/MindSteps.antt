@@ -14,7 +14,7 @@ use Rattle.qs_client_run.proofs.CarriedValues.{sends_are_parted}
 use Rattle.qs_client.specs.ClientRuns.{Deed, DeedsLead, reserves, sends, gets, takes_chunk, next_ticket}
 use Rattle.qs_client.specs.ClientModel.{ClientModel, act_due, mind_after_begin, mind_after_chunk, finish, enters, extend, mind_after_object, hands_out, locals_at, next_mind, reserved_by}
 use Rattle.qs_client.specs.ClientModel.{settings_of, tally, tree_at}
-use Rattle.qs_client.proofs.MindRefinement.{extended_none}
+use Rattle.qs_client.proofs.MindRefinement.{extend_none}
 
 -- a mind whose client came to this, with these numbers of Syncs, for whose last act nothing is left
 abbrev pub came : ClientModel → Settlement → ℕ → List (List SyncCount) → ClientModel
@@ -55,7 +55,7 @@ done_still m e = ap (λ handed. finish (handed_over m handed)) e ∙ (nothing �
       ticket = m.ticket;
       client = m.client;
       entries = m.entries;
-      traces = extended_none m.traces m.ticket.index i;
+      traces = extend_none m.traces m.ticket.index i;
       syncs = add-zero m.syncs i;
       counts = m.counts;
       outgoing = outgoings.Nothing;

@@ -1,5 +1,6 @@
 use Rattle.std.proofs.Common.{◌≡◌, ◌≤◌, ◌*◌, map, take, vec_len, vec_capacity}
 use Rattle.qs_objects.specs.Sums.{total}
+use Rattle.qs_program.specs.Limits.{most_handlers, most_requests}
 use Rattle.qs_client_run.specs.BlockSizes.{room_for}
 use Rattle.qs_client_run.proofs.begin.empty_traces.Given as goal
 
@@ -8,6 +9,6 @@ invariant-loop-block l = record {
   rooms : l.rooms.items ≡ map room_for (take l.block l.code.blocks);
   count : vec_len l.rooms ≡ l.block;
   sum : total l.rooms.items ≡ l.room;
-  few : l.room ≤ 800000 * l.block;
+  few : l.room ≤ most_handlers * most_requests * l.block;
   within : l.count ≤ vec_capacity l.rooms;
 }

@@ -5,7 +5,7 @@ use Rattle.qs_client.specs.SoundMind.{IsSoundMind}
 use Rattle.qs_client.specs.ClientModel.{Asks, ClientModel, act_due, finish, hands_out}
 use Rattle.qs_client.specs.MindState.{MindState, block_of, mind_of, settings_in}
 use Rattle.qs_client.specs.contracts.mind.Mind.{the_view}
-use Rattle.qs_client.proofs.MindRefinement.{acts_asked, acts_is, acts_kept, hands_over, quiet_asks}
+use Rattle.qs_client.proofs.MindRefinement.{acts_asked, acts_is, acts_sound, hands_over, quiet_asks}
 use Rattle.qs_client.proofs.mind.Mind.next.Goals as goal
 
 pub invariant_of-self : goal.invariant_of-self
@@ -17,7 +17,7 @@ invariant_of-self c =
     (c.act-act.ensures.acted (settings_in m) w.left w.standing) in (
       c.self.invariant.0,
       subst (λ (h : Outgoing). IsSoundMind (hands_over m c.act-act.new.self h)) (sym c.outgoing-self-inside.ensures.value)
-          (acts_kept m w c.act-act.result c.act-act.new.self acted),
+          (acts_sound m w c.act-act.result c.act-act.new.self acted),
     )
 
 pub returns : goal.returns

@@ -7,7 +7,7 @@ use Rattle.qs_client.specs.SoundMind.{IsSoundMind}
 use Rattle.qs_client.specs.ClientModel.{Asks, mind_after_chunk}
 use Rattle.qs_client.specs.MindState.{MindState, block_of, client_in, mind_of, settings_in}
 use Rattle.qs_client.specs.contracts.mind.Mind.{the_view}
-use Rattle.qs_client.proofs.MindRefinement.{asks_nothing, needs_begun, block_inside, come_kept, taken_is, nothing_left, steady, wants_of}
+use Rattle.qs_client.proofs.MindRefinement.{asks_nothing, needs_begun, block_inside, come_sound, chunk_is, nothing_left, steady, wants_of}
 use Rattle.qs_client.proofs.mind.Mind.take_chunk.Goals as goal
 
 of_size : (m : MindState) {c : Batch Request} → c ≡ batch [] (mind_of m).size → c ≡ batch [] m.size
@@ -37,7 +37,7 @@ invariant_of-self c =
     let come = c.take_chunk.ensures.come (settings_in m) (length m.code.blocks) (length m.entries) w.left h refl empty (wants_of m w (acts.NeedChunk h) asked) in (
       c.self.invariant.0,
       subst IsSoundMind (nothing_left m c.take_chunk.new.self (asks_nothing m (acts.NeedChunk h) asked))
-          (come_kept m (take_chunk (settings_in m) m.ticket (block_of m).reserved (client_in m) h (client_in m).stage) w.left c.take_chunk.new.self
+          (come_sound m (take_chunk (settings_in m) m.ticket (block_of m).reserved (client_in m) h (client_in m).stage) w.left c.take_chunk.new.self
           (steady m (needs_begun m w h asked) w) come w.few),
     )
 
@@ -50,6 +50,6 @@ returns c =
       chunk = λ h asks.
           let asked : Asks (mind_of m) (acts.NeedChunk h) = subst (λ (x : MindState). Asks (mind_of x) (acts.NeedChunk h)) (sym c.self.view_is) asks in
           let come = c.take_chunk.ensures.come (settings_in m) (length m.code.blocks) (length m.entries) w.left h refl empty (wants_of m w (acts.NeedChunk h) asked) in
-          taken_is m w.left h c.take_chunk.new.self (asks_nothing m (acts.NeedChunk h) asked) come
+          chunk_is m w.left h c.take_chunk.new.self (asks_nothing m (acts.NeedChunk h) asked) come
           ∙ ap (λ (x : MindState). mind_after_chunk (mind_of x) h) c.self.view_is;
     }

@@ -5,7 +5,7 @@ use Rattle.qs_graph.specs.declared.node.Node.TheVariants as v
 use Rattle.qs_client_run.specs.BetweenActs.{await_by}
 use Rattle.qs_client_run.specs.RunState.{RunState}
 use Rattle.qs_client_run.specs.contracts.run.Run.{the_view}
-use Rattle.qs_client_run.proofs.StepAtNode.{moves, not_synced}
+use Rattle.qs_client_run.proofs.StepAtNode.{moves, no_sync}
 use Rattle.qs_client_run.specs.declared.stage.Stage.TheVariants as stages
 use Rattle.qs_client_run.proofs.run.Run.await_object.Goals as goal
 
@@ -32,6 +32,6 @@ returns-in_default c =
     let is : c.node.result.now ≡ (place_at g s.position.node).node = c.node.ensures.value ∙ ap (λ n. (place_at g n).node) c.node-node.ensures.value in
     record {
       new = sym (ap (λ (m : Move). await_by m s) (moves g s.position (place_at g s.position.node).node refl)
-          ∙ not_synced (place_at g s.position.node).node s _ _ (λ x e. c.in_default.not-Sync x (is ∙ e)));
+          ∙ no_sync (place_at g s.position.node).node s _ _ (λ x e. c.in_default.not-Sync x (is ∙ e)));
     }
     )

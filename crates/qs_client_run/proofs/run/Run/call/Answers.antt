@@ -10,7 +10,7 @@ use Rattle.qs_client_run.specs.Running.{call}
 use Rattle.qs_objects.specs.Traces.{noted_at}
 use Rattle.qs_client_run.specs.RunState.{RunState}
 use Rattle.qs_client_run.specs.contracts.run.Run.{the_view}
-use Rattle.qs_client_run.proofs.CallAndQuery.{none_of, called_fills}
+use Rattle.qs_client_run.proofs.CallAndQuery.{none_of, call_fills}
 use Rattle.qs_client_run.proofs.run.Run.call.Goals.{then-is_full, else-is_full}
 use Rattle.qs_client_run.specs.declared.stage.Stage.TheVariants as stages
 use Rattle.qs_client_run.proofs.run.Run.call.Goals as goal
@@ -31,7 +31,7 @@ returns-clause-new c =
     ∙ ap (λ xs. record { held = s.holdings.held; chunks = xs }) (set-set s.holdings.chunks h None (Some c.push.new.self)) in
     let full = ap (λ n. n == c.capacity.result) c.len.ensures.count ∙ ap (λ n. length c.push.new.self.items == n) c.capacity.ensures.capacity in
     let rest =
-    called_fills c.args.block r (at_node s.position c.args.next) s c.in-Some.chunk c.push.new.self (c.len.result == c.capacity.result) c.put_chunk.new.self
+    call_fills c.args.block r (at_node s.position c.args.next) s c.in-Some.chunk c.push.new.self (c.len.result == c.capacity.result) c.put_chunk.new.self
     (none_of _ (sym c.holds.ensures.value ∙ c.if-holds.false)) (sym c.take_chunk.ensures.value ∙ c.in-Some.is) more full holdings
     ∙ ap (λ n. (call c.args.block (to n) (at_node s.position c.args.next) s).0) c.bound-object.ensures.object in
     let position : c.go_to.new.self ≡ at_node s.position c.args.next = c.go_to.ensures.value in

@@ -11,7 +11,7 @@ use Rattle.qs_client_run.specs.Running.{query}
 use Rattle.qs_objects.specs.Traces.{noted_at}
 use Rattle.qs_client_run.specs.RunState.{RunState}
 use Rattle.qs_client_run.specs.contracts.run.Run.{the_view}
-use Rattle.qs_client_run.proofs.CallAndQuery.{asked_runs}
+use Rattle.qs_client_run.proofs.CallAndQuery.{query_runs}
 use Rattle.qs_client_run.proofs.run.Run.query.Goals as goal
 use mir.Val.{to_z, of_z}
 use mir.Syntax.{w64}
@@ -46,7 +46,7 @@ returns c =
     record {
       new =
           (λ i. record { position = position i; holdings = c.put_held.new.self; traces = event i; stage = s.stage })
-          ∙ asked_runs u r spot s c.in-Some.held c.run-reply.new.self c.run-reply.result c.put_held.new.self (sym c.take_held.ensures.value ∙ c.in-Some.is) done holdings
+          ∙ query_runs u r spot s c.in-Some.held c.run-reply.new.self c.run-reply.result c.put_held.new.self (sym c.take_held.ensures.value ∙ c.in-Some.is) done holdings
           ∙ ap (λ n. (query u (to n) spot s).0) c.bound-object.ensures.object;
     }
     )

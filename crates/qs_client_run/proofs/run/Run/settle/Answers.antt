@@ -3,7 +3,7 @@ use Rattle.qs_graph.specs.Steps.{limit}
 use Rattle.qs_graph.specs.Walk.{Spot, Within}
 use Rattle.qs_graph.specs.Nodes as places
 use Rattle.qs_client_run.specs.Client.{Settings, ClientStage, between}
-use Rattle.qs_client_run.proofs.StepRefinement.{WentOn, goes_on, stops, keeps_rows, keeps_both, stopped_up}
+use Rattle.qs_client_run.proofs.StepRefinement.{HasGoneOn, goes_on, stops, keeps_rows, keeps_both, stopped_up}
 use Rattle.qs_client_run.proofs.run.Run.settle.Goals as goal
 
 pub loop-turn-init : goal.loop-turn-init
@@ -22,7 +22,7 @@ step-requires c =
 pub loop-turn-preserved : goal.loop-turn-preserved
 loop-turn-preserved c =
     let next = λ (settings : Settings) (begun : ℕ) (p : ClientStage) (n : ℕ) (dynamic : settings.dynamic ≡ c.args.context.dynamic)
-    (on : WentOn c.args.graph.now.nodes settings c.args.context c.args.reserved.now begun p n c.loop-turn._turn c.args.self.now c.loop-turn.self).
+    (on : HasGoneOn c.args.graph.now.nodes settings c.args.context c.args.reserved.now begun p n c.loop-turn._turn c.args.self.now c.loop-turn.self).
     goes_on c.args.graph.now.nodes settings c.args.context c.args.reserved.now begun p on.left c.loop-turn._turn c.loop-turn.self c.step.new.self c.is_graph.ensures.graph dynamic on.stands on.running on.few c.step.ensures.new (sym c.step.ensures.on ∙ c.if-not-step.false) in
     let w = c.requires.running in
     let settings : Settings = record { dynamic = c.args.context.dynamic; size = w.0 } in

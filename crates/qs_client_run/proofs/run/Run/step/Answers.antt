@@ -6,8 +6,8 @@ use Rattle.qs_graph.specs.declared.node.Node.TheVariants as v
 use Rattle.qs_client_run.specs.Running.{call, sync}
 use Rattle.qs_client_run.specs.RunState.{RunState}
 use Rattle.qs_client_run.specs.contracts.run.Run.{the_view}
-use Rattle.qs_client_run.proofs.StepAtNode.{moves, moved_at}
-use Rattle.qs_client_run.proofs.CallAndQuery.{asked_on}
+use Rattle.qs_client_run.proofs.StepAtNode.{moves, step_at}
+use Rattle.qs_client_run.proofs.CallAndQuery.{query_goes_on}
 use Rattle.qs_client_run.proofs.NodeRequirements.{room_for_call, room_for_query, held_for_query}
 use Rattle.qs_client_run.proofs.run.Run.step.Goals as goal
 
@@ -36,45 +36,45 @@ pub returns-in-Call-clause-new : goal.returns-in-Call-clause-new
 returns-in-Call-clause-new c =
     let s : RunState = c.args.self.now in
     c.call.ensures.new ∙ ap (λ k. (call k (request_of s.position.locals c.in-Call.call) (at_node s.position c.first_target-next.result) s).0) c.from.ensures ∙
-    ap (λ (p : RunState × Bool). p.0) (moved_at c.args.graph.now.nodes c.args.context c.args.reserved.now s c.node-node.result c.first_target-next.result (second_target (place_at c.args.graph.now.nodes c.node-node.result)) (v.Call c.in-Call.call) (c.node-node.ensures.value ∙ ap (λ (x : RunState). x.position.node) c.self.view_is) c.first_target-next.ensures.value refl (sym c.node.ensures.value ∙ c.in-Call.is))
+    ap (λ (p : RunState × Bool). p.0) (step_at c.args.graph.now.nodes c.args.context c.args.reserved.now s c.node-node.result c.first_target-next.result (second_target (place_at c.args.graph.now.nodes c.node-node.result)) (v.Call c.in-Call.call) (c.node-node.ensures.value ∙ ap (λ (x : RunState). x.position.node) c.self.view_is) c.first_target-next.ensures.value refl (sym c.node.ensures.value ∙ c.in-Call.is))
 
 pub returns-in-Call-clause-on : goal.returns-in-Call-clause-on
 returns-in-Call-clause-on c =
     let s : RunState = c.args.self.now in
     c.call.ensures.on ∙ ap (λ k. (call k (request_of s.position.locals c.in-Call.call) (at_node s.position c.first_target-next.result) s).1) c.from.ensures ∙
-    ap (λ (p : RunState × Bool). p.1) (moved_at c.args.graph.now.nodes c.args.context c.args.reserved.now s c.node-node.result c.first_target-next.result (second_target (place_at c.args.graph.now.nodes c.node-node.result)) (v.Call c.in-Call.call) (c.node-node.ensures.value ∙ ap (λ (x : RunState). x.position.node) c.self.view_is) c.first_target-next.ensures.value refl (sym c.node.ensures.value ∙ c.in-Call.is))
+    ap (λ (p : RunState × Bool). p.1) (step_at c.args.graph.now.nodes c.args.context c.args.reserved.now s c.node-node.result c.first_target-next.result (second_target (place_at c.args.graph.now.nodes c.node-node.result)) (v.Call c.in-Call.call) (c.node-node.ensures.value ∙ ap (λ (x : RunState). x.position.node) c.self.view_is) c.first_target-next.ensures.value refl (sym c.node.ensures.value ∙ c.in-Call.is))
 
 pub returns-in-Sync-clause-new : goal.returns-in-Sync-clause-new
 returns-in-Sync-clause-new c =
     let s : RunState = c.args.self.now in
     c.sync.ensures.new ∙ ap (λ h. (sync c.args.context.dynamic h (at_node s.position c.first_target-next.result) s).0) c.bound.ensures.object ∙
-    ap (λ (p : RunState × Bool). p.0) (moved_at c.args.graph.now.nodes c.args.context c.args.reserved.now s c.node-node.result c.first_target-next.result (second_target (place_at c.args.graph.now.nodes c.node-node.result)) (v.Sync c.in-Sync.name) (c.node-node.ensures.value ∙ ap (λ (x : RunState). x.position.node) c.self.view_is) c.first_target-next.ensures.value refl (sym c.node.ensures.value ∙ c.in-Sync.is))
+    ap (λ (p : RunState × Bool). p.0) (step_at c.args.graph.now.nodes c.args.context c.args.reserved.now s c.node-node.result c.first_target-next.result (second_target (place_at c.args.graph.now.nodes c.node-node.result)) (v.Sync c.in-Sync.name) (c.node-node.ensures.value ∙ ap (λ (x : RunState). x.position.node) c.self.view_is) c.first_target-next.ensures.value refl (sym c.node.ensures.value ∙ c.in-Sync.is))
 
 pub returns-in-Sync-clause-on : goal.returns-in-Sync-clause-on
 returns-in-Sync-clause-on c =
     let s : RunState = c.args.self.now in
     c.sync.ensures.on ∙ ap (λ h. (sync c.args.context.dynamic h (at_node s.position c.first_target-next.result) s).1) c.bound.ensures.object ∙
-    ap (λ (p : RunState × Bool). p.1) (moved_at c.args.graph.now.nodes c.args.context c.args.reserved.now s c.node-node.result c.first_target-next.result (second_target (place_at c.args.graph.now.nodes c.node-node.result)) (v.Sync c.in-Sync.name) (c.node-node.ensures.value ∙ ap (λ (x : RunState). x.position.node) c.self.view_is) c.first_target-next.ensures.value refl (sym c.node.ensures.value ∙ c.in-Sync.is))
+    ap (λ (p : RunState × Bool). p.1) (step_at c.args.graph.now.nodes c.args.context c.args.reserved.now s c.node-node.result c.first_target-next.result (second_target (place_at c.args.graph.now.nodes c.node-node.result)) (v.Sync c.in-Sync.name) (c.node-node.ensures.value ∙ ap (λ (x : RunState). x.position.node) c.self.view_is) c.first_target-next.ensures.value refl (sym c.node.ensures.value ∙ c.in-Sync.is))
 
 pub returns-in-Exit-clause-new : goal.returns-in-Exit-clause-new
 returns-in-Exit-clause-new c =
     let s : RunState = c.args.self.now in
     c.leave.ensures.new ∙
-    ap (λ (p : RunState × Bool). p.0) (moved_at c.args.graph.now.nodes c.args.context c.args.reserved.now s c.node-node.result c.first_target-next.result (second_target (place_at c.args.graph.now.nodes c.node-node.result)) v.Exit (c.node-node.ensures.value ∙ ap (λ (x : RunState). x.position.node) c.self.view_is) c.first_target-next.ensures.value refl (sym c.node.ensures.value ∙ c.in-Exit.is))
+    ap (λ (p : RunState × Bool). p.0) (step_at c.args.graph.now.nodes c.args.context c.args.reserved.now s c.node-node.result c.first_target-next.result (second_target (place_at c.args.graph.now.nodes c.node-node.result)) v.Exit (c.node-node.ensures.value ∙ ap (λ (x : RunState). x.position.node) c.self.view_is) c.first_target-next.ensures.value refl (sym c.node.ensures.value ∙ c.in-Exit.is))
 
 pub returns-in-Exit-clause-on : goal.returns-in-Exit-clause-on
 returns-in-Exit-clause-on c =
     rw (← c.self.view_is)
     (
     let s : RunState = the_view c.self.inside in
-    ap (λ (p : RunState × Bool). p.1) (moved_at c.args.graph.now.nodes c.args.context c.args.reserved.now s c.node-node.result c.first_target-next.result (second_target (place_at c.args.graph.now.nodes c.node-node.result)) v.Exit c.node-node.ensures.value c.first_target-next.ensures.value refl (sym c.node.ensures.value ∙ c.in-Exit.is))
+    ap (λ (p : RunState × Bool). p.1) (step_at c.args.graph.now.nodes c.args.context c.args.reserved.now s c.node-node.result c.first_target-next.result (second_target (place_at c.args.graph.now.nodes c.node-node.result)) v.Exit c.node-node.ensures.value c.first_target-next.ensures.value refl (sym c.node.ensures.value ∙ c.in-Exit.is))
     )
 
 pub returns-in-Query-clause-new : goal.returns-in-Query-clause-new
 returns-in-Query-clause-new c =
     let s : RunState = c.args.self.now in
     c.query.ensures.new ∙
-    ap (λ (p : RunState × Bool). p.0) (moved_at c.args.graph.now.nodes c.args.context c.args.reserved.now s c.node-node.result c.first_target-next.result (second_target (place_at c.args.graph.now.nodes c.node-node.result)) (v.Query c.in-Query.variable c.in-Query.call) (c.node-node.ensures.value ∙ ap (λ (x : RunState). x.position.node) c.self.view_is) c.first_target-next.ensures.value refl (sym c.node.ensures.value ∙ c.in-Query.is))
+    ap (λ (p : RunState × Bool). p.0) (step_at c.args.graph.now.nodes c.args.context c.args.reserved.now s c.node-node.result c.first_target-next.result (second_target (place_at c.args.graph.now.nodes c.node-node.result)) (v.Query c.in-Query.variable c.in-Query.call) (c.node-node.ensures.value ∙ ap (λ (x : RunState). x.position.node) c.self.view_is) c.first_target-next.ensures.value refl (sym c.node.ensures.value ∙ c.in-Query.is))
 
 pub returns-in-Query-clause-on : goal.returns-in-Query-clause-on
 returns-in-Query-clause-on c =
@@ -82,8 +82,8 @@ returns-in-Query-clause-on c =
     let w = c.requires.running in
     let is = ap (λ n. (place_at c.args.graph.now.nodes n).node) (sym (c.node-node.ensures.value ∙ ap (λ (x : RunState). x.position.node) c.self.view_is)) ∙ sym c.node.ensures.value ∙ c.in-Query.is in
     let held = held_for_query c.args.graph.now.nodes w.0 c.args.context.ticket.index s w.1 _ _ (moves c.args.graph.now.nodes s.position (v.Query c.in-Query.variable c.in-Query.call) is) w.2 in
-    sym (asked_on c.args.context.ticket (request_of s.position.locals c.in-Query.call) (λ v. at_node (with_value s.position c.in-Query.variable v) c.first_target-next.result) s held) ∙
-    ap (λ (p : RunState × Bool). p.1) (moved_at c.args.graph.now.nodes c.args.context c.args.reserved.now s c.node-node.result c.first_target-next.result (second_target (place_at c.args.graph.now.nodes c.node-node.result)) (v.Query c.in-Query.variable c.in-Query.call) (c.node-node.ensures.value ∙ ap (λ (x : RunState). x.position.node) c.self.view_is) c.first_target-next.ensures.value refl (sym c.node.ensures.value ∙ c.in-Query.is))
+    sym (query_goes_on c.args.context.ticket (request_of s.position.locals c.in-Query.call) (λ v. at_node (with_value s.position c.in-Query.variable v) c.first_target-next.result) s held) ∙
+    ap (λ (p : RunState × Bool). p.1) (step_at c.args.graph.now.nodes c.args.context c.args.reserved.now s c.node-node.result c.first_target-next.result (second_target (place_at c.args.graph.now.nodes c.node-node.result)) (v.Query c.in-Query.variable c.in-Query.call) (c.node-node.ensures.value ∙ ap (λ (x : RunState). x.position.node) c.self.view_is) c.first_target-next.ensures.value refl (sym c.node.ensures.value ∙ c.in-Query.is))
 
 pub returns-in-Entry-clause-new : goal.returns-in-Entry-clause-new
 returns-in-Entry-clause-new c =
@@ -91,7 +91,7 @@ returns-in-Entry-clause-new c =
     (
     let s : RunState = the_view c.self.inside in
     ap (λ w. record s { position = w }) c.go_to.ensures.value ∙
-    ap (λ (p : RunState × Bool). p.0) (moved_at c.args.graph.now.nodes c.args.context c.args.reserved.now s c.node-node.result c.first_target-next.result (second_target (place_at c.args.graph.now.nodes c.node-node.result)) v.Entry c.node-node.ensures.value c.first_target-next.ensures.value refl (sym c.node.ensures.value ∙ c.in-Entry.is))
+    ap (λ (p : RunState × Bool). p.0) (step_at c.args.graph.now.nodes c.args.context c.args.reserved.now s c.node-node.result c.first_target-next.result (second_target (place_at c.args.graph.now.nodes c.node-node.result)) v.Entry c.node-node.ensures.value c.first_target-next.ensures.value refl (sym c.node.ensures.value ∙ c.in-Entry.is))
     )
 
 pub returns-in-Entry-clause-on : goal.returns-in-Entry-clause-on
@@ -99,7 +99,7 @@ returns-in-Entry-clause-on c =
     rw (← c.self.view_is)
     (
     let s : RunState = the_view c.self.inside in
-    ap (λ (p : RunState × Bool). p.1) (moved_at c.args.graph.now.nodes c.args.context c.args.reserved.now s c.node-node.result c.first_target-next.result (second_target (place_at c.args.graph.now.nodes c.node-node.result)) v.Entry c.node-node.ensures.value c.first_target-next.ensures.value refl (sym c.node.ensures.value ∙ c.in-Entry.is))
+    ap (λ (p : RunState × Bool). p.1) (step_at c.args.graph.now.nodes c.args.context c.args.reserved.now s c.node-node.result c.first_target-next.result (second_target (place_at c.args.graph.now.nodes c.node-node.result)) v.Entry c.node-node.ensures.value c.first_target-next.ensures.value refl (sym c.node.ensures.value ∙ c.in-Entry.is))
     )
 
 pub returns-in-Local-clause-new : goal.returns-in-Local-clause-new
@@ -108,7 +108,7 @@ returns-in-Local-clause-new c =
     (
     let s : RunState = the_view c.self.inside in
     ap (λ w. record s { position = w }) c.act.ensures.acted ∙
-    ap (λ (p : RunState × Bool). p.0) (moved_at c.args.graph.now.nodes c.args.context c.args.reserved.now s c.node-node.result c.first_target-next.result (second_target (place_at c.args.graph.now.nodes c.node-node.result)) (v.Local c.in-Local.action) c.node-node.ensures.value c.first_target-next.ensures.value refl (sym c.node.ensures.value ∙ c.in-Local.is))
+    ap (λ (p : RunState × Bool). p.0) (step_at c.args.graph.now.nodes c.args.context c.args.reserved.now s c.node-node.result c.first_target-next.result (second_target (place_at c.args.graph.now.nodes c.node-node.result)) (v.Local c.in-Local.action) c.node-node.ensures.value c.first_target-next.ensures.value refl (sym c.node.ensures.value ∙ c.in-Local.is))
     )
 
 pub returns-in-Local-clause-on : goal.returns-in-Local-clause-on
@@ -116,7 +116,7 @@ returns-in-Local-clause-on c =
     rw (← c.self.view_is)
     (
     let s : RunState = the_view c.self.inside in
-    ap (λ (p : RunState × Bool). p.1) (moved_at c.args.graph.now.nodes c.args.context c.args.reserved.now s c.node-node.result c.first_target-next.result (second_target (place_at c.args.graph.now.nodes c.node-node.result)) (v.Local c.in-Local.action) c.node-node.ensures.value c.first_target-next.ensures.value refl (sym c.node.ensures.value ∙ c.in-Local.is))
+    ap (λ (p : RunState × Bool). p.1) (step_at c.args.graph.now.nodes c.args.context c.args.reserved.now s c.node-node.result c.first_target-next.result (second_target (place_at c.args.graph.now.nodes c.node-node.result)) (v.Local c.in-Local.action) c.node-node.ensures.value c.first_target-next.ensures.value refl (sym c.node.ensures.value ∙ c.in-Local.is))
     )
 
 pub returns-in-Branch-clause-new : goal.returns-in-Branch-clause-new
@@ -125,7 +125,7 @@ returns-in-Branch-clause-new c =
     (
     let s : RunState = the_view c.self.inside in
     ap (λ w. record s { position = w }) c.choose.ensures.chosen ∙
-    ap (λ (p : RunState × Bool). p.0) (moved_at c.args.graph.now.nodes c.args.context c.args.reserved.now s c.node-node.result c.first_target-next.result c.second_target.result (v.Branch c.in-Branch.choice) c.node-node.ensures.value c.first_target-next.ensures.value c.second_target.ensures.value (sym c.node.ensures.value ∙ c.in-Branch.is))
+    ap (λ (p : RunState × Bool). p.0) (step_at c.args.graph.now.nodes c.args.context c.args.reserved.now s c.node-node.result c.first_target-next.result c.second_target.result (v.Branch c.in-Branch.choice) c.node-node.ensures.value c.first_target-next.ensures.value c.second_target.ensures.value (sym c.node.ensures.value ∙ c.in-Branch.is))
     )
 
 pub returns-in-Branch-clause-on : goal.returns-in-Branch-clause-on
@@ -133,5 +133,5 @@ returns-in-Branch-clause-on c =
     rw (← c.self.view_is)
     (
     let s : RunState = the_view c.self.inside in
-    ap (λ (p : RunState × Bool). p.1) (moved_at c.args.graph.now.nodes c.args.context c.args.reserved.now s c.node-node.result c.first_target-next.result c.second_target.result (v.Branch c.in-Branch.choice) c.node-node.ensures.value c.first_target-next.ensures.value c.second_target.ensures.value (sym c.node.ensures.value ∙ c.in-Branch.is))
+    ap (λ (p : RunState × Bool). p.1) (step_at c.args.graph.now.nodes c.args.context c.args.reserved.now s c.node-node.result c.first_target-next.result c.second_target.result (v.Branch c.in-Branch.choice) c.node-node.ensures.value c.first_target-next.ensures.value c.second_target.ensures.value (sym c.node.ensures.value ∙ c.in-Branch.is))
     )

@@ -12,7 +12,7 @@ use Rattle.qs_client_run.specs.Running.{IsRunning}
 use Rattle.qs_client_run.specs.BetweenActs.{HasTaken, IsStanding}
 use Rattle.qs_client_run.specs.RunState.{RunState}
 use Rattle.qs_client_run.specs.contracts.run.Run.{the_view}
-use Rattle.qs_client_run.proofs.ArrivalRefinement.{at_call, called_here, eight_here, filled_running, is_call, node_inside, taken_comes}
+use Rattle.qs_client_run.proofs.ArrivalRefinement.{at_call, call_here, eight_here, chunk_running, is_call, node_inside, chunk_comes}
 use Rattle.qs_client_run.proofs.run.Run.take_chunk.Goals as goal
 
 pub node-requires-2 : goal.node-requires-2
@@ -58,7 +58,7 @@ resume-requires c =
         w.0.size,
         at.0,
         subst (λ (x : HoldingsState). IsRunning b.graph w.0.size k at.0 (with_holdings s x)) (sym holdings)
-            (filled_running b w.0 c.args.ticket w.1 w.2 w.3 s at.0 h eight some at.2),
+            (chunk_running b w.0 c.args.ticket w.1 w.2 w.3 s at.0 h eight some at.2),
       );
     }
 
@@ -81,13 +81,13 @@ returns c =
           let holdings : c.put_chunk.new.self ≡ with_chunk s.holdings h (Some (batch [] settings.size)) =
           c.put_chunk.ensures.value ∙ (λ i. with_chunk s.holdings (c.bound.ensures.object i) (Some (chunk i))) in
           let some : 0 < settings.size = omega (arith, c.requires.room, ap (λ (x : Batch Request). x.capacity) chunk) in
-          let running = filled_running b settings u blocks begun most s at.0 h eight some at.2 in
+          let running = chunk_running b settings u blocks begun most s at.0 h eight some at.2 in
           let p = stage_of b.graph b.reserved s in
           let settled : HasSettled b.graph settings u b.reserved begun p at.0 (with_holdings s (with_chunk s.holdings h (Some (batch [] settings.size)))) c.resume.new.self =
           subst (λ (x : HoldingsState). HasSettled b.graph settings u b.reserved begun p at.0 (with_holdings s x) c.resume.new.self) holdings
           (c.resume.ensures.settled settings begun p at.0 dynamic
           (subst (λ (x : HoldingsState). IsRunning b.graph settings.size u.index at.0 (with_holdings s x)) (sym holdings) running)) in
-          subst (λ x. HasTaken b settings u begun most x s c.resume.new.self) (called_here b.graph s g c.in-Call.call (sym node ∙ c.in-Call.is) call)
-          (taken_comes b settings u blocks begun most s at.0 h c.resume.new.self call.stands at.1 eight at.2 settled);
+          subst (λ x. HasTaken b settings u begun most x s c.resume.new.self) (call_here b.graph s g c.in-Call.call (sym node ∙ c.in-Call.is) call)
+          (chunk_comes b settings u blocks begun most s at.0 h c.resume.new.self call.stands at.1 eight at.2 settled);
     }
     )

@@ -7,7 +7,7 @@ use Rattle.qs_client_run.specs.Running.{IsRunning}
 use Rattle.qs_client_run.specs.BetweenActs.{IsStanding}
 use Rattle.qs_client_run.specs.RunState.{RunState}
 use Rattle.qs_client_run.specs.contracts.run.Run.{the_view}
-use Rattle.qs_client_run.proofs.ArrivalRefinement.{awaits_here, held_running, got_comes}
+use Rattle.qs_client_run.proofs.ArrivalRefinement.{awaits_here, object_running, object_comes}
 use Rattle.qs_client_run.proofs.run.Run.take_object.Goals as goal
 
 pub unreachable-requires : goal.unreachable-requires
@@ -28,7 +28,7 @@ resume-requires c =
         w.0.size,
         at.0,
         subst (λ (x : HoldingsState). IsRunning b.graph w.0.size c.args.ticket.index at.0 (with_holdings s x)) (sym c.put_held.ensures.value)
-            (held_running b w.0 c.args.ticket w.1 w.2 w.3 s at.0 h c.args.held at.2),
+            (object_running b w.0 c.args.ticket w.1 w.2 w.3 s at.0 h c.args.held at.2),
       );
     }
 
@@ -43,11 +43,11 @@ returns c =
       come = λ settings blocks begun most g dynamic w.
           let at = subst (IsStanding b settings.size c.args.ticket.index most s) c.in-Awaits.is w.standing in
           let holdings : c.put_held.new.self ≡ with_held s.holdings h (Some c.args.held) = c.put_held.ensures.value in
-          let running = held_running b settings c.args.ticket blocks begun most s at.0 h c.args.held at.2 in
+          let running = object_running b settings c.args.ticket blocks begun most s at.0 h c.args.held at.2 in
           let settled : HasSettled b.graph settings c.args.ticket b.reserved begun (stage_of b.graph b.reserved s) at.0 (with_holdings s (with_held s.holdings h (Some c.args.held))) c.resume.new.self =
           subst (λ (x : HoldingsState). HasSettled b.graph settings c.args.ticket b.reserved begun (stage_of b.graph b.reserved s) at.0 (with_holdings s x) c.resume.new.self) holdings
           (c.resume.ensures.settled settings begun (stage_of b.graph b.reserved s) at.0 dynamic
           (subst (λ (x : HoldingsState). IsRunning b.graph settings.size c.args.ticket.index at.0 (with_holdings s x)) (sym holdings) running)) in
-          got_comes b settings c.args.ticket blocks begun most s at.0 h c.args.held c.resume.new.self c.in-Awaits.is at.1 at.2 settled;
+          object_comes b settings c.args.ticket blocks begun most s at.0 h c.args.held c.resume.new.self c.in-Awaits.is at.1 at.2 settled;
     }
     )
