@@ -169,7 +169,7 @@ impl Mind {
     }
 
     /// The client's next block was reserved, with this ticket.
-    pub fn begin(&mut self, ticket: Ticket)
+    pub fn booked(&mut self, ticket: Ticket)
         requires asked { Asks (mind_of self.old) Act.Reserve }
         requires next { ticket.index ≡ (mind_of self.old).client.begun }
         ensures begun { mind_of self.new ≡ mind_after_begin (mind_of self.old) ticket }
@@ -181,7 +181,7 @@ impl Mind {
     }
 
     /// The object came that the client waited for.
-    pub fn take_object(&mut self, held: Held)
+    pub fn got(&mut self, held: Held)
         requires asked { (h : ℕ) × Asks (mind_of self.old) (Act.Await h) }
         ensures object { mind_of self.new ≡ mind_after_object (mind_of self.old) held }
     {
@@ -189,7 +189,7 @@ impl Mind {
     }
 
     /// An empty chunk of the lane that the client asked for.
-    pub fn take_chunk(&mut self, chunk: Chunk<Request>)
+    pub fn chunk(&mut self, chunk: Chunk<Request>)
         requires asked { (h : ℕ) × Asks (mind_of self.old) (Act.NeedChunk h) }
         requires empty { chunk ≡ batch [] (mind_of self.old).size }
         ensures chunk { (h : ℕ) → Asks (mind_of self.old) (Act.NeedChunk h) → mind_of self.new ≡ mind_after_chunk (mind_of self.old) h }
@@ -239,7 +239,7 @@ impl Mind {
 
     /// How many blocks have ended, as the act after a block's last End comes.
     #[tactic(auto, unfolding(crate::specs::MindState::mind_of))]
-    pub fn blocks_ended(&self) -> usize
+    pub fn ended(&self) -> usize
         ensures value { result ≡ blocks_ended (mind_of self.now).client }
     {
         let begun = self.entries.len();

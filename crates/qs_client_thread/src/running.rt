@@ -42,10 +42,10 @@ pub fn run<D: DeskName, R: Wait>(
     let mut lanes = lanes;
     for _ in rt.forever() {
         match mind.next() {
-            Act::Reserve => mind.begin(front.reserve(rt, &mut share)),
+            Act::Reserve => mind.booked(front.reserve(rt, &mut share)),
             Act::Send(handler, parcel) => send(rt, &mut lanes, handler, parcel),
-            Act::Await(handler) => mind.take_object(get(rt, &mut lanes, handler)),
-            Act::NeedChunk(handler) => mind.take_chunk(empty(rt, &mut lanes, handler)),
+            Act::Await(handler) => mind.got(get(rt, &mut lanes, handler)),
+            Act::NeedChunk(handler) => mind.chunk(empty(rt, &mut lanes, handler)),
             Act::Finished => return (mind, share, lanes),
         }
     }

@@ -100,7 +100,7 @@ impl CoreClient {
         ensures seat { IsCoreClient self.new }
         ensures lanes { self.new.lanes ≡ self.old.lanes }
     {
-        self.mind.begin(ticket);
+        self.mind.booked(ticket);
         self.act = self.mind.next();
     }
 
@@ -169,7 +169,7 @@ impl CoreClient {
         let Some(held) = lane.take_object() else {
             return false;
         };
-        self.mind.take_object(held);
+        self.mind.got(held);
         self.act = self.mind.next();
         true
     }
@@ -187,7 +187,7 @@ impl CoreClient {
         let Some(chunk) = lane.take_chunk() else {
             return false;
         };
-        self.mind.take_chunk(chunk);
+        self.mind.chunk(chunk);
         self.act = self.mind.next();
         true
     }

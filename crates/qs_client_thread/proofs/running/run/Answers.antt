@@ -18,8 +18,8 @@ reserve-requires g c =
           c.next-in-loop.ensures.rest (sym c.in-Reserve.ensures.act);
     }
 
-pub begin-requires-clause-next : goal.begin-requires-clause-next
-begin-requires-clause-next g c =
+pub booked-requires-clause-next : goal.booked-requires-clause-next
+booked-requires-clause-next g c =
     ap (λ (t : Ticket). t.index) c.reserve.ensures.ticket
     ∙ count_is g.D.DeskName.program c.args.share.client (mind_of c.args.mind) c.args.lanes c.requires.sound c.requires.code c.requires.begins
     c.requires.fresh c.requires.reached (mind_of c.loop.mind) (mind_of c.next-in-loop.new.self) c.loop.share c.loop.lanes c.loop.invariant
@@ -29,8 +29,8 @@ pub loop-preserved-in-Reserve : goal.loop-preserved-in-Reserve
 loop-preserved-in-Reserve g c =
     kept_by_ticket g.D.DeskName.program c.args.share.client (mind_of c.args.mind) c.args.lanes c.requires.sound c.requires.code c.requires.begins
     c.requires.fresh c.requires.reached (mind_of c.loop.mind) (mind_of c.next-in-loop.new.self) c.loop.share c.loop.lanes c.loop.invariant
-    c.next-in-loop.ensures.rest (mind_of c.begin.new.self) c.reserve.result c.reserve.new.share
-    (sym c.in-Reserve.ensures.act) c.reserve.ensures.ticket c.reserve.ensures.share c.begin.ensures.begun
+    c.next-in-loop.ensures.rest (mind_of c.booked.new.self) c.reserve.result c.reserve.new.share
+    (sym c.in-Reserve.ensures.act) c.reserve.ensures.ticket c.reserve.ensures.share c.booked.ensures.begun
 
 pub send-requires-clause-handler : goal.send-requires-clause-handler
 send-requires-clause-handler g c =
@@ -72,8 +72,8 @@ pub loop-preserved-in-Await : goal.loop-preserved-in-Await
 loop-preserved-in-Await g c =
     kept_by_object g.D.DeskName.program c.args.share.client (mind_of c.args.mind) c.args.lanes c.requires.sound c.requires.code c.requires.begins
     c.requires.fresh c.requires.reached (mind_of c.loop.mind) (mind_of c.next-in-loop.new.self) c.loop.share c.loop.lanes c.loop.invariant
-    c.next-in-loop.ensures.rest (mind_of c.take_object.new.self) c.in-Await.handler c.get.result c.get.new.lanes
-    (sym c.in-Await.ensures.act) c.take_object.ensures.object c.get.ensures.got
+    c.next-in-loop.ensures.rest (mind_of c.got.new.self) c.in-Await.handler c.get.result c.get.new.lanes
+    (sym c.in-Await.ensures.act) c.got.ensures.object c.get.ensures.got
 
 pub empty-requires-clause-handler : goal.empty-requires-clause-handler
 empty-requires-clause-handler g c =
@@ -87,8 +87,8 @@ empty-requires-clause-lane g c =
     c.requires.fresh c.requires.reached (mind_of c.loop.mind) (mind_of c.next-in-loop.new.self) c.loop.share c.loop.lanes c.loop.invariant
     c.next-in-loop.ensures.rest c.in-NeedChunk.handler (acts.NeedChunk c.in-NeedChunk.handler) (sym c.in-NeedChunk.ensures.act) refl).1
 
-pub take_chunk-requires-clause-empty : goal.take_chunk-requires-clause-empty
-take_chunk-requires-clause-empty g c =
+pub chunk-requires-clause-empty : goal.chunk-requires-clause-empty
+chunk-requires-clause-empty g c =
     is_empty g.D.DeskName.program c.args.share.client (mind_of c.args.mind) c.args.lanes c.requires.sound c.requires.code c.requires.begins
     c.requires.fresh c.requires.reached (mind_of c.loop.mind) (mind_of c.next-in-loop.new.self) c.loop.share c.loop.lanes c.loop.invariant
     c.next-in-loop.ensures.rest c.in-NeedChunk.handler c.empty.result c.empty.new.lanes (sym c.in-NeedChunk.ensures.act) c.empty.ensures.taken
@@ -97,5 +97,5 @@ pub loop-preserved : goal.loop-preserved
 loop-preserved g c =
     kept_by_chunk g.D.DeskName.program c.args.share.client (mind_of c.args.mind) c.args.lanes c.requires.sound c.requires.code c.requires.begins
     c.requires.fresh c.requires.reached (mind_of c.loop.mind) (mind_of c.next-in-loop.new.self) c.loop.share c.loop.lanes c.loop.invariant
-    c.next-in-loop.ensures.rest (mind_of c.take_chunk.new.self) c.in-NeedChunk.handler c.empty.result c.empty.new.lanes
-    (sym c.in-NeedChunk.ensures.act) (c.take_chunk.ensures.chunk c.in-NeedChunk.handler (c.in-NeedChunk.ensures.asked tt)) c.empty.ensures.taken
+    c.next-in-loop.ensures.rest (mind_of c.chunk.new.self) c.in-NeedChunk.handler c.empty.result c.empty.new.lanes
+    (sym c.in-NeedChunk.ensures.act) (c.chunk.ensures.chunk c.in-NeedChunk.handler (c.in-NeedChunk.ensures.asked tt)) c.empty.ensures.taken

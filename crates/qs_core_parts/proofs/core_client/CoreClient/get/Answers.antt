@@ -8,7 +8,7 @@ invariant_of-self-2 c =
     let s : CoreClientState = record { mind = c.self.inside.mind; act = c.self.inside.act; lanes = c.self.inside.lanes.items } in
     let t : CoreClientState = record { mind = c.next.new.self; act = c.next.result; lanes = _ } in
     (code_got s c.args.self.now c.self.invariant c.self.view_is c.args.handler c.from.result c.from.ensures c.requires.lane c.index_mut-lane.result.now c.index_mut-lane.ensures.value
-    c.in-Some.held c.take_object-2.new.self c.requires.asked (sym c.in-Some.ensures.value) c.take_object-2.ensures.object t
+    c.in-Some.held c.got.new.self c.requires.asked (sym c.in-Some.ensures.value) c.got.ensures.object t
     c.next.ensures.act c.next.ensures.rest c.take_object.new.self c.take_object.ensures.rest refl).0
 
 pub returns-clause-steps : goal.returns-clause-steps
@@ -16,5 +16,5 @@ returns-clause-steps c =
     let s : CoreClientState = record { mind = c.self.inside.mind; act = c.self.inside.act; lanes = c.self.inside.lanes.items } in
     let t : CoreClientState = record { mind = c.next.new.self; act = c.next.result; lanes = _ } in
     (code_got s c.args.self.now c.self.invariant c.self.view_is c.args.handler c.from.result c.from.ensures c.requires.lane c.index_mut-lane.result.now c.index_mut-lane.ensures.value
-    c.in-Some.held c.take_object-2.new.self c.requires.asked (sym c.in-Some.ensures.value) c.take_object-2.ensures.object t
+    c.in-Some.held c.got.new.self c.requires.asked (sym c.in-Some.ensures.value) c.got.ensures.object t
     c.next.ensures.act c.next.ensures.rest c.take_object.new.self c.take_object.ensures.rest refl).1

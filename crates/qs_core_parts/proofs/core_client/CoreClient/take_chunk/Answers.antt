@@ -8,7 +8,7 @@ invariant_of-self-2 c =
     let s : CoreClientState = record { mind = c.self.inside.mind; act = c.self.inside.act; lanes = c.self.inside.lanes.items } in
     let t : CoreClientState = record { mind = c.next.new.self; act = c.next.result; lanes = _ } in
     (code_chunk s c.args.self.now c.self.invariant c.self.view_is c.args.handler c.from.result c.from.ensures c.requires.lane c.index_mut-lane.result.now c.index_mut-lane.ensures.value
-    c.in-Some.chunk c.take_chunk-2.new.self c.requires.asked (c.take_chunk-2.ensures.chunk c.args.handler (asked_chunk s c.args.self.now c.self.invariant c.self.view_is c.args.handler c.requires.asked)) t
+    c.in-Some.chunk c.chunk.new.self c.requires.asked (c.chunk.ensures.chunk c.args.handler (asked_chunk s c.args.self.now c.self.invariant c.self.view_is c.args.handler c.requires.asked)) t
     c.next.ensures.act c.next.ensures.rest c.take_chunk.new.self c.in-Some.ensures.cases refl).0
 
 pub returns-clause-steps : goal.returns-clause-steps
@@ -16,5 +16,5 @@ returns-clause-steps c =
     let s : CoreClientState = record { mind = c.self.inside.mind; act = c.self.inside.act; lanes = c.self.inside.lanes.items } in
     let t : CoreClientState = record { mind = c.next.new.self; act = c.next.result; lanes = _ } in
     (code_chunk s c.args.self.now c.self.invariant c.self.view_is c.args.handler c.from.result c.from.ensures c.requires.lane c.index_mut-lane.result.now c.index_mut-lane.ensures.value
-    c.in-Some.chunk c.take_chunk-2.new.self c.requires.asked (c.take_chunk-2.ensures.chunk c.args.handler (asked_chunk s c.args.self.now c.self.invariant c.self.view_is c.args.handler c.requires.asked)) t
+    c.in-Some.chunk c.chunk.new.self c.requires.asked (c.chunk.ensures.chunk c.args.handler (asked_chunk s c.args.self.now c.self.invariant c.self.view_is c.args.handler c.requires.asked)) t
     c.next.ensures.act c.next.ensures.rest c.take_chunk.new.self c.in-Some.ensures.cases refl).1

@@ -6,7 +6,7 @@ use Rattle.qs_client.specs.ClientModel.{Asks, mind_after_object}
 use Rattle.qs_client.specs.MindState.{MindState, block_of, client_in, mind_of, settings_in}
 use Rattle.qs_client.specs.contracts.mind.Mind.{the_view}
 use Rattle.qs_client.proofs.MindRefinement.{asks_nothing, awaits_begun, block_inside, come_sound, object_is, nothing_left, steady, wants_of}
-use Rattle.qs_client.proofs.mind.Mind.take_object.Goals as goal
+use Rattle.qs_client.proofs.mind.Mind.got.Goals as goal
 
 pub take_object-requires : goal.take_object-requires
 take_object-requires c =

@@ -8,7 +8,7 @@ use Rattle.qs_client.specs.ClientModel.{Asks, mind_after_begin}
 use Rattle.qs_client.specs.MindState.{MindState, mind_of, settings_in}
 use Rattle.qs_client.specs.contracts.mind.Mind.{the_view}
 use Rattle.qs_client.proofs.BlockBeginnings.{begin_is, state_at_begin, begin_comes, begin_sound, begin_running, next_ticket, reserves}
-use Rattle.qs_client.proofs.mind.Mind.begin.Goals as goal
+use Rattle.qs_client.proofs.mind.Mind.booked.Goals as goal
 
 pub push_reserved-requires : goal.push_reserved-requires
 push_reserved-requires c =

@@ -3,7 +3,7 @@ use Rattle.qs_client.specs.ClientModel.{is_between}
 use Rattle.qs_client.specs.MindState.{MindState, mind_of}
 use Rattle.qs_client.specs.contracts.mind.Mind.{the_view}
 use Rattle.qs_client.proofs.MindRefinement.{begun_between}
-use Rattle.qs_client.proofs.mind.Mind.blocks_ended.Goals as goal
+use Rattle.qs_client.proofs.mind.Mind.ended.Goals as goal
 
 pub overflow_sub-result : goal.overflow_sub-result
 overflow_sub-result c =

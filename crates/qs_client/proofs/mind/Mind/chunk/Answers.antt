@@ -8,7 +8,7 @@ use Rattle.qs_client.specs.ClientModel.{Asks, mind_after_chunk}
 use Rattle.qs_client.specs.MindState.{MindState, block_of, client_in, mind_of, settings_in}
 use Rattle.qs_client.specs.contracts.mind.Mind.{the_view}
 use Rattle.qs_client.proofs.MindRefinement.{asks_nothing, needs_begun, block_inside, come_sound, chunk_is, nothing_left, steady, wants_of}
-use Rattle.qs_client.proofs.mind.Mind.take_chunk.Goals as goal
+use Rattle.qs_client.proofs.mind.Mind.chunk.Goals as goal
 
 of_size : (m : MindState) {c : Batch Request} → c ≡ batch [] (mind_of m).size → c ≡ batch [] m.size
 unfolding mind_of
