@@ -7,7 +7,7 @@ ghost use Rattle.qs_run_laws.specs.Outcomes.{ThreadRunsHaveOutcomes};
 /// is an outcome. `IsOutcome` is a list of promises, each of which can be read by itself: the order is legal and has each block of the
 /// program exactly once, traces, journals and states are those of the serial run along it, and the synchronisations are the exact counts
 /// of the mode. This function does nothing.
-pub fn outcomes()
+pub fn settled()
     ensures outcomes { ThreadRunsHaveOutcomes }
 {}
 

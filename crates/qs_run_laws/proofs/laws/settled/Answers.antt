@@ -1,5 +1,5 @@
 use Rattle.qs_run_laws.proofs.RunOutcomes.{runs_have_outcomes}
-use Rattle.qs_run_laws.proofs.laws.outcomes.Goals as goal
+use Rattle.qs_run_laws.proofs.laws.settled.Goals as goal
 
 pub returns : goal.returns
 returns c = record { outcomes = runs_have_outcomes }
