@@ -1,9 +1,9 @@
 //! What is shown of a run in which each block has ended.
 
-ghost use Rattle.std.specs.Prelude.{◌≡◌, ◌≤◌, true, length, map, sum, sum_by, vec_len, vec_capacity};
+ghost use Rattle.std.specs.Prelude.{◌≡◌, ◌≤◌, ◌*◌, true, length, map, sum, sum_by, vec_len, vec_capacity};
 ghost use Rattle.std.specs.List.{AllByRecursion};
 ghost use Rattle.qs_program.specs.Limits.{most_objects, most_tickets};
-ghost use Rattle.qs_sync_counts.specs.SyncRows.{syncs_of};
+ghost use Rattle.qs_sync_counts.specs.SyncRows.{greatest_count, syncs_of};
 ghost use Rattle.qs_played.specs.Played.{HaveRows};
 ghost use Rattle.qs_run.specs.Collected.{AreCountsShort, shown_when_over};
 
@@ -26,7 +26,7 @@ fn ended_blocks(order: &[Ticket], ended: Vec<bool>) -> Vec<bool>
 fn block_syncs(counts: &[u32]) -> u64
     requires few { length counts.now ≤ most_objects }
     ensures sum { result ≡ sum counts.now }
-    ensures limit { result ≤ 34359738360 }
+    ensures limit { result ≤ most_objects * greatest_count }
 {
     let mut total = 0u64;
     for count in counts {

@@ -1,10 +1,11 @@
 -- The counts of the blocks so far are added up.
 use Rattle.std.proofs.Common.{◌≡◌, ◌≤◌, ◌*◌, sum_by, take}
-use Rattle.qs_sync_counts.specs.SyncRows.{syncs_of}
+use Rattle.qs_program.specs.Limits.{most_objects}
+use Rattle.qs_sync_counts.specs.SyncRows.{greatest_count, syncs_of}
 use Rattle.qs_run.proofs.collect.show.all_syncs.Given as goal
 
 abbrev pub invariant-loop-place : goal.invariant-loop-place
 invariant-loop-place l = record {
   syncs : l.syncs ≡ sum_by syncs_of (take l.place l.played.sync_counts);
-  limit : l.syncs ≤ 34359738360 * l.place;
+  limit : l.syncs ≤ (most_objects * greatest_count) * l.place;
 }
