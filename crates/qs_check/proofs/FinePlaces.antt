@@ -6,15 +6,15 @@ use Rattle.std.specs.List.{AllByRecursion}
 use Rattle.qs_objects.specs.declared.object.Kind.{Kind}
 use Rattle.qs_check.specs.declared.fault.CheckFault.{CheckFault}
 use Rattle.qs_check.specs.declared.fault.CheckFault.TheVariants as f
-use Rattle.qs_program.specs.Numbering.{Name, is_among, named}
+use Rattle.qs_program.specs.Numbering.{Name, is_among, with_name}
 use Rattle.qs_program.specs.Limits.{most_variables}
-use Rattle.qs_check.specs.Places.{Scope, Place, Met, object, number, client, separate, listed, target, operation, arguments, variable, leaves, step, met, then_at, with_variable, op_at, is_known, takes}
+use Rattle.qs_check.specs.Places.{Scope, TextPlace, ScopeOrFault, object, number, client, separate, listed, target, operation, arguments, variable, leaves, step, scope_or_fault, then_at, with_variable, op_at, is_known, takes}
 use Rattle.qs_check.specs.Resolve.{variables_at}
 use Rattle.qs_check.proofs.Inner.{Inner}
 use Rattle.qs_check.proofs.Steps.{with_names, fine, split}
 
 module _ (os : List Name) (ks : List Kind) (R : List Name) where
-  abbrev pub IsFine : Place → Type 0
+  abbrev pub IsFine : TextPlace → Type 0
   IsFine (object n k) = Unit {0}
   IsFine (number low high n) = (low ≤ n) × (n ≤ high)
   IsFine (client n) = Unit {0}
@@ -26,22 +26,22 @@ module _ (os : List Name) (ks : List Kind) (R : List Name) where
   IsFine (variable x) = Unit {0}
   IsFine (leaves inside) = inside ≡ true
 
-abbrev pub AreFine : Scope → List Place → Type 0
+abbrev pub AreFine : Scope → List TextPlace → Type 0
 AreFine s ps = AllByRecursion (IsFine s.objects s.kinds s.reserved) ps
 
 -- what is met from an equal scope
-pub again : (s t u : Scope) (ps : List Place) → u ≡ s → met u ps ≡ Ok t → met s ps ≡ Ok t
-again s t u ps e h = ap (λ v. met v ps) (sym e) ∙ h
+pub again : (s t u : Scope) (ps : List TextPlace) → u ≡ s → scope_or_fault u ps ≡ Ok t → scope_or_fault s ps ≡ Ok t
+again s t u ps e h = ap (λ v. scope_or_fault v ps) (sym e) ∙ h
 
 left_inside : (s t : Scope) (inside : Bool) → (if inside then fine s else Err f.LeaveOutside) ≡ Ok t → inside ≡ true
 left_inside s t true h = refl
 left_inside s t false h = cc
 
-met_inside : (s t : Scope) (inside : Bool) (ps : List Place) → met s (leaves inside ∷ ps) ≡ Ok t → inside ≡ true
+met_inside : (s t : Scope) (inside : Bool) (ps : List TextPlace) → scope_or_fault s (leaves inside ∷ ps) ≡ Ok t → inside ≡ true
 met_inside s t true ps h = refl
 met_inside s t false ps h = cc
 
-pub are_fine : (s t : Scope) (ps : List Place) → Inner ps → met s ps ≡ Ok t → AreFine s ps
+pub are_fine : (s t : Scope) (ps : List TextPlace) → Inner ps → scope_or_fault s ps ≡ Ok t → AreFine s ps
 are_fine s t [] i h = tt
 are_fine s t (object n k ∷ ps) i h = absurd i
 are_fine s t (number low high n ∷ ps) i h = let w = split s t (number low high n) ps h in ((w.1.0, w.1.1), are_fine s t ps i (again s t w.0 ps w.1.2 w.2))
@@ -53,7 +53,7 @@ are_fine s t (operation asks o op ∷ ps) i h = let w = split s t (operation ask
 are_fine s t (arguments asks o op n ∷ ps) i h = let w = split s t (arguments asks o op n) ps h in (w.1.0, are_fine s t ps i (again s t w.0 ps w.1.1 w.2))
 are_fine s t (variable x ∷ ps) i h =
     let w = split s t (variable x) ps h in
-    let u = with_names s (named s.variables x) in
+    let u = with_names s (with_name s.variables x) in
     (tt, are_fine u t ps i (again u t w.0 ps w.1.0 w.2))
 are_fine s t (leaves inside ∷ ps) i h = let w = split s t (leaves inside) ps h in (met_inside s t inside ps h, are_fine s t ps i (again s t w.0 ps w.1 w.2))
 
@@ -62,10 +62,10 @@ more_named : (names : List Name) (x : Name) (b : Bool) → length names ≤ leng
 more_named names x true = omega arith
 more_named names x false = rw length-append (omega arith)
 
-pub named_more : (names : List Name) (x : Name) → length names ≤ length (named names x)
+pub named_more : (names : List Name) (x : Name) → length names ≤ length (with_name names x)
 named_more names x = more_named names x (is_among names x)
 
-pub variables_more : (names : List Name) (ps : List Place) → Inner ps → length names ≤ length (variables_at names ps)
+pub variables_more : (names : List Name) (ps : List TextPlace) → Inner ps → length names ≤ length (variables_at names ps)
 variables_more names [] i = omega arith
 variables_more names (object n k ∷ ps) i = absurd i
 variables_more names (number low high n ∷ ps) i = variables_more names ps i
@@ -75,23 +75,23 @@ variables_more names (listed o ∷ ps) i = absurd i
 variables_more names (target o ∷ ps) i = variables_more names ps i
 variables_more names (operation asks o op ∷ ps) i = variables_more names ps i
 variables_more names (arguments asks o op n ∷ ps) i = variables_more names ps i
-variables_more names (variable x ∷ ps) i = omega (arith, named_more names x, variables_more (named names x) ps i)
+variables_more names (variable x ∷ ps) i = omega (arith, named_more names x, variables_more (with_name names x) ps i)
 variables_more names (leaves inside ∷ ps) i = variables_more names ps i
 
 pub between : (low high n : ℕ) → low ≤ n → n ≤ high → (nat_lt n low || nat_lt high n) ≡ false
 between low high n h k = grind (arith, nat_tests)
 
-pub then_step : (b : Bool) (s : Scope) (m : Met) (e : CheckFault) → b ≡ true → (if b then m else Err e) ≡ m
+pub then_step : (b : Bool) (s : Scope) (m : ScopeOrFault) (e : CheckFault) → b ≡ true → (if b then m else Err e) ≡ m
 then_step true s m e h = refl
 then_step false s m e h = cc
 
-pub else_step : (b : Bool) (m : Met) (e : CheckFault) → b ≡ false → (if b then Err e else m) ≡ m
+pub else_step : (b : Bool) (m : ScopeOrFault) (e : CheckFault) → b ≡ false → (if b then Err e else m) ≡ m
 else_step true m e h = cc
 else_step false m e h = refl
 
 -- a step that leads on
-pub leads : (s u : Scope) (p : Place) (ps : List Place) (m : Met) → step s p ≡ Ok u → met u ps ≡ m → met s (p ∷ ps) ≡ m
-leads s u p ps m h k = ap (λ r. then_at r (λ t. met t ps)) h ∙ k
+pub leads : (s u : Scope) (p : TextPlace) (ps : List TextPlace) (m : ScopeOrFault) → step s p ≡ Ok u → scope_or_fault u ps ≡ m → scope_or_fault s (p ∷ ps) ≡ m
+leads s u p ps m h k = ap (λ r. then_at r (λ t. scope_or_fault t ps)) h ∙ k
 
 pub below : (a b : ℕ) → a < b → nat_lt a b ≡ true
 below a b h = grind (arith, nat_tests)
@@ -106,7 +106,7 @@ variable_case s x true h = refl
 variable_case s x false h =
     then_step (nat_lt (length s.variables) most_variables) s (Ok (with_variable s x)) f.Limit (below (length s.variables) 16 (room 16 s.variables x false h refl))
 
-pub variable_step : (s : Scope) (x : Name) → length (named s.variables x) ≤ most_variables → step s (variable x) ≡ Ok (with_names s (named s.variables x))
+pub variable_step : (s : Scope) (x : Name) → length (with_name s.variables x) ≤ most_variables → step s (variable x) ≡ Ok (with_names s (with_name s.variables x))
 variable_step s x h = variable_case s x (is_among s.variables x) h
 
 target_step : (s : Scope) (o : Name) → is_among s.objects o ≡ true → is_among s.reserved o ≡ true → step s (target o) ≡ Ok s
@@ -115,7 +115,7 @@ target_step s o h k =
     ∙ then_step (is_among s.reserved o) s (Ok s) f.NotReserved k
 
 -- fine places are met without a fault
-pub fine_met : (s : Scope) (ps : List Place) → Inner ps → AreFine s ps → length (variables_at s.variables ps) ≤ most_variables → met s ps ≡ Ok (with_names s (variables_at s.variables ps))
+pub fine_met : (s : Scope) (ps : List TextPlace) → Inner ps → AreFine s ps → length (variables_at s.variables ps) ≤ most_variables → scope_or_fault s ps ≡ Ok (with_names s (variables_at s.variables ps))
 fine_met s [] i h few = refl
 fine_met s (object n k ∷ ps) i h few = absurd i
 fine_met s (number low high n ∷ ps) i h few = leads s s (number low high n) ps _ (else_step (nat_lt n low || nat_lt high n) (Ok s) f.Range (between low high n h.0.0 h.0.1)) (fine_met s ps i h.1 few)
@@ -126,7 +126,7 @@ fine_met s (target o ∷ ps) i h few = leads s s (target o) ps _ (target_step s 
 fine_met s (operation asks o op ∷ ps) i h few = leads s s (operation asks o op) ps _ (then_step (is_known (op_at s.objects s.kinds asks o op)) s (Ok s) f.UnknownOp h.0) (fine_met s ps i h.1 few)
 fine_met s (arguments asks o op n ∷ ps) i h few = leads s s (arguments asks o op n) ps _ (then_step (takes (op_at s.objects s.kinds asks o op) n) s (Ok s) f.Arity h.0) (fine_met s ps i h.1 few)
 fine_met s (variable x ∷ ps) i h few =
-    let names = named s.variables x in
+    let names = with_name s.variables x in
     let small : length names ≤ most_variables = omega (arith, few, variables_more names ps i) in
     leads s (with_names s names) (variable x) ps _ (variable_step s x small) (fine_met (with_names s names) ps i h.1 few)
 fine_met s (leaves inside ∷ ps) i h few = leads s s (leaves inside) ps _ (then_step inside s (Ok s) f.LeaveOutside h.0) (fine_met s ps i h.1 few)

@@ -8,11 +8,11 @@ use Rattle.qs_script.specs.declared.tree.Test.{Test}
 use Rattle.qs_script.specs.declared.tree.Call.{Call}
 use Rattle.qs_script.specs.Tree.{Stmts, end, command, query, assign, choose, choose_else, again}
 use Rattle.qs_script.specs.Tree as tree
-use Rattle.qs_check.specs.Places.{Scope, Place, object, number, client, separate, listed, target, operation, arguments, variable, leaves, met, places, atom_places, atoms_places, expr_places, test_places, call_places}
+use Rattle.qs_check.specs.Places.{Scope, TextPlace, object, number, client, separate, listed, target, operation, arguments, variable, leaves, scope_or_fault, places, atom_places, atoms_places, expr_places, test_places, call_places}
 use Rattle.qs_check.proofs.Steps.{with_names, split, ok_same, then_at_ok}
 use Rattle.qs_check.proofs.Walks.{met-append}
 
-abbrev pub Inner : List Place → Type 0
+abbrev pub Inner : List TextPlace → Type 0
 Inner [] = Unit {0}
 Inner (object n k ∷ ps) = ⊥
 Inner (number low high n ∷ ps) = Inner ps
@@ -25,7 +25,7 @@ Inner (arguments asks o op n ∷ ps) = Inner ps
 Inner (variable x ∷ ps) = Inner ps
 Inner (leaves inside ∷ ps) = Inner ps
 
-pub inner_append : (ps qs : List Place) → Inner ps → Inner qs → Inner (ps ++ qs)
+pub inner_append : (ps qs : List TextPlace) → Inner ps → Inner qs → Inner (ps ++ qs)
 inner_append [] qs h k = k
 inner_append (object n kind ∷ ps) qs h k = h
 inner_append (number low high n ∷ ps) qs h k = inner_append ps qs h k
@@ -72,14 +72,14 @@ inner_body inside (again n body rest) = inner_append (places true body) (places 
 inner_body inside (tree.leave rest) = inner_body inside rest
 
 -- the scope between some places and the others
-pub parted : (s t : Scope) (ps qs : List Place) → met s (ps ++ qs) ≡ Ok t → (u : Scope) × (met s ps ≡ Ok u) × (met u qs ≡ Ok t)
-parted s t ps qs h = then_at_ok (met s ps) (λ u. met u qs) t (sym (met-append s ps qs) ∙ h)
+pub parted : (s t : Scope) (ps qs : List TextPlace) → scope_or_fault s (ps ++ qs) ≡ Ok t → (u : Scope) × (scope_or_fault s ps ≡ Ok u) × (scope_or_fault u qs ≡ Ok t)
+parted s t ps qs h = then_at_ok (scope_or_fault s ps) (λ u. scope_or_fault u qs) t (sym (met-append s ps qs) ∙ h)
 
 -- after a step that keeps all but the variables, and then others
 after : (s u t : Scope) → u ≡ with_names s u.variables → t ≡ with_names u t.variables → t ≡ with_names s t.variables
 after s u t e f = f ∙ ap (λ v. with_names v t.variables) e
 
-pub kept : (s t : Scope) (ps : List Place) → Inner ps → met s ps ≡ Ok t → t ≡ with_names s t.variables
+pub kept : (s t : Scope) (ps : List TextPlace) → Inner ps → scope_or_fault s ps ≡ Ok t → t ≡ with_names s t.variables
 kept s t [] i h = let e = ok_same s t h in e ∙ ap (λ v. with_names s v.variables) (sym e)
 kept s t (object n kind ∷ ps) i h = absurd i
 kept s t (number low high n ∷ ps) i h = let w = split s t (number low high n) ps h in after s w.0 t (w.1.2 ∙ ap (λ v. with_names s v.variables) (sym w.1.2)) (kept w.0 t ps i w.2)

@@ -9,40 +9,40 @@ use Rattle.qs_check.specs.declared.fault.CheckFault.{CheckFault}
 use Rattle.qs_check.specs.declared.fault.CheckFault.TheVariants as f
 use Rattle.qs_program.specs.Numbering.{Name, is_among}
 use Rattle.qs_program.specs.Limits.{most_objects}
-use Rattle.qs_check.specs.Places.{Scope, Place, Met, number, met, then_at, over, without_variables, with_object, kind_of, kind_places, script_places, Fails}
+use Rattle.qs_check.specs.Places.{Scope, TextPlace, ScopeOrFault, number, scope_or_fault, then_at, over, without_variables, with_object, kind_of, kind_places, script_places, Fails}
 use Rattle.qs_check.specs.Resolve.{lists_of}
 use Rattle.qs_check.proofs.Walks.{met-then, fails_first}
 
 -- a walk that has come from s to t, but for the variables of the clients that are over
-module _ (s t : Scope) (all left here later : List Place) (so_far : over (met s all) ≡ over (met t left)) (parts : left ≡ here ++ later) where
-  pub over_fails : (fault : CheckFault) → Fails fault (met t here) → Fails fault (over (met s all))
-  over_fails fault h = λ n. so_far ∙ ap (λ ps. over (met t ps)) parts ∙ ap over (fails_first fault t here later h n)
+module _ (s t : Scope) (all left here later : List TextPlace) (so_far : over (scope_or_fault s all) ≡ over (scope_or_fault t left)) (parts : left ≡ here ++ later) where
+  pub over_fails : (fault : CheckFault) → Fails fault (scope_or_fault t here) → Fails fault (over (scope_or_fault s all))
+  over_fails fault h = λ n. so_far ∙ ap (λ ps. over (scope_or_fault t ps)) parts ∙ ap over (fails_first fault t here later h n)
 
-  pub over_goes_on : (u : Scope) → met t here ≡ Ok u → over (met s all) ≡ over (met u later)
-  over_goes_on u h = so_far ∙ ap (λ ps. over (met t ps)) parts ∙ ap over (met-then t u here later h)
+  pub over_goes_on : (u : Scope) → scope_or_fault t here ≡ Ok u → over (scope_or_fault s all) ≡ over (scope_or_fault u later)
+  over_goes_on u h = so_far ∙ ap (λ ps. over (scope_or_fault t ps)) parts ∙ ap over (met-then t u here later h)
 
-after_object : (b c : Bool) (s : Scope) (next : Scope → Met) → over (next s) ≡ over (next (without_variables s)) → over (then_at (if b then Err f.Twice else (if c then Ok s else Err f.Limit)) next) ≡ over (then_at (if b then Err f.Twice else (if c then Ok (without_variables s) else Err f.Limit)) next)
+after_object : (b c : Bool) (s : Scope) (next : Scope → ScopeOrFault) → over (next s) ≡ over (next (without_variables s)) → over (then_at (if b then Err f.Twice else (if c then Ok s else Err f.Limit)) next) ≡ over (then_at (if b then Err f.Twice else (if c then Ok (without_variables s) else Err f.Limit)) next)
 after_object true c s next h = refl
 after_object false true s next h = h
 after_object false false s next h = refl
 
-after_number : (b : Bool) (s : Scope) (next : Scope → Met) → over (next s) ≡ over (next (without_variables s)) → over (then_at (if b then Err f.Range else Ok s) next) ≡ over (then_at (if b then Err f.Range else Ok (without_variables s)) next)
+after_number : (b : Bool) (s : Scope) (next : Scope → ScopeOrFault) → over (next s) ≡ over (next (without_variables s)) → over (then_at (if b then Err f.Range else Ok s) next) ≡ over (then_at (if b then Err f.Range else Ok (without_variables s)) next)
 after_number true s next h = refl
 after_number false s next h = h
 
-after_kind : (k : KindText) (s : Scope) (ps : List Place) → over (met s ps) ≡ over (met (without_variables s) ps) → over (met s (kind_places k ++ ps)) ≡ over (met (without_variables s) (kind_places k ++ ps))
-after_kind (Account n) s ps h = after_number (nat_lt n 0 || nat_lt 1000000000000000 n) s (λ t. met t ps) h
-after_kind (Buffer n) s ps h = after_number (nat_lt n 1 || nat_lt 1024 n) s (λ t. met t ps) h
+after_kind : (k : KindText) (s : Scope) (ps : List TextPlace) → over (scope_or_fault s ps) ≡ over (scope_or_fault (without_variables s) ps) → over (scope_or_fault s (kind_places k ++ ps)) ≡ over (scope_or_fault (without_variables s) (kind_places k ++ ps))
+after_kind (Account n) s ps h = after_number (nat_lt n 0 || nat_lt 1000000000000000 n) s (λ t. scope_or_fault t ps) h
+after_kind (Buffer n) s ps h = after_number (nat_lt n 1 || nat_lt 1024 n) s (λ t. scope_or_fault t ps) h
 after_kind (Grid r c) s ps h =
-    after_number (nat_lt r 1 || nat_lt 16 r) s (λ t. met t (number 1 16 c ∷ ps)) (after_number (nat_lt c 1 || nat_lt 16 c) s (λ t. met t ps) h)
+    after_number (nat_lt r 1 || nat_lt 16 r) s (λ t. scope_or_fault t (number 1 16 c ∷ ps)) (after_number (nat_lt c 1 || nat_lt 16 c) s (λ t. scope_or_fault t ps) h)
 
 -- no item asks for the variables of the client before it
-pub forget : (items : List Item) (s : Scope) → over (met s (script_places items)) ≡ over (met (without_variables s) (script_places items))
+pub forget : (items : List Item) (s : Scope) → over (scope_or_fault s (script_places items)) ≡ over (scope_or_fault (without_variables s) (script_places items))
 forget [] s = refl
 forget (Client c ∷ rest) s = refl
 forget (Object o ∷ rest) s =
     let k = kind_of o.kind in
-    after_object (is_among s.objects o.name) (nat_lt (length s.objects) most_objects) (with_object s o.name k) (λ t. met t (kind_places o.kind ++ script_places rest))
+    after_object (is_among s.objects o.name) (nat_lt (length s.objects) most_objects) (with_object s o.name k) (λ t. scope_or_fault t (kind_places o.kind ++ script_places rest))
     (after_kind o.kind (with_object s o.name k) (script_places rest) (forget rest (with_object s o.name k)))
 
 -- the lists of variables of the items from i on, of which the one at i is known

@@ -3,7 +3,7 @@ pub mod Resolving
 pub mod Steps
 pub mod Items
 pub mod Inner
-pub mod Kept
+pub mod ScopesInBlocks
 pub mod SoundStatements
 pub mod Scripts
 pub mod Soundness

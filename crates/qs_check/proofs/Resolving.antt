@@ -11,11 +11,11 @@ use Rattle.qs_script.proofs.Sizes.{drop_past}
 use Rattle.qs_program.specs.Numbering.{Name}
 use Rattle.qs_program.specs.declared.code.Stmt.{Stmt}
 use Rattle.qs_program.specs.Sound.{levels_of}
-use Rattle.qs_program.specs.Statements.{Statements, end, command, query, assign, choose, again, leave, joined}
+use Rattle.qs_program.specs.Statements.{Statements, end, command, query, assign, choose, again, leave, join_statements}
 use Rattle.qs_program.specs.Views.{single}
 use Rattle.qs_check.specs.Resolve.{body_of}
 
-pub joined_assoc : (xs ys zs : Statements) → joined (joined xs ys) zs ≡ joined xs (joined ys zs)
+pub joined_assoc : (xs ys zs : Statements) → join_statements (join_statements xs ys) zs ≡ join_statements xs (join_statements ys zs)
 joined_assoc end ys zs = refl
 joined_assoc (command c xs) ys zs = ap (command c) (joined_assoc xs ys zs)
 joined_assoc (query x c xs) ys zs = ap (query x c) (joined_assoc xs ys zs)
@@ -24,7 +24,7 @@ joined_assoc (choose t b first other xs) ys zs = ap (choose t b first other) (jo
 joined_assoc (again n body xs) ys zs = ap (again n body) (joined_assoc xs ys zs)
 joined_assoc (leave xs) ys zs = ap leave (joined_assoc xs ys zs)
 
-pub joined-end : (xs : Statements) → joined xs end ≡ xs
+pub joined-end : (xs : Statements) → join_statements xs end ≡ xs
 joined-end end = refl
 joined-end (command c xs) = ap (command c) (joined-end xs)
 joined-end (query x c xs) = ap (query x c) (joined-end xs)
@@ -60,7 +60,7 @@ levels_at (x ∷ xs) (suc i) d within = omega (arith, levels_at xs i d (omega ar
 
 -- names, kinds and variables, as body_of takes them
 module _ (os : List Name) (ks : List Kind) (vs : List Name) where
-  body_of-cons : (s : text.Stmt) (xs : List text.Stmt) → body_of os ks vs (views.stmts_of (s ∷ xs)) ≡ joined (body_of os ks vs (views.single s)) (body_of os ks vs (views.stmts_of xs))
+  body_of-cons : (s : text.Stmt) (xs : List text.Stmt) → body_of os ks vs (views.stmts_of (s ∷ xs)) ≡ join_statements (body_of os ks vs (views.single s)) (body_of os ks vs (views.stmts_of xs))
   body_of-cons (t.Command c) xs = refl
   body_of-cons (t.Query x c) xs = refl
   body_of-cons (t.Assign x e) xs = refl
@@ -69,7 +69,7 @@ module _ (os : List Name) (ks : List Kind) (vs : List Name) where
   body_of-cons (t.Repeat n body) xs = refl
   body_of-cons t.Leave xs = refl
 
-  body_of-drop : (xs : List text.Stmt) (i : ℕ) (d : text.Stmt) → i < length xs → body_of os ks vs (views.stmts_of (drop i xs)) ≡ joined (body_of os ks vs (views.single (get_or xs i d))) (body_of os ks vs (views.stmts_of (drop (i + 1) xs)))
+  body_of-drop : (xs : List text.Stmt) (i : ℕ) (d : text.Stmt) → i < length xs → body_of os ks vs (views.stmts_of (drop i xs)) ≡ join_statements (body_of os ks vs (views.single (get_or xs i d))) (body_of os ks vs (views.stmts_of (drop (i + 1) xs)))
   body_of-drop xs i d within = rw (drop-cons xs i d within, add-one) (body_of-cons (get_or xs i d) (drop (suc i) xs))
 
   -- statements by number are nested as the text's
@@ -84,14 +84,14 @@ module _ (os : List Name) (ks : List Kind) (vs : List Name) where
   levels_same (tree.leave rest) = ap (max 1) (levels_same rest)
 
   module _ (xs : List text.Stmt) (i : ℕ) (code : Statements)
-      (so_far : body_of os ks vs (views.stmts_of xs) ≡ joined code (body_of os ks vs (views.stmts_of (drop i xs)))) where
-    pub goes_on : (item : text.Stmt) (new : Statements) (s : Stmt) → i < length xs → item ≡ get_or xs i item → single s ≡ body_of os ks vs (views.single item) → new ≡ joined code (single s) → body_of os ks vs (views.stmts_of xs) ≡ joined new (body_of os ks vs (views.stmts_of (drop (i + 1) xs)))
+      (so_far : body_of os ks vs (views.stmts_of xs) ≡ join_statements code (body_of os ks vs (views.stmts_of (drop i xs)))) where
+    pub goes_on : (item : text.Stmt) (new : Statements) (s : Stmt) → i < length xs → item ≡ get_or xs i item → single s ≡ body_of os ks vs (views.single item) → new ≡ join_statements code (single s) → body_of os ks vs (views.stmts_of xs) ≡ join_statements new (body_of os ks vs (views.stmts_of (drop (i + 1) xs)))
     goes_on item new s within item_is same new_is =
         let later : Statements = body_of os ks vs (views.stmts_of (drop (i + 1) xs)) in
         so_far
-        ∙ ap (joined code) (body_of-drop xs i item within ∙ ap (λ x. joined (body_of os ks vs (views.single x)) later) (sym item_is))
+        ∙ ap (join_statements code) (body_of-drop xs i item within ∙ ap (λ x. join_statements (body_of os ks vs (views.single x)) later) (sym item_is))
         ∙ sym (joined_assoc code (body_of os ks vs (views.single item)) later)
-        ∙ ap (λ x. joined x later) (sym (new_is ∙ ap (joined code) same))
+        ∙ ap (λ x. join_statements x later) (sym (new_is ∙ ap (join_statements code) same))
 
     pub all_done : length xs ≤ i → code ≡ body_of os ks vs (views.stmts_of xs)
     all_done past = sym (so_far ∙ rw (drop_past xs i past) (joined-end code))

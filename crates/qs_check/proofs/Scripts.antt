@@ -11,11 +11,11 @@ use Rattle.qs_script.specs.declared.tree.Item.{Item}
 use Rattle.qs_script.specs.declared.tree.Item.TheVariants.{Object, Client}
 use Rattle.qs_program.specs.declared.program.Declared.{Declared}
 use Rattle.qs_program.specs.Limits.{most_clients, most_objects, most_variables}
-use Rattle.qs_check.specs.Places.{Scope, object, number, client, met, kind_of, kind_places, item_places, blocks_places, script_places, with_object, with_client}
+use Rattle.qs_check.specs.Places.{Scope, object, number, client, scope_or_fault, kind_of, kind_places, item_places, blocks_places, script_places, with_object, with_client}
 use Rattle.qs_check.specs.Resolve.{objects_of, names_of, kinds_of, lists_of, variables_of}
 use Rattle.qs_check.proofs.Steps.{split, variables_met, ok_same}
 use Rattle.qs_check.proofs.Inner.{parted}
-use Rattle.qs_check.proofs.Kept.{Stays, InBlock, stays, blocks_stay}
+use Rattle.qs_check.proofs.ScopesInBlocks.{Stays, InBlock, stays, blocks_stay}
 
 fine_kind : (k : KindText) → InBlock (kind_places k)
 fine_kind (Account n) = tt
@@ -23,19 +23,19 @@ fine_kind (Buffer n) = tt
 fine_kind (Grid r c) = tt
 
 -- after an object's declaration
-pub object_stays : (s t : Scope) (o : ObjectItem) → met s (item_places (Object o)) ≡ Ok t → (length s.objects < most_objects) × Stays (with_object s o.name (kind_of o.kind)) t
+pub object_stays : (s t : Scope) (o : ObjectItem) → scope_or_fault s (item_places (Object o)) ≡ Ok t → (length s.objects < most_objects) × Stays (with_object s o.name (kind_of o.kind)) t
 object_stays s t o h =
     let w = split s t (object o.name (kind_of o.kind)) (kind_places o.kind) h in
     let P : Scope → Type 0 = λ u. Stays u t in
     (w.1.1, subst P w.1.2 (stays w.0 t (kind_places o.kind) (fine_kind o.kind) w.2))
 
 -- after a client
-pub client_stays : (s t : Scope) (c : ClientItem) → met s (item_places (Client c)) ≡ Ok t → (length s.clients < most_clients) × (met (with_client s c.name) (blocks_places c.blocks) ≡ Ok t)
+pub client_stays : (s t : Scope) (c : ClientItem) → scope_or_fault s (item_places (Client c)) ≡ Ok t → (length s.clients < most_clients) × (scope_or_fault (with_client s c.name) (blocks_places c.blocks) ≡ Ok t)
 client_stays s t c h =
     let w = split s t (client c.name) (blocks_places c.blocks) h in
-    (w.1.1, ap (λ u. met u (blocks_places c.blocks)) (sym w.1.2) ∙ w.2)
+    (w.1.1, ap (λ u. scope_or_fault u (blocks_places c.blocks)) (sym w.1.2) ∙ w.2)
 
-pub few_variables : (s t : Scope) (c : ClientItem) → met s (item_places (Client c)) ≡ Ok t → length (variables_of c) ≤ most_variables
+pub few_variables : (s t : Scope) (c : ClientItem) → scope_or_fault s (item_places (Client c)) ≡ Ok t → length (variables_of c) ≤ most_variables
 few_variables s t c h =
     let w = (client_stays s t c h).1 in
     let few : length t.variables ≤ most_variables = (blocks_stay (with_client s c.name) t c.blocks w).few (omega arith) in
@@ -53,7 +53,7 @@ true_and true b h k = k
 true_and false b h k = h
 
 -- a kind's numbers are in range
-kind_starts : (s t : Scope) (k : KindText) → met s (kind_places k) ≡ Ok t → IsSome (starts (kind_of k))
+kind_starts : (s t : Scope) (k : KindText) → scope_or_fault s (kind_places k) ≡ Ok t → IsSome (starts (kind_of k))
 kind_starts s t (Account n) h =
     let w = split s t (number 0 1000000000000000 n) [] h in some_if _ _ (both 0 1000000000000000 n w.1.0 w.1.1)
 kind_starts s t (Buffer n) h =
@@ -63,7 +63,7 @@ kind_starts s t (Grid r c) h =
     let v = split w.0 t (number 1 16 c) [] w.2 in
     some_if _ _ (true_and _ _ (both 1 16 r w.1.0 w.1.1) (both 1 16 c v.1.0 v.1.1))
 
-object_starts : (s t : Scope) (o : ObjectItem) → met s (item_places (Object o)) ≡ Ok t → IsSome (starts (kind_of o.kind))
+object_starts : (s t : Scope) (o : ObjectItem) → scope_or_fault s (item_places (Object o)) ≡ Ok t → IsSome (starts (kind_of o.kind))
 object_starts s t o h = let w = split s t (object o.name (kind_of o.kind)) (kind_places o.kind) h in kind_starts w.0 t o.kind w.2
 
 -- a script's items, from what is known before to what is known after them
@@ -75,7 +75,7 @@ pub record Scripted (s t : Scope) (items : List Item) : Type 0 where
   pub few_variables : AllByRecursion (λ v. length v ≤ most_variables) (lists_of items)
   pub starting : AllByRecursion (λ (o : Declared). IsSome (starts o.kind)) (objects_of items)
 
-pub scripted : (items : List Item) (s t : Scope) → met s (script_places items) ≡ Ok t → Scripted s t items
+pub scripted : (items : List Item) (s t : Scope) → scope_or_fault s (script_places items) ≡ Ok t → Scripted s t items
 scripted [] s t h =
     let e = ok_same s t h in
     record {

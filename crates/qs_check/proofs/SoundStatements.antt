@@ -18,7 +18,7 @@ use Rattle.qs_script.specs.Tree as tree
 use Rattle.qs_program.specs.declared.program.Declared.{Declared}
 use Rattle.qs_program.specs.Numbering.{Name, same_name, is_among, found_at}
 use Rattle.qs_check.specs.Operators.{means, op_of, op_or_refused}
-use Rattle.qs_check.specs.Places.{Scope, Place, number, target, operation, arguments, variable, leaves, met, places, atoms_places, expr_places, test_places, call_places, op_at, is_known, takes}
+use Rattle.qs_check.specs.Places.{Scope, TextPlace, number, target, operation, arguments, variable, leaves, scope_or_fault, places, atoms_places, expr_places, test_places, call_places, op_at, is_known, takes}
 use Rattle.qs_program.specs.Program.{no_object}
 use Rattle.qs_check.specs.Resolve.{atom_of, expr_of, test_of, call_of, body_of}
 use Rattle.qs_program.specs.Sound.{IsSoundAtom, IsSoundExpr, IsSoundTest, IsSoundCall, IsSoundBody, is_in}
@@ -78,7 +78,7 @@ module _ (D : List Declared) where
     abbrev pub Here : Scope → Type 0
     Here s = Known s.objects s.kinds × ((o : Name) → is_among s.reserved o ≡ true → is_in R (found_at names o) ≡ true)
 
-    here_after : (s u : Scope) (ps : List Place) → Inner ps → met s ps ≡ Ok u → Here s → Here u
+    here_after : (s u : Scope) (ps : List TextPlace) → Inner ps → scope_or_fault s ps ≡ Ok u → Here s → Here u
     here_after s u ps i h here = let P : Scope → Type 0 = λ t. Here t in subst P (sym (kept s u ps i h)) here
 
     sound_atom : (a : text.Atom) → IsSoundAtom (atom_of V a)
@@ -96,7 +96,7 @@ module _ (D : List Declared) where
     sound_test : (t : text_test.Test) → IsSoundTest (test_of V t)
     sound_test t = (sound_atom t.left, sound_atom t.right)
 
-    sound_call : (asks : Bool) (c : text_call.Call) (s t : Scope) → Here s → met s (call_places asks c) ≡ Ok t → IsSoundCall D R asks (call_of names kinds V asks c)
+    sound_call : (asks : Bool) (c : text_call.Call) (s t : Scope) → Here s → scope_or_fault s (call_places asks c) ≡ Ok t → IsSoundCall D R asks (call_of names kinds V asks c)
     sound_call asks c s t here h =
         let o = c.object in
         let n = length c.args in
@@ -117,7 +117,7 @@ module _ (D : List Declared) where
           args = sound_atoms c.args;
         }
 
-    pub sound_body : (body : tree.Stmts) (inside : Bool) (s t : Scope) → Here s → met s (places inside body) ≡ Ok t → IsSoundBody D R (body_of names kinds V body)
+    pub sound_body : (body : tree.Stmts) (inside : Bool) (s t : Scope) → Here s → scope_or_fault s (places inside body) ≡ Ok t → IsSoundBody D R (body_of names kinds V body)
     sound_body tree.end inside s t here h = tt
     sound_body (tree.command c rest) inside s t here h =
         let w = parted s t (call_places false c) (places inside rest) h in

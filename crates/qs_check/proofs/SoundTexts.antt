@@ -16,9 +16,9 @@ use Rattle.qs_script.specs.Tree as tree
 use Rattle.qs_program.specs.declared.program.Declared.{Declared}
 use Rattle.qs_check.specs.Checked.{first_fault, text_fault, fault_of, excess_of}
 use Rattle.qs_program.specs.Numbering.{Name, same_name, is_among, found_at}
-use Rattle.qs_check.specs.Places.{Scope, Met, met, start, script_places}
+use Rattle.qs_check.specs.Places.{Scope, ScopeOrFault, scope_or_fault, start, script_places}
 use Rattle.qs_program.specs.Program.{ClientShape, ProgramShape, whole_load, whole_weight}
-use Rattle.qs_check.specs.Resolve.{atom_of, expr_of, body_of, block_of, clients_of, names_of, kinds_of, variables_of, resolved}
+use Rattle.qs_check.specs.Resolve.{atom_of, expr_of, body_of, block_of, clients_of, names_of, kinds_of, variables_of, program_of_items}
 use Rattle.qs_program.specs.Sound.{IsAtomBelow, IsExprBelow, AreVariablesBelow, AreLeavesInside, IsFormedBlock, IsFormedClient, AreNamesApart, IsFormedProgram, IsSound}
 use Rattle.qs_check.specs.WellFormed.{atom_names, atoms_names, expr_names, test_names, variables_in, variables_in_all, AreStatements, AreItems, IsWellFormedBlock, clients_in, IsWellFormed}
 use Rattle.qs_program.proofs.Found.{found_within, or_true, same_name-refl}
@@ -136,26 +136,26 @@ names_same (Object o ∷ rest) N K = names_same rest N K
 names_same (Client c ∷ rest) N K = ap (λ ns. c.name ∷ ns) (names_same rest N K)
 
 -- no fault in the text, so the walk ends
-walk_ends : (m : Met) → first_fault m None ≡ None → (t : Scope) × (m ≡ Ok t)
+walk_ends : (m : ScopeOrFault) → first_fault m None ≡ None → (t : Scope) × (m ≡ Ok t)
 walk_ends (Ok t) h = (t, refl)
 walk_ends (Err e) h = cc
 
-resolved_form : (items : List Item) → IsWellFormed items → IsFormedProgram (resolved items)
+resolved_form : (items : List Item) → IsWellFormed items → IsFormedProgram (program_of_items items)
 unfolding IsFormedProgram
 resolved_form items well =
     let P : List Name → Type 0 = λ ns. IsDistinct same_name ns in
-    let apart : AreNamesApart (resolved items) =
+    let apart : AreNamesApart (program_of_items items) =
     record { objects = well.objects_apart; clients = subst P (sym (names_same items (names_of items) (kinds_of items))) well.clients_apart } in
     (apart, clients_formed items [] (names_of items) (kinds_of items) well.each)
 
-sound_resolved : (items : List Item) → HasForm items → text_fault items ≡ None → whole_load (resolved items) ≤ most_requests → whole_weight (resolved items) ≤ most_steps → IsSound (resolved items)
+sound_resolved : (items : List Item) → HasForm items → text_fault items ≡ None → whole_load (program_of_items items) ≤ most_requests → whole_weight (program_of_items items) ≤ most_steps → IsSound (program_of_items items)
 sound_resolved items form h load weight =
-    let w = walk_ends (met start (script_places items)) h in
-    let faultless : fault_of items ≡ None = ap (λ m. first_fault m (excess_of (resolved items))) w.1 ∙ no_fault_left (resolved items) load weight in
+    let w = walk_ends (scope_or_fault start (script_places items)) h in
+    let faultless : fault_of items ≡ None = ap (λ m. first_fault m (excess_of (program_of_items items))) w.1 ∙ no_fault_left (program_of_items items) load weight in
     sound items w.0 w.1 load weight (resolved_form items (well_formed_from items form faultless))
 
-pub sound_text : (items : List Item) (p : ProgramShape) → HasForm items → text_fault items ≡ None → p ≡ resolved items → whole_load p ≤ most_requests → whole_weight p ≤ most_steps → IsSound p
+pub sound_text : (items : List Item) (p : ProgramShape) → HasForm items → text_fault items ≡ None → p ≡ program_of_items items → whole_load p ≤ most_requests → whole_weight p ≤ most_steps → IsSound p
 sound_text items p form h e load weight =
-    let lighter : whole_load (resolved items) ≤ most_requests = omega (arith, load, ap whole_load e) in
-    let shorter : whole_weight (resolved items) ≤ most_steps = omega (arith, weight, ap whole_weight e) in
+    let lighter : whole_load (program_of_items items) ≤ most_requests = omega (arith, load, ap whole_load e) in
+    let shorter : whole_weight (program_of_items items) ≤ most_steps = omega (arith, weight, ap whole_weight e) in
     subst IsSound (sym e) (sound_resolved items form h lighter shorter)

@@ -12,14 +12,14 @@ use Rattle.qs_script.specs.declared.tree.Item.{Item}
 use Rattle.qs_script.specs.declared.tree.Item.TheVariants.{Object, Client}
 use Rattle.qs_program.specs.declared.program.Declared.{Declared}
 use Rattle.qs_program.specs.Numbering.{Name, same_name, is_among, found_at}
-use Rattle.qs_check.specs.Places.{Scope, Met, separate, listed, met, places, listed_places, block_places, blocks_places, item_places, script_places, start, with_block, with_listed, with_client, kind_of, over, without_variables}
+use Rattle.qs_check.specs.Places.{Scope, ScopeOrFault, separate, listed, scope_or_fault, places, listed_places, block_places, blocks_places, item_places, script_places, start, with_block, with_listed, with_client, kind_of, over, without_variables}
 use Rattle.qs_program.specs.Program.{whole_load, whole_weight}
-use Rattle.qs_check.specs.Resolve.{block_of, client_of, clients_of, objects_of, names_of, kinds_of, lists_of, variables_of, resolved}
+use Rattle.qs_check.specs.Resolve.{block_of, client_of, clients_of, objects_of, names_of, kinds_of, lists_of, variables_of, program_of_items}
 use Rattle.qs_program.specs.Sound.{IsSoundBlock, IsSoundClient, IsFormedProgram, IsSound, is_in}
 use Rattle.qs_program.proofs.Found.{apart, same, false_not_true, or_true, is_among-append, is_among-last, found_within, found_append, found_apart}
 use Rattle.qs_program.specs.Limits.{most_objects, most_requests, most_steps, most_variables}
 use Rattle.qs_check.proofs.Inner.{parted}
-use Rattle.qs_check.proofs.Kept.{block_stays, blocks_stay}
+use Rattle.qs_check.proofs.ScopesInBlocks.{block_stays, blocks_stay}
 use Rattle.qs_check.proofs.Scripts.{object_stays, client_stays, few_variables, scripted}
 use Rattle.qs_check.proofs.SoundStatements.{names, kinds, Known, Here, sound_body}
 use Rattle.qs_check.proofs.Steps.{split, ok_same}
@@ -28,12 +28,12 @@ abbrev pub with_list : Scope → List Name → Scope
 with_list s r = record s { reserved = r }
 
 -- the first name of a list, and the others
-pub listed_first : (s t : Scope) (n : Name) (ns : List Name) → met s (listed_places (n ∷ ns)) ≡ Ok t → (is_among s.objects n ≡ true) × (is_among s.reserved n ≡ false) × (met (with_listed s n) (listed_places ns) ≡ Ok t)
+pub listed_first : (s t : Scope) (n : Name) (ns : List Name) → scope_or_fault s (listed_places (n ∷ ns)) ≡ Ok t → (is_among s.objects n ≡ true) × (is_among s.reserved n ≡ false) × (scope_or_fault (with_listed s n) (listed_places ns) ≡ Ok t)
 listed_first s t n ns h =
     let w = split s t (listed n) (listed_places ns) h in
-    (w.1.0, w.1.1, ap (λ u. met u (listed_places ns)) (sym w.1.2) ∙ w.2)
+    (w.1.0, w.1.1, ap (λ u. scope_or_fault u (listed_places ns)) (sym w.1.2) ∙ w.2)
 
-pub list_kept : (ns : List Name) (s t : Scope) → met s (listed_places ns) ≡ Ok t → t ≡ with_list s (s.reserved ++ ns)
+pub list_kept : (ns : List Name) (s t : Scope) → scope_or_fault s (listed_places ns) ≡ Ok t → t ≡ with_list s (s.reserved ++ ns)
 list_kept [] s t h = ok_same s t h ∙ ap (with_list s) (sym (append-nil s.reserved))
 list_kept (n ∷ ns) s t h =
     let w = listed_first s t n ns h in list_kept ns (with_listed s n) t w.2 ∙ ap (with_list s) (append_assoc s.reserved (n ∷ []) ns)
@@ -49,13 +49,13 @@ module _ (D : List Declared) where
   known_within : (ks : List Kind) (os : List Name) → Known D os ks → (n : Name) → is_among os n ≡ true → found_at (names D) n < length D
   known_within ks os known n h = let w = found_within (names D) n (known n h).0 in omega (arith, w, length-map D (λ (o : Declared). o.name))
 
-  list_within : (ns : List Name) (s t : Scope) → Known D s.objects s.kinds → met s (listed_places ns) ≡ Ok t → AllByRecursion (λ h. h < length D) (map (found_at (names D)) ns)
+  list_within : (ns : List Name) (s t : Scope) → Known D s.objects s.kinds → scope_or_fault s (listed_places ns) ≡ Ok t → AllByRecursion (λ h. h < length D) (map (found_at (names D)) ns)
   list_within [] s t known h = tt
   list_within (n ∷ ns) s t known h =
       let w = listed_first s t n ns h in
       (known_within s.kinds s.objects known n w.0, list_within ns (with_listed s n) t known w.2)
 
-  list_apart : (x : Name) (ns : List Name) (s t : Scope) → Known D s.objects s.kinds → is_among s.reserved x ≡ true → is_among (names D) x ≡ true → met s (listed_places ns) ≡ Ok t → AllByRecursion (λ y. (found_at (names D) x == y) ≡ false) (map (found_at (names D)) ns)
+  list_apart : (x : Name) (ns : List Name) (s t : Scope) → Known D s.objects s.kinds → is_among s.reserved x ≡ true → is_among (names D) x ≡ true → scope_or_fault s (listed_places ns) ≡ Ok t → AllByRecursion (λ y. (found_at (names D) x == y) ≡ false) (map (found_at (names D)) ns)
   list_apart x [] s t known old among h = tt
   list_apart x (n ∷ ns) s t known old among h =
       let w = listed_first s t n ns h in
@@ -64,7 +64,7 @@ module _ (D : List Declared) where
       false_not_true (is_among s.reserved n) (subst P (found_apart (names D) x n among (known n w.0).0 e) old) w.1 in
       (apart (found_at (names D) x) (found_at (names D) n) other, list_apart x ns (with_listed s n) t known (is_among-append s.reserved (n ∷ []) x old) among w.2)
 
-  list_distinct : (ns : List Name) (s t : Scope) → Known D s.objects s.kinds → met s (listed_places ns) ≡ Ok t → IsDistinct ◌==◌ (map (found_at (names D)) ns)
+  list_distinct : (ns : List Name) (s t : Scope) → Known D s.objects s.kinds → scope_or_fault s (listed_places ns) ≡ Ok t → IsDistinct ◌==◌ (map (found_at (names D)) ns)
   unfolding IsDistinct
   list_distinct [] s t known h = tt
   list_distinct (n ∷ ns) s t known h =
@@ -85,11 +85,11 @@ module _ (D : List Declared) where
       let Q : List Kind → Type 0 = λ ks. Known D s.objects ks in
       subst P (sym e) (subst Q (sym f) known)
 
-  sound_block : (V : List Name) → length V ≤ most_variables → (b : Block) (s t : Scope) → Known D s.objects s.kinds → met s (block_places b) ≡ Ok t → IsSoundBlock D (block_of (names D) (kinds D) V b)
+  sound_block : (V : List Name) → length V ≤ most_variables → (b : Block) (s t : Scope) → Known D s.objects s.kinds → scope_or_fault s (block_places b) ≡ Ok t → IsSoundBlock D (block_of (names D) (kinds D) V b)
   sound_block V few b s t known h =
       let w = split s t separate (listed_places b.reserved ++ places false b.body) h in
       let s1 = with_block s in
-      let h1 : met s1 (listed_places b.reserved ++ places false b.body) ≡ Ok t = ap (λ u. met u (listed_places b.reserved ++ places false b.body)) (sym w.1.1) ∙ w.2 in
+      let h1 : scope_or_fault s1 (listed_places b.reserved ++ places false b.body) ≡ Ok t = ap (λ u. scope_or_fault u (listed_places b.reserved ++ places false b.body)) (sym w.1.1) ∙ w.2 in
       let v = parted s1 t (listed_places b.reserved) (places false b.body) h1 in
       let R = map (found_at (names D)) b.reserved in
       let P : Scope → Type 0 = λ u. Here D R V few u in
@@ -100,14 +100,14 @@ module _ (D : List Declared) where
         body = sound_body D R V few b.body false v.0 t here v.2;
       }
 
-  sound_blocks : (V : List Name) → length V ≤ most_variables → (bs : List Block) (s t : Scope) → Known D s.objects s.kinds → met s (blocks_places bs) ≡ Ok t → AllByRecursion (IsSoundBlock D) (map (block_of (names D) (kinds D) V) bs)
+  sound_blocks : (V : List Name) → length V ≤ most_variables → (bs : List Block) (s t : Scope) → Known D s.objects s.kinds → scope_or_fault s (blocks_places bs) ≡ Ok t → AllByRecursion (IsSoundBlock D) (map (block_of (names D) (kinds D) V) bs)
   sound_blocks V few [] s t known h = tt
   sound_blocks V few (b ∷ bs) s t known h =
       let w = parted s t (block_places b) (blocks_places bs) h in
       let one = (block_stays s w.0 b w.1).1 in
       (sound_block V few b s w.0 known w.1, sound_blocks V few bs w.0 t (known_after s w.0 one.objects one.kinds known) w.2)
 
-  sound_client : (c : ClientItem) (s t : Scope) → Known D s.objects s.kinds → met s (item_places (Client c)) ≡ Ok t → IsSoundClient D (client_of (names D) (kinds D) c)
+  sound_client : (c : ClientItem) (s t : Scope) → Known D s.objects s.kinds → scope_or_fault s (item_places (Client c)) ≡ Ok t → IsSoundClient D (client_of (names D) (kinds D) c)
   sound_client c s t known h =
       let w = (client_stays s t c h).1 in
       let few = few_variables s t c h in
@@ -127,7 +127,7 @@ module _ (D : List Declared) where
             ∙ get_or-append ks others (Account (pos 0)) (found_at os o) (omega (arith, found_within os o h, same_length)),
       )
 
-  sound_items : (items : List Item) (s t : Scope) → names D ≡ s.objects ++ names_of items → kinds D ≡ s.kinds ++ kinds_of items → length s.kinds ≡ length s.objects → met s (script_places items) ≡ Ok t → AllByRecursion (IsSoundClient D) (clients_of (names D) (kinds D) items)
+  sound_items : (items : List Item) (s t : Scope) → names D ≡ s.objects ++ names_of items → kinds D ≡ s.kinds ++ kinds_of items → length s.kinds ≡ length s.objects → scope_or_fault s (script_places items) ≡ Ok t → AllByRecursion (IsSoundClient D) (clients_of (names D) (kinds D) items)
   sound_items [] s t e f l h = tt
   sound_items (Object o ∷ rest) s t e f l h =
       let w = parted s t (item_places (Object o)) (script_places rest) h in
@@ -156,19 +156,19 @@ length-clients os ks (Client c ∷ rest) = ap suc (length-clients os ks rest)
 -- the end of a walk over a whole script, but for the variables of the clients that are over
 pub record Walked (items : List Item) (s : Scope) : Type 0 where
   pub last : Scope
-  pub met_all : met start (script_places items) ≡ Ok last
+  pub met_all : scope_or_fault start (script_places items) ≡ Ok last
   pub objects : s.objects ≡ names_of items
   pub kinds : s.kinds ≡ kinds_of items
   pub few_objects : length s.objects ≤ most_objects
   pub few_variables : AllByRecursion (λ v. length v ≤ most_variables) (lists_of items)
 
-over_ok : (m : Met) (s : Scope) → over m ≡ Ok (without_variables s) → (t : Scope) × (m ≡ Ok t) × (without_variables s ≡ without_variables t)
+over_ok : (m : ScopeOrFault) (s : Scope) → over m ≡ Ok (without_variables s) → (t : Scope) × (m ≡ Ok t) × (without_variables s ≡ without_variables t)
 over_ok (Ok t) s h = (t, refl, ok_same (without_variables t) (without_variables s) h)
 over_ok (Err e) s h = cc
 
-pub walked : (items : List Item) (s : Scope) → over (met start (script_places items)) ≡ Ok (without_variables s) → Walked items s
+pub walked : (items : List Item) (s : Scope) → over (scope_or_fault start (script_places items)) ≡ Ok (without_variables s) → Walked items s
 walked items s h =
-    let w = over_ok (met start (script_places items)) s h in
+    let w = over_ok (scope_or_fault start (script_places items)) s h in
     let all = scripted items start w.0 w.1 in
     let objects : s.objects ≡ w.0.objects = ap (λ u. u.objects) w.2 in
     record {
@@ -181,7 +181,7 @@ walked items s h =
     }
 
 -- a script with no fault in its text, whose load and weight are in their limits
-pub sound : (items : List Item) (t : Scope) → met start (script_places items) ≡ Ok t → whole_load (resolved items) ≤ most_requests → whole_weight (resolved items) ≤ most_steps → IsFormedProgram (resolved items) → IsSound (resolved items)
+pub sound : (items : List Item) (t : Scope) → scope_or_fault start (script_places items) ≡ Ok t → whole_load (program_of_items items) ≤ most_requests → whole_weight (program_of_items items) ≤ most_steps → IsFormedProgram (program_of_items items) → IsSound (program_of_items items)
 sound items t h load weight form =
     let known = scripted items start t h in
     let count : length t.objects ≤ most_objects = known.few_objects (omega arith) in

@@ -3,9 +3,9 @@ use Rattle.std.proofs.Common.{◌≡◌, ℕ, ◌<◌, ◌≤◌, Bool, true, fa
 use Rattle.std.proofs.lemmas.Bool.Decides.{nat_tests}
 use Rattle.qs_check.specs.declared.fault.CheckFault.{CheckFault}
 use Rattle.qs_check.specs.declared.fault.CheckFault.TheVariants as f
-use Rattle.qs_program.specs.Numbering.{Name, is_among, named}
+use Rattle.qs_program.specs.Numbering.{Name, is_among, with_name}
 use Rattle.qs_program.specs.Limits.{most_blocks, most_clients, most_objects, most_variables}
-use Rattle.qs_check.specs.Places.{Scope, Place, Met, object, number, client, separate, listed, target, operation, arguments, variable, leaves, step, met, then_at, with_object, with_client, with_block, with_listed, with_variable, op_at, is_known, takes, Meets}
+use Rattle.qs_check.specs.Places.{Scope, TextPlace, ScopeOrFault, object, number, client, separate, listed, target, operation, arguments, variable, leaves, step, scope_or_fault, then_at, with_object, with_client, with_block, with_listed, with_variable, op_at, is_known, takes, Meets}
 use Rattle.qs_check.specs.Resolve.{variables_at}
 
 -- the scope with other variables
@@ -13,7 +13,7 @@ abbrev pub with_names : Scope → List Name → Scope
 with_names s names = record s { variables = names }
 
 -- what is known before and after a place that is no fault
-abbrev pub Stepped : Scope → Place → Scope → Type 0
+abbrev pub Stepped : Scope → TextPlace → Scope → Type 0
 Stepped s (object n k) t = (is_among s.objects n ≡ false) × (length s.objects < most_objects) × (t ≡ with_object s n k)
 Stepped s (number low high n) t = (low ≤ n) × (n ≤ high) × (t ≡ s)
 Stepped s (client n) t = (is_among s.clients n ≡ false) × (length s.clients < most_clients) × (t ≡ with_client s n)
@@ -22,20 +22,20 @@ Stepped s (listed o) t = (is_among s.objects o ≡ true) × (is_among s.reserved
 Stepped s (target o) t = (is_among s.objects o ≡ true) × (is_among s.reserved o ≡ true) × (t ≡ s)
 Stepped s (operation asks o op) t = (is_known (op_at s.objects s.kinds asks o op) ≡ true) × (t ≡ s)
 Stepped s (arguments asks o op n) t = (takes (op_at s.objects s.kinds asks o op) n ≡ true) × (t ≡ s)
-Stepped s (variable x) t = (t ≡ with_names s (named s.variables x)) × (length s.variables ≤ most_variables → length t.variables ≤ most_variables)
+Stepped s (variable x) t = (t ≡ with_names s (with_name s.variables x)) × (length s.variables ≤ most_variables → length t.variables ≤ most_variables)
 Stepped s (leaves inside) t = t ≡ s
 
-abbrev pub fine : Scope → Met
+abbrev pub fine : Scope → ScopeOrFault
 fine s = Ok s
 
 pub ok_same : (s t : Scope) → fine s ≡ Ok t → t ≡ s
 ok_same s t h = cc
 
-then_ok : (b : Bool) (m : Met) (e : CheckFault) (t : Scope) → (if b then m else Err e) ≡ Ok t → (b ≡ true) × (m ≡ Ok t)
+then_ok : (b : Bool) (m : ScopeOrFault) (e : CheckFault) (t : Scope) → (if b then m else Err e) ≡ Ok t → (b ≡ true) × (m ≡ Ok t)
 then_ok true m e t h = (refl, h)
 then_ok false m e t h = cc
 
-else_ok : (b : Bool) (m : Met) (e : CheckFault) (t : Scope) → (if b then Err e else m) ≡ Ok t → (b ≡ false) × (m ≡ Ok t)
+else_ok : (b : Bool) (m : ScopeOrFault) (e : CheckFault) (t : Scope) → (if b then Err e else m) ≡ Ok t → (b ≡ false) × (m ≡ Ok t)
 else_ok true m e t h = cc
 else_ok false m e t h = (refl, h)
 
@@ -52,7 +52,7 @@ variable_stepped s t x false e h =
     let same = ok_same (with_variable s x) t p.1 in
     (same, λ l. rw (ap (λ u. length u.variables) same, length-append) (omega (arith, below _ _ p.0)))
 
-pub stepped : (s t : Scope) (p : Place) → step s p ≡ Ok t → Stepped s p t
+pub stepped : (s t : Scope) (p : TextPlace) → step s p ≡ Ok t → Stepped s p t
 stepped s t (object n k) h =
     let p = else_ok (is_among s.objects n) (if nat_lt (length s.objects) most_objects then Ok (with_object s n k) else Err f.Limit) f.Twice t h in
     let q = then_ok (nat_lt (length s.objects) most_objects) (Ok (with_object s n k)) f.Limit t p.1 in
@@ -83,16 +83,16 @@ stepped s t (variable x) h = variable_stepped s t x (is_among s.variables x) ref
 stepped s t (leaves inside) h = let q = then_ok inside (Ok s) f.LeaveOutside t h in ok_same s t q.1
 
 -- the scope between a place and the others
-pub then_at_ok : (m : Met) (next : Scope → Met) (t : Scope) → then_at m next ≡ Ok t → (u : Scope) × (m ≡ Ok u) × (next u ≡ Ok t)
+pub then_at_ok : (m : ScopeOrFault) (next : Scope → ScopeOrFault) (t : Scope) → then_at m next ≡ Ok t → (u : Scope) × (m ≡ Ok u) × (next u ≡ Ok t)
 then_at_ok (Ok u) next t h = (u, refl, h)
 then_at_ok (Err e) next t h = cc
 
-pub split : (s t : Scope) (p : Place) (ps : List Place) → met s (p ∷ ps) ≡ Ok t → (u : Scope) × Stepped s p u × (met u ps ≡ Ok t)
+pub split : (s t : Scope) (p : TextPlace) (ps : List TextPlace) → scope_or_fault s (p ∷ ps) ≡ Ok t → (u : Scope) × Stepped s p u × (scope_or_fault u ps ≡ Ok t)
 split s t p ps h =
-    let w = then_at_ok (step s p) (λ v. met v ps) t h in (w.0, stepped s w.0 p w.1, w.2)
+    let w = then_at_ok (step s p) (λ v. scope_or_fault v ps) t h in (w.0, stepped s w.0 p w.1, w.2)
 
 -- the variables that are met are those of the places
-pub variables_met : (s t : Scope) (ps : List Place) → met s ps ≡ Ok t → t.variables ≡ variables_at s.variables ps
+pub variables_met : (s t : Scope) (ps : List TextPlace) → scope_or_fault s ps ≡ Ok t → t.variables ≡ variables_at s.variables ps
 variables_met s t [] h = ap (λ u. u.variables) (ok_same s t h)
 variables_met s t (object n k ∷ ps) h = let w = split s t (object n k) ps h in variables_met w.0 t ps w.2 ∙ ap (λ u. variables_at u.variables ps) w.1.2
 variables_met s t (number low high n ∷ ps) h = let w = split s t (number low high n) ps h in variables_met w.0 t ps w.2 ∙ ap (λ u. variables_at u.variables ps) w.1.2
@@ -106,6 +106,6 @@ variables_met s t (variable x ∷ ps) h = let w = split s t (variable x) ps h in
 variables_met s t (leaves inside ∷ ps) h = let w = split s t (leaves inside) ps h in variables_met w.0 t ps w.2 ∙ ap (λ u. variables_at u.variables ps) w.1
 
 -- the same, of a call of the code
-pub variables_meet : {X : Type 0} (r : Result X CheckFault) (s t : Scope) (ps : List Place) → Meets r (met s ps) t → OnOk r (t.variables ≡ variables_at s.variables ps)
+pub variables_meet : {X : Type 0} (r : Result X CheckFault) (s t : Scope) (ps : List TextPlace) → Meets r (scope_or_fault s ps) t → OnOk r (t.variables ≡ variables_at s.variables ps)
 variables_meet (Ok x) s t ps h = variables_met s t ps h
 variables_meet (Err e) s t ps h = tt

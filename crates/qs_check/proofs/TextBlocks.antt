@@ -6,9 +6,9 @@ use Rattle.std.specs.List.{AllByRecursion, IsDistinct}
 use Rattle.qs_script.specs.declared.tree.Block.{Block}
 use Rattle.qs_check.specs.declared.fault.CheckFault.TheVariants as f
 use Rattle.qs_program.specs.declared.program.Declared.{Declared}
-use Rattle.qs_program.specs.Numbering.{Name, same_name, is_among, named}
+use Rattle.qs_program.specs.Numbering.{Name, same_name, is_among, with_name}
 use Rattle.qs_program.specs.Limits.{most_blocks, most_variables}
-use Rattle.qs_check.specs.Places.{Scope, listed, separate, met, places, listed_places, block_places, blocks_places, with_listed}
+use Rattle.qs_check.specs.Places.{Scope, listed, separate, scope_or_fault, places, listed_places, block_places, blocks_places, with_listed}
 use Rattle.qs_check.specs.Resolve.{variables_at}
 use Rattle.qs_check.specs.WellFormed.{AreStatements, variables_in_all}
 use Rattle.qs_check.proofs.FinePlaces.{then_step, else_step, below, again, leads, named_more, are_fine, fine_met}
@@ -61,15 +61,15 @@ unfolding IsDistinct
 no_fresh seen = (tt, tt)
 
 -- a block's list
-list_from : (ns : List Name) (s t : Scope) → met s (listed_places ns) ≡ Ok t → AllByRecursion (λ o. is_among s.objects o ≡ true) ns
+list_from : (ns : List Name) (s t : Scope) → scope_or_fault s (listed_places ns) ≡ Ok t → AllByRecursion (λ o. is_among s.objects o ≡ true) ns
 list_from [] s t h = tt
 list_from (n ∷ ns) s t h = let w = listed_first s t n ns h in (w.0, list_from ns (with_listed s n) t w.2)
 
-list_fresh : (ns : List Name) (s t : Scope) → met s (listed_places ns) ≡ Ok t → Fresh s.reserved ns
+list_fresh : (ns : List Name) (s t : Scope) → scope_or_fault s (listed_places ns) ≡ Ok t → Fresh s.reserved ns
 list_fresh [] s t h = no_fresh s.reserved
 list_fresh (n ∷ ns) s t h = let w = listed_first s t n ns h in fresh_more s.reserved n ns w.1 (list_fresh ns (with_listed s n) t w.2)
 
-list_to : (ns : List Name) (s : Scope) → AllByRecursion (λ o. is_among s.objects o ≡ true) ns → Fresh s.reserved ns → met s (listed_places ns) ≡ Ok (with_list s (s.reserved ++ ns))
+list_to : (ns : List Name) (s : Scope) → AllByRecursion (λ o. is_among s.objects o ≡ true) ns → Fresh s.reserved ns → scope_or_fault s (listed_places ns) ≡ Ok (with_list s (s.reserved ++ ns))
 list_to [] s h k = ap (λ r. Ok (with_list s r)) (sym (append-nil s.reserved))
 list_to (n ∷ ns) s h k =
     let w = fresh_rest s.reserved n ns k in
@@ -91,25 +91,25 @@ block_variables V b = variables_at-append V (listed_places b.reserved) (places f
 module _ (D : List Declared) (C : List Name) where
   module _ (n : ℕ) (V R : List Name) (b : Block) where
     -- after the beginning of the block, and after its list
-    abbrev begun : Scope
-    begun = scope D C (n + 1) V []
+    abbrev scope_in_block : Scope
+    scope_in_block = scope D C (n + 1) V []
 
     abbrev listing : Scope
     listing = scope D C (n + 1) V b.reserved
 
-    module _ (t : Scope) (h : met (scope D C n V R) (block_places b) ≡ Ok t) where
-      body_met : (met begun (listed_places b.reserved) ≡ Ok listing) × (met listing (places false b.body) ≡ Ok t)
+    module _ (t : Scope) (h : scope_or_fault (scope D C n V R) (block_places b) ≡ Ok t) where
+      body_met : (scope_or_fault scope_in_block (listed_places b.reserved) ≡ Ok listing) × (scope_or_fault listing (places false b.body) ≡ Ok t)
       body_met =
           let w = split (scope D C n V R) t separate (listed_places b.reserved ++ places false b.body) h in
-          let v = parted begun t (listed_places b.reserved) (places false b.body) (again begun t w.0 (listed_places b.reserved ++ places false b.body) w.1.1 w.2) in
-          let e : v.0 ≡ listing = list_kept b.reserved begun v.0 v.1 in
+          let v = parted scope_in_block t (listed_places b.reserved) (places false b.body) (again scope_in_block t w.0 (listed_places b.reserved ++ places false b.body) w.1.1 w.2) in
+          let e : v.0 ≡ listing = list_kept b.reserved scope_in_block v.0 v.1 in
           (v.1 ∙ ap (λ u. Ok u) e, again listing t v.0 (places false b.body) e v.2)
 
       pub right_from : IsRight D b
       right_from =
           let w = body_met in record {
-            declares = list_from b.reserved begun listing w.0;
-            distinct = (list_fresh b.reserved begun listing w.0).1;
+            declares = list_from b.reserved scope_in_block listing w.0;
+            distinct = (list_fresh b.reserved scope_in_block listing w.0).1;
             statements = statements_from D b.reserved false b.body (are_fine listing t (places false b.body) (inner_body false b.body) w.1);
           }
 
@@ -120,23 +120,23 @@ module _ (D : List Declared) (C : List Name) where
           ∙ ap (with_names listing) (variables_met (scope D C n V R) t (block_places b) h)
 
     module _ (distinct : IsDistinct same_name (names D)) (right : IsRight D b) (room : n < most_blocks) (few : length (variables_at V (block_places b)) ≤ most_variables) where
-      list_met : met begun (listed_places b.reserved) ≡ Ok listing
-      list_met = list_to b.reserved begun right.declares (unseen b.reserved, right.distinct)
+      list_met : scope_or_fault scope_in_block (listed_places b.reserved) ≡ Ok listing
+      list_met = list_to b.reserved scope_in_block right.declares (unseen b.reserved, right.distinct)
         where
           unseen : (ns : List Name) → AllByRecursion (λ m. is_among [] m ≡ false) ns
           unseen [] = tt
           unseen (m ∷ ns) = (refl, unseen ns)
 
-      pub right_to : met (scope D C n V R) (block_places b) ≡ Ok (scope D C (n + 1) (variables_at V (block_places b)) b.reserved)
+      pub right_to : scope_or_fault (scope D C n V R) (block_places b) ≡ Ok (scope D C (n + 1) (variables_at V (block_places b)) b.reserved)
       right_to =
           let names_are = block_variables V b in
           let small : length (variables_at V (places false b.body)) ≤ most_variables = omega (arith, few, ap length names_are) in
           let body = fine_met listing (places false b.body) (inner_body false b.body) (statements_to D b.reserved distinct false b.body right.statements) small in
-          leads (scope D C n V R) begun separate (listed_places b.reserved ++ places false b.body) _
-          (then_step (nat_lt n most_blocks) begun (Ok begun) f.Limit (below n 64 room))
-          (met-then begun listing (listed_places b.reserved) (places false b.body) list_met ∙ body ∙ ap (λ v. Ok (with_names listing v)) (sym names_are))
+          leads (scope D C n V R) scope_in_block separate (listed_places b.reserved ++ places false b.body) _
+          (then_step (nat_lt n most_blocks) scope_in_block (Ok scope_in_block) f.Limit (below n 64 room))
+          (met-then scope_in_block listing (listed_places b.reserved) (places false b.body) list_met ∙ body ∙ ap (λ v. Ok (with_names listing v)) (sym names_are))
 
-  pub blocks_from : (bs : List Block) (n : ℕ) (V R : List Name) (t : Scope) → met (scope D C n V R) (blocks_places bs) ≡ Ok t → AllByRecursion (IsRight D) bs
+  pub blocks_from : (bs : List Block) (n : ℕ) (V R : List Name) (t : Scope) → scope_or_fault (scope D C n V R) (blocks_places bs) ≡ Ok t → AllByRecursion (IsRight D) bs
   blocks_from [] n V R t h = tt
   blocks_from (b ∷ bs) n V R t h =
       let w = parted (scope D C n V R) t (block_places b) (blocks_places bs) h in
@@ -145,9 +145,9 @@ module _ (D : List Declared) (C : List Name) where
 
   all_more : (old xs : List Name) → length old ≤ length (all_named old xs)
   all_more old [] = omega arith
-  all_more old (x ∷ xs) = omega (arith, named_more old x, all_more (named old x) xs)
+  all_more old (x ∷ xs) = omega (arith, named_more old x, all_more (with_name old x) xs)
 
-  pub blocks_to : IsDistinct same_name (names D) → (bs : List Block) (n : ℕ) (V R : List Name) → n + length bs ≤ most_blocks → length (variables_at V (blocks_places bs)) ≤ most_variables → AllByRecursion (IsRight D) bs → (t : Scope) × (met (scope D C n V R) (blocks_places bs) ≡ Ok t) × (m : ℕ) × (Q : List Name) × (t ≡ scope D C m (variables_at V (blocks_places bs)) Q)
+  pub blocks_to : IsDistinct same_name (names D) → (bs : List Block) (n : ℕ) (V R : List Name) → n + length bs ≤ most_blocks → length (variables_at V (blocks_places bs)) ≤ most_variables → AllByRecursion (IsRight D) bs → (t : Scope) × (scope_or_fault (scope D C n V R) (blocks_places bs) ≡ Ok t) × (m : ℕ) × (Q : List Name) × (t ≡ scope D C m (variables_at V (blocks_places bs)) Q)
   blocks_to distinct [] n V R room few right = (scope D C n V R, refl, n, R, refl)
   blocks_to distinct (b ∷ bs) n V R room few right =
       let V1 = variables_at V (block_places b) in

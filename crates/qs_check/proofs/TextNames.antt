@@ -15,21 +15,21 @@ use Rattle.qs_script.specs.declared.tree.Call.{Call}
 use Rattle.qs_script.specs.declared.tree.Block.{Block}
 use Rattle.qs_script.specs.declared.tree.ClientItem.{ClientItem}
 use Rattle.qs_script.specs.Tree as tree
-use Rattle.qs_program.specs.Numbering.{Name, same_name, is_among, named}
-use Rattle.qs_check.specs.Places.{Place, object, number, client, separate, listed, target, operation, arguments, variable, leaves, places, atom_places, atoms_places, expr_places, test_places, call_places, listed_places, block_places, blocks_places}
+use Rattle.qs_program.specs.Numbering.{Name, same_name, is_among, with_name}
+use Rattle.qs_check.specs.Places.{TextPlace, object, number, client, separate, listed, target, operation, arguments, variable, leaves, places, atom_places, atoms_places, expr_places, test_places, call_places, listed_places, block_places, blocks_places}
 use Rattle.qs_check.specs.Resolve.{variables_at, variables_of}
 use Rattle.qs_check.specs.WellFormed.{atom_names, atoms_names, expr_names, test_names, variables_in, variables_in_all}
 
 -- more names, each where it is new
 abbrev pub all_named : List Name → List Name → List Name
 all_named names [] = names
-all_named names (x ∷ xs) = all_named (named names x) xs
+all_named names (x ∷ xs) = all_named (with_name names x) xs
 
 all_named-append : (names xs ys : List Name) → all_named names (xs ++ ys) ≡ all_named (all_named names xs) ys
 all_named-append names [] ys = refl
-all_named-append names (x ∷ xs) ys = all_named-append (named names x) xs ys
+all_named-append names (x ∷ xs) ys = all_named-append (with_name names x) xs ys
 
-pub variables_at-append : (names : List Name) (ps qs : List Place) → variables_at names (ps ++ qs) ≡ variables_at (variables_at names ps) qs
+pub variables_at-append : (names : List Name) (ps qs : List TextPlace) → variables_at names (ps ++ qs) ≡ variables_at (variables_at names ps) qs
 variables_at-append names [] qs = refl
 variables_at-append names (object n k ∷ ps) qs = variables_at-append names ps qs
 variables_at-append names (number low high n ∷ ps) qs = variables_at-append names ps qs
@@ -39,14 +39,14 @@ variables_at-append names (listed o ∷ ps) qs = variables_at-append names ps qs
 variables_at-append names (target o ∷ ps) qs = variables_at-append names ps qs
 variables_at-append names (operation asks o op ∷ ps) qs = variables_at-append names ps qs
 variables_at-append names (arguments asks o op n ∷ ps) qs = variables_at-append names ps qs
-variables_at-append names (variable x ∷ ps) qs = variables_at-append (named names x) ps qs
+variables_at-append names (variable x ∷ ps) qs = variables_at-append (with_name names x) ps qs
 variables_at-append names (leaves inside ∷ ps) qs = variables_at-append names ps qs
 
 -- the places name these variables
-abbrev Tell : List Place → List Name → Type 0
+abbrev Tell : List TextPlace → List Name → Type 0
 Tell ps xs = (names : List Name) → variables_at names ps ≡ all_named names xs
 
-tell_both : (ps qs : List Place) (xs ys : List Name) → Tell ps xs → Tell qs ys → Tell (ps ++ qs) (xs ++ ys)
+tell_both : (ps qs : List TextPlace) (xs ys : List Name) → Tell ps xs → Tell qs ys → Tell (ps ++ qs) (xs ++ ys)
 tell_both ps qs xs ys f g = λ names.
     variables_at-append names ps qs ∙ g (variables_at names ps) ∙ ap (λ ns. all_named ns ys) (f names) ∙ sym (all_named-append names xs ys)
 
@@ -73,9 +73,9 @@ tell_body inside tree.end = λ names. refl
 tell_body inside (tree.command c rest) =
     tell_both (call_places false c) (places inside rest) (atoms_names c.args) (variables_in rest) (tell_call false c) (tell_body inside rest)
 tell_body inside (tree.query x c rest) = λ names.
-    tell_both (call_places true c) (places inside rest) (atoms_names c.args) (variables_in rest) (tell_call true c) (tell_body inside rest) (named names x)
+    tell_both (call_places true c) (places inside rest) (atoms_names c.args) (variables_in rest) (tell_call true c) (tell_body inside rest) (with_name names x)
 tell_body inside (tree.assign x e rest) = λ names.
-    tell_both (expr_places e) (places inside rest) (expr_names e) (variables_in rest) (tell_expr e) (tell_body inside rest) (named names x)
+    tell_both (expr_places e) (places inside rest) (expr_names e) (variables_in rest) (tell_expr e) (tell_body inside rest) (with_name names x)
 tell_body inside (tree.choose t first rest) =
     tell_both (test_places t) (places inside first ++ places inside rest) (test_names t) (variables_in first ++ variables_in rest) (tell_test t)
     (tell_both (places inside first) (places inside rest) (variables_in first) (variables_in rest) (tell_body inside first) (tell_body inside rest))
@@ -121,7 +121,7 @@ one_more names x q false e = list_any-append (same_name q) names (x ∷ []) ∙ 
 pub among_named : (names xs : List Name) (q : Name) → is_among (all_named names xs) q ≡ (is_among names q || is_among xs q)
 among_named names [] q = sym (or_false (is_among names q))
 among_named names (x ∷ xs) q =
-    among_named (named names x) xs q
+    among_named (with_name names x) xs q
     ∙ ap (λ b. b || is_among xs q) (one_more names x q (is_among names x) refl)
     ∙ or_assoc (is_among names q) (same_name q x) (is_among xs q)
 
@@ -152,7 +152,7 @@ distinct_named names x false e d = distinct_last names x d (sym e)
 
 pub distinct_all : (names xs : List Name) → IsDistinct same_name names → IsDistinct same_name (all_named names xs)
 distinct_all names [] d = d
-distinct_all names (x ∷ xs) d = distinct_all (named names x) xs (distinct_named names x (is_among names x) refl d)
+distinct_all names (x ∷ xs) d = distinct_all (with_name names x) xs (distinct_named names x (is_among names x) refl d)
 
 pub no_names : IsDistinct same_name []
 unfolding IsDistinct

@@ -21,7 +21,7 @@ use Rattle.qs_script.specs.Tree as tree
 use Rattle.qs_program.specs.declared.program.Declared.{Declared}
 use Rattle.qs_program.specs.Numbering.{Name, same_name, is_among, found_at}
 use Rattle.qs_check.specs.Operators.{op_of}
-use Rattle.qs_check.specs.Places.{Place, places, atom_places, atoms_places, expr_places, test_places, request_places, call_places, op_at, is_known, takes}
+use Rattle.qs_check.specs.Places.{TextPlace, places, atom_places, atoms_places, expr_places, test_places, request_places, call_places, op_at, is_known, takes}
 use Rattle.qs_check.specs.WellFormed.{IsRequest, AreStatements}
 use Rattle.qs_program.proofs.Found.{name_at, found_is, found_within, or_true, same_name-refl}
 use Rattle.qs_check.proofs.FinePlaces.{IsFine}
@@ -86,7 +86,7 @@ some_takes : (op : Op) (n : ℕ) → n ≡ arity op → takes (Some op) n ≡ tr
 some_takes op n h = grind (arith, nat_tests)
 
 module _ (D : List Declared) (R : List Name) where
-  abbrev pub AllFine : List Place → Type 0
+  abbrev pub AllFine : List TextPlace → Type 0
   AllFine ps = AllByRecursion (IsFine (names D) (kinds D) R) ps
 
   request_from : (asks : Bool) (c : Call) → (is_among (names D) c.object ≡ true) → (is_among R c.object ≡ true) → takes (op_at (names D) (kinds D) asks c.object c.op) (length c.args) ≡ true → IsRequest D R asks c
@@ -125,13 +125,13 @@ module _ (D : List Declared) (R : List Name) where
   fine_atom (Variable x) = (tt, tt)
   fine_atom (Number n) = tt
 
-  both : (ps qs : List Place) → AllFine ps → AllFine qs → AllFine (ps ++ qs)
+  both : (ps qs : List TextPlace) → AllFine ps → AllFine qs → AllFine (ps ++ qs)
   both ps qs h k = all_both (IsFine (names D) (kinds D) R) ps qs h k
 
-  first : (ps qs : List Place) → AllFine (ps ++ qs) → AllFine ps
+  first : (ps qs : List TextPlace) → AllFine (ps ++ qs) → AllFine ps
   first ps qs h = all_first (IsFine (names D) (kinds D) R) ps qs h
 
-  later : (ps qs : List Place) → AllFine (ps ++ qs) → AllFine qs
+  later : (ps qs : List TextPlace) → AllFine (ps ++ qs) → AllFine qs
   later ps qs h = all_later (IsFine (names D) (kinds D) R) ps qs h
 
   fine_atoms : (xs : List Atom) → AllFine (atoms_places xs)

@@ -21,15 +21,15 @@ use Rattle.qs_program.specs.declared.program.Declared.{Declared}
 use Rattle.qs_check.specs.Checked.{excess_of, first_fault, fault_of, IsCheckOf}
 use Rattle.qs_program.specs.Loads.{weight_of}
 use Rattle.qs_program.specs.Numbering.{Name, same_name, is_among}
-use Rattle.qs_check.specs.Places.{Scope, Met, number, object, client, met, start, kind_of, kind_places, item_places, blocks_places, script_places, with_object}
+use Rattle.qs_check.specs.Places.{Scope, ScopeOrFault, number, object, client, scope_or_fault, start, kind_of, kind_places, item_places, blocks_places, script_places, with_object}
 use Rattle.qs_program.specs.Program.{BlockShape, ClientShape, ProgramShape, block_load, whole_load, whole_weight}
 use Rattle.qs_program.specs.Limits.{most_clients, most_objects, most_requests, most_steps, most_variables}
-use Rattle.qs_check.specs.Resolve.{objects_of, names_of, kinds_of, clients_of, client_of, lists_of, variables_of, resolved}
+use Rattle.qs_check.specs.Resolve.{objects_of, names_of, kinds_of, clients_of, client_of, lists_of, variables_of, program_of_items}
 use Rattle.qs_check.specs.TextLoads.{steps_in, text_block_load, text_load, text_weight}
 use Rattle.qs_check.specs.WellFormed.{IsKindInRange, IsDeclared, IsWellFormedBlock, IsWellFormedClient, AreItems, clients_in, IsWellFormed, FaultlessAreWellFormed, AcceptsWellFormed}
 use Rattle.qs_check.proofs.FinePlaces.{then_step, else_step, between, below, again, leads}
 use Rattle.qs_check.proofs.Inner.{parted}
-use Rattle.qs_check.proofs.Kept.{blocks_stay}
+use Rattle.qs_check.proofs.ScopesInBlocks.{blocks_stay}
 use Rattle.qs_check.proofs.Scripts.{few_variables, scripted}
 use Rattle.qs_check.proofs.SoundStatements.{names, kinds}
 use Rattle.qs_check.proofs.Steps.{split, ok_same}
@@ -58,7 +58,7 @@ grown : (D : List Declared) (C : List Name) (n : ℕ) (V R : List Name) (o : Obj
 grown D C n V R o = λ i. record { objects = names_with D o i; kinds = kinds_with D o i; clients = C; blocks = n; variables = V; reserved = R }
 
 -- the numbers of a kind
-kind_from : (s t : Scope) (k : KindText) → met s (kind_places k) ≡ Ok t → IsKindInRange k × (t ≡ s)
+kind_from : (s t : Scope) (k : KindText) → scope_or_fault s (kind_places k) ≡ Ok t → IsKindInRange k × (t ≡ s)
 kind_from s t (Account n) h = let w = split s t (number 0 1000000000000000 n) [] h in ((w.1.0, w.1.1), ok_same w.0 t w.2 ∙ w.1.2)
 kind_from s t (Buffer n) h = let w = split s t (number 1 1024 n) [] h in ((w.1.0, w.1.1), ok_same w.0 t w.2 ∙ w.1.2)
 kind_from s t (Grid r c) h =
@@ -66,10 +66,10 @@ kind_from s t (Grid r c) h =
     let v = split w.0 t (number 1 16 c) [] w.2 in
     (((w.1.0, w.1.1), (v.1.0, v.1.1)), ok_same v.0 t v.2 ∙ v.1.2 ∙ w.1.2)
 
-in_range : (s : Scope) (low high n : ℕ) → low ≤ n → n ≤ high → met s (number low high n ∷ []) ≡ Ok s
+in_range : (s : Scope) (low high n : ℕ) → low ≤ n → n ≤ high → scope_or_fault s (number low high n ∷ []) ≡ Ok s
 in_range s low high n h k = leads s s (number low high n) [] (Ok s) (else_step _ (Ok s) f.Range (between low high n h k)) refl
 
-kind_to : (s : Scope) (k : KindText) → IsKindInRange k → met s (kind_places k) ≡ Ok s
+kind_to : (s : Scope) (k : KindText) → IsKindInRange k → scope_or_fault s (kind_places k) ≡ Ok s
 kind_to s (Account n) h = in_range s 0 1000000000000000 n h.0 h.1
 kind_to s (Buffer n) h = in_range s 1 1024 n h.0 h.1
 kind_to s (Grid r c) ((a, b), (d, e)) =
@@ -100,7 +100,7 @@ abbrev client_names : List Item → List Name
 client_names items = map (λ (c : ClientItem). c.name) (clients_in items)
 
 -- a script that is walked to its end
-items_from : (items : List Item) (D : List Declared) (C : List Name) (n : ℕ) (V R : List Name) (t : Scope) → HasForm items → met (scope D C n V R) (script_places items) ≡ Ok t → AreItems D items × Fresh (names D) (names_of items) × Fresh C (client_names items)
+items_from : (items : List Item) (D : List Declared) (C : List Name) (n : ℕ) (V R : List Name) (t : Scope) → HasForm items → scope_or_fault (scope D C n V R) (script_places items) ≡ Ok t → AreItems D items × Fresh (names D) (names_of items) × Fresh C (client_names items)
 items_from [] D C n V R t form h = (tt, no_fresh (names D), no_fresh C)
 items_from (Object o ∷ rest) D C n V R t form h =
     let s = scope D C n V R in
@@ -134,7 +134,7 @@ length_last [] n = refl
 length_last (m ∷ ns) n = omega (arith, length_last ns n)
 
 -- a script that is well formed is walked to its end
-items_to : (items : List Item) (D : List Declared) (C : List Name) (n : ℕ) (V R : List Name) → IsDistinct same_name (names D) → Fresh (names D) (names_of items) → Fresh C (client_names items) → length (names D) + length (names_of items) ≤ most_clients → length C + length (clients_in items) ≤ most_clients → AreItems D items → (t : Scope) × (met (scope D C n V R) (script_places items) ≡ Ok t)
+items_to : (items : List Item) (D : List Declared) (C : List Name) (n : ℕ) (V R : List Name) → IsDistinct same_name (names D) → Fresh (names D) (names_of items) → Fresh C (client_names items) → length (names D) + length (names_of items) ≤ most_clients → length C + length (clients_in items) ≤ most_clients → AreItems D items → (t : Scope) × (scope_or_fault (scope D C n V R) (script_places items) ≡ Ok t)
 items_to [] D C n V R apart fresh others few few_clients each = (scope D C n V R, refl)
 items_to (Object o ∷ rest) D C n V R apart fresh others few few_clients (kind, each) =
     let s = scope D C n V R in
@@ -151,7 +151,7 @@ items_to (Object o ∷ rest) D C n V R apart fresh others few few_clients (kind,
       leads s u (object o.name (kind_of o.kind)) (kind_places o.kind ++ script_places rest) (Ok more.0)
           (else_step (is_among (names D) o.name) (if nat_lt (length (names D)) most_objects then Ok u else Err f.Limit) f.Twice w.0
           ∙ then_step (nat_lt (length (names D)) most_objects) s (Ok u) f.Limit (below (length (names D)) 8 room))
-          (met-then u u (kind_places o.kind) (script_places rest) (kind_to u o.kind kind) ∙ ap (λ v. met v (script_places rest)) (grown D C n V R o) ∙ more.1),
+          (met-then u u (kind_places o.kind) (script_places rest) (kind_to u o.kind kind) ∙ ap (λ v. scope_or_fault v (script_places rest)) (grown D C n V R o) ∙ more.1),
     )
 items_to (Client c ∷ rest) D C n V R apart fresh others few few_clients (one, each) =
     let s = scope D C n V R in
@@ -166,7 +166,7 @@ items_to (Client c ∷ rest) D C n V R apart fresh others few few_clients (one, 
       leads s begun (client c.name) (blocks_places c.blocks ++ script_places rest) (Ok more.0)
           (else_step (is_among C c.name) (if nat_lt (length C) most_clients then Ok begun else Err f.Limit) f.Twice w.0
           ∙ then_step (nat_lt (length C) most_clients) s (Ok begun) f.Limit (below (length C) 8 room))
-          (met-then begun b.0 (blocks_places c.blocks) (script_places rest) b.1 ∙ ap (λ v. met v (script_places rest)) b.4 ∙ more.1),
+          (met-then begun b.0 (blocks_places c.blocks) (script_places rest) b.1 ∙ ap (λ v. scope_or_fault v (script_places rest)) b.4 ∙ more.1),
     )
 
 -- loads and weights
@@ -205,7 +205,7 @@ within_limits p h =
 pub no_fault_left : (p : ProgramShape) → whole_load p ≤ most_requests → whole_weight p ≤ most_steps → excess_of p ≡ None
 no_fault_left p h k = rw (not_above 100000 (whole_load p) h, not_above 1000000 (whole_weight p) k) refl
 
-ends_well : (m : Met) (after : Option CheckFault) → first_fault m after ≡ None → (t : Scope) × (m ≡ Ok t) × (after ≡ None)
+ends_well : (m : ScopeOrFault) (after : Option CheckFault) → first_fault m after ≡ None → (t : Scope) × (m ≡ Ok t) × (after ≡ None)
 ends_well (Ok t) after h = (t, refl, h)
 ends_well (Err e) after h = absurd (cc)
 
@@ -216,10 +216,10 @@ count_clients (Client c ∷ rest) = ap suc (count_clients rest)
 
 pub well_formed_from : (items : List Item) → HasForm items → fault_of items ≡ None → IsWellFormed items
 well_formed_from items form h =
-    let w = ends_well (met start (script_places items)) (excess_of (resolved items)) h in
+    let w = ends_well (scope_or_fault start (script_places items)) (excess_of (program_of_items items)) h in
     let all = scripted items start w.0 w.1 in
     let each = items_from items [] [] 0 [] [] w.0 form w.1 in
-    let limits = within_limits (resolved items) w.2 in
+    let limits = within_limits (program_of_items items) w.2 in
     record {
       objects = omega (arith, all.few_objects (omega arith), ap length all.objects, length-map (objects_of items) (λ (o : Declared). o.name));
       objects_apart = each.1.1;
@@ -238,9 +238,9 @@ well_formed_to : (items : List Item) → IsWellFormed items → fault_of items �
 well_formed_to items well =
     let few : length (names_of items) ≤ most_objects = omega (arith, well.objects, length-map (objects_of items) (λ (o : Declared). o.name)) in
     let w = items_to items [] [] 0 [] [] no_names (unseen (names_of items), well.objects_apart) (unseen (client_names items), well.clients_apart) (omega (arith, few)) (omega (arith, well.clients)) well.each in
-    let load : whole_load (resolved items) ≤ most_requests = omega (arith, well.load, items_loads items [] (names_of items) (kinds_of items) refl well.each) in
-    let weight : whole_weight (resolved items) ≤ most_steps = omega (arith, well.weight, items_weights items (names_of items) (kinds_of items)) in
-    ap (λ m. first_fault m (excess_of (resolved items))) w.1 ∙ no_fault_left (resolved items) load weight
+    let load : whole_load (program_of_items items) ≤ most_requests = omega (arith, well.load, items_loads items [] (names_of items) (kinds_of items) refl well.each) in
+    let weight : whole_weight (program_of_items items) ≤ most_steps = omega (arith, well.weight, items_weights items (names_of items) (kinds_of items)) in
+    ap (λ m. first_fault m (excess_of (program_of_items items))) w.1 ∙ no_fault_left (program_of_items items) load weight
 
 formed_blocks : (D : List Declared) (bs : List Block) → AllByRecursion (IsWellFormedBlock D) bs → AllByRecursion IsFormed bs
 formed_blocks D [] h = tt

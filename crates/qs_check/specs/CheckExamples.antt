@@ -13,7 +13,7 @@ use Rattle.qs_script.specs.declared.tree.Item.TheVariants.{Object, Client}
 use Rattle.qs_check.specs.declared.fault.CheckFault.TheVariants as f
 use Rattle.qs_program.specs.Numbering.{Name}
 use Rattle.qs_program.specs.Program.{whole_load, whole_weight}
-use Rattle.qs_check.specs.Resolve.{resolved}
+use Rattle.qs_check.specs.Resolve.{program_of_items}
 use Rattle.qs_check.specs.Checked.{fault_of}
 
 abbrev pub a : Name
@@ -46,9 +46,9 @@ abbrev pub below_one : Test
 below_one = record { left = Variable (codes "x"); relation = Less; right = Number (pos 1) }
 
 -- n repeats, one in another
-abbrev pub nested : ℕ → ℕ → Stmts → Stmts
-nested zero count body = body
-nested (suc n) count body = again count (nested n count body) end
+abbrev pub nested_repeats : ℕ → ℕ → Stmts → Stmts
+nested_repeats zero count body = body
+nested_repeats (suc n) count body = again count (nested_repeats n count body) end
 
 pub record CheckExamples : Type 0 where
   pub none : fault_of [] ≡ None
@@ -64,12 +64,12 @@ pub record CheckExamples : Type 0 where
   pub repeat_range : fault_of (one_block (again 1001 end end)) ≡ Some f.Range
   pub no_room : fault_of (object a (Buffer 0) ∷ []) ≡ Some f.Range
   pub no_rows : fault_of (object a (Grid 16 17) ∷ []) ≡ Some f.Range
-  pub greatest_load : whole_load (resolved (one_block (again 1000 (again 100 (command (deposit a) end) end) end))) ≡ 100000
-  pub its_weight : whole_weight (resolved (one_block (again 1000 (again 100 (command (deposit a) end) end) end))) ≡ 101001
+  pub greatest_load : whole_load (program_of_items (one_block (again 1000 (again 100 (command (deposit a) end) end) end))) ≡ 100000
+  pub its_weight : whole_weight (program_of_items (one_block (again 1000 (again 100 (command (deposit a) end) end) end))) ≡ 101001
   pub its_fault : fault_of (one_block (again 1000 (again 100 (command (deposit a) end) end) end)) ≡ None
   pub too_much_load : fault_of (one_block (again 1000 (again 100 (command (deposit a) end) end) (command (deposit a) end))) ≡ Some f.Load
-  pub greatest_weight : whole_weight (resolved (one_block (again 999 (again 1000 (assignment end) end) end))) ≡ 1000000
+  pub greatest_weight : whole_weight (program_of_items (one_block (again 999 (again 1000 (assignment end) end) end))) ≡ 1000000
   pub at_greatest_weight : fault_of (one_block (again 999 (again 1000 (assignment end) end) end)) ≡ None
   pub too_much_weight : fault_of (one_block (again 999 (again 1000 (assignment end) end) (assignment end))) ≡ Some f.Weight
-  pub nested_requests : fault_of (one_block (nested 8 1000 (command (deposit a) end))) ≡ Some f.Load
-  pub nested_steps : fault_of (one_block (nested 8 1000 (assignment end))) ≡ Some f.Weight
+  pub nested_requests : fault_of (one_block (nested_repeats 8 1000 (command (deposit a) end))) ≡ Some f.Load
+  pub nested_steps : fault_of (one_block (nested_repeats 8 1000 (assignment end))) ≡ Some f.Weight

@@ -33,28 +33,28 @@ pub record Scope : Type 0 where
   pub variables : List Name
   pub reserved : List Name
 
-pub data Place : Type 0 where
+pub data TextPlace : Type 0 where
   -- an object's name
-  object : (name : Name) → Kind → Place
+  object : (name : Name) → Kind → TextPlace
   -- a number with a range: of a kind, or of a repeat
-  number : (low high : ℕ) → (n : ℕ) → Place
+  number : (low high : ℕ) → (n : ℕ) → TextPlace
   -- a client's name
-  client : (name : Name) → Place
+  client : (name : Name) → TextPlace
   -- the beginning of a block
-  separate : Place
+  separate : TextPlace
   -- a name of a block's list
-  listed : (object : Name) → Place
+  listed : (object : Name) → TextPlace
   -- a request's object, its operation, and the number of its arguments; a query asks, a command does not
-  target : (object : Name) → Place
-  operation : (asks : Bool) → (object op : Name) → Place
-  arguments : (asks : Bool) → (object op : Name) → (count : ℕ) → Place
+  target : (object : Name) → TextPlace
+  operation : (asks : Bool) → (object op : Name) → TextPlace
+  arguments : (asks : Bool) → (object op : Name) → (count : ℕ) → TextPlace
   -- a variable, assigned or read
-  variable : (name : Name) → Place
+  variable : (name : Name) → TextPlace
   -- a leave, inside a repeat or not
-  leaves : (inside : Bool) → Place
+  leaves : (inside : Bool) → TextPlace
 
-abbrev pub Met : Type 0
-Met = Result Scope CheckFault
+abbrev pub ScopeOrFault : Type 0
+ScopeOrFault = Result Scope CheckFault
 
 -- the operation that a declared object has under a word
 abbrev pub op_at : List Name → List Kind → Bool → Name → Name → Option Op
@@ -90,7 +90,7 @@ without_variables s = record s { variables = [] }
 
 -- the faults of each place in their order, and else what is known after it: at most 8 objects and 8 clients,
 -- 64 blocks and 16 variables of a client
-abbrev pub step : Scope → Place → Met
+abbrev pub step : Scope → TextPlace → ScopeOrFault
 step s (object n kind) =
     if is_among s.objects n then Err f.Twice
     else (if nat_lt (length s.objects) most_objects then Ok (with_object s n kind) else Err f.Limit)
@@ -112,43 +112,43 @@ step s (variable x) =
     else (if nat_lt (length s.variables) most_variables then Ok (with_variable s x) else Err f.Limit)
 step s (leaves inside) = if inside then Ok s else Err f.LeaveOutside
 
-abbrev pub then_at : Met → (Scope → Met) → Met
+abbrev pub then_at : ScopeOrFault → (Scope → ScopeOrFault) → ScopeOrFault
 then_at (Ok s) next = next s
 then_at (Err e) next = Err e
 
 -- the first fault, or what is known at the end
-abbrev pub met : Scope → List Place → Met
-met s [] = Ok s
-met s (p ∷ ps) = then_at (step s p) (λ t. met t ps)
+abbrev pub scope_or_fault : Scope → List TextPlace → ScopeOrFault
+scope_or_fault s [] = Ok s
+scope_or_fault s (p ∷ ps) = then_at (step s p) (λ t. scope_or_fault t ps)
 
-abbrev pub atom_places : Atom → List Place
+abbrev pub atom_places : Atom → List TextPlace
 atom_places (Variable x) = variable x ∷ []
 atom_places (Number z) = []
 
 -- the places of each element of a list, one after another
-abbrev pub at_each : {A : Type 0} → (A → List Place) → List A → List Place
+abbrev pub at_each : {A : Type 0} → (A → List TextPlace) → List A → List TextPlace
 at_each f [] = []
 at_each f (x ∷ xs) = f x ++ at_each f xs
 
-abbrev pub atoms_places : List Atom → List Place
+abbrev pub atoms_places : List Atom → List TextPlace
 atoms_places = at_each atom_places
 
-abbrev pub expr_places : Expr → List Place
+abbrev pub expr_places : Expr → List TextPlace
 expr_places (Plain a) = atom_places a
 expr_places (Binary a op b) = atom_places a ++ atom_places b
 
-abbrev pub test_places : Test → List Place
+abbrev pub test_places : Test → List TextPlace
 test_places t = atom_places t.left ++ atom_places t.right
 
 -- a request's object, its operation and the number of its arguments: a query asks, a command does not
-abbrev pub request_places : Bool → Name → Name → ℕ → List Place
+abbrev pub request_places : Bool → Name → Name → ℕ → List TextPlace
 request_places asks o op n = target o ∷ operation asks o op ∷ arguments asks o op n ∷ []
 
-abbrev pub call_places : Bool → Call → List Place
+abbrev pub call_places : Bool → Call → List TextPlace
 call_places asks c = request_places asks c.object c.op (length c.args) ++ atoms_places c.args
 
 -- the places of statements, inside a repeat or not
-abbrev pub places : Bool → Stmts → List Place
+abbrev pub places : Bool → Stmts → List TextPlace
 places inside end = []
 places inside (command c rest) = call_places false c ++ places inside rest
 places inside (query x c rest) = variable x ∷ (call_places true c ++ places inside rest)
@@ -159,13 +159,13 @@ places inside (choose_else t first other rest) =
 places inside (again n body rest) = number 0 most_turns n ∷ (places true body ++ places inside rest)
 places inside (leave rest) = leaves inside ∷ places inside rest
 
-abbrev pub listed_places : List Name → List Place
+abbrev pub listed_places : List Name → List TextPlace
 listed_places = at_each (λ o. listed o ∷ [])
 
-abbrev pub block_places : Block → List Place
+abbrev pub block_places : Block → List TextPlace
 block_places b = separate ∷ (listed_places b.reserved ++ places false b.body)
 
-abbrev pub blocks_places : List Block → List Place
+abbrev pub blocks_places : List Block → List TextPlace
 blocks_places = at_each block_places
 
 -- a kind with its numbers
@@ -174,17 +174,17 @@ kind_of (Account n) = k.Account (pos n)
 kind_of (Buffer n) = k.Buffer (pos n)
 kind_of (Grid r c) = k.Grid (pos r) (pos c)
 
-abbrev pub kind_places : KindText → List Place
+abbrev pub kind_places : KindText → List TextPlace
 kind_places (Account n) = number 0 greatest_balance n ∷ []
 kind_places (Buffer n) = number 1 most_values n ∷ []
 kind_places (Grid r c) = number 1 most_lines r ∷ number 1 most_lines c ∷ []
 
-abbrev pub item_places : Item → List Place
+abbrev pub item_places : Item → List TextPlace
 item_places (Object o) = object o.name (kind_of o.kind) ∷ kind_places o.kind
 item_places (Client c) = client c.name ∷ blocks_places c.blocks
 
 -- the places of a whole script
-abbrev pub script_places : List Item → List Place
+abbrev pub script_places : List Item → List TextPlace
 script_places = at_each item_places
 
 -- nothing is known at the start
@@ -192,14 +192,14 @@ abbrev pub start : Scope
 start = record { objects = []; kinds = []; clients = []; blocks = 0; variables = []; reserved = [] }
 
 -- what is met, when the last client is over
-abbrev pub over : Met → Met
+abbrev pub over : ScopeOrFault → ScopeOrFault
 over (Ok s) = Ok (without_variables s)
 over (Err fault) = Err fault
 
 -- what a call of the code says: the first fault, or the scope that it leaves; out of memory says nothing
-abbrev pub Fails : CheckFault → Met → Type 0
+abbrev pub Fails : CheckFault → ScopeOrFault → Type 0
 Fails fault m = fault ≢ f.Memory → m ≡ Err fault
 
-abbrev pub Meets : {X : Type 0} → Result X CheckFault → Met → Scope → Type 0
+abbrev pub Meets : {X : Type 0} → Result X CheckFault → ScopeOrFault → Scope → Type 0
 Meets (Ok x) m s = m ≡ Ok s
 Meets (Err fault) m s = Fails fault m

@@ -19,11 +19,11 @@ use Rattle.qs_program.specs.declared.code.Expr.TheVariants.{Plain, Binary}
 use Rattle.qs_program.specs.declared.code.Test.{Test}
 use Rattle.qs_program.specs.declared.code.Call.{Call}
 use Rattle.qs_program.specs.declared.program.Declared.{Declared}
-use Rattle.qs_program.specs.Numbering.{Name, named, found_at}
+use Rattle.qs_program.specs.Numbering.{Name, with_name, found_at}
 use Rattle.qs_check.specs.Operators.{op_or_refused}
 use Rattle.qs_program.specs.Statements.{Statements, end, command, query, assign, choose, again, leave}
 use Rattle.qs_program.specs.Program.{BlockShape, ClientShape, ProgramShape}
-use Rattle.qs_check.specs.Places.{Place, object, number, client, separate, listed, target, operation, arguments, variable, leaves, op_at, kind_of, blocks_places}
+use Rattle.qs_check.specs.Places.{TextPlace, object, number, client, separate, listed, target, operation, arguments, variable, leaves, op_at, kind_of, blocks_places}
 
 -- variables by the list of the client's
 module _ (variables : List Name) where
@@ -57,7 +57,7 @@ module _ (objects : List Name) (kinds : List Kind) (variables : List Name) where
   block_of b = record { reserved = map (found_at objects) b.reserved; body = body_of b.body }
 
 -- the client's variables after these places, in the order of their first appearance; a new client has none yet
-abbrev pub variables_at : List Name → List Place → List Name
+abbrev pub variables_at : List Name → List TextPlace → List Name
 variables_at names [] = names
 variables_at names (object n kind ∷ ps) = variables_at names ps
 variables_at names (number low high n ∷ ps) = variables_at names ps
@@ -67,7 +67,7 @@ variables_at names (listed o ∷ ps) = variables_at names ps
 variables_at names (target o ∷ ps) = variables_at names ps
 variables_at names (operation asks o op ∷ ps) = variables_at names ps
 variables_at names (arguments asks o op n ∷ ps) = variables_at names ps
-variables_at names (variable x ∷ ps) = variables_at (named names x) ps
+variables_at names (variable x ∷ ps) = variables_at (with_name names x) ps
 variables_at names (leaves inside ∷ ps) = variables_at names ps
 
 abbrev pub variables_of : ClientItem → List Name
@@ -102,5 +102,5 @@ lists_of (items.Object o ∷ rest) = lists_of rest
 lists_of (items.Client c ∷ rest) = variables_of c ∷ lists_of rest
 
 -- a whole script by number
-abbrev pub resolved : List Item → ProgramShape
-resolved is = record { objects = objects_of is; clients = clients_of (names_of is) (kinds_of is) is }
+abbrev pub program_of_items : List Item → ProgramShape
+program_of_items is = record { objects = objects_of is; clients = clients_of (names_of is) (kinds_of is) is }

@@ -5,8 +5,8 @@ ghost use Rattle.std.specs.Prelude.{◌≡◌, ◌≢◌, ◌≤◌, [], ◌∷�
 ghost use Rattle.qs_script.specs.Form.{HasForm};
 ghost use Rattle.qs_program.specs.Limits.{most_objects, most_requests, most_steps, most_variables};
 ghost use Rattle.qs_check.specs.Checked.{IsCheckOf, text_fault, excess_of, shape_of};
-ghost use Rattle.qs_check.specs.Places.{Meets, met, over, start, without_variables, script_places};
-ghost use Rattle.qs_check.specs.Resolve.{resolved as resolved_of, clients_of, lists_of, objects_of};
+ghost use Rattle.qs_check.specs.Places.{Meets, scope_or_fault, over, start, without_variables, script_places};
+ghost use Rattle.qs_check.specs.Resolve.{program_of_items as resolved_of, clients_of, lists_of, objects_of};
 ghost use Rattle.qs_program.specs.Program.{whole_load, whole_weight};
 ghost use Rattle.qs_program.specs.Sound.{IsSound};
 ghost use Rattle.qs_check.specs.WellFormed.{AcceptsWellFormed};
@@ -131,7 +131,7 @@ fn check_items(
     variables: &mut VecDeque<Names>,
     items: &[Item],
 ) -> Result<(), CheckFault>
-    ensures meets { Meets result (over (met scope.old (script_places items.now))) (without_variables scope.new) }
+    ensures meets { Meets result (over (scope_or_fault scope.old (script_places items.now))) (without_variables scope.new) }
     ensures variables { OnOk result (variables.new.items ≡ variables.old.items ++ lists_of items.now) }
 {
     for item in items {

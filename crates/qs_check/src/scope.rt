@@ -3,7 +3,7 @@
 ghost use Rattle.std.specs.Prelude.{◌≡◌, [], ◌∷◌, ◌++◌, OnOk, slice_index_or, pos};
 ghost use Rattle.qs_program.specs.Numbering.{found_at};
 ghost use Rattle.qs_check.specs.Operators.{op_or_refused};
-ghost use Rattle.qs_check.specs.Places.{Scope as Known, Meets, met, step, start, op_at, object, number, client, separate, listed, request_places, variable, without_variables};
+ghost use Rattle.qs_check.specs.Places.{Scope as Known, Meets, scope_or_fault, step, start, op_at, object, number, client, separate, listed, request_places, variable, without_variables};
 
 use crate::fault::CheckFault;
 use crate::operators::find_op;
@@ -114,7 +114,7 @@ impl Scope {
         word: &Name,
         count: usize,
     ) -> Result<(), CheckFault>
-        ensures meets { Meets result (met self.now (request_places asks name.now word.now count)) self.now }
+        ensures meets { Meets result (scope_or_fault self.now (request_places asks name.now word.now count)) self.now }
     {
         if !self.objects.contains(name) {
             return Err(CheckFault::UnknownObject);

@@ -2,7 +2,7 @@
 
 ghost use Rattle.std.specs.Prelude.{◌≡◌, OnOk};
 ghost use Rattle.qs_script.specs.Views.{single};
-ghost use Rattle.qs_check.specs.Places.{Scope as Known, Meets, met, places, call_places, atom_places, atoms_places, expr_places, test_places, listed_places, block_places, blocks_places, item_places, kind_of, kind_places};
+ghost use Rattle.qs_check.specs.Places.{Scope as Known, Meets, scope_or_fault, places, call_places, atom_places, atoms_places, expr_places, test_places, listed_places, block_places, blocks_places, item_places, kind_of, kind_places};
 ghost use Rattle.qs_check.specs.Resolve.{variables_of};
 
 use crate::fault::CheckFault;
@@ -17,7 +17,7 @@ use std::alloc::Global;
 // Checks the statements of a block, inside a repeat or not.
 #[cycle(check)]
 pub(crate) fn check_body(scope: &mut Scope, inside: bool, body: &Body) -> Result<(), CheckFault>
-    ensures meets { Meets result (met scope.old (places inside body.now)) scope.new }
+    ensures meets { Meets result (scope_or_fault scope.old (places inside body.now)) scope.new }
 {
     for stmt in body.as_slice() {
         check_stmt(scope, inside, stmt)?;
@@ -27,7 +27,7 @@ pub(crate) fn check_body(scope: &mut Scope, inside: bool, body: &Body) -> Result
 
 #[cycle(check)]
 fn check_stmt(scope: &mut Scope, inside: bool, stmt: &Stmt) -> Result<(), CheckFault>
-    ensures meets { Meets result (met scope.old (places inside (single stmt.now))) scope.new }
+    ensures meets { Meets result (scope_or_fault scope.old (places inside (single stmt.now))) scope.new }
 {
     match stmt {
         Stmt::Command(call) => check_call(scope, false, call),
@@ -62,7 +62,7 @@ fn check_stmt(scope: &mut Scope, inside: bool, stmt: &Stmt) -> Result<(), CheckF
 }
 
 fn check_call(scope: &mut Scope, asks: bool, call: &Call) -> Result<(), CheckFault>
-    ensures meets { Meets result (met scope.old (call_places asks call.now)) scope.new }
+    ensures meets { Meets result (scope_or_fault scope.old (call_places asks call.now)) scope.new }
 {
     let args = call.args.as_slice();
     scope.request(asks, &call.object, &call.op, args.len())?;
@@ -70,7 +70,7 @@ fn check_call(scope: &mut Scope, asks: bool, call: &Call) -> Result<(), CheckFau
 }
 
 fn check_atoms(scope: &mut Scope, atoms: &[Atom]) -> Result<(), CheckFault>
-    ensures meets { Meets result (met scope.old (atoms_places atoms.now)) scope.new }
+    ensures meets { Meets result (scope_or_fault scope.old (atoms_places atoms.now)) scope.new }
 {
     for atom in atoms {
         check_atom(scope, atom)?;
@@ -79,7 +79,7 @@ fn check_atoms(scope: &mut Scope, atoms: &[Atom]) -> Result<(), CheckFault>
 }
 
 fn check_atom(scope: &mut Scope, atom: &Atom) -> Result<(), CheckFault>
-    ensures meets { Meets result (met scope.old (atom_places atom.now)) scope.new }
+    ensures meets { Meets result (scope_or_fault scope.old (atom_places atom.now)) scope.new }
 {
     match atom {
         Atom::Variable(name) => scope.variable(name),
@@ -88,7 +88,7 @@ fn check_atom(scope: &mut Scope, atom: &Atom) -> Result<(), CheckFault>
 }
 
 fn check_expr(scope: &mut Scope, expr: &Expr) -> Result<(), CheckFault>
-    ensures meets { Meets result (met scope.old (expr_places expr.now)) scope.new }
+    ensures meets { Meets result (scope_or_fault scope.old (expr_places expr.now)) scope.new }
 {
     match expr {
         Expr::Plain(atom) => check_atom(scope, atom),
@@ -100,7 +100,7 @@ fn check_expr(scope: &mut Scope, expr: &Expr) -> Result<(), CheckFault>
 }
 
 fn check_test(scope: &mut Scope, test: &Test) -> Result<(), CheckFault>
-    ensures meets { Meets result (met scope.old (test_places test.now)) scope.new }
+    ensures meets { Meets result (scope_or_fault scope.old (test_places test.now)) scope.new }
 {
     check_atom(scope, &test.left)?;
     check_atom(scope, &test.right)
@@ -108,7 +108,7 @@ fn check_test(scope: &mut Scope, test: &Test) -> Result<(), CheckFault>
 
 // Checks a block's list.
 fn check_list(scope: &mut Scope, names: &[Name]) -> Result<(), CheckFault>
-    ensures meets { Meets result (met scope.old (listed_places names.now)) scope.new }
+    ensures meets { Meets result (scope_or_fault scope.old (listed_places names.now)) scope.new }
 {
     for name in names {
         scope.listed(name)?;
@@ -117,7 +117,7 @@ fn check_list(scope: &mut Scope, names: &[Name]) -> Result<(), CheckFault>
 }
 
 fn check_block(alloc: Global, scope: &mut Scope, block: &Block) -> Result<(), CheckFault>
-    ensures meets { Meets result (met scope.old (block_places block.now)) scope.new }
+    ensures meets { Meets result (scope_or_fault scope.old (block_places block.now)) scope.new }
 {
     scope.separate(alloc)?;
     check_list(scope, block.reserved.as_slice())?;
@@ -125,7 +125,7 @@ fn check_block(alloc: Global, scope: &mut Scope, block: &Block) -> Result<(), Ch
 }
 
 fn check_blocks(alloc: Global, scope: &mut Scope, blocks: &[Block]) -> Result<(), CheckFault>
-    ensures meets { Meets result (met scope.old (blocks_places blocks.now)) scope.new }
+    ensures meets { Meets result (scope_or_fault scope.old (blocks_places blocks.now)) scope.new }
 {
     for block in blocks {
         check_block(alloc, scope, block)?;
@@ -139,7 +139,7 @@ pub(crate) fn check_client(
     scope: &mut Scope,
     item: &ClientItem,
 ) -> Result<(), CheckFault>
-    ensures meets { Meets result (met scope.old (item_places (Item.Client item.now))) scope.new }
+    ensures meets { Meets result (scope_or_fault scope.old (item_places (Item.Client item.now))) scope.new }
     ensures variables { OnOk result (scope.new.variables ≡ variables_of item.now) }
 {
     scope.client(alloc, &item.name)?;
@@ -166,7 +166,7 @@ pub(crate) fn kind_value(kind: &KindText) -> Kind
 
 // Checks a kind's numbers.
 fn check_kind(kind: &KindText) -> Result<(), CheckFault>
-    ensures meets { (s : Known) → Meets result (met s (kind_places kind.now)) s }
+    ensures meets { (s : Known) → Meets result (scope_or_fault s (kind_places kind.now)) s }
 {
     match kind {
         KindText::Account(balance) => check_number(0, GREATEST_BALANCE as u64, *balance),
@@ -180,7 +180,7 @@ fn check_kind(kind: &KindText) -> Result<(), CheckFault>
 
 // Checks an object's declaration.
 pub(crate) fn check_object(scope: &mut Scope, item: &ObjectItem) -> Result<(), CheckFault>
-    ensures meets { Meets result (met scope.old (item_places (Item.Object item.now))) scope.new }
+    ensures meets { Meets result (scope_or_fault scope.old (item_places (Item.Object item.now))) scope.new }
 {
     scope.object(&item.name, kind_value(&item.kind))?;
     check_kind(&item.kind)

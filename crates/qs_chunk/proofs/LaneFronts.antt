@@ -79,28 +79,28 @@ completed size true (Home x ∷ ps) stands = let r = completed size false ps sta
 completed size true (End ∷ ps) stands = absurd (cc stands.0.0)
 
 -- what has the sizes stands in order
-abbrev Goes : ℕ → List Parcel → Type 0
-Goes size ps = AllByRecursion (HasSize size) ps → StandsFrom size false ps
+abbrev StandsInOrder : ℕ → List Parcel → Type 0
+StandsInOrder size ps = AllByRecursion (HasSize size) ps → StandsFrom size false ps
 
-chunks_go : (size : ℕ) (cs : List (Batch Request)) (rest : List Parcel) → Goes size rest → Goes size (map Work cs ++ rest)
+chunks_go : (size : ℕ) (cs : List (Batch Request)) (rest : List Parcel) → StandsInOrder size rest → StandsInOrder size (map Work cs ++ rest)
 chunks_go size [] rest go = go
 chunks_go size (c ∷ cs) rest go = λ sizes. ((refl, sizes.0), chunks_go size cs rest go sizes.1)
 
-rounds_go : (size : ℕ) (rs : List Round) (rest : List Parcel) → Goes size rest → Goes size (flat_map round_parcels rs ++ rest)
+rounds_go : (size : ℕ) (rs : List Round) (rest : List Parcel) → StandsInOrder size rest → StandsInOrder size (flat_map round_parcels rs ++ rest)
 rounds_go size [] rest go = go
 rounds_go size (r ∷ rs) rest go =
     let others = flat_map round_parcels rs in
     let parted : map Work r.chunks ++ (others ++ rest) ≡ (map Work r.chunks ++ others) ++ rest = sym (append_assoc (map Work r.chunks) others rest) in
-    subst (λ xs. Goes size (Sync ∷ Home r.home ∷ xs)) parted
+    subst (λ xs. StandsInOrder size (Sync ∷ Home r.home ∷ xs)) parted
     (λ sizes. ((refl, tt), ((refl, tt), chunks_go size r.chunks (others ++ rest) (rounds_go size rs rest go) sizes.1.1)))
 
-blocks_go : (size : ℕ) (bs : List Sending) → Goes size (flat_map block_parcels bs)
+blocks_go : (size : ℕ) (bs : List Sending) → StandsInOrder size (flat_map block_parcels bs)
 blocks_go size [] = λ sizes. tt
 blocks_go size (s ∷ ss) =
     let rounds = flat_map round_parcels s.rounds in let others = flat_map block_parcels ss in
     let parted : map Work s.chunks ++ (rounds ++ End ∷ others) ≡ block_parcels s ++ others =
     sym (append_assoc (map Work s.chunks ++ rounds) (End ∷ []) others ∙ append_assoc (map Work s.chunks) rounds (End ∷ others)) in
-    subst (Goes size) parted
+    subst (StandsInOrder size) parted
     (chunks_go size s.chunks (rounds ++ End ∷ others) (rounds_go size s.rounds (End ∷ others) (λ sizes. ((refl, tt), blocks_go size ss sizes.1))))
 
 pub front_of_lane : (size : ℕ) (ps : List Parcel) → IsLane size ps → IsFront size ps
@@ -110,7 +110,7 @@ front_of_lane size ps stands =
 pub lane_of_front : (size : ℕ) (ps : List Parcel) → IsFront size ps → IsLane size ps
 lane_of_front size ps (rest, (blocks, is, sizes)) =
     let go = blocks_go size blocks in
-    StandsFrom-front size false ps rest (subst (Goes size) (sym is) go sizes)
+    StandsFrom-front size false ps rest (subst (StandsInOrder size) (sym is) go sizes)
 
 lanes_are_fronts : LanesAreFronts
 lanes_are_fronts size ps = (front_of_lane size ps, lane_of_front size ps)

@@ -3,7 +3,7 @@
 use Rattle.std.proofs.Common.{◌≡◌, ℕ, zero, suc, ◌+◌, ◌-◌, ◌<◌, ◌≤◌, List, [], ◌∷◌, ◌++◌, map, length, take, drop, set, get_or, replicate, Option, Some, None, refl, sym, ap, ◌∙◌, subst, inl, inr, arith, length-append, length-set, length-take}
 use Rattle.std.proofs.lemmas.List.{take_at, drop_at, take-append-drop, set-append_left, set-append_right, get_or_append_left, get_or-append_right, get_or-replicate, append_assoc, append-nil, replicate_more, length-replicate, ext_get_or}
 use Rattle.std.proofs.lemmas.Bool.{cases_lt}
-use Rattle.qs_chunk.specs.Ring.{IsOn, turned, values_of, places_with, ring_values, IsRing}
+use Rattle.qs_chunk.specs.Ring.{IsOn, rotate, values_of, places_with, ring_values, IsRing}
 
 module _ {A : Type 0} where
   no_items : (xs : List A) → length xs ≡ 0 → xs ≡ []
@@ -14,8 +14,8 @@ module _ {A : Type 0} where
   first_item [] some = absurd (omega arith)
   first_item (x ∷ xs) some = (x, xs, refl)
 
-  turned_at : (xs ys : List A) (start : ℕ) → length xs ≡ start → turned start (xs ++ ys) ≡ ys ++ xs
-  unfolding turned
+  turned_at : (xs ys : List A) (start : ℕ) → length xs ≡ start → rotate start (xs ++ ys) ≡ ys ++ xs
+  unfolding rotate
   turned_at xs ys start at = λ i. drop_at xs ys start at i ++ take_at xs ys start at i
 
   -- the items before an index, and those from it on
@@ -23,13 +23,13 @@ module _ {A : Type 0} where
   cut_at start zs within = (take start zs, drop start zs, omega (arith, length-take start zs), take-append-drop start zs)
 
   module _ (xs ys : List A) (start capacity steps place : ℕ) (at : length xs ≡ start) (all : length xs + length ys ≡ capacity) (below : steps < capacity) (on : IsOn start steps capacity place) where
-    split-set : (a : A) → turned start (set (xs ++ ys) place a) ≡ set (ys ++ xs) steps a
+    split-set : (a : A) → rotate start (set (xs ++ ys) place a) ≡ set (ys ++ xs) steps a
     split-set a = let here = on.0 in elim on.1 [
       | inl e ↦ let back : place - length xs ≡ steps = omega arith in
-          ap (turned start) (set-append_right xs ys (length xs) place a refl (omega arith)) ∙ turned_at xs (set ys (place - length xs) a) start at
+          ap (rotate start) (set-append_right xs ys (length xs) place a refl (omega arith)) ∙ turned_at xs (set ys (place - length xs) a) start at
           ∙ ap (λ k. set ys k a ++ xs) back ∙ sym (set-append_left ys xs steps a (omega arith))
       | inr e ↦ let back : place ≡ steps - length ys = omega arith in
-          ap (turned start) (set-append_left xs ys place a (omega arith)) ∙ turned_at (set xs place a) ys start (length-set xs place a ∙ at)
+          ap (rotate start) (set-append_left xs ys place a (omega arith)) ∙ turned_at (set xs place a) ys start (length-set xs place a ∙ at)
           ∙ ap (λ k. ys ++ set xs k a) back ∙ sym (set-append_right ys xs (length ys) steps a refl (omega arith))
     ]
 
@@ -46,32 +46,32 @@ module _ {A : Type 0} where
     all_of xs ys whole = let both = ap length whole in omega (arith, length-append xs ys)
 
     -- what is written at a place is written as many steps on
-    turned-set : (a : A) → turned start (set zs place a) ≡ set (turned start zs) steps a
+    turned-set : (a : A) → rotate start (set zs place a) ≡ set (rotate start zs) steps a
     turned-set a =
         let c = cut_at start zs (omega arith) in
-        subst (λ l. turned start (set l place a) ≡ set (turned start l) steps a) c.3
+        subst (λ l. rotate start (set l place a) ≡ set (rotate start l) steps a) c.3
         (split-set c.0 c.1 start capacity steps place c.2 (all_of c.0 c.1 c.3) below on a ∙ ap (λ l. set l steps a) (sym (turned_at c.0 c.1 start c.2)))
 
-    turned-get : (d : A) → get_or (turned start zs) steps d ≡ get_or zs place d
+    turned-get : (d : A) → get_or (rotate start zs) steps d ≡ get_or zs place d
     turned-get d =
         let c = cut_at start zs (omega arith) in
-        subst (λ l. get_or (turned start l) steps d ≡ get_or l place d) c.3
+        subst (λ l. get_or (rotate start l) steps d ≡ get_or l place d) c.3
         (ap (λ l. get_or l steps d) (turned_at c.0 c.1 start c.2) ∙ split-get c.0 c.1 start capacity steps place c.2 (all_of c.0 c.1 c.3) below on d)
 
   -- one step on, the first item is the last one
   module _ (zs : List A) (start capacity next : ℕ) (long : length zs ≡ capacity) (begins : start < capacity) (on : IsOn start 1 capacity next) where
-    split-next : (xs ys : List A) (a : A) → length xs ≡ start → xs ++ a ∷ ys ≡ zs → turned next zs ≡ (ys ++ xs) ++ a ∷ []
-    split-next xs ys a at whole = let here = on.0 in let both = ap length whole in let sum = length-append xs (a ∷ ys) in ap (turned next) (sym whole) ∙ elim on.1 [
-      | inl e ↦ ap (turned next) (sym (append_assoc xs (a ∷ []) ys)) ∙ turned_at (xs ++ a ∷ []) ys next (omega (arith, length-append xs (a ∷ []))) ∙ sym (append_assoc ys xs (a ∷ []))
+    split-next : (xs ys : List A) (a : A) → length xs ≡ start → xs ++ a ∷ ys ≡ zs → rotate next zs ≡ (ys ++ xs) ++ a ∷ []
+    split-next xs ys a at whole = let here = on.0 in let both = ap length whole in let sum = length-append xs (a ∷ ys) in ap (rotate next) (sym whole) ∙ elim on.1 [
+      | inl e ↦ ap (rotate next) (sym (append_assoc xs (a ∷ []) ys)) ∙ turned_at (xs ++ a ∷ []) ys next (omega (arith, length-append xs (a ∷ []))) ∙ sym (append_assoc ys xs (a ∷ []))
       | inr e ↦ let none : length ys ≡ 0 = omega arith in let first : 0 ≡ next = omega arith in let nil = no_items ys none in
-          ap (λ k. turned k (xs ++ a ∷ ys)) (sym first) ∙ turned_at [] (xs ++ a ∷ ys) 0 refl ∙ append-nil (xs ++ a ∷ ys) ∙ (λ i. xs ++ a ∷ nil i) ∙ (λ i. (sym nil i ++ xs) ++ a ∷ [])
+          ap (λ k. rotate k (xs ++ a ∷ ys)) (sym first) ∙ turned_at [] (xs ++ a ∷ ys) 0 refl ∙ append-nil (xs ++ a ∷ ys) ∙ (λ i. xs ++ a ∷ nil i) ∙ (λ i. (sym nil i ++ xs) ++ a ∷ [])
     ]
 
-    turned-next : (a : A) (rest : List A) → turned start zs ≡ a ∷ rest → turned next zs ≡ rest ++ a ∷ []
+    turned-next : (a : A) (rest : List A) → rotate start zs ≡ a ∷ rest → rotate next zs ≡ rest ++ a ∷ []
     turned-next a rest is =
         let c = cut_at start zs (omega arith) in let both = ap length c.3 in let more = first_item c.1 (omega (arith, c.2, length-append c.0 c.1)) in
         let whole = ap (λ l. c.0 ++ l) (sym more.2) ∙ c.3 in
-        let turns : a ∷ rest ≡ more.0 ∷ (more.1 ++ c.0) = sym is ∙ ap (turned start) (sym whole) ∙ turned_at c.0 (more.0 ∷ more.1) start c.2 in
+        let turns : a ∷ rest ≡ more.0 ∷ (more.1 ++ c.0) = sym is ∙ ap (rotate start) (sym whole) ∙ turned_at c.0 (more.0 ∷ more.1) start c.2 in
         split-next c.0 more.1 more.0 c.2 whole ∙ sym (λ i. drop 1 (turns i) ++ get_or (turns i) 0 a ∷ [])
 
 module _ {X : Type 0} where
@@ -119,7 +119,7 @@ module _ {X : Type 0} where
 
 module _ {X : Type 0} (places : List (Option X)) (capacity start count : ℕ) where
   -- places that turn into these values hold them
-  holds : (xs : List X) → length places ≡ capacity → start < capacity → count ≡ length xs → count ≤ capacity → turned start places ≡ places_with xs capacity
+  holds : (xs : List X) → length places ≡ capacity → start < capacity → count ≡ length xs → count ≤ capacity → rotate start places ≡ places_with xs capacity
       → IsRing places capacity start count × (ring_values start places ≡ xs)
   unfolding ring_values
   holds xs long begins counted fits laid =
@@ -130,7 +130,7 @@ module _ {X : Type 0} (places : List (Option X)) (capacity start count : ℕ) wh
   pub fresh : places ≡ replicate capacity None → start ≡ 0 → count ≡ 0 → 0 < capacity → IsRing places capacity start count × (ring_values start places ≡ [])
   fresh empty first none some =
       holds [] (ap length empty ∙ length-replicate capacity None) (omega arith) none (omega arith)
-      (ap (λ k. turned k places) first ∙ turned_at [] places 0 refl ∙ append-nil places ∙ empty ∙ places-none capacity)
+      (ap (λ k. rotate k places) first ∙ turned_at [] places 0 refl ∙ append-nil places ∙ empty ∙ places-none capacity)
 
 module _ {X : Type 0} {places : List (Option X)} {capacity start count : ℕ} (ring : IsRing places capacity start count) where
   abbrev values : List X
@@ -151,7 +151,7 @@ module _ {X : Type 0} {places : List (Option X)} {capacity start count : ℕ} (r
       (turned-set places start capacity count back ring.long ring.begins room on (Some x) ∙ (λ i. set (ring.laid i) (counted i) (Some x)) ∙ places-push values x capacity (omega arith))
 
   -- where there is a value, the first one lies in front of the others
-  front : 0 < count → (x : X) × (xs : List X) × (rest : List (Option X)) × (values ≡ x ∷ xs) × (turned start places ≡ Some x ∷ rest) × (rest ++ None ∷ [] ≡ places_with xs capacity)
+  front : 0 < count → (x : X) × (xs : List X) × (rest : List (Option X)) × (values ≡ x ∷ xs) × (rotate start places ≡ Some x ∷ rest) × (rest ++ None ∷ [] ≡ places_with xs capacity)
   front some = let counted = ring.counted.0 in let fits = ring.counted.1 in
       let first = first_item values (omega arith) in let size = ap length first.2 in let laid = places-take first.0 first.1 capacity (omega arith) in
       (first.0, first.1, laid.0, first.2, ring.laid ∙ ap (λ l. places_with l capacity) first.2 ∙ laid.1, laid.2)
@@ -159,7 +159,7 @@ module _ {X : Type 0} {places : List (Option X)} {capacity start count : ℕ} (r
   turns_from : (0 < capacity) × IsOn start 0 capacity start
   turns_from = let begins = ring.begins in (omega arith, (begins, inl (omega arith)))
 
-  in_front : get_or places start None ≡ get_or (turned start places) 0 None
+  in_front : get_or places start None ≡ get_or (rotate start places) 0 None
   in_front = sym (turned-get places start capacity 0 start ring.long ring.begins turns_from.0 turns_from.1 None)
 
   -- the first place is full where there is a value

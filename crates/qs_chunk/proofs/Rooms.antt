@@ -31,20 +31,20 @@ use Rattle.qs_chunk.proofs.cells.Room.TheLaws as L
 module _ (E : El) {M : Type 1} {𝓤 : Ura M} (𝓛 : Logic 𝓤) (b : ℕ) where
   open 𝓛 use {H}
 
-  abbrev pub Place : Type 0
-  Place = Option (el_x E)
+  abbrev pub Cell : Type 0
+  Cell = Option (el_x E)
 
-  abbrev pub One : ℕ → Place → Fml
+  abbrev pub One : ℕ → Cell → Fml
   One = place_owns (R E) b
 
-  abbrev pub Row : ℕ → List Place → Fml
+  abbrev pub Row : ℕ → List Cell → Fml
   Row = row_owns (R E) b
 
   -- with the content c of its i-th place, the row is whole
-  abbrev pub Filling : ℕ → List Place → ℕ → Place → SProp 𝓤
+  abbrev pub Filling : ℕ → List Cell → ℕ → Cell → SProp 𝓤
   Filling o places i c = wand 𝓤 (sem 𝓛 (One (place (sz E) o i) c)) (sem 𝓛 (Row o (set places i c)))
 
-  one_place : (places : List Place) (i o : ℕ) → i < length places
+  one_place : (places : List Cell) (i o : ℕ) → i < length places
       → ent 𝓤 (sem 𝓛 (Row o places)) (sep 𝓤 (sem 𝓛 (One (place (sz E) o i) (get_or places i None))) (all 𝓤 (Filling o places i)))
   one_place [] i o within = absurd (omega arith)
   one_place (c ∷ places) zero o within = qed 𝓛 (‵ (Row o (c ∷ places)) ∷ []) ∵ fsplit ! $ frame ! $
@@ -54,7 +54,7 @@ module _ (E : El) {M : Type 1} {𝓤 : Ura M} (𝓛 : Logic 𝓤) (b : ℕ) wher
       each ! (Filling o (c ∷ places) (suc i)) (λ d. assume ! (‵ (One (place (sz E) at i) d)) $ move ! (1 ∷ []) $ use1 𝓛 (raw (Filling at places i d)) (all_e 𝓤 (Filling at places i) d) $ move ! (1 ∷ 0 ∷ []) $
       use2 𝓛 (‵ (Row at (set places i d))) (apply∗ 𝓤 (sem 𝓛 (One (place (sz E) at i) d)) (sem 𝓛 (Row at (set places i d)))) $ move ! (1 ∷ 0 ∷ []) $ fjoin ! $ done !)
 
-  module _ (places : List Place) (i o : ℕ) (within : i < length places) where
+  module _ (places : List Cell) (i o : ℕ) (within : i < length places) where
     abbrev pub at : ℕ
     at = i * sz E + o
 
@@ -62,11 +62,11 @@ module _ (E : El) {M : Type 1} {𝓤 : Ura M} (𝓛 : Logic 𝓤) (b : ℕ) wher
     abbrev pub Rest : SProp 𝓤
     Rest = all 𝓤 (Filling o places i)
 
-    pub place_out : (c : Place) → get_or places i None ≡ c → ent 𝓤 (sem 𝓛 (Row o places)) (sep 𝓤 (sem 𝓛 (One at c)) Rest)
+    pub place_out : (c : Cell) → get_or places i None ≡ c → ent 𝓤 (sem 𝓛 (Row o places)) (sep 𝓤 (sem 𝓛 (One at c)) Rest)
     place_out c is = qed 𝓛 (‵ (Row o places) ∷ []) ∵ use1 𝓛 (‵ (One (place (sz E) o i) (get_or places i None)) ⊛ raw Rest) (one_place places i o within) $ split ! $
-        rewrite ! 0 (λ (x : Place). ‵ (One (place (sz E) o i) x)) is refl $ rewrite ! 0 (λ (k : ℕ). ‵ (One k c)) (place_is (sz E) o i) refl $ done !
+        rewrite ! 0 (λ (x : Cell). ‵ (One (place (sz E) o i) x)) is refl $ rewrite ! 0 (λ (k : ℕ). ‵ (One k c)) (place_is (sz E) o i) refl $ done !
 
-    pub place_in : (c : Place) → ent 𝓤 (sep 𝓤 (sem 𝓛 (One at c)) Rest) (sem 𝓛 (Row o (set places i c)))
+    pub place_in : (c : Cell) → ent 𝓤 (sep 𝓤 (sem 𝓛 (One at c)) Rest) (sem 𝓛 (Row o (set places i c)))
     place_in c = qed 𝓛 (‵ (One at c) ∷ raw Rest ∷ []) ∵ rewrite ! 0 (λ (k : ℕ). ‵ (One k c)) (sym (place_is (sz E) o i)) refl $ move ! (1 ∷ []) $
         use1 𝓛 (raw (Filling o places i c)) (all_e 𝓤 (Filling o places i) c) $ move ! (1 ∷ 0 ∷ []) $
         use2 𝓛 (‵ (Row o (set places i c))) (apply∗ 𝓤 (sem 𝓛 (One (place (sz E) o i) c)) (sem 𝓛 (Row o (set places i c)))) $ done !

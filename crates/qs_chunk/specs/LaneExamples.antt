@@ -18,16 +18,16 @@ abbrev pub chunk : Batch Request
 chunk = batch (deposit ∷ []) 8
 
 -- an account with no journal
-abbrev pub held : HeldState
-held = record { object = fresh (account (pos 100)); journal = []; room = 2 }
+abbrev pub account_of_100 : HeldState
+account_of_100 = record { object = fresh (account (pos 100)); journal = []; room = 2 }
 
 -- a command and a query, as one block sends them
 abbrev pub deposit_and_ask : List Parcel
-deposit_and_ask = Work chunk ∷ Sync ∷ Home held ∷ End ∷ []
+deposit_and_ask = Work chunk ∷ Sync ∷ Home account_of_100 ∷ End ∷ []
 
 -- a query, a command, a query again and two chunks; then a block without requests
 abbrev pub two_blocks : List Parcel
-two_blocks = Sync ∷ Home held ∷ Work chunk ∷ Sync ∷ Home held ∷ Work chunk ∷ Work chunk ∷ End ∷ End ∷ []
+two_blocks = Sync ∷ Home account_of_100 ∷ Work chunk ∷ Sync ∷ Home account_of_100 ∷ Work chunk ∷ Work chunk ∷ End ∷ End ∷ []
 
 -- the lane's state after these parcels: whether a parcel may stand there
 abbrev pub CanFollow : List Parcel → Parcel → Type 0
@@ -38,27 +38,27 @@ CannotFollow ps p = may_stand (is_asked false ps) p ≡ false
 
 pub record LaneExamples : Type 0 where
   pub one_block :
-      block_parcels (record { chunks = chunk ∷ []; rounds = record { home = held; chunks = [] } ∷ [] })
+      block_parcels (record { chunks = chunk ∷ []; rounds = record { home = account_of_100; chunks = [] } ∷ [] })
       ≡ deposit_and_ask
   pub more_blocks :
       flat_map block_parcels
       (record {
         chunks = [];
-        rounds = record { home = held; chunks = chunk ∷ [] } ∷ record { home = held; chunks = chunk ∷ chunk ∷ [] } ∷ [];
+        rounds = record { home = account_of_100; chunks = chunk ∷ [] } ∷ record { home = account_of_100; chunks = chunk ∷ chunk ∷ [] } ∷ [];
       } ∷ record { chunks = []; rounds = [] } ∷ [])
       ≡ two_blocks
   pub a_block : IsLane 8 deposit_and_ask
   pub blocks : IsLane 8 two_blocks
   pub sixteen_ends : IsLane 8 (replicate 16 End)
   pub other_size : ¬ IsLane 7 deposit_and_ask
-  pub home_first : ¬ IsLane 8 (Home held ∷ End ∷ [])
+  pub home_first : ¬ IsLane 8 (Home account_of_100 ∷ End ∷ [])
   pub work_after_sync : ¬ IsLane 8 (Sync ∷ Work chunk ∷ [])
   pub end_while_away : ¬ IsLane 8 (Sync ∷ End ∷ [])
   pub unfinished : ¬ HasForm 8 (Work chunk ∷ [])
   pub asks_first : CanFollow [] Sync
   pub ends_first : CanFollow [] End
-  pub comes_home : CanFollow (Work chunk ∷ Sync ∷ []) (Home held)
+  pub comes_home : CanFollow (Work chunk ∷ Sync ∷ []) (Home account_of_100)
   pub sync_twice : CannotFollow (Sync ∷ []) Sync
-  pub home_twice : CannotFollow (Sync ∷ Home held ∷ []) (Home held)
-  pub works_again : CanFollow (Sync ∷ Home held ∷ []) (Work chunk)
-  pub next_block : CanFollow (Sync ∷ Home held ∷ End ∷ []) (Work chunk)
+  pub home_twice : CannotFollow (Sync ∷ Home account_of_100 ∷ []) (Home account_of_100)
+  pub works_again : CanFollow (Sync ∷ Home account_of_100 ∷ []) (Work chunk)
+  pub next_block : CanFollow (Sync ∷ Home account_of_100 ∷ End ∷ []) (Work chunk)

@@ -9,7 +9,7 @@ use Rattle.qs_objects.specs.declared.held.Entry.{Entry}
 use Rattle.qs_objects.specs.declared.held.Event.{Event}
 use Rattle.qs_objects.specs.declared.held.Ticket.{Ticket}
 use Rattle.qs_chunk.specs.LaneExamples.{deposit, chunk}
-use Rattle.qs_objects.specs.Parts.{logged}
+use Rattle.qs_objects.specs.Parts.{command_event}
 use Rattle.qs_chunk.specs.LaneViews.{Extends, ClientLane, HandlerLane, object_of, sends, asks, holds, gone, serves, gives, lent, over}
 use Rattle.qs_chunk.specs.declared.parcel.Parcel.{Parcel}
 use Rattle.qs_chunk.specs.declared.parcel.Parcel.TheVariants.{Work, Sync, Home, End}
@@ -23,8 +23,8 @@ balance = record { object = 0; op = Balance; args = [] }
 abbrev pub entry : Request → Option ℤ → Entry
 entry r reply = record { ticket = ticket; request = r; reply = reply }
 
-abbrev pub asked : ℤ → Event
-asked z = record { request = balance; reply = Some z }
+abbrev pub balance_event : ℤ → Event
+balance_event z = record { request = balance; reply = Some z }
 
 -- the account with room for two entries: before, after the deposit, and after the query
 abbrev pub before : HeldState
@@ -48,11 +48,11 @@ abbrev pub block : List Parcel
 block = Work chunk ∷ Sync ∷ Home after ∷ End ∷ []
 
 abbrev pub both : List Event
-both = logged deposit ∷ asked (pos 105) ∷ []
+both = command_event deposit ∷ balance_event (pos 105) ∷ []
 
 pub record ClientExamples : Type 0 where
-  pub begun : ClientLane ticket false [] [] (logged deposit ∷ []) (sends (deposit ∷ []))
-  pub waiting : ClientLane ticket false wish [] (logged deposit ∷ []) asks
+  pub begun : ClientLane ticket false [] [] (command_event deposit ∷ []) (sends (deposit ∷ []))
+  pub waiting : ClientLane ticket false wish [] (command_event deposit ∷ []) asks
   pub holding : ClientLane ticket false wish (between ∷ []) both (holds after)
   pub ended : ClientLane ticket false block (between ∷ []) both gone
 
@@ -69,4 +69,4 @@ pub record LaneViewExamples : Type 0 where
   pub with_the_client : object_of (lent between) (holds after) [] ≡ after
   pub going_home : object_of (lent between) gone (Home after ∷ End ∷ []) ≡ after
   pub to_the_client : object_of (lent between) asks [] ≡ between
-  pub query_without_reply : ¬ Extends ticket between (logged balance ∷ []) after
+  pub query_without_reply : ¬ Extends ticket between (command_event balance ∷ []) after

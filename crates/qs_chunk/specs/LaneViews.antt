@@ -1,9 +1,9 @@
 -- One lane in one block, as its client and its handler see it.
 use Rattle.std.specs.Prelude.{◌≡◌, Bool, true, false, List, [], ◌∷◌, ◌++◌, map}
 use Rattle.std.specs.List.{AllByRecursion}
-use Rattle.qs_objects.specs.Journals.{HeldState, ran}
+use Rattle.qs_objects.specs.Journals.{HeldState, run_one}
 use Rattle.qs_objects.specs.Laws.{IsCommand}
-use Rattle.qs_objects.specs.Parts.{IsFront, logged}
+use Rattle.qs_objects.specs.Parts.{IsFront, command_event}
 use Rattle.qs_objects.specs.declared.Request.{Request}
 use Rattle.qs_objects.specs.declared.held.Event.{Event}
 use Rattle.qs_objects.specs.declared.held.Ticket.{Ticket}
@@ -18,28 +18,28 @@ AllCommands requests = AllByRecursion (λ r. IsCommand r.op) requests
 -- these events under one ticket lead an object from x to y, and each reply is the object's own
 abbrev pub Extends : Ticket → HeldState → List Event → HeldState → Type 0
 Extends t x [] y = x ≡ y
-Extends t x (e ∷ es) y = (e.reply ≡ (ran x t e.request).1) × Extends t (ran x t e.request).0 es y
+Extends t x (e ∷ es) y = (e.reply ≡ (run_one x t e.request).1) × Extends t (run_one x t e.request).0 es y
 
 -- how a client stands to an object in its block: requests are in the chunk in hand; it asked for the object; it holds it;
 -- it has sent the end
-pub data Standing : Type 0 where
-  sends : (chunk : List Request) → Standing
-  asks : Standing
-  holds : (held : HeldState) → Standing
-  gone : Standing
+pub data ObjectStance : Type 0 where
+  sends : (chunk : List Request) → ObjectStance
+  asks : ObjectStance
+  holds : (held : HeldState) → ObjectStance
+  gone : ObjectStance
 
 -- what follows a Sync where nothing more was sent: the client waits, or holds the object
-abbrev pub ClientAsks : Ticket → List HeldState → List Event → Standing → Type 0
+abbrev pub ClientAsks : Ticket → List HeldState → List Event → ObjectStance → Type 0
 ClientAsks t [] events end = (events ≡ []) × (end ≡ asks)
 ClientAsks t (x ∷ got) events end = (y : HeldState) × (got ≡ []) × (end ≡ holds y) × Extends t x events y
 
 -- What a client sent and got for one object in one block, the events of its trace there, and how it stands at the end. Right
 -- after a Sync (asked) the object comes, and goes home before anything else.
-abbrev pub ClientLane : Ticket → Bool → List Parcel → List HeldState → List Event → Standing → Type 0
+abbrev pub ClientLane : Ticket → Bool → List Parcel → List HeldState → List Event → ObjectStance → Type 0
 ClientLane t false [] got events end =
-    (chunk : List Request) × (end ≡ sends chunk) × (got ≡ []) × (events ≡ map logged chunk) × AllCommands chunk
+    (chunk : List Request) × (end ≡ sends chunk) × (got ≡ []) × (events ≡ map command_event chunk) × AllCommands chunk
 ClientLane t false (Work chunk ∷ sent) got events end =
-    (rest : List Event) × (events ≡ map logged chunk.items ++ rest) × AllCommands chunk.items
+    (rest : List Event) × (events ≡ map command_event chunk.items ++ rest) × AllCommands chunk.items
     × ClientLane t false sent got rest end
 ClientLane t false (Sync ∷ sent) got events end = ClientLane t true sent got events end
 ClientLane t false (Home x ∷ sent) got events end = ⊥
@@ -81,7 +81,7 @@ HandlerLane t true x (End ∷ received) gave end = ⊥
 
 -- the object wherever it is: with its handler; on its way to the client; with the client; or on its way home, among what the
 -- client sent and the handler has not received
-abbrev pub object_of : Serving → Standing → List Parcel → HeldState
+abbrev pub object_of : Serving → ObjectStance → List Parcel → HeldState
 object_of (serves x) client way = x
 object_of (gives x) client way = x
 object_of (over x) client way = x
@@ -93,7 +93,7 @@ object_of (lent x) client way = x
 pub record IsMatched (t : Ticket) (x : HeldState) (events : List Event) (y : HeldState) : Type 0 where
   pub done : List Event
   pub waiting : List Request
-  pub parts : events ≡ done ++ map logged waiting
+  pub parts : events ≡ done ++ map command_event waiting
   pub extends : Extends t x done y
   pub commands : AllCommands waiting
 
@@ -102,7 +102,7 @@ pub record IsMatched (t : Ticket) (x : HeldState) (events : List Event) (y : Hel
 abbrev pub LanesMatch : Type 0
 LanesMatch =
     (t : Ticket) (x : HeldState) (received way : List Parcel) (got gave : List HeldState) (events : List Event)
-    (client : Standing) (handler : Serving)
+    (client : ObjectStance) (handler : Serving)
     → ClientLane t false (received ++ way) got events client
     → HandlerLane t false x received gave handler
     → IsFront got gave

@@ -6,8 +6,8 @@ abbrev pub IsOn : ℕ → ℕ → ℕ → ℕ → Type 0
 IsOn start steps capacity place = (place < capacity) × ((place ≡ start + steps) ⊎ (place + capacity ≡ start + steps))
 
 -- a list from the index `start` on, and round its end
-unfoldable pub turned : {A : Type 0} → ℕ → List A → List A
-turned start xs = drop start xs ++ take start xs
+unfoldable pub rotate : {A : Type 0} → ℕ → List A → List A
+rotate start xs = drop start xs ++ take start xs
 
 module _ {X : Type 0} where
   -- the values that are there
@@ -22,11 +22,11 @@ module _ {X : Type 0} where
 
   -- the values, the first one first
   unfoldable pub ring_values : ℕ → List (Option X) → List X
-  ring_values start places = values_of (turned start places)
+  ring_values start places = values_of (rotate start places)
 
   -- `count` values lie from `start` on, side by side, and each other place is empty
   pub record IsRing (places : List (Option X)) (capacity start count : ℕ) : Type 0 where
     pub long : length places ≡ capacity
     pub begins : start < capacity
     pub counted : (count ≡ length (ring_values start places)) × (count ≤ capacity)
-    pub laid : turned start places ≡ places_with (ring_values start places) capacity
+    pub laid : rotate start places ≡ places_with (ring_values start places) capacity

@@ -18,7 +18,7 @@ use Rattle.qs_meaning.specs.Solo.{put}
 use Rattle.qs_meaning.proofs.RequestPaths.{requests_within}
 use Rattle.qs_meaning.specs.Paths as paths
 use Rattle.qs_graph.specs.Steps.{limit}
-use Rattle.qs_graph.specs.Synced.{Synced, Done, Call, Sync, Query, erased}
+use Rattle.qs_graph.specs.Synced.{Synced, Done, Call, Sync, Query, without_syncs}
 use Rattle.qs_graph.specs.Walk.{entry, walk, Within}
 use Rattle.qs_syncset.specs.Codes.{BlockCode, ClientCode, IsCode, IsBlockCode, code_at, load_at}
 use Rattle.qs_syncset.specs.CodeLaws.{IsSoundWalk}
@@ -87,7 +87,7 @@ one_counted h r e = subst (λ m. ◌≡◌ {A = ℕ} (if r.object == m then 1 el
 
 -- a tree whose requests are within these loads fits into their sum
 pub fits_within : (t : Synced) (f : ℕ → ℕ) (n : ℕ) (reserved : List ℕ) → ((h : ℕ) → is_in reserved h ≡ true → h < most_handlers) → IsOnReserved reserved t
-    → ((h : ℕ) → h < most_objects → paths.Within h (erased t) (f h)) → sum_below most_objects f ≤ n → MakesAtMost n t
+    → ((h : ℕ) → h < most_objects → paths.Within h (without_syncs t) (f h)) → sum_below most_objects f ≤ n → MakesAtMost n t
 fits_within (Done l) f n reserved eight on within few = tt
 fits_within (Sync h next) f n reserved eight on within few = fits_within next f n reserved eight on.1 within few
 fits_within (Call r next) f n reserved eight on within few =
@@ -143,7 +143,7 @@ begins code k l counts w inside long =
       sound = λ held. held_more nothing held t (λ h e. absurd (cc)) s.sound;
       fits = fits_within t (load_at (code_at code k)) (room_for (code_at code k)) b.reserved
           (reserved_below_eight p w.client k w.sound here) s.reserved
-          (λ h below. within_load h (erased t) (load_of b.body h) (load_at (code_at code k) h) (sym (is.loads h below))
+          (λ h below. within_load h (without_syncs t) (load_of b.body h) (load_at (code_at code k) h) (sym (is.loads h below))
           (subst (λ x. paths.Within h x (load_of b.body h)) (sym s.tree) (requests_within b.body l h)))
           (omega arith);
     }

@@ -2,7 +2,7 @@
 -- as for the optimised machine. The one fact to keep: the last parcel is a Sync exactly where the client waits for the object or holds it. All quiet work leaves it as it is, since that awaits nothing, and neither takes an object up
 -- nor gives one away.
 use Rattle.std.proofs.Common.{◌≡◌, ◌≢◌, ℕ, suc, Bool, true, false, ◌==◌, ◌&&◌, ◌||◌, if◌then◌else◌, is_some, nat_lt, List, [], ◌∷◌, ◌++◌, length, Option, Some, None, ℤ, refl, sym, ap, ◌∙◌, subst, ⊎_elim}
-use Rattle.qs_objects.specs.Journals.{HeldState, ran}
+use Rattle.qs_objects.specs.Journals.{HeldState, run_one}
 use Rattle.qs_objects.specs.declared.held.Ticket.{Ticket}
 use Rattle.qs_objects.specs.declared.Request.{Request}
 use Rattle.qs_objects.proofs.Choices.{eqb_apart, eqb_self, num_cases}
@@ -14,7 +14,7 @@ use Rattle.qs_chunk.specs.Lanes.{MayFollow, is_asked, is_sync}
 use Rattle.qs_chunk.proofs.LaneFronts.{asked_last}
 use Rattle.qs_chunk.specs.declared.parcel.Parcel.{Parcel}
 use Rattle.qs_chunk.specs.declared.parcel.Parcel.TheVariants as parcels
-use Rattle.qs_client_run.specs.Client.{Client, ClientStage, Settings, Settlement, between, runs, full, awaits, leaves, act_at, call_act, clear, rest_act, work, stop_at, set_held, set_chunk, leave, call, query, settle, after_parcel, after_home, after_work, after_sync, after_end, take_object, take_chunk}
+use Rattle.qs_client_run.specs.Client.{Client, ClientStage, Settings, Settlement, between, runs, full, awaits, leaves, act_at, call_act, clear, rest_act, work, stop_at, set_held, set_chunk, end_block, call, query, settle, after_parcel, after_home, after_work, after_sync, after_end, take_object, take_chunk}
 use Rattle.qs_client_run.specs.NextActs.{SendsNothing}
 use Rattle.qs_client_run.specs.declared.act.Act.{Act}
 use Rattle.qs_client_run.specs.declared.act.Act.TheVariants as acts
@@ -42,7 +42,7 @@ held_stays f g h x y is =
     (num_cases g h)
 
 module _ (settings : Settings) (ticket : Ticket) (reserved : List ℕ) (h : ℕ) where
-  rests_leaving : (m : Client) (hs : List ℕ) (l : Locals) → Rests (leave settings ticket reserved m hs l).client h (is_some (m.held h))
+  rests_leaving : (m : Client) (hs : List ℕ) (l : Locals) → Rests (end_block settings ticket reserved m hs l).client h (is_some (m.held h))
   rests_leaving m [] l = record { held_is = refl; nothing = refl; free = tt }
   rests_leaving m (g ∷ hs) l = record { held_is = refl; nothing = refl; free = tt }
 
@@ -71,7 +71,7 @@ module _ (settings : Settings) (ticket : Ticket) (reserved : List ℕ) (h : ℕ)
       → Rests (query settings ticket reserved m r next go x).client h (is_some (m.held h))
   rests_queries m r next go None is quiet = record { held_is = refl; nothing = refl; free = tt }
   rests_queries m r next go (Some x) is quiet =
-      let o = ran x ticket r in
+      let o = run_one x ticket r in
       let new = set_held m r.object (Some o.0) in
       rests_as (go (value_of o.1) new).client h (is_some (new.held h)) (is_some (m.held h)) (held_stays m.held r.object h x o.0 is) (quiet (value_of o.1) new)
 

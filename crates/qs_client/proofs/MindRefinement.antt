@@ -116,7 +116,7 @@ steady m some w = record {
   few_each = w.few_each;
 }
 
-nothing_gone : (g : List places.Place) (s : RunState) (stage : Stage) → IsOutgoingAt g outgoings.Nothing s stage
+nothing_gone : (g : List places.GraphNode) (s : RunState) (stage : Stage) → IsOutgoingAt g outgoings.Nothing s stage
 nothing_gone g s stages.Between = tt
 nothing_gone g s stages.Runs = tt
 nothing_gone g s (stages.Full h) = tt

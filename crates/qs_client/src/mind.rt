@@ -6,7 +6,7 @@ ghost use Rattle.qs_client.specs.ClientModel.{Asks, lists_of, tally, mind_after_
 ghost use Rattle.qs_sync_counts.specs.SyncRows.{AreFew, all_counts, counts_state, fresh_rows, greatest_count};
 ghost use Rattle.qs_client_run.specs.NextActs.{SendsNothing};
 ghost use Rattle.qs_client.specs.MindState.{IsMind, mind_of};
-ghost use Rattle.qs_objects.specs.Rows.{joined};
+ghost use Rattle.qs_objects.specs.Rows.{join_rows};
 ghost use Rattle.qs_objects.specs.Traces.{events_of};
 ghost use Rattle.qs_program.specs.Limits.{most_handlers};
 
@@ -257,7 +257,7 @@ impl Mind {
     /// How many Syncs were sent, as the act after each comes: a count for each block and each object of its list, in order.
     #[tactic(auto, unfolding(crate::specs::MindState::mind_of))]
     pub fn sync_counts(&self) -> &[u32]
-        ensures value { result.now ≡ joined (all_counts (mind_of self.now).counts) }
+        ensures value { result.now ≡ join_rows (all_counts (mind_of self.now).counts) }
     {
         self.counts.joined()
     }
@@ -273,7 +273,7 @@ impl Mind {
     /// The traces so far, joined: the events of all blocks, block after block.
     #[tactic(auto, unfolding(crate::specs::MindState::mind_of))]
     pub fn row(&self) -> &[Event]
-        ensures value { result.now ≡ joined (mind_of self.now).traces }
+        ensures value { result.now ≡ join_rows (mind_of self.now).traces }
     {
         self.run.traces().joined()
     }

@@ -8,7 +8,7 @@ use Rattle.qs_objects.specs.declared.Request.{Request}
 use Rattle.qs_program.specs.Limits.{most_handlers}
 use Rattle.qs_meaning.specs.Solo.{put}
 use Rattle.qs_graph.specs.Steps.{limit}
-use Rattle.qs_graph.specs.Walk.{Move, Ends, Goes, Calls, Syncs, Queries, move, said, walk}
+use Rattle.qs_graph.specs.Walk.{Move, Ends, Goes, Calls, Syncs, Queries, move, tree_of_move, walk}
 use Rattle.qs_graph.specs.WellFormed.{IsGraph}
 use Rattle.qs_graph.proofs.Saying.{walk_up}
 use Rattle.qs_graph.specs.Nodes as places
@@ -31,19 +31,19 @@ use Rattle.qs_client_run.specs.Client as clients
 use Rattle.qs_client_run.specs.declared.stage.Stage.TheVariants as stages
 
 -- what is known of what is outgoing, at a node, at the end, and with a full chunk
-gone_at_node : (g : List places.Place) (s : RunState) (h : ℕ) (x : Option HeldState) (c : Option (Batch Request)) (other : Act)
+gone_at_node : (g : List places.GraphNode) (s : RunState) (h : ℕ) (x : Option HeldState) (c : Option (Batch Request)) (other : Act)
     → IsOutgoingAt g (outgoing_of other) s stages.Runs → IsOutgoingAt g (outgoing_of (clear_by h x c other)) s stages.Runs
 gone_at_node g s h (Some x) c other w = tt
 gone_at_node g s h None (Some b) other w = tt
 gone_at_node g s h None None other w = w
 
-gone_at_end : (g : List places.Place) (s : RunState) (h i : ℕ) (x : Option HeldState) (c : Option (Batch Request))
+gone_at_end : (g : List places.GraphNode) (s : RunState) (h i : ℕ) (x : Option HeldState) (c : Option (Batch Request))
     → IsOutgoingAt g (outgoing_of (clear_by h x c (Send h parcels.End))) s (stages.Leaves i)
 gone_at_end g s h i (Some x) c = tt
 gone_at_end g s h i None (Some b) = tt
 gone_at_end g s h i None None = tt
 
-gone_full : (g : List places.Place) (s : RunState) (h : ℕ) (c : Option (Batch Request)) → chunk_at s.holdings h ≡ None
+gone_full : (g : List places.GraphNode) (s : RunState) (h : ℕ) (c : Option (Batch Request)) → chunk_at s.holdings h ≡ None
     → IsOutgoingAt g (outgoing_of (send_full h c)) s (stages.Full h)
 gone_full g s h (Some b) w = w
 gone_full g s h None w = tt
@@ -51,10 +51,10 @@ gone_full g s h None w = tt
 module _ (b : BlockCode) (settings : Settings) (blocks k begun most : ℕ) where
   -- at a call or a synchronisation with this handler
   at_node : (n h : ℕ) (s : RunState) (m : Move) (other : Act) → suc n ≤ most → s.stage ≡ stages.Runs → move b.graph s.position ≡ m → h < most_handlers → IsLoud m
-      → IsSoundSynced (put (holding s.holdings) h false) (said (walk b.graph n) s.position.locals m)
+      → IsSoundSynced (put (holding s.holdings) h false) (tree_of_move (walk b.graph n) s.position.locals m)
       → IsRunning b.graph settings.size k (suc n) s
       → clear_by h (held_at s.holdings h) (chunk_at s.holdings h) other
-      ≡ rest_act settings (client_of b.graph b.reserved begun s) (said (walk b.graph n) s.position.locals m)
+      ≡ rest_act settings (client_of b.graph b.reserved begun s) (tree_of_move (walk b.graph n) s.position.locals m)
       → ((c : clients.Client) → without_act c other ≡ c)
       → IsOutgoingAt b.graph (outgoing_of other) (with_holdings s (without_by s.holdings h (held_at s.holdings h))) stages.Runs
       → HasActed b settings blocks k begun most (clear_by h (held_at s.holdings h) (chunk_at s.holdings h) other) s
@@ -64,8 +64,8 @@ module _ (b : BlockCode) (settings : Settings) (blocks k begun most : ℕ) where
       let c = chunk_at s.holdings h in
       let given = clear_by h x c other in
       let new = with_holdings s (without_by s.holdings h x) in
-      let tree : walk b.graph limit s.position ≡ said (walk b.graph n) s.position.locals m =
-      walk_up b.graph (suc n) limit s.position w.few w.within ∙ ap (λ (q : Move). said (walk b.graph n) s.position.locals q) is in
+      let tree : walk b.graph limit s.position ≡ tree_of_move (walk b.graph n) s.position.locals m =
+      walk_up b.graph (suc n) limit s.position w.few w.within ∙ ap (λ (q : Move). tree_of_move (walk b.graph n) s.position.locals q) is in
       record {
         act =
             act
@@ -82,7 +82,7 @@ module _ (b : BlockCode) (settings : Settings) (blocks k begun most : ℕ) where
               suc n,
               few,
               cleared_running b.graph settings.size k (suc n) h s x eight
-                  (subst (λ (q : Move). IsSoundSynced (put (holding s.holdings) h false) (said (walk b.graph n) s.position.locals q)) (sym is) sound) w,
+                  (subst (λ (q : Move). IsSoundSynced (put (holding s.holdings) h false) (tree_of_move (walk b.graph n) s.position.locals q)) (sym is) sound) w,
               subst IsLoud (sym is) loud,
             )
             );
@@ -90,7 +90,7 @@ module _ (b : BlockCode) (settings : Settings) (blocks k begun most : ℕ) where
       }
 
   acts_by : (n : ℕ) (s : RunState) (m : Move) → suc n ≤ most → s.stage ≡ stages.Runs → move b.graph s.position ≡ m → IsAmongEight m → IsLoud m
-      → IsSoundSynced (holding s.holdings) (said (walk b.graph n) s.position.locals m)
+      → IsSoundSynced (holding s.holdings) (tree_of_move (walk b.graph n) s.position.locals m)
       → IsRunning b.graph settings.size k (suc n) s
       → HasActed b settings blocks k begun most (act_by s.holdings m) s (with_holdings s (holdings_by s.holdings m))
   acts_by n s Ends few stands is eight loud sound w = absurd loud

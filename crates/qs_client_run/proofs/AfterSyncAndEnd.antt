@@ -12,7 +12,7 @@ use Rattle.qs_graph.specs.Walk.{Spot, Move, Ends, Goes, Calls, Syncs, Queries, m
 use Rattle.qs_graph.specs.WellFormed.{IsGraph}
 use Rattle.qs_graph.proofs.Saying.{walk_up}
 use Rattle.qs_syncset.specs.Codes.{BlockCode}
-use Rattle.qs_client_run.specs.Client.{Client, Settings, after_sync, after_end, leave, awaits, between}
+use Rattle.qs_client_run.specs.Client.{Client, Settings, after_sync, after_end, end_block, awaits, between}
 use Rattle.qs_client_run.specs.Holdings.{HoldingsState, holding}
 use Rattle.qs_objects.specs.Traces.{TraceState, trace_at}
 use Rattle.qs_client_run.specs.ClientOfRun.{client_with, client_of, stage_by, progress_after}
@@ -106,7 +106,7 @@ module _ (b : BlockCode) (settings : Settings) (ticket : Ticket) (begun : ℕ) w
         rows = keeps_rows ticket.index traces;
         counts = refl;
         same =
-            ap (λ hs. progress_after (tr s) (leave settings ticket b.reserved c hs position.locals)) next
+            ap (λ hs. progress_after (tr s) (end_block settings ticket b.reserved c hs position.locals)) next
             ∙ (λ j. record {
               client = client_with begun (clients.leaves (get_or b.reserved (i + 1) 0) (drop (suc (i + 1)) b.reserved) position.locals) holdings;
               trace = append-nil (tr s) j;
@@ -122,7 +122,7 @@ module _ (b : BlockCode) (settings : Settings) (ticket : Ticket) (begun : ℕ) w
         rows = keeps_rows ticket.index traces;
         counts = refl;
         same =
-            ap (λ hs. progress_after (tr s) (leave settings ticket b.reserved c hs position.locals)) none
+            ap (λ hs. progress_after (tr s) (end_block settings ticket b.reserved c hs position.locals)) none
             ∙ (λ j. record { client = client_with begun (between position.locals) holdings; trace = append-nil (tr s) j });
       }
 

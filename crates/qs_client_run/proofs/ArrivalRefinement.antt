@@ -13,7 +13,7 @@ use Rattle.qs_meaning.specs.Solo.{put}
 use Rattle.qs_graph.specs.Steps.{limit}
 use Rattle.qs_graph.specs.Synced.{Synced}
 use Rattle.qs_graph.specs.declared.node.Node.{Node}
-use Rattle.qs_graph.specs.Walk.{Spot, Move, Ends, Goes, Calls, Syncs, Queries, at_node, move, move_by, said, walk, Within}
+use Rattle.qs_graph.specs.Walk.{Spot, Move, Ends, Goes, Calls, Syncs, Queries, at_node, move, move_by, tree_of_move, walk, Within}
 use Rattle.qs_graph.specs.WellFormed.{IsGraph}
 use Rattle.qs_graph.proofs.Saying.{walk_up}
 use Rattle.qs_graph.specs.Nodes as places
@@ -74,19 +74,19 @@ between_leaves true = refl
 between_leaves false = refl
 
 -- a client that wants a chunk for h stands at a call
-pub record IsAtCall (g : List places.Place) (s : RunState) (h : ℕ) : Type 0 where
+pub record IsAtCall (g : List places.GraphNode) (s : RunState) (h : ℕ) : Type 0 where
   pub stands : s.stage ≡ stages.Runs
   pub request : Request
   pub to : Spot
   pub is : move g s.position ≡ Calls request to
   pub same : request.object ≡ h
 
-pub node_inside : (g : List places.Place) (n : ℕ) (s : Spot) → Within g n s → s.node < length g
+pub node_inside : (g : List places.GraphNode) (n : ℕ) (s : Spot) → Within g n s → s.node < length g
 node_inside g zero s w = absurd w
 node_inside g (suc n) s w = w.0
 
 -- a call's request is the node's
-pub call_here : (g : List places.Place) (s : RunState) (h : ℕ) (call : calls.Call) → (places.place_at g s.position.node).node ≡ nodes.Call call → IsAtCall g s h
+pub call_here : (g : List places.GraphNode) (s : RunState) (h : ℕ) (call : calls.Call) → (places.place_at g s.position.node).node ≡ nodes.Call call → IsAtCall g s h
     → call.object ≡ h
 call_here g s h call is w =
     let same : Calls (request_of s.position.locals call) (at_node s.position (places.first_target (places.place_at g s.position.node))) ≡ Calls w.request w.to =
@@ -94,7 +94,7 @@ call_here g s h call is w =
     let request : request_of s.position.locals call ≡ w.request = cc in
     ap (λ (r : Request). r.object) request ∙ w.same
 
-pub eight_here : (g : List places.Place) (n : ℕ) (s : RunState) (call : calls.Call) → IsGraph g → Within g n s.position
+pub eight_here : (g : List places.GraphNode) (n : ℕ) (s : RunState) (call : calls.Call) → IsGraph g → Within g n s.position
     → (places.place_at g s.position.node).node ≡ nodes.Call call → call.object < most_objects
 eight_here g n s call ok within is = subst IsAmongEight (moves g s.position (nodes.Call call) is) (among_eight g s.position ok (node_inside g n s.position within))
 
@@ -108,7 +108,7 @@ no_call (nodes.Call d) s t a b r e other = other d refl
 no_call nodes.Exit s t a b r e other = cc
 
 -- a client stands at a call where its node is one
-pub is_call : (g : List places.Place) (s : RunState) (h : ℕ) → IsAtCall g s h → ((x : calls.Call) → (places.place_at g s.position.node).node ≡ nodes.Call x → ⊥) → ⊥
+pub is_call : (g : List places.GraphNode) (s : RunState) (h : ℕ) → IsAtCall g s h → ((x : calls.Call) → (places.place_at g s.position.node).node ≡ nodes.Call x → ⊥) → ⊥
 is_call g s h w other =
     let p = places.place_at g s.position.node in
     no_call p.node s.position w.to (places.first_target p) (places.second_target p) w.request (sym (moves g s.position p.node refl) ∙ w.is) other
@@ -119,7 +119,7 @@ module _ (b : BlockCode) (settings : Settings) (ticket : Ticket) (blocks begun m
 
   -- at its node a client that sends nothing needs a chunk
   quiet_by : (n : ℕ) (m : Move) (given : Act) → SendsNothing given → s.stage ≡ stages.Runs → move b.graph s.position ≡ m → IsLoud m
-      → rest_act settings c (said (walk b.graph n) s.position.locals m) ≡ given → (h : ℕ) × (given ≡ acts.NeedChunk h) × IsAtCall b.graph s h
+      → rest_act settings c (tree_of_move (walk b.graph n) s.position.locals m) ≡ given → (h : ℕ) × (given ≡ acts.NeedChunk h) × IsAtCall b.graph s h
   quiet_by n Ends given quiet stands is loud e = absurd loud
   quiet_by n (Goes t) given quiet stands is loud e = absurd loud
   quiet_by n (Queries r t) given quiet stands is loud e = absurd loud

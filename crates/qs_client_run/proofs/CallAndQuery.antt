@@ -2,8 +2,8 @@
 -- the object out, change it and put it back; these lemmas say that the values which are kept then are those of `call` and `query` in
 -- `Running.antt`. The idea: each is a chain of equal records, one for each thing that the code looked up.
 use Rattle.std.proofs.Common.{◌≡◌, ℕ, ◌==◌, Bool, true, false, IsSome, if◌then◌else◌, is_some, [], ◌∷◌, ◌++◌, length, Option, Some, None, ℤ, refl, sym, ◌∙◌}
-use Rattle.qs_objects.specs.Journals.{HeldState, ran}
-use Rattle.qs_objects.specs.Parts.{logged}
+use Rattle.qs_objects.specs.Journals.{HeldState, run_one}
+use Rattle.qs_objects.specs.Parts.{command_event}
 use Rattle.qs_objects.specs.declared.held.Ticket.{Ticket}
 use Rattle.qs_objects.specs.declared.Request.{Request}
 use Rattle.qs_meaning.specs.Solo.{event, value_of}
@@ -24,25 +24,25 @@ module _ (k : ℕ) (r : Request) (t : Spot) (s : RunState) where
       → held_at s.holdings r.object ≡ None → chunk_at s.holdings r.object ≡ Some b
       → more ≡ batch (b.items ++ r ∷ []) b.capacity → full ≡ (length more.items == more.capacity)
       → holdings ≡ with_chunk s.holdings r.object (Some more)
-      → ◌≡◌ {A = RunState} (record { position = t; holdings = holdings; traces = noted_at s.traces k (logged r); stage = if full then stages.Full r.object else s.stage })
+      → ◌≡◌ {A = RunState} (record { position = t; holdings = holdings; traces = noted_at s.traces k (command_event r); stage = if full then stages.Full r.object else s.stage })
       (call k r t s).0
   call_fills b more full holdings none found filled is_full put =
       (λ i. record {
         position = t;
         holdings = put i;
-        traces = noted_at s.traces k (logged r);
+        traces = noted_at s.traces k (command_event r);
         stage = if is_full i then stages.Full r.object else s.stage;
       })
       ∙ (λ i. record {
         position = t;
         holdings = with_chunk s.holdings r.object (Some (filled i));
-        traces = noted_at s.traces k (logged r);
+        traces = noted_at s.traces k (command_event r);
         stage = if length (filled i).items == (filled i).capacity then stages.Full r.object else s.stage;
       })
       ∙ (λ i. (call_by k r t s (sym none i) (sym found i)).0)
 
 pub query_runs : (u : Ticket) (r : Request) (t : ℤ → Spot) (s : RunState) (x y : HeldState) (v : Option ℤ) (holdings : HoldingsState)
-    → held_at s.holdings r.object ≡ Some x → (y, v) ≡ ran x u r → holdings ≡ with_held s.holdings r.object (Some y)
+    → held_at s.holdings r.object ≡ Some x → (y, v) ≡ run_one x u r → holdings ≡ with_held s.holdings r.object (Some y)
     → ◌≡◌ {A = RunState} (record { position = t (value_of v); holdings = holdings; traces = noted_at s.traces u.index (event r v); stage = s.stage }) (query u r t s).0
 query_runs u r t s x y v holdings found done put =
     (λ i. record {

@@ -99,7 +99,7 @@ away_at_call f r next w = subst (λ q. IsSoundSynced q next) (sym (put_twice f r
 pub away_at_sync : (f : ℕ → Bool) (h : ℕ) (next : Synced) → IsSoundSynced f (Sync h next) → IsSoundSynced (put f h false) (Sync h next)
 away_at_sync f h next w = subst (λ q. IsSoundSynced q next) (sym (put_twice f h false true)) w
 
-pub cleared_running : (g : List places.Place) (size k n h : ℕ) (s : RunState) (x : Option HeldState) → h < most_handlers
+pub cleared_running : (g : List places.GraphNode) (size k n h : ℕ) (s : RunState) (x : Option HeldState) → h < most_handlers
     → IsSoundSynced (put (holding s.holdings) h false) (walk g n s.position) → IsRunning g size k n s
     → IsRunning g size k n (record s { holdings = without_by s.holdings h x })
 cleared_running g size k n h s x eight sound w =
@@ -109,7 +109,7 @@ cleared_running g size k n h s x eight sound w =
     (without_held s.holdings h x ∙ w.held) (without_chunks s.holdings h x ∙ w.chunks)
     (without_opened size s.holdings h (omega (arith, eight, w.chunks)) x w.opened)
 
-pub cleared_over : (g : List places.Place) (size h : ℕ) (s : RunState) (x : Option HeldState) → h < most_handlers → IsOver g size s
+pub cleared_over : (g : List places.GraphNode) (size h : ℕ) (s : RunState) (x : Option HeldState) → h < most_handlers → IsOver g size s
     → IsOver g size (record s { holdings = without_by s.holdings h x })
 cleared_over g size h s x eight w = record {
   held = without_held s.holdings h x ∙ w.held;
@@ -118,7 +118,7 @@ cleared_over g size h s x eight w = record {
 }
 
 -- the full chunk may be away
-pub emptied : (g : List places.Place) (size k n h : ℕ) (s : RunState) → IsFull g size k n h s
+pub emptied : (g : List places.GraphNode) (size k n h : ℕ) (s : RunState) → IsFull g size k n h s
     → IsFull g size k n h (record s { holdings = with_chunk s.holdings h None })
 emptied g size k n h s w =
     let IsChunk : ℕ → Option (Batch Request) → Type 0 = λ j c. IsSized size c × ((h == j) ≡ false → IsOpen size c) in

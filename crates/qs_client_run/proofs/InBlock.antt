@@ -4,7 +4,7 @@ use Rattle.std.proofs.Common.{◌≡◌, ◌≤◌, ℕ, Bool, Option, List, len
 use Rattle.qs_objects.specs.declared.Request.{Request}
 use Rattle.qs_objects.specs.Traces.{trace_at}
 use Rattle.qs_program.specs.Limits.{most_handlers}
-use Rattle.qs_graph.specs.Nodes.{Place}
+use Rattle.qs_graph.specs.Nodes.{GraphNode}
 use Rattle.qs_graph.specs.Steps.{limit}
 use Rattle.qs_graph.specs.Walk.{Spot, walk, Within}
 use Rattle.qs_syncset.specs.SoundSynced.{IsSoundSynced}
@@ -14,7 +14,7 @@ use Rattle.qs_client_run.specs.RunState.{RunState}
 use Rattle.qs_client_run.specs.Running.{IsInBlock, MakesAtMost}
 use Rattle.qs_client_run.specs.declared.stage.Stage.{Stage}
 
-module _ (g : List Place) (k : ℕ) (relied next : ℕ → Bool) (IsChunk IsNext : ℕ → Option (Batch Request) → Type 0) (s : RunState) (stage : Stage) where
+module _ (g : List GraphNode) (k : ℕ) (relied next : ℕ → Bool) (IsChunk IsNext : ℕ → Option (Batch Request) → Type 0) (s : RunState) (stage : Stage) where
   -- with these holdings, and at this stage
   pub held_in_block : (n : ℕ) (holdings : HoldingsState) → IsInBlock g k n relied IsChunk s → IsSoundSynced next (walk g n s.position)
       → length holdings.held ≡ most_handlers → length holdings.chunks ≡ most_handlers → ((h : ℕ) → IsNext h (chunk_at holdings h))

@@ -2,7 +2,7 @@
 -- the code needs that the two are one. The idea: a move is a function of the node that is found, and of the nodes to which it leads.
 use Rattle.std.proofs.Common.{◌≡◌, ℕ, List, refl, ap, sym, ◌∙◌}
 use Rattle.qs_graph.specs.declared.node.Node.{Node}
-use Rattle.qs_graph.specs.Nodes.{Place, place_at, first_target, second_target}
+use Rattle.qs_graph.specs.Nodes.{GraphNode, place_at, first_target, second_target}
 use Rattle.qs_graph.specs.Walk.{Spot, Move, move, move_by}
 use Rattle.qs_graph.specs.declared.node.Node.TheVariants as nodes
 use Rattle.qs_client_run.specs.BetweenActs.{await_by}
@@ -10,13 +10,13 @@ use Rattle.qs_client_run.specs.Running.{step, step_by}
 use Rattle.qs_client_run.specs.RunState.{RunState}
 use Rattle.qs_client_run.specs.declared.run.BlockContext.{BlockContext}
 
-pub moves : (g : List Place) (s : Spot) (v : Node) → (place_at g s.node).node ≡ v
+pub moves : (g : List GraphNode) (s : Spot) (v : Node) → (place_at g s.node).node ≡ v
     → move g s ≡ move_by v s (first_target (place_at g s.node)) (second_target (place_at g s.node))
 unfolding move
 moves g s v e = ap (λ (w : Node). move_by w s (first_target (place_at g s.node)) (second_target (place_at g s.node))) e
 
 -- n is the client's node, next and other are where it leads
-pub step_at : (g : List Place) (context : BlockContext) (reserved : List ℕ) (s : RunState) (n next other : ℕ) (v : Node)
+pub step_at : (g : List GraphNode) (context : BlockContext) (reserved : List ℕ) (s : RunState) (n next other : ℕ) (v : Node)
     → n ≡ s.position.node → next ≡ first_target (place_at g n) → other ≡ second_target (place_at g n) → (place_at g n).node ≡ v
     → step_by context reserved (move_by v s.position next other) s ≡ step g context reserved s
 step_at g context reserved s n next other v at first second is =

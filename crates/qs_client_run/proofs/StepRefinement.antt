@@ -4,8 +4,8 @@
 -- The loop of `settle` joins steps by `goes_on` and `stops`, and ends since each step is a node nearer to the block's end.
 use Rattle.std.proofs.Common.{◌≡◌, ℕ, zero, suc, ◌+◌, ◌<◌, ◌≤◌, Bool, true, false, not, ◌==◌, ◌&&◌, if◌then◌else◌, List, [], ◌∷◌, ◌++◌, ℤ, Option, Some, None, is_some, length, get_or, refl, sym, ap, ◌∙◌, subst, arith, append-nil, append_assoc, ⊎_elim, length-append, length-set}
 use Rattle.std.proofs.lemmas.List.{get_or-set_same, get_or-set_other}
-use Rattle.qs_objects.specs.Journals.{HeldState, ran}
-use Rattle.qs_objects.specs.Parts.{logged}
+use Rattle.qs_objects.specs.Journals.{HeldState, run_one}
+use Rattle.qs_objects.specs.Parts.{command_event}
 use Rattle.qs_objects.specs.declared.held.Event.{Event}
 use Rattle.qs_objects.specs.declared.Request.{Request}
 use Rattle.qs_objects.specs.declared.held.Ticket.{Ticket}
@@ -14,11 +14,11 @@ use Rattle.qs_meaning.specs.Solo.{put, event, value_of}
 use Rattle.qs_graph.specs.declared.node.Node.{Node}
 use Rattle.qs_graph.specs.declared.node.Action.TheVariants.{Assign, SetCount, Nothing}
 use Rattle.qs_graph.specs.declared.node.Choice.TheVariants.{If, Repeat}
-use Rattle.qs_graph.specs.WellFormed.{IsGraph, IsPlace, IsInRange}
-use Rattle.qs_graph.specs.Nodes.{Place, place_at, first_target, second_target, exit}
+use Rattle.qs_graph.specs.WellFormed.{IsGraph, IsGraphNode, IsInRange}
+use Rattle.qs_graph.specs.Nodes.{GraphNode, place_at, first_target, second_target, exit}
 use Rattle.qs_graph.specs.Steps.{limit}
 use Rattle.qs_graph.specs.Synced.{Synced, Done, Call, Sync, Query}
-use Rattle.qs_graph.specs.Walk.{Spot, Move, Ends, Goes, Calls, Syncs, Queries, move, move_by, turned, said, walk, EachNext, Within}
+use Rattle.qs_graph.specs.Walk.{Spot, Move, Ends, Goes, Calls, Syncs, Queries, move, move_by, after_repeat, tree_of_move, walk, EachNext, Within}
 use Rattle.qs_graph.proofs.Saying.{walk_up}
 use Rattle.qs_graph.specs.declared.node.Node.TheVariants as nodes
 use Rattle.qs_syncset.specs.SoundSynced.{IsSoundSynced}
@@ -27,12 +27,12 @@ use Rattle.qs_chunk.specs.Batch.{Batch, batch}
 use Rattle.qs_client_run.specs.Client.{Client, Settings, Settlement, settle, stop_at, with_event, runs, full}
 use Rattle.qs_client_run.specs.Holdings.{HoldingsState, held_at, chunk_at, with_held, with_chunk, holding}
 use Rattle.qs_objects.proofs.TraceRows.{empty_after_note}
-use Rattle.qs_objects.specs.Traces.{TraceState, trace_state, trace_at, noted, noted_at}
+use Rattle.qs_objects.specs.Traces.{TraceState, trace_state, trace_at, with_last_event, noted_at}
 use Rattle.qs_objects.proofs.Elements.{AllByRecursion-get_or}
 use Rattle.qs_program.specs.Limits.{most_handlers, most_objects}
 use Rattle.qs_client_run.specs.ClientOfRun.{items_of, client_with, client_of, stage_of, stage_by, progress_after, progress_through, progress_at, HasSettled}
 use Rattle.qs_client_run.specs.BetweenActs.{IsStanding, HasSent, resume}
-use Rattle.qs_client_run.specs.Running.{IsInBlock, IsRunning, IsFull, IsStopped, IsLoud, IsOpen, IsSized, KeepsRows, MakesAtMost, go_to, call_by, call, query_by, query, sync, leave, step_by, step}
+use Rattle.qs_client_run.specs.Running.{IsInBlock, IsRunning, IsFull, IsStopped, IsLoud, IsOpen, IsSized, KeepsRows, MakesAtMost, go_to, call_by, call, query_by, query, sync, end_block, step_by, step}
 use Rattle.qs_client_run.specs.RunState.{RunState}
 use Rattle.qs_client_run.specs.declared.run.BlockContext.{BlockContext}
 use Rattle.qs_client_run.specs.declared.stage.Stage.{Stage}
@@ -71,13 +71,13 @@ eight_by (nodes.Query x c) s a b h = h.1.0
 eight_by (nodes.Call c) s a b h = h.0
 eight_by nodes.Exit s a b h = tt
 
-pub among_eight : (g : List Place) (s : Spot) → IsGraph g → s.node < length g → IsAmongEight (move g s)
+pub among_eight : (g : List GraphNode) (s : Spot) → IsGraph g → s.node < length g → IsAmongEight (move g s)
 unfolding move
 among_eight g s ok inside =
-    let here : IsPlace (length g) (place_at g s.node) = AllByRecursion-get_or (IsPlace (length g)) g s.node exit ok.places inside in
+    let here : IsGraphNode (length g) (place_at g s.node) = AllByRecursion-get_or (IsGraphNode (length g)) g s.node exit ok.places inside in
     eight_by (place_at g s.node).node s (first_target (place_at g s.node)) (second_target (place_at g s.node)) here.in_range
 
-turned_counts : (k : ℕ) (s : Spot) (a b : ℕ) → length (turned k s a b).counts ≡ length s.counts
+turned_counts : (k : ℕ) (s : Spot) (a b : ℕ) → length (after_repeat k s a b).counts ≡ length s.counts
 turned_counts zero s a b = refl
 turned_counts (suc k) s a b = length-set s.counts s.node k
 
@@ -94,7 +94,7 @@ counts_by (nodes.Call c) s a b = refl
 counts_by nodes.Exit s a b = tt
 
 -- a move leaves as many counts
-pub counts_kept : (g : List Place) (s : Spot) → EachNext (λ t. length t.counts ≡ length s.counts) (move g s)
+pub counts_kept : (g : List GraphNode) (s : Spot) → EachNext (λ t. length t.counts ≡ length s.counts) (move g s)
 unfolding move
 counts_kept g s = counts_by (place_at g s.node).node s (first_target (place_at g s.node)) (second_target (place_at g s.node))
 
@@ -113,18 +113,18 @@ keeps_both k a b c v w = record { count = w.count ∙ v.count; others = λ j oth
 
 keeps_noted : (k : ℕ) (ts : List TraceState) (e : Event) → KeepsRows k ts (noted_at ts k e)
 keeps_noted k ts e = record {
-  count = length-set ts k (noted (trace_at ts k) e);
-  others = λ j other. get_or-set_other ts k j (noted (trace_at ts k) e) (trace_state [] 0) (λ same. apart_eqb k j other (sym same));
+  count = length-set ts k (with_last_event (trace_at ts k) e);
+  others = λ j other. get_or-set_other ts k j (with_last_event (trace_at ts k) e) (trace_state [] 0) (λ same. apart_eqb k j other (sym same));
 }
 
 call_rows : (k : ℕ) (r : Request) (t : Spot) (s : RunState) (x : Option HeldState) (b : Option (Batch Request)) → KeepsRows k s.traces (call_by k r t s x b).0.traces
 call_rows k r t s (Some x) b = keeps_rows k s.traces
 call_rows k r t s None None = keeps_rows k s.traces
-call_rows k r t s None (Some b) = keeps_noted k s.traces (logged r)
+call_rows k r t s None (Some b) = keeps_noted k s.traces (command_event r)
 
 query_rows : (u : Ticket) (r : Request) (t : ℤ → Spot) (s : RunState) (x : Option HeldState) → KeepsRows u.index s.traces (query_by u r t s x).0.traces
 query_rows u r t s None = keeps_rows u.index s.traces
-query_rows u r t s (Some x) = keeps_noted u.index s.traces (event r (ran x u r).1)
+query_rows u r t s (Some x) = keeps_noted u.index s.traces (event r (run_one x u r).1)
 
 sync_rows : (k : ℕ) (b : Bool) (s : RunState) (t : Spot) → KeepsRows k s.traces (let z : RunState × Bool = if b then (go_to s t, true) else (s, false) in z).0.traces
 sync_rows k true s t = keeps_rows k s.traces
@@ -139,7 +139,7 @@ call_counts m k r t s None (Some b) h w = w
 query_counts : (m : ℕ) (u : Ticket) (r : Request) (t : ℤ → Spot) (s : RunState) (x : Option HeldState) → length s.position.counts ≡ m → ((v : ℤ) → length (t v).counts ≡ m)
     → length (query_by u r t s x).0.position.counts ≡ m
 query_counts m u r t s None h w = h
-query_counts m u r t s (Some x) h w = w (value_of (ran x u r).1)
+query_counts m u r t s (Some x) h w = w (value_of (run_one x u r).1)
 
 sync_counts : (m : ℕ) (b : Bool) (s : RunState) (t : Spot) → length s.position.counts ≡ m → length t.counts ≡ m
     → length (let z : RunState × Bool = if b then (go_to s t, true) else (s, false) in z).0.position.counts ≡ m
@@ -154,7 +154,7 @@ step_counts context reserved m (Calls r t) s h w = call_counts m context.ticket.
 step_counts context reserved m (Syncs o t) s h w = sync_counts m (context.dynamic && is_some (held_at s.holdings o)) s t h w
 step_counts context reserved m (Queries r t) s h w = query_counts m context.ticket r t s (held_at s.holdings r.object) h w
 
-all_counts : (g : List Place) (context : BlockContext) (reserved : List ℕ) (s : RunState) → length (step g context reserved s).0.position.counts ≡ length s.position.counts
+all_counts : (g : List GraphNode) (context : BlockContext) (reserved : List ℕ) (s : RunState) → length (step g context reserved s).0.position.counts ≡ length s.position.counts
 all_counts g context reserved s = step_counts context reserved (length s.position.counts) (move g s.position) s refl (counts_kept g s.position)
 
 rows_by : (context : BlockContext) (reserved : List ℕ) (m : Move) (s : RunState) → KeepsRows context.ticket.index s.traces (step_by context reserved m s).0.traces
@@ -164,18 +164,18 @@ rows_by context reserved (Calls r t) s = call_rows context.ticket.index r t s (h
 rows_by context reserved (Syncs h t) s = sync_rows context.ticket.index (context.dynamic && is_some (held_at s.holdings h)) s t
 rows_by context reserved (Queries r t) s = query_rows context.ticket r t s (held_at s.holdings r.object)
 
-rows_kept : (g : List Place) (context : BlockContext) (reserved : List ℕ) (s : RunState) → KeepsRows context.ticket.index s.traces (step g context reserved s).0.traces
+rows_kept : (g : List GraphNode) (context : BlockContext) (reserved : List ℕ) (s : RunState) → KeepsRows context.ticket.index s.traces (step g context reserved s).0.traces
 rows_kept g context reserved s = rows_by context reserved (move g s.position) s
 
 -- who has stopped within fewer nodes has stopped within more
-pub stopped_up : (g : List Place) (reserved : List ℕ) (size k a b : ℕ) (s : RunState) (stage : Stage) → a ≤ b → IsStopped g reserved size k a s stage → IsStopped g reserved size k b s stage
+pub stopped_up : (g : List GraphNode) (reserved : List ℕ) (size k a b : ℕ) (s : RunState) (stage : Stage) → a ≤ b → IsStopped g reserved size k a s stage → IsStopped g reserved size k b s stage
 stopped_up g reserved size k a b s stages.Runs h w = (w.0, omega (arith, h, w.1), w.2, w.3)
 stopped_up g reserved size k a b s (stages.Full x) h w = (w.0, omega (arith, h, w.1), w.2)
 stopped_up g reserved size k a b s (stages.Awaits x) h w = w
 stopped_up g reserved size k a b s (stages.Leaves i) h w = w
 stopped_up g reserved size k a b s stages.Between h w = w
 
-module _ (g : List Place) (settings : Settings) (context : BlockContext) (reserved : List ℕ) (begun : ℕ) (p : clients.ClientStage) where
+module _ (g : List GraphNode) (settings : Settings) (context : BlockContext) (reserved : List ℕ) (begun : ℕ) (p : clients.ClientStage) where
   -- what holds after a quiet move: the client goes on with the rest of the tree, or it has come to its next act
   abbrev pub IsAfterStep : ℕ → Synced → RunState → RunState × Bool → Type 0
   IsAfterStep n tree s (s', true) = IsRunning g settings.size context.ticket.index n s' × (s'.stage ≡ s.stage) × (progress_through settings context.ticket reserved begun p tree s ≡ progress_through settings context.ticket reserved begun p (walk g n s'.position) s')
@@ -186,18 +186,18 @@ module _ (g : List Place) (settings : Settings) (context : BlockContext) (reserv
     pub whole : IsRunning g settings.size context.ticket.index (suc n) s
     pub is : move g s.position ≡ m
     pub next : EachNext (Within g n) m
-    pub sound : IsSoundSynced (holding s.holdings) (said (walk g n) s.position.locals m)
-    pub fits : MakesAtMost (trace_at s.traces context.ticket.index).room (said (walk g n) s.position.locals m)
+    pub sound : IsSoundSynced (holding s.holdings) (tree_of_move (walk g n) s.position.locals m)
+    pub fits : MakesAtMost (trace_at s.traces context.ticket.index).room (tree_of_move (walk g n) s.position.locals m)
     pub counted : EachNext (λ t. length g ≤ length t.counts) m
     pub eight : IsAmongEight m
     pub stands : s.stage ≡ stages.Runs
-    pub tree : walk g limit s.position ≡ said (walk g n) s.position.locals m
+    pub tree : walk g limit s.position ≡ tree_of_move (walk g n) s.position.locals m
     pub dynamic : settings.dynamic ≡ context.dynamic
 
   -- the client stays, and its next act is the move's
   pub stays_here : (n : ℕ) (s : RunState) (m : Move) → IsBeforeMove n s m → IsLoud m
       → IsStopped g reserved settings.size context.ticket.index (suc n) s s.stage
-      × (progress_after (trace_at s.traces context.ticket.index).events (stop_at (client_with begun p s.holdings) (runs (said (walk g n) s.position.locals m)))
+      × (progress_after (trace_at s.traces context.ticket.index).events (stop_at (client_with begun p s.holdings) (runs (tree_of_move (walk g n) s.position.locals m)))
       ≡ progress_at g reserved begun context.ticket.index s)
   stays_here n s m w loud = (
     subst (IsStopped g reserved settings.size context.ticket.index (suc n) s) (sym w.stands) (suc n, omega arith, w.whole, subst IsLoud (sym w.is) loud),
@@ -215,11 +215,11 @@ module _ (g : List Place) (settings : Settings) (context : BlockContext) (reserv
     refl,
   )
 
-  ends_case : (n : ℕ) (s : RunState) → IsBeforeMove n s Ends → IsAfterStep n (Done s.position.locals) s (leave reserved s)
+  ends_case : (n : ℕ) (s : RunState) → IsBeforeMove n s Ends → IsAfterStep n (Done s.position.locals) s (end_block reserved s)
   ends_case n s w = by_list reserved
     where
-      by_list : (hs : List ℕ) → IsStopped g hs settings.size context.ticket.index (suc n) (leave hs s).0 (leave hs s).0.stage
-          × (progress_after (trace_at s.traces context.ticket.index).events (clients.leave settings context.ticket hs (client_with begun p s.holdings) hs s.position.locals) ≡ progress_at g hs begun context.ticket.index (leave hs s).0)
+      by_list : (hs : List ℕ) → IsStopped g hs settings.size context.ticket.index (suc n) (end_block hs s).0 (end_block hs s).0.stage
+          × (progress_after (trace_at s.traces context.ticket.index).events (clients.end_block settings context.ticket hs (client_with begun p s.holdings) hs s.position.locals) ≡ progress_at g hs begun context.ticket.index (end_block hs s).0)
       by_list [] = (record { held = w.whole.held; chunks = w.whole.chunks; opened = w.whole.opened }, λ i. record { client = client_with begun (clients.between s.position.locals) s.holdings; trace = append-nil (trace_at s.traces context.ticket.index).events i })
       by_list (h ∷ hs) = ((record { held = w.whole.held; chunks = w.whole.chunks; opened = w.whole.opened }, omega arith), λ i. record { client = client_with begun (clients.leaves h hs s.position.locals) s.holdings; trace = append-nil (trace_at s.traces context.ticket.index).events i })
 
@@ -292,10 +292,10 @@ module _ (g : List Place) (settings : Settings) (context : BlockContext) (reserv
           open_b = subst (IsOpen settings.size) f (w.whole.opened r.object)
 
           ts : List TraceState
-          ts = noted_at s.traces k (logged r)
+          ts = noted_at s.traces k (command_event r)
 
-          row : trace_at ts k ≡ noted (trace_at s.traces k) (logged r)
-          row = get_or-set_same s.traces k (noted (trace_at s.traces k) (logged r)) (trace_state [] 0) w.whole.row
+          row : trace_at ts k ≡ with_last_event (trace_at s.traces k) (command_event r)
+          row = get_or-set_same s.traces k (with_last_event (trace_at s.traces k) (command_event r)) (trace_state [] 0) w.whole.row
 
           sound : IsSoundSynced (holding s.holdings) (walk g n t)
           sound = subst (λ q. IsSoundSynced q (walk g n t)) (put_same (holding s.holdings) r.object false (ap (λ (y : Option HeldState). is_some y) e)) w.sound
@@ -315,10 +315,10 @@ module _ (g : List Place) (settings : Settings) (context : BlockContext) (reserv
           begins : (d : Bool) → (length items == b.capacity) ≡ d → progress_through settings context.ticket reserved begun p (Call r (walk g n t)) s ≡ progress_after (trace_at ts k).events (ends (client_with begun p holdings) d)
           begins d i_full =
               (λ i. progress_after tr (does (e i) (f i)))
-              ∙ ap (λ z. progress_after tr (with_event (logged r) (ends (after (put (λ h. items_of (chunk_at s.holdings h)) r.object (Some items))) (length items == z)))) (sym open_b.0)
-              ∙ ap (λ d. progress_after tr (with_event (logged r) (ends (after (put (λ h. items_of (chunk_at s.holdings h)) r.object (Some items))) d))) i_full
-              ∙ ap (λ q. progress_after tr (with_event (logged r) (ends (after q) d))) (sym (items_put s.holdings r.object (Some more) inside))
-              ∙ noted_on tr (logged r) (ends (client_with begun p holdings) d) (trace_at ts k) (ap (λ (y : TraceState). y.events) row)
+              ∙ ap (λ z. progress_after tr (with_event (command_event r) (ends (after (put (λ h. items_of (chunk_at s.holdings h)) r.object (Some items))) (length items == z)))) (sym open_b.0)
+              ∙ ap (λ d. progress_after tr (with_event (command_event r) (ends (after (put (λ h. items_of (chunk_at s.holdings h)) r.object (Some items))) d))) i_full
+              ∙ ap (λ q. progress_after tr (with_event (command_event r) (ends (after q) d))) (sym (items_put s.holdings r.object (Some more) inside))
+              ∙ noted_on tr (command_event r) (ends (client_with begun p holdings) d) (trace_at ts k) (ap (λ (y : TraceState). y.events) row)
 
           in_block : (IsChunk : ℕ → Option (Batch Request) → Type 0) (d : Bool) → ((h : ℕ) → IsChunk h (chunk_at holdings h))
               → IsInBlock g k n (holding s.holdings) IsChunk (new d)
@@ -328,8 +328,8 @@ module _ (g : List Place) (settings : Settings) (context : BlockContext) (reserv
             counted = w.counted;
             sound = sound;
             fits = fits;
-            row = omega (arith, w.whole.row, length-set s.traces k (noted (trace_at s.traces k) (logged r)));
-            last = empty_after_note s.traces k (logged r) w.whole.last;
+            row = omega (arith, w.whole.row, length-set s.traces k (with_last_event (trace_at s.traces k) (command_event r)));
+            last = empty_after_note s.traces k (command_event r) w.whole.last;
             held = w.whole.held;
             chunks = length-set s.holdings.chunks r.object (Some more) ∙ w.whole.chunks;
             opened = opened;
@@ -378,11 +378,11 @@ module _ (g : List Place) (settings : Settings) (context : BlockContext) (reserv
       by_held : (x : Option HeldState) → held_at s.holdings r.object ≡ x → IsAfterStep n (Query r (λ v. walk g n (t v))) s (query_by context.ticket r t s x)
       by_held None e = absurd (let no : is_some (held_at s.holdings r.object) ≡ false = ap (λ (y : Option HeldState). is_some y) e in let yes = w.sound.0 in cc)
       by_held (Some x) e =
-          let o : HeldState × Option ℤ = ran x context.ticket r in
+          let o : HeldState × Option ℤ = run_one x context.ticket r in
           let put_in : r.object < length s.holdings.held = omega (arith, w.eight, w.whole.held) in
           let holdings : HoldingsState = with_held s.holdings r.object (Some o.0) in
-          let row : trace_at (noted_at s.traces k (event r o.1)) k ≡ noted (trace_at s.traces k) (event r o.1) =
-          get_or-set_same s.traces k (noted (trace_at s.traces k) (event r o.1)) (trace_state [] 0) w.whole.row in
+          let row : trace_at (noted_at s.traces k (event r o.1)) k ≡ with_last_event (trace_at s.traces k) (event r o.1) =
+          get_or-set_same s.traces k (with_last_event (trace_at s.traces k) (event r o.1)) (trace_state [] 0) w.whole.row in
           let same : holding holdings ≡ holding s.holdings =
           holding_put s.holdings r.object (Some o.0) put_in ∙ put_same (holding s.holdings) r.object true (ap (λ (y : Option HeldState). is_some y) e) in (
             record {
@@ -391,7 +391,7 @@ module _ (g : List Place) (settings : Settings) (context : BlockContext) (reserv
               counted = w.counted (value_of o.1);
               sound = subst (λ f. IsSoundSynced f (walk g n (t (value_of o.1)))) (sym same) (w.sound.1 (value_of o.1));
               fits = subst (λ (y : TraceState). MakesAtMost y.room (walk g n (t (value_of o.1)))) (sym row) (w.fits.1 (value_of o.1));
-              row = omega (arith, w.whole.row, length-set s.traces k (noted (trace_at s.traces k) (event r o.1)));
+              row = omega (arith, w.whole.row, length-set s.traces k (with_last_event (trace_at s.traces k) (event r o.1)));
               last = empty_after_note s.traces k (event r o.1) w.whole.last;
               held = length-set s.holdings.held r.object (Some o.0) ∙ w.whole.held;
               chunks = w.whole.chunks;
@@ -403,7 +403,7 @@ module _ (g : List Place) (settings : Settings) (context : BlockContext) (reserv
                 ∙ noted_on tr (event r o.1) (settle settings context.ticket reserved (walk g n (t (value_of o.1))) (client_with begun p holdings)) (trace_at (noted_at s.traces k (event r o.1)) k) (ap (λ (y : TraceState). y.events) row),
           )
 
-  by_move : (n : ℕ) (s : RunState) (m : Move) → IsBeforeMove n s m → IsAfterStep n (said (walk g n) s.position.locals m) s (step_by context reserved m s)
+  by_move : (n : ℕ) (s : RunState) (m : Move) → IsBeforeMove n s m → IsAfterStep n (tree_of_move (walk g n) s.position.locals m) s (step_by context reserved m s)
   by_move n s Ends w = ends_case n s w
   by_move n s (Goes t) w = goes_case n s t w
   by_move n s (Calls r t) w = calls_case n s r t w
@@ -476,7 +476,7 @@ room_again size h j c others gone =
     ⊎_elim (λ (is : h ≡ j). subst (IsOpen size) (sym (gone is)) tt) (λ (other : (h == j) ≡ false). others other) (num_cases h j)
 
 -- once the full chunk went, the client may go on
-pub full_running : (g : List Place) (size k n h : ℕ) (s : RunState) → chunk_at s.holdings h ≡ None → IsFull g size k n h s → IsRunning g size k n s
+pub full_running : (g : List GraphNode) (size k n h : ℕ) (s : RunState) → chunk_at s.holdings h ≡ None → IsFull g size k n h s → IsRunning g size k n s
 full_running g size k n h s gone w =
     held_in_block g k (holding s.holdings) (holding s.holdings) (λ j c. IsSized size c × ((h == j) ≡ false → IsOpen size c)) (λ j c. IsOpen size c) s s.stage n
     s.holdings w.in_block w.in_block.sound w.in_block.held w.in_block.chunks
@@ -502,12 +502,12 @@ resumes b settings ticket begun n most old new stage at few on w done = record {
 }
 
 -- its stage does not matter to its quiet moves
-pub restaged : (g : List Place) (size k n : ℕ) (s : RunState) (stage : Stage) → IsRunning g size k n s
+pub restaged : (g : List GraphNode) (size k n : ℕ) (s : RunState) (stage : Stage) → IsRunning g size k n s
     → IsRunning g size k n (record s { stage = stage })
 restaged g size k n s stage w =
     held_in_block g k (holding s.holdings) (holding s.holdings) (λ h c. IsOpen size c) (λ h c. IsOpen size c) s stage n s.holdings w w.sound w.held w.chunks w.opened
 
-pub settled_at : (g q : List Place) (reserved list : List ℕ) (settings : Settings) (ticket : Ticket) (begun : ℕ) (p : clients.ClientStage) (n : ℕ) (s new : RunState) (stage : Stage)
+pub settled_at : (g q : List GraphNode) (reserved list : List ℕ) (settings : Settings) (ticket : Ticket) (begun : ℕ) (p : clients.ClientStage) (n : ℕ) (s new : RunState) (stage : Stage)
     → g ≡ q → reserved ≡ list
     → HasSettled g settings ticket reserved begun p n (record s { stage = stage }) new
     → HasSettled q settings ticket list begun p n s new

@@ -3,7 +3,7 @@
 use Rattle.std.specs.Prelude.{ℕ, ◌≡◌, ◌<◌, ◌≤◌, ◌+◌, ◌-◌, nat_lt, if◌then◌else◌, List, length, None}
 use Rattle.qs_objects.specs.Journals.{HeldState}
 use Rattle.qs_objects.specs.declared.held.Ticket.{Ticket}
-use Rattle.qs_graph.specs.Nodes.{Place as GraphPlace}
+use Rattle.qs_graph.specs.Nodes.{GraphNode}
 use Rattle.qs_graph.specs.Walk.{Move, Syncs, move}
 use Rattle.qs_syncset.specs.Codes.{BlockCode}
 use Rattle.qs_chunk.specs.declared.parcel.Parcel.TheVariants as parcels
@@ -58,7 +58,7 @@ abbrev pub await_by : Move → RunState → RunState
 await_by (Syncs h t) s = record s { position = t; stage = stages.Awaits h }
 await_by m s = s
 
-abbrev pub await_object : List GraphPlace → RunState → RunState
+abbrev pub await_object : List GraphNode → RunState → RunState
 await_object g s = await_by (move g s.position) s
 
 -- after an End was sent the next handler of so many is left, or the block has ended
@@ -83,7 +83,7 @@ IsSyncing (Syncs h t) = Unit {0}
 IsSyncing m = ⊥
 
 -- what is outgoing left from here: a full chunk is no more among the holdings, and a Sync was given out at a synchronisation
-abbrev pub IsOutgoingAt : List GraphPlace → Outgoing → RunState → Stage → Type 0
+abbrev pub IsOutgoingAt : List GraphNode → Outgoing → RunState → Stage → Type 0
 IsOutgoingAt g outgoings.Value s (stages.Full h) = chunk_at s.holdings h ≡ None
 IsOutgoingAt g (outgoings.Sync h) s stages.Runs = IsSyncing (move g s.position)
 IsOutgoingAt g (outgoings.Sync h) s stage = ⊥

@@ -3,8 +3,8 @@
 -- `query` runs a query on an object that the client holds, `call` puts a command into a chunk, and `clear` sends an object home or a chunk
 -- away before anything else goes to that handler.
 use Rattle.std.specs.Prelude.{ℕ, suc, nat_lt, ℤ, Bool, if◌then◌else◌, ◌==◌, ◌&&◌, is_some, List, [], ◌∷◌, ◌++◌, length, Option, Some, None}
-use Rattle.qs_objects.specs.Journals.{HeldState, ran}
-use Rattle.qs_objects.specs.Parts.{logged}
+use Rattle.qs_objects.specs.Journals.{HeldState, run_one}
+use Rattle.qs_objects.specs.Parts.{command_event}
 use Rattle.qs_objects.specs.declared.held.Event.{Event}
 use Rattle.qs_objects.specs.declared.held.Ticket.{Ticket}
 use Rattle.qs_objects.specs.declared.Request.{Request}
@@ -96,9 +96,9 @@ module _ (settings : Settings) where
   -- all that a client does to its own values up to its next act, in the block of this ticket that reserves these objects
   module _ (ticket : Ticket) (reserved : List ℕ) where
     -- a client leaves its block: these objects are left, in this order
-    abbrev pub leave : Client → List ℕ → Locals → Settlement
-    leave m [] l = stop_at m (between l)
-    leave m (h ∷ hs) l = stop_at m (leaves h hs l)
+    abbrev pub end_block : Client → List ℕ → Locals → Settlement
+    end_block m [] l = stop_at m (between l)
+    end_block m (h ∷ hs) l = stop_at m (leaves h hs l)
 
     -- a command goes into an open chunk where the object is not held; a full chunk goes at once
     abbrev pub call : Client → Request → Synced → (Client → Settlement) → Option HeldState → Option (List Request) → Settlement
@@ -107,18 +107,18 @@ module _ (settings : Settings) where
     call m r next go None (Some rs) =
         let more = rs ++ r ∷ [] in
         let m' = set_chunk m r.object (Some more) in
-        with_event (logged r) (if length more == settings.size then stop_at m' (full r.object next) else go m')
+        with_event (command_event r) (if length more == settings.size then stop_at m' (full r.object next) else go m')
 
     -- a query is run by the client itself on an object that it holds; where it does not hold the object, it waits
     abbrev pub query : Client → Request → (ℤ → Synced) → (ℤ → Client → Settlement) → Option HeldState → Settlement
     query m r next go (Some x) =
-        let o = ran x ticket r in
+        let o = run_one x ticket r in
         with_event (event r o.1) (go (value_of o.1) (set_held m r.object (Some o.0)))
     query m r next go None = stop_at m (runs (Query r next))
 
     -- all quiet work up to the next act; a synchronisation is skipped only where the client tests and holds the object
     abbrev pub settle : Synced → Client → Settlement
-    settle (Done l) m = leave m reserved l
+    settle (Done l) m = end_block m reserved l
     settle (Call r next) m = call m r next (λ m. settle next m) (m.held r.object) (m.chunk r.object)
     settle (Sync h next) m = if settings.dynamic && is_some (m.held h) then settle next m else stop_at m (runs (Sync h next))
     settle (Query r next) m = query m r next (λ v m. settle (next v) m) (m.held r.object)
@@ -141,7 +141,7 @@ module _ (settings : Settings) where
     after_sync m p = stop_at m p
 
     abbrev pub after_end : Client → ClientStage → Settlement
-    after_end m (leaves h hs l) = leave m hs l
+    after_end m (leaves h hs l) = end_block m hs l
     after_end m p = stop_at m p
 
     abbrev pub after_parcel : Client → ℕ → Parcel → Settlement

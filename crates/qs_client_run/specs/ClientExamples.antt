@@ -1,7 +1,7 @@
 -- Acts of clients, computed from their definition.
 use Rattle.std.specs.Prelude.{◌≡◌, ℕ, true, false, [], ◌∷◌, pos}
-use Rattle.qs_objects.specs.Journals.{HeldState, ran}
-use Rattle.qs_objects.specs.Parts.{logged}
+use Rattle.qs_objects.specs.Journals.{HeldState, run_one}
+use Rattle.qs_objects.specs.Parts.{command_event}
 use Rattle.qs_objects.specs.declared.held.Ticket.{Ticket}
 use Rattle.qs_objects.specs.declared.Op.TheVariants.{Deposit, Balance}
 use Rattle.qs_objects.specs.declared.Request.{Request}
@@ -60,7 +60,7 @@ gets s x m = (take_object s (block 0) (0 ∷ []) m x m.stage).client
 
 -- the object after one query, and after two
 abbrev pub after_one_query : HeldState → HeldState
-after_one_query x = (ran x (block 0) (balance 0)).0
+after_one_query x = (run_one x (block 0) (balance 0)).0
 
 abbrev pub after_two_queries : HeldState → HeldState
 after_two_queries x = after_one_query (after_one_query x)
@@ -73,7 +73,7 @@ pub record CommandActs : Type 0 where
   pub fourth : act_of (chunks_of 8) 2 (sends (chunks_of 8) (takes (chunks_of 8) (begins (chunks_of 8) one_deposit))) ≡ Send 0 parcels.End
   pub fifth : act_of (chunks_of 8) 2 (sends (chunks_of 8) (sends (chunks_of 8) (takes (chunks_of 8) (begins (chunks_of 8) one_deposit)))) ≡ Reserve
   pub trace : (take_chunk (chunks_of 8) (block 0) (0 ∷ []) (begins (chunks_of 8) one_deposit) 0 (begins (chunks_of 8) one_deposit).stage).events
-      ≡ logged (deposit 0) ∷ []
+      ≡ command_event (deposit 0) ∷ []
 
 -- two commands, with chunks of 1: a full chunk goes at once, and the second command takes the next one
 pub record FullChunkActs : Type 0 where

@@ -5,7 +5,7 @@ use Rattle.qs_objects.specs.declared.held.Event.{Event}
 use Rattle.qs_objects.specs.declared.held.Ticket.{Ticket}
 use Rattle.qs_objects.specs.declared.Request.{Request}
 use Rattle.qs_program.specs.Values.{Locals}
-use Rattle.qs_graph.specs.Nodes.{Place as GraphPlace}
+use Rattle.qs_graph.specs.Nodes.{GraphNode}
 use Rattle.qs_graph.specs.Steps.{limit}
 use Rattle.qs_graph.specs.Synced.{Synced}
 use Rattle.qs_graph.specs.Walk.{walk}
@@ -35,10 +35,10 @@ stage_by (stages.Full h) reserved rest l = full h rest
 stage_by (stages.Awaits h) reserved rest l = awaits h rest
 stage_by (stages.Leaves i) reserved rest l = leaves (slice_index_or reserved i 0) (drop (suc i) reserved) l
 
-abbrev pub stage_of : List GraphPlace → List ℕ → RunState → ClientStage
+abbrev pub stage_of : List GraphNode → List ℕ → RunState → ClientStage
 stage_of g reserved s = stage_by s.stage reserved (walk g limit s.position) s.position.locals
 
-abbrev pub client_of : List GraphPlace → List ℕ → ℕ → RunState → Client
+abbrev pub client_of : List GraphNode → List ℕ → ℕ → RunState → Client
 client_of g reserved begun s = client_with begun (stage_of g reserved s) s.holdings
 
 -- how far a client has come: the client, and the trace of its block
@@ -54,12 +54,12 @@ abbrev pub progress_through : Settings → Ticket → List ℕ → ℕ → Clien
 progress_through settings ticket reserved begun p tree s =
     progress_after (trace_at s.traces ticket.index).events (settle settings ticket reserved tree (client_with begun p s.holdings))
 
-abbrev pub progress_at : List GraphPlace → List ℕ → ℕ → ℕ → RunState → ClientProgress
+abbrev pub progress_at : List GraphNode → List ℕ → ℕ → ℕ → RunState → ClientProgress
 progress_at g reserved begun k s = record { client = client_of g reserved begun s; trace = (trace_at s.traces k).events }
 
 -- from the old state, n nodes from the block's end at most, a client has come to its next act: it makes no quiet move, and it has done exactly
 -- what `settle` says
-pub record HasSettled (g : List GraphPlace) (settings : Settings) (ticket : Ticket) (reserved : List ℕ) (begun : ℕ) (p : ClientStage) (n : ℕ) (old new : RunState) : Type 0 where
+pub record HasSettled (g : List GraphNode) (settings : Settings) (ticket : Ticket) (reserved : List ℕ) (begun : ℕ) (p : ClientStage) (n : ℕ) (old new : RunState) : Type 0 where
   pub stopped : IsStopped g reserved settings.size ticket.index n new new.stage
   pub rows : KeepsRows ticket.index old.traces new.traces
   pub counts : length new.position.counts ≡ length old.position.counts

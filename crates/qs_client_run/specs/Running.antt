@@ -1,12 +1,12 @@
 -- A client within a block, by what its run keeps: one quiet move, which the code makes by `step`, and what holds of the client at each stage.
--- The rules have the names of `Client.antt` and of the code: `call`, `query`, `sync`, `leave`.
+-- The rules have the names of `Client.antt` and of the code: `call`, `query`, `sync`, `end_block`.
 use Rattle.std.specs.Prelude.{◌≡◌, ◌<◌, ◌≤◌, ℕ, ◌-◌, ◌==◌, ℤ, Bool, true, false, not, ◌&&◌, if◌then◌else◌, is_some, List, [], ◌∷◌, ◌++◌, length, Option, Some, None}
-use Rattle.qs_objects.specs.Journals.{HeldState, ran}
-use Rattle.qs_objects.specs.Parts.{logged}
+use Rattle.qs_objects.specs.Journals.{HeldState, run_one}
+use Rattle.qs_objects.specs.Parts.{command_event}
 use Rattle.qs_objects.specs.declared.held.Ticket.{Ticket}
 use Rattle.qs_objects.specs.declared.Request.{Request}
 use Rattle.qs_meaning.specs.Solo.{event, put, value_of}
-use Rattle.qs_graph.specs.Nodes.{Place}
+use Rattle.qs_graph.specs.Nodes.{GraphNode}
 use Rattle.qs_graph.specs.Steps.{limit}
 use Rattle.qs_graph.specs.Synced.{Synced, Done, Call, Sync, Query}
 use Rattle.qs_graph.specs.Walk.{Spot, Move, Ends, Goes, Calls, Syncs, Queries, move, walk, Within}
@@ -32,7 +32,7 @@ fill k r t s b =
     let new : RunState = record {
       position = t;
       holdings = with_chunk s.holdings r.object (Some more);
-      traces = noted_at s.traces k (logged r);
+      traces = noted_at s.traces k (command_event r);
       stage = if is_full then stages.Full r.object else s.stage;
     } in
     (new, not is_full)
@@ -49,7 +49,7 @@ call k r t s = call_by k r t s (held_at s.holdings r.object) (chunk_at s.holding
 abbrev pub query_by : Ticket → Request → (ℤ → Spot) → RunState → Option HeldState → RunState × Bool
 query_by u r t s None = (s, false)
 query_by u r t s (Some x) =
-    let o = ran x u r in
+    let o = run_one x u r in
     let new : RunState = record {
       position = t (value_of o.1);
       holdings = with_held s.holdings r.object (Some o.0);
@@ -70,18 +70,18 @@ abbrev pub stage_at_end : List ℕ → Stage
 stage_at_end [] = stages.Between
 stage_at_end (h ∷ hs) = stages.Leaves 0
 
-abbrev pub leave : List ℕ → RunState → RunState × Bool
-leave reserved s = (record s { stage = stage_at_end reserved }, false)
+abbrev pub end_block : List ℕ → RunState → RunState × Bool
+end_block reserved s = (record s { stage = stage_at_end reserved }, false)
 
 abbrev pub step_by : BlockContext → List ℕ → Move → RunState → RunState × Bool
-step_by context reserved Ends s = leave reserved s
+step_by context reserved Ends s = end_block reserved s
 step_by context reserved (Goes t) s = (go_to s t, true)
 step_by context reserved (Calls r t) s = call context.ticket.index r t s
 step_by context reserved (Syncs h t) s = sync context.dynamic h t s
 step_by context reserved (Queries r t) s = query context.ticket r t s
 
 -- one quiet move, and whether another may follow
-abbrev pub step : List Place → BlockContext → List ℕ → RunState → RunState × Bool
+abbrev pub step : List GraphNode → BlockContext → List ℕ → RunState → RunState × Bool
 step g context reserved s = step_by context reserved (move g s.position) s
 
 -- each path, whatever the replies, makes at most n requests
@@ -98,7 +98,7 @@ IsOpen size (Some b) = (b.capacity ≡ size) × (length b.items < size)
 
 -- what holds of a client within a block, at most n nodes from its end: the rest of the block may rely on these objects as held, and this holds
 -- of the open chunk of each handler
-pub record IsInBlock (g : List Place) (k n : ℕ) (relied : ℕ → Bool) (IsChunk : ℕ → Option (Batch Request) → Type 0) (s : RunState) : Type 0 where
+pub record IsInBlock (g : List GraphNode) (k n : ℕ) (relied : ℕ → Bool) (IsChunk : ℕ → Option (Batch Request) → Type 0) (s : RunState) : Type 0 where
   pub few : n ≤ limit
   pub within : Within g n s.position
   pub counted : length g ≤ length s.position.counts
@@ -111,7 +111,7 @@ pub record IsInBlock (g : List Place) (k n : ℕ) (relied : ℕ → Bool) (IsChu
   pub opened : (h : ℕ) → IsChunk h (chunk_at s.holdings h)
 
 -- a client that goes on by itself: each open chunk has room
-abbrev pub IsRunning : List Place → ℕ → ℕ → ℕ → RunState → Type 0
+abbrev pub IsRunning : List GraphNode → ℕ → ℕ → ℕ → RunState → Type 0
 IsRunning g size k n s = IsInBlock g k n (holding s.holdings) (λ h c. IsOpen size c) s
 
 -- an open chunk has the size of all chunks
@@ -126,23 +126,23 @@ IsLoud (Syncs h t) = Unit {0}
 IsLoud m = ⊥
 
 -- a client with a full chunk for handler h, or which has just given that chunk out: each other chunk has room
-pub record IsFull (g : List Place) (size k n h : ℕ) (s : RunState) : Type 0 where
+pub record IsFull (g : List GraphNode) (size k n h : ℕ) (s : RunState) : Type 0 where
   pub handler : h < most_handlers
   pub in_block : IsInBlock g k n (holding s.holdings) (λ j c. IsSized size c × ((h == j) ≡ false → IsOpen size c)) s
 
 -- a client that waits for the object of handler h, on which the rest of the block may rely as held
-pub record IsAwaiting (g : List Place) (size k n h : ℕ) (s : RunState) : Type 0 where
+pub record IsAwaiting (g : List GraphNode) (size k n h : ℕ) (s : RunState) : Type 0 where
   pub handler : h < most_handlers
   pub in_block : IsInBlock g k n (put (holding s.holdings) h true) (λ j c. IsOpen size c) s
 
 -- a client at the end of its block
-pub record IsOver (g : List Place) (size : ℕ) (s : RunState) : Type 0 where
+pub record IsOver (g : List GraphNode) (size : ℕ) (s : RunState) : Type 0 where
   pub held : length s.holdings.held ≡ most_handlers
   pub chunks : length s.holdings.chunks ≡ most_handlers
   pub opened : (h : ℕ) → IsOpen size (chunk_at s.holdings h)
 
 -- a client that makes no quiet move at its stage, at most `most` nodes from its block's end
-abbrev pub IsStopped : List Place → List ℕ → ℕ → ℕ → ℕ → RunState → Stage → Type 0
+abbrev pub IsStopped : List GraphNode → List ℕ → ℕ → ℕ → ℕ → RunState → Stage → Type 0
 IsStopped g reserved size k most s stages.Runs = (n : ℕ) × (n ≤ most) × IsRunning g size k n s × IsLoud (move g s.position)
 IsStopped g reserved size k most s (stages.Full h) = (n : ℕ) × (n ≤ most) × IsFull g size k n h s
 IsStopped g reserved size k most s (stages.Awaits h) = ⊥

@@ -2,7 +2,7 @@
 
 ghost use Rattle.std.specs.Prelude.{◌≡◌, ◌<◌, ◌≤◌, length};
 ghost use Rattle.qs_program.specs.Values.{request_of};
-ghost use Rattle.qs_graph.specs.Walk.{acted, at_node, chosen, with_value};
+ghost use Rattle.qs_graph.specs.Walk.{after_local, at_node, after_branch, with_value};
 ghost use Rattle.qs_client_run.specs.Restart.{restart};
 
 use qs_graph::{Action, Choice, bound};
@@ -99,7 +99,7 @@ impl Position {
     /// What a local node does, and on to the next.
     pub fn act(&mut self, action: Action, next: usize)
         requires counted { next < length self.old.counts }
-        ensures acted { self.new ≡ acted action self.old next }
+        ensures acted { self.new ≡ after_local action self.old next }
     {
         match action {
             Action::Assign(variable, expr) => {
@@ -117,7 +117,7 @@ impl Position {
     /// By a branch to one of two nodes.
     pub fn choose(&mut self, choice: Choice, first: usize, second: usize)
         requires counted { self.old.node < length self.old.counts }
-        ensures chosen { self.new ≡ chosen choice self.old first second }
+        ensures chosen { self.new ≡ after_branch choice self.old first second }
     {
         match choice {
             Choice::If(test) => {

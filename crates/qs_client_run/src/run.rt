@@ -4,7 +4,7 @@ ghost use Rattle.std.specs.Prelude.{◌≡◌, ◌<◌, ◌≤◌, ℕ, IsSome, 
 ghost use Rattle.qs_program.specs.Values.{request_of};
 ghost use Rattle.qs_graph.specs.Walk.{at_node, with_value};
 ghost use Rattle.qs_client_run.specs.Holdings.{chunk_at, held_at};
-ghost use Rattle.qs_client_run.specs.Running.{IsOpen, IsRunning, query, call, leave, step, sync};
+ghost use Rattle.qs_client_run.specs.Running.{IsOpen, IsRunning, query, call, end_block, step, sync};
 ghost use Rattle.qs_objects.specs.Traces.{AreEmptyAfter, trace_at};
 ghost use Rattle.qs_program.specs.Limits.{most_handlers, most_objects};
 ghost use Rattle.qs_client_run.specs.Client.{Settings, ClientStage};
@@ -173,8 +173,8 @@ impl Run {
     }
 
     // The end of the block.
-    fn leave(&mut self, reserved: &[u8])
-        ensures new { self.new ≡ (leave reserved.now self.old).0 }
+    fn end_block(&mut self, reserved: &[u8])
+        ensures new { self.new ≡ (end_block reserved.now self.old).0 }
     {
         self.stage = if reserved.is_empty() {
             Stage::Between
@@ -201,7 +201,7 @@ impl Run {
             }
             Node::Sync(name) => self.sync(context.dynamic, bound(*name), next),
             Node::Exit => {
-                self.leave(reserved);
+                self.end_block(reserved);
                 false
             }
             Node::Entry => {

@@ -6,7 +6,7 @@ use Rattle.qs_program.specs.Program.{ProgramShape, blocks_of}
 use Rattle.qs_program.specs.Values.{Locals}
 use Rattle.qs_meaning.specs.Following.{reserves, block_tree}
 use Rattle.qs_meaning.proofs.SoundTrees.{blocks_ask_only}
-use Rattle.qs_graph.specs.Synced.{erased}
+use Rattle.qs_graph.specs.Synced.{without_syncs}
 use Rattle.qs_syncset.specs.Codes.{ClientCode, code_at}
 use Rattle.qs_syncset.specs.SoundSynced.{IsSoundSynced, IsOnReserved}
 use Rattle.qs_syncset.proofs.CodeWalks.{walks_are_sound}
@@ -19,8 +19,8 @@ use Rattle.qs_client.specs.ClientRuns.{Deed, reservations, sent_to}
 use Rattle.qs_client.specs.ClientModel.{ClientModel, finish, fresh_mind, next_act, tree_at}
 use Rattle.qs_client.proofs.LaneSends.{client_lane_laws}
 use Rattle.qs_desk.specs.Tickets.{ticket}
-use Rattle.qs_protocol.proofs.ClientInvariants.{listed}
-use Rattle.qs_protocol.proofs.ClientTales.{InTale, in_tale, reserves_between}
+use Rattle.qs_protocol.proofs.ClientInvariants.{objects_of_block}
+use Rattle.qs_protocol.proofs.ClientHistories.{InClientHistory, in_tale, reserves_between}
 use Rattle.qs_protocol.proofs.DeedLanes.{stands_along}
 use Rattle.qs_protocol.proofs.ReservedActs.{await_reserved, need_reserved, send_reserved}
 use Rattle.qs_protocol.proofs.ReservedLists.{lined}
@@ -31,12 +31,12 @@ module _ (p : ProgramShape) (c : ℕ) (code : ClientCode) (size : ℕ) (deeds : 
   inside : (k : ℕ) → k < length code.blocks → k < blocks_of p c
   inside k few = let n = run.of.count in omega (arith, few, n)
 
-  own_list : (k : ℕ) → k < length code.blocks → (code_at code k).reserved ≡ listed p (ticket c k)
+  own_list : (k : ℕ) → k < length code.blocks → (code_at code k).reserved ≡ objects_of_block p (ticket c k)
   own_list k few = (run.of.blocks k (inside k few)).reserved
 
   own_walk : (k : ℕ) (l : Locals) → k < length code.blocks
-      → (erased (tree_at code k l) ≡ block_tree p (ticket c k) l) × IsSoundSynced (λ h. false) (tree_at code k l)
-      × IsOnReserved (listed p (ticket c k)) (tree_at code k l)
+      → (without_syncs (tree_at code k l) ≡ block_tree p (ticket c k) l) × IsSoundSynced (λ h. false) (tree_at code k l)
+      × IsOnReserved (objects_of_block p (ticket c k)) (tree_at code k l)
   own_walk k l few =
       let counts : List ℕ = replicate (longest code.blocks) 0 in
       let long : length counts ≡ longest code.blocks = length-replicate (longest code.blocks) 0 in
@@ -44,7 +44,7 @@ module _ (p : ProgramShape) (c : ℕ) (code : ClientCode) (size : ℕ) (deeds : 
       (w.tree, w.sound, w.reserved)
 
   -- what it did so far, block by block
-  tale : InTale p (blocks_ask_only p run.sound) (lined p run.sound) c code size own_list own_walk deeds (finish m)
+  tale : InClientHistory p (blocks_ask_only p run.sound) (lined p run.sound) c code size own_list own_walk deeds (finish m)
   tale = in_tale p (blocks_ask_only p run.sound) (lined p run.sound) c code size own_list own_walk deeds m run.lead
 
   abbrev IsOwn : ℕ → Type 0

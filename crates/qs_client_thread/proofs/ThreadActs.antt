@@ -56,18 +56,18 @@ share_path s c n a b = λ i. record { client = a i; count = b i }
 
 module _ (p : ProgramShape) (c : ℕ) (first : ClientModel) (start : List (Option OutView)) where
   -- what the thread has done so far, whatever it was
-  abbrev pub Kept : ClientModel → ShareView → List (Option OutView) → Type 0
-  Kept m share lanes = (done : List Deed) × DeedsLead c first done m × AreDone c start done share lanes
+  abbrev pub HasDeeds : ClientModel → ShareView → List (Option OutView) → Type 0
+  HasDeeds m share lanes = (done : List Deed) × DeedsLead c first done m × AreDone c start done share lanes
 
   -- before its first block
-  pub begins : (share : ShareView) → share.client ≡ c → share.count ≡ 0 → ((h : ℕ) → IsFresh first.size (lane_at start h)) → Kept first share start
+  pub begins : (share : ShareView) → share.client ≡ c → share.count ≡ 0 → ((h : ℕ) → IsFresh first.size (lane_at start h)) → HasDeeds first share start
   begins share client none fresh =
       ([], refl, record { booked = share_path share c 0 client none; ends = λ h. nothing_done first.size h (lane_at start h) (fresh h) })
 
   module _ (sound : IsSound p) (code : (mode : Mode) × IsCodeOf p mode c first.code) (at_first : first ≡ fresh_mind first.code first.size)
       (fresh : (h : ℕ) → IsFresh first.size (lane_at start h))
       (reached : (k h : ℕ) → k < blocks_of p c → reserves p (ticket c k) h ≡ true → IsSome (lane_at start h))
-      (m n : ClientModel) (share : ShareView) (lanes : List (Option OutView)) (kept : Kept m share lanes) (at : n ≡ next_mind m) where
+      (m n : ClientModel) (share : ShareView) (lanes : List (Option OutView)) (kept : HasDeeds m share lanes) (at : n ≡ next_mind m) where
     mid : IsMidRun p c first.code first.size kept.0 m
     mid = record { sound = sound; mode = code.0; of = code.1; lead = subst (λ (x : ClientModel). DeedsLead c x kept.0 m) at_first kept.1 }
 
@@ -94,7 +94,7 @@ module _ (p : ProgramShape) (c : ℕ) (first : ClientModel) (start : List (Optio
         ∙ (ap (λ act. (hands_out (finish m) act).client.begun) (sym is) ∙ ap (λ (n : ClientModel). n.client.begun) (sym at)))
 
     pub kept_by_ticket : (m' : ClientModel) (t : Ticket) (share' : ShareView) → next_act m ≡ acts.Reserve → t ≡ ticket share.client share.count
-        → share' ≡ record share { count = share.count + 1 } → m' ≡ mind_after_begin n t → Kept m' share' lanes
+        → share' ≡ record share { count = share.count + 1 } → m' ≡ mind_after_begin n t → HasDeeds m' share' lanes
     kept_by_ticket m' t share' is ticket_is share_is books =
         let d = deeds.reserves in
         let mine : t ≡ next_ticket c n =
@@ -127,7 +127,7 @@ module _ (p : ProgramShape) (c : ℕ) (first : ClientModel) (start : List (Optio
 
     pub kept_by_parcel : (h : ℕ) (parcel : Parcel) (lanes' : List (Option OutView)) → next_act m ≡ acts.Send h parcel
         → ((lane : OutView) → lane_at lanes h ≡ Some lane → lanes' ≡ slice_set lanes h (Some (record lane { sent = lane.sent ++ parcel ∷ [] })))
-        → Kept n share lanes'
+        → HasDeeds n share lanes'
     kept_by_parcel h parcel lanes' is did =
         let d = deeds.sends h parcel in
         let found = some_lane (lane_at lanes h) (reaches h (acts.Send h parcel) is refl).1 in
@@ -150,7 +150,7 @@ module _ (p : ProgramShape) (c : ℕ) (first : ClientModel) (start : List (Optio
 
     pub kept_by_object : (m' : ClientModel) (h : ℕ) (x : HeldState) (lanes' : List (Option OutView)) → next_act m ≡ acts.Await h → m' ≡ mind_after_object n x
         → ((lane : OutView) → lane_at lanes h ≡ Some lane → lanes' ≡ slice_set lanes h (Some (record lane { got = lane.got ++ x ∷ [] })))
-        → Kept m' share lanes'
+        → HasDeeds m' share lanes'
     kept_by_object m' h x lanes' is gets did =
         let d = deeds.gets h x in
         let found = some_lane (lane_at lanes h) (reaches h (acts.Await h) is refl).1 in
@@ -186,7 +186,7 @@ module _ (p : ProgramShape) (c : ℕ) (first : ClientModel) (start : List (Optio
         ((shows h found.0 found.1).0 ∙ (sym (size_is p c first.code first.size kept.0 m mid) ∙ ap (λ (n : ClientModel). n.size) (sym at)))
 
     pub kept_by_chunk : (m' : ClientModel) (h : ℕ) (chunk : Batch Request) (lanes' : List (Option OutView)) → next_act m ≡ acts.NeedChunk h
-        → m' ≡ mind_after_chunk n h → Took h chunk lanes' → Kept m' share lanes'
+        → m' ≡ mind_after_chunk n h → Took h chunk lanes' → HasDeeds m' share lanes'
     kept_by_chunk m' h chunk lanes' is takes took =
         let d = deeds.takes_chunk h in
         let found = some_lane (lane_at lanes h) (reaches h (acts.NeedChunk h) is refl).1 in

@@ -12,7 +12,7 @@ ghost use Rattle.qs_meaning.specs.Following.{reserves};
 ghost use Rattle.qs_syncset.specs.Codes.{IsCodeOf};
 ghost use Rattle.qs_syncset.specs.declared.mode.Mode.{Mode};
 
-use crate::ends::{Lanes, empty, get, send};
+use crate::client_lanes::{Lanes, empty, get, send};
 use qs_client::{Act, Mind};
 use qs_desk::{DeskName, Front, Share};
 use std::sync::Wait;

@@ -23,7 +23,7 @@ use Rattle.qs_client_run.proofs.HoldingsAsFunctions.{put_same, put_set_at}
 use Rattle.qs_client_run.specs.ClientLaws.{SendsAreParted}
 use Rattle.qs_client_run.specs.declared.act.Act.TheVariants as acts
 use Rattle.qs_played.specs.declared.schedule.actor.Actor.TheVariants as actor
-use Rattle.qs_core_laws.specs.Core.{Core, core_step, current, settled, lies}
+use Rattle.qs_core_laws.specs.Core.{Core, core_step, current, after_act, lies}
 use Rattle.qs_core_parts.specs.CoreClients.{lane_step, turns_to}
 use Rattle.qs_core_parts.specs.LaneStates.{LaneState, lane_at, with_down}
 use Rattle.qs_core_parts.specs.LaneStates as lanes
@@ -92,7 +92,7 @@ module _ (order : List Ticket) (sides : ℕ → Side) (handler : ℕ → Handler
         → in_lanes (λ (k : LaneState). k.down) (put sides c (side_with n l)) ≡ down
         → in_lanes (λ (k : LaneState). k.up) (put sides c (side_with n l)) ≡ up
         → in_lanes (λ (k : LaneState). length k.spare) (put sides c (side_with n l)) ≡ spare
-        → settled code own.size (between syncs tallies down up spare) c now r ≡ after n l
+        → after_act code own.size (between syncs tallies down up spare) c now r ≡ after n l
     comes r n l syncs tallies down up spare client_is traces_are entries_are syncs_are tallies_are down_is up_is spare_is = λ k. record {
       order = order;
       client = (ap (put before.client c) (sym client_is) ∙ sym (field_put (λ (s : Side). s.mind.client) sides c v)) k;
@@ -213,30 +213,30 @@ module _ (order : List Ticket) (sides : ℕ → Side) (handler : ℕ → Handler
     handler_or_none (Some n) = n
 
     module _ (parted : SendsAreParted) where
-      abbrev stepped : Act → Type 0
-      stepped act = core_step code own.size before (actor.Client c) ≡ result_of (lane_step own act lane)
+      abbrev IsStepOf : Act → Type 0
+      IsStepOf act = core_step code own.size before (actor.Client c) ≡ result_of (lane_step own act lane)
 
-      sent_or_not : (p : Parcel) (room : Bool) → nat_lt (length lane.down) lane_room ≡ room → act_due own ≡ acts.Send h p → stepped (acts.Send h p)
+      sent_or_not : (p : Parcel) (room : Bool) → nat_lt (length lane.down) lane_room ≡ room → act_due own ≡ acts.Send h p → IsStepOf (acts.Send h p)
       sent_or_not p true e asked = sends_steps parted p asked e ∙ sym (rw e refl)
       sent_or_not p false e asked = sends_stay parted p asked e ∙ sym (rw e refl)
 
-      got_or_not : (o : Option HeldState) → lane.up ≡ o → act_due own ≡ acts.Await h → stepped (acts.Await h)
+      got_or_not : (o : Option HeldState) → lane.up ≡ o → act_due own ≡ acts.Await h → IsStepOf (acts.Await h)
       got_or_not (Some x) e asked = gets_steps asked x e ∙ sym (rw e refl)
       got_or_not None e asked = gets_stay asked e ∙ sym (rw e refl)
 
-      taken_or_not : (bs : List (Batch Request)) → lane.spare ≡ bs → act_due own ≡ acts.NeedChunk h → stepped (acts.NeedChunk h)
+      taken_or_not : (bs : List (Batch Request)) → lane.spare ≡ bs → act_due own ≡ acts.NeedChunk h → IsStepOf (acts.NeedChunk h)
       taken_or_not (b ∷ bs) e asked = takes_steps asked b bs e ∙ sym (rw e refl)
       taken_or_not [] e asked = takes_stay asked e ∙ sym (rw e refl)
 
-      pub at_lane : (act : Act) → act_due own ≡ act → turns_to act ≡ Some h → stepped act
+      pub at_lane : (act : Act) → act_due own ≡ act → turns_to act ≡ Some h → IsStepOf act
       at_lane acts.Reserve asked e = cc
       at_lane (acts.Send g p) asked e =
           let same : g ≡ h = ap handler_or_none e in
-          subst (λ n. stepped (acts.Send n p)) (sym same) (sent_or_not p (nat_lt (length lane.down) lane_room) refl (asked ∙ ap (λ n. acts.Send n p) same))
+          subst (λ n. IsStepOf (acts.Send n p)) (sym same) (sent_or_not p (nat_lt (length lane.down) lane_room) refl (asked ∙ ap (λ n. acts.Send n p) same))
       at_lane (acts.Await g) asked e =
           let same : g ≡ h = ap handler_or_none e in
-          subst (λ n. stepped (acts.Await n)) (sym same) (got_or_not lane.up refl (asked ∙ ap acts.Await same))
+          subst (λ n. IsStepOf (acts.Await n)) (sym same) (got_or_not lane.up refl (asked ∙ ap acts.Await same))
       at_lane (acts.NeedChunk g) asked e =
           let same : g ≡ h = ap handler_or_none e in
-          subst (λ n. stepped (acts.NeedChunk n)) (sym same) (taken_or_not lane.spare refl (asked ∙ ap acts.NeedChunk same))
+          subst (λ n. IsStepOf (acts.NeedChunk n)) (sym same) (taken_or_not lane.spare refl (asked ∙ ap acts.NeedChunk same))
       at_lane acts.Finished asked e = cc

@@ -17,8 +17,8 @@ use Rattle.qs_program.proofs.Bounds.{sound_block}
 use Rattle.qs_graph.specs.Synced.{Done, Call, Sync, Query}
 use Rattle.qs_syncset.specs.Codes.{ClientCode, IsCodeOf, code_at}
 use Rattle.qs_chunk.specs.declared.parcel.Parcel.TheVariants as parcels
-use Rattle.qs_handler.specs.Handler.{Handler, act_of, taken, serving}
-use Rattle.qs_handler.proofs.Turns.{acts_lose_nothing}
+use Rattle.qs_handler.specs.Handler.{Handler, act_of, accept_next, serving}
+use Rattle.qs_handler.proofs.HandlerActs.{acts_lose_nothing}
 use Rattle.qs_handler.specs.declared.mind.Act.TheVariants as acts
 use Rattle.qs_client_run.specs.Client.{ClientStage, act_at, between, runs, full, awaits, leaves, call_act, clear}
 use Rattle.qs_client.specs.ClientModel.{ClientModel, act_due, mind_after_begin, mind_after_begin_with, locals_at, settings_of}
@@ -32,7 +32,7 @@ use Rattle.qs_core_laws.specs.Core.{AreCodes, Core, core_step}
 use Rattle.qs_core_laws.specs.CoreReached.{CoreStands, IsBegun, ReachedCore}
 use Rattle.qs_core_laws.specs.CoreSchedule.{before_it}
 use Rattle.qs_core_parts.specs.CoreClients.{AreStocked, CoreClientState, IsCoreClient, whole_of}
-use Rattle.qs_core_parts.specs.CoreHandlers.{CanEnterAll, CoreHandlerState, IsCoreHandler, TakesTicket, entered_all, handler_of, no_seat, seat_at}
+use Rattle.qs_core_parts.specs.CoreHandlers.{CanEnterAll, CoreHandlerState, IsCoreHandler, TakesTicket, with_ticket_at_all, handler_of, no_core_handler, core_handler_at}
 use Rattle.qs_core_parts.specs.LaneStates.{IsStocked}
 use Rattle.qs_core_parts.proofs.CoreMinds.{whole_mind}
 use Rattle.qs_core_parts.proofs.ClientModels.{IsSeatOf}
@@ -141,8 +141,8 @@ module _ (s : CoreState) (kept : IsCoreState s) (sound : IsSound s.program) (kee
   block_sound : IsSoundBlock s.program.objects (block_at s.program c own.client.begun)
   block_sound = sound_block s.program c own.client.begun sound in_program in_blocks
 
-  pub in_hall : AllByRecursion (λ h. h < length s.handlers) list
-  in_hall = subst (λ n. AllByRecursion (λ h. h < n) list) (sym kept.handlers) block_sound.reserved
+  pub handlers_exist : AllByRecursion (λ h. h < length s.handlers) list
+  handlers_exist = subst (λ n. AllByRecursion (λ h. h < n) list) (sym kept.handlers) block_sound.reserved
 
   -- the machine after the step
   abbrev next : Core
@@ -198,19 +198,19 @@ module _ (s : CoreState) (kept : IsCoreState s) (sound : IsSound s.program) (kee
       omega (arith, all, length-append (serving (handler_at s.program s.handlers h)) (tickets_at s.handlers h ++ ticket c host.client.begun ∷ []), length-append (tickets_at s.handlers h) (ticket c host.client.begun ∷ []))
 
   pub can_enter_all : CanEnterAll now s.handlers list
-  can_enter_all = can_enter now s.handlers list block_sound.distinct (members list (λ h. (h < length s.handlers) × (length (seat_at s.handlers h).tickets < (seat_at s.handlers h).room)) (λ h member.
-      let less : h < length s.handlers = member_of list h member in_hall in
+  can_enter_all = can_enter now s.handlers list block_sound.distinct (members list (λ h. (h < length s.handlers) × (length (core_handler_at s.handlers h).tickets < (core_handler_at s.handlers h).room)) (λ h member.
+      let less : h < length s.handlers = member_of list h member handlers_exist in
       (less, room_at h less member)))
     where
-      room_at : (h : ℕ) → h < length s.handlers → is_in list h ≡ true → length (seat_at s.handlers h).tickets < (seat_at s.handlers h).room
+      room_at : (h : ℕ) → h < length s.handlers → is_in list h ≡ true → length (core_handler_at s.handlers h).tickets < (core_handler_at s.handlers h).room
       room_at h less member =
-          let queue : tickets_at s.handlers h ≡ (seat_at s.handlers h).tickets = map_here (λ (x : CoreHandlerState). x.tickets) s.handlers h no_seat [] less in
-          let roomy : all_blocks s.program ≤ (seat_at s.handlers h).room = AllByRecursion-get_or (λ (x : CoreHandlerState). all_blocks s.program ≤ x.room) s.handlers h no_seat kept.rooms less in
+          let queue : tickets_at s.handlers h ≡ (core_handler_at s.handlers h).tickets = map_here (λ (x : CoreHandlerState). x.tickets) s.handlers h no_core_handler [] less in
+          let roomy : all_blocks s.program ≤ (core_handler_at s.handlers h).room = AllByRecursion-get_or (λ (x : CoreHandlerState). all_blocks s.program ≤ x.room) s.handlers h no_core_handler kept.rooms less in
           omega (arith, longer h member, ap length queue, roomy)
 
   module _ (new : CoreClientState) (came : IsSeatOf (mind_after_begin own now) new) (lanes_stay : new.lanes ≡ old.lanes) where
     abbrev pub booked_after : CoreState
-    booked_after = record { program = s.program; size = s.size; order = s.order ++ now ∷ []; clients = set s.clients c new; handlers = entered_all now s.handlers list }
+    booked_after = record { program = s.program; size = s.size; order = s.order ++ now ∷ []; clients = set s.clients c new; handlers = with_ticket_at_all now s.handlers list }
 
     place_is : own.client.stage ≡ between room.0
     place_is = subst (λ (m : ClientModel). m.client.stage ≡ between room.0) host_is room.1
@@ -229,11 +229,11 @@ module _ (s : CoreState) (kept : IsCoreState s) (sound : IsSound s.program) (kee
         }))
         ∙ sym (side_put s.clients c new inside)
 
-    tickets_then : next.tickets ≡ tickets_at (entered_all now s.handlers list)
+    tickets_then : next.tickets ≡ tickets_at (with_ticket_at_all now s.handlers list)
     tickets_then = fun_ext (λ h.
         (λ i. if is_in (code_at host.code (host_is i).client.begun).reserved h then tickets_at s.handlers h ++ now_is i ∷ [] else tickets_at s.handlers h)
         ∙ (λ i. if is_in (list_is i) h then tickets_at s.handlers h ++ now ∷ [] else tickets_at s.handlers h)
-        ∙ sym (tickets_entered now s.handlers list block_sound.distinct in_hall h))
+        ∙ sym (tickets_entered now s.handlers list block_sound.distinct handlers_exist h))
 
     codes_then : codes_of booked_after ≡ codes_of s
     codes_then =
@@ -243,7 +243,7 @@ module _ (s : CoreState) (kept : IsCoreState s) (sound : IsSound s.program) (kee
     pub reserve_steps : CoreSteps s (actor.Client c) booked_after
     unfolding core_of
     reserve_steps = record {
-      steps = stepped ∙ (λ i. Some (core_from (s.order ++ now_is i ∷ []) (sides_then i) (sym (handlers_entered now s.program s.handlers list in_hall) i) (tickets_then i)));
+      steps = stepped ∙ (λ i. Some (core_from (s.order ++ now_is i ∷ []) (sides_then i) (sym (handlers_entered now s.program s.handlers list handlers_exist) i) (tickets_then i)));
       program = refl;
       size = refl;
       codes = codes_then;
@@ -268,7 +268,7 @@ module _ (s : CoreState) (kept : IsCoreState s) (sound : IsSound s.program) (kee
       stocked = all_set AreStocked s.clients c new
           (subst (λ (m : ClientModel). AllByRecursion (IsStocked m.size) new.lanes) (sym new_is) (subst (AllByRecursion (IsStocked own.size)) (sym lanes_stay) stocked))
           kept.stocked;
-      rooms = rooms_entered now (all_blocks s.program) s.handlers list in_hall kept.rooms;
+      rooms = rooms_entered now (all_blocks s.program) s.handlers list handlers_exist kept.rooms;
       mode = kept.mode;
       codes = subst (AreCodes s.program kept.mode) (sym codes_then) kept.codes;
     }
@@ -295,7 +295,7 @@ module _ (s : CoreState) (kept : IsCoreState s) (h : ℕ) (inside : h < length s
     ticket_steps = record {
       steps =
           handlers.ticket_steps (codes_of s) s.size s.order (side_at s.clients) (handler_at s.program s.handlers) (tickets_at s.handlers) h takes.0 takes.1 takes.2
-          wants_ticket (queue ∙ takes.3) (ap (λ (x : Handler). taken x (nexts.Ticket takes.0)) here ∙ takes.4)
+          wants_ticket (queue ∙ takes.3) (ap (λ (x : Handler). accept_next x (nexts.Ticket takes.0)) here ∙ takes.4)
           ∙ (λ i. Some (core_from s.order (side_at s.clients) (handlers_then i) (tickets_then i)));
       program = refl;
       size = refl;

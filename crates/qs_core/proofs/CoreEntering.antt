@@ -10,27 +10,27 @@ use Rattle.qs_meaning.specs.Solo.{put}
 use Rattle.qs_program.specs.Sound.{is_in}
 use Rattle.qs_client_run.proofs.HoldingsAsFunctions.{put_same}
 use Rattle.qs_played.proofs.Lists.{sum_by-range_more}
-use Rattle.qs_core_parts.specs.CoreHandlers.{CanEnterAll, CoreHandlerState, entered, entered_all, entered_at, handler_of, no_seat, seat_at}
+use Rattle.qs_core_parts.specs.CoreHandlers.{CanEnterAll, CoreHandlerState, with_ticket, with_ticket_at_all, with_ticket_at, handler_of, no_core_handler, core_handler_at}
 use Rattle.qs_core.specs.CoreState.{handler_at, tickets_at}
 use Rattle.qs_core.proofs.CoreLists.{all_set, handler_put, map_here, tickets_put_at}
 
 module _ (t : Ticket) where
-  pub length_entered : (hs : List CoreHandlerState) (rs : List ℕ) → length (entered_all t hs rs) ≡ length hs
+  pub length_entered : (hs : List CoreHandlerState) (rs : List ℕ) → length (with_ticket_at_all t hs rs) ≡ length hs
   length_entered hs [] = refl
-  length_entered hs (h ∷ rest) = length_entered (entered_at t hs h) rest ∙ length-set hs h (entered t (seat_at hs h))
+  length_entered hs (h ∷ rest) = length_entered (with_ticket_at t hs h) rest ∙ length-set hs h (with_ticket t (core_handler_at hs h))
 
   -- the handlers' minds stay
-  pub handlers_entered : (p : ProgramShape) (hs : List CoreHandlerState) (rs : List ℕ) → AllByRecursion (λ h. h < length hs) rs → handler_at p (entered_all t hs rs) ≡ handler_at p hs
+  pub handlers_entered : (p : ProgramShape) (hs : List CoreHandlerState) (rs : List ℕ) → AllByRecursion (λ h. h < length hs) rs → handler_at p (with_ticket_at_all t hs rs) ≡ handler_at p hs
   handlers_entered p hs [] inside = refl
   handlers_entered p hs (h ∷ rest) inside =
-      handlers_entered p (entered_at t hs h) rest (subst (λ n. AllByRecursion (λ k. k < n) rest) (sym (length-set hs h (entered t (seat_at hs h)))) inside.1)
-      ∙ handler_put p hs h (entered t (seat_at hs h)) inside.0
-      ∙ put_same (handler_at p hs) h (handler_of (entered t (seat_at hs h))) (map_here handler_of hs h no_seat _ inside.0)
+      handlers_entered p (with_ticket_at t hs h) rest (subst (λ n. AllByRecursion (λ k. k < n) rest) (sym (length-set hs h (with_ticket t (core_handler_at hs h)))) inside.1)
+      ∙ handler_put p hs h (with_ticket t (core_handler_at hs h)) inside.0
+      ∙ put_same (handler_at p hs) h (handler_of (with_ticket t (core_handler_at hs h))) (map_here handler_of hs h no_core_handler _ inside.0)
 
-  one_entered : (hs : List CoreHandlerState) (h : ℕ) → h < length hs → tickets_at (entered_at t hs h) ≡ put (tickets_at hs) h (tickets_at hs h ++ t ∷ [])
+  one_entered : (hs : List CoreHandlerState) (h : ℕ) → h < length hs → tickets_at (with_ticket_at t hs h) ≡ put (tickets_at hs) h (tickets_at hs h ++ t ∷ [])
   one_entered hs h inside =
-      tickets_put_at hs h (entered t (seat_at hs h)) inside
-      ∙ ap (λ (ts : List Ticket). put (tickets_at hs) h (ts ++ t ∷ [])) (sym (map_here (λ (s : CoreHandlerState). s.tickets) hs h no_seat [] inside))
+      tickets_put_at hs h (with_ticket t (core_handler_at hs h)) inside
+      ∙ ap (λ (ts : List Ticket). put (tickets_at hs) h (ts ++ t ∷ [])) (sym (map_here (λ (s : CoreHandlerState). s.tickets) hs h no_core_handler [] inside))
 
   not_in : (rs : List ℕ) (h n : ℕ) → (h == n) ≡ true → AllByRecursion (λ y. (h == y) ≡ false) rs → is_in rs n ≡ false
   not_in [] h n e far = refl
@@ -38,10 +38,10 @@ module _ (t : Ticket) where
 
   -- one ticket more at each of different handlers
   pub tickets_entered : (hs : List CoreHandlerState) (rs : List ℕ) → IsDistinct ◌==◌ rs → AllByRecursion (λ h. h < length hs) rs → (n : ℕ)
-      → tickets_at (entered_all t hs rs) n ≡ (if is_in rs n then tickets_at hs n ++ t ∷ [] else tickets_at hs n)
+      → tickets_at (with_ticket_at_all t hs rs) n ≡ (if is_in rs n then tickets_at hs n ++ t ∷ [] else tickets_at hs n)
   tickets_entered hs [] distinct inside n = refl
   tickets_entered hs (h ∷ rest) distinct inside n =
-      tickets_entered (entered_at t hs h) rest (IsDistinct-tail ◌==◌ h rest distinct) (subst (λ m. AllByRecursion (λ k. k < m) rest) (sym (length-set hs h (entered t (seat_at hs h)))) inside.1) n
+      tickets_entered (with_ticket_at t hs h) rest (IsDistinct-tail ◌==◌ h rest distinct) (subst (λ m. AllByRecursion (λ k. k < m) rest) (sym (length-set hs h (with_ticket t (core_handler_at hs h)))) inside.1) n
       ∙ (λ k. if is_in rest n then one_entered hs h inside.0 k n ++ t ∷ [] else one_entered hs h inside.0 k n)
       ∙ by_test (h == n) refl
     where
@@ -52,24 +52,24 @@ module _ (t : Ticket) where
       by_test false e = refl
 
   abbrev CanEnter : List CoreHandlerState → ℕ → Type 0
-  CanEnter hs h = (h < length hs) × (length (seat_at hs h).tickets < (seat_at hs h).room)
+  CanEnter hs h = (h < length hs) × (length (core_handler_at hs h).tickets < (core_handler_at hs h).room)
 
-  still : (hs : List CoreHandlerState) (h : ℕ) (rs : List ℕ) → AllByRecursion (λ y. (h == y) ≡ false) rs → AllByRecursion (CanEnter hs) rs → AllByRecursion (CanEnter (entered_at t hs h)) rs
+  still : (hs : List CoreHandlerState) (h : ℕ) (rs : List ℕ) → AllByRecursion (λ y. (h == y) ≡ false) rs → AllByRecursion (CanEnter hs) rs → AllByRecursion (CanEnter (with_ticket_at t hs h)) rs
   still hs h [] far can = tt
   still hs h (y ∷ rs) far can =
-      let same : seat_at (entered_at t hs h) y ≡ seat_at hs y = get_or-set_other hs h y (entered t (seat_at hs h)) no_seat (λ is. let yes : (h == y) ≡ true = grind (arith, is) in let no = far.0 in cc) in
-      ((subst (λ n. y < n) (sym (length-set hs h (entered t (seat_at hs h)))) can.0.0, subst (λ (s : CoreHandlerState). length s.tickets < s.room) (sym same) can.0.1), still hs h rs far.1 can.1)
+      let same : core_handler_at (with_ticket_at t hs h) y ≡ core_handler_at hs y = get_or-set_other hs h y (with_ticket t (core_handler_at hs h)) no_core_handler (λ is. let yes : (h == y) ≡ true = grind (arith, is) in let no = far.0 in cc) in
+      ((subst (λ n. y < n) (sym (length-set hs h (with_ticket t (core_handler_at hs h)))) can.0.0, subst (λ (s : CoreHandlerState). length s.tickets < s.room) (sym same) can.0.1), still hs h rs far.1 can.1)
 
   pub can_enter : (hs : List CoreHandlerState) (rs : List ℕ) → IsDistinct ◌==◌ rs → AllByRecursion (CanEnter hs) rs → CanEnterAll t hs rs
   can_enter hs [] distinct can = tt
-  can_enter hs (h ∷ rest) distinct can = (can.0.0, can.0.1, can_enter (entered_at t hs h) rest (IsDistinct-tail ◌==◌ h rest distinct) (still hs h rest (IsDistinct-head ◌==◌ h rest distinct) can.1))
+  can_enter hs (h ∷ rest) distinct can = (can.0.0, can.0.1, can_enter (with_ticket_at t hs h) rest (IsDistinct-tail ◌==◌ h rest distinct) (still hs h rest (IsDistinct-head ◌==◌ h rest distinct) can.1))
 
   pub rooms_entered : (n : ℕ) (hs : List CoreHandlerState) (rs : List ℕ) → AllByRecursion (λ h. h < length hs) rs → AllByRecursion (λ (s : CoreHandlerState). n ≤ s.room) hs
-      → AllByRecursion (λ (s : CoreHandlerState). n ≤ s.room) (entered_all t hs rs)
+      → AllByRecursion (λ (s : CoreHandlerState). n ≤ s.room) (with_ticket_at_all t hs rs)
   rooms_entered n hs [] inside all = all
   rooms_entered n hs (h ∷ rest) inside all =
-      rooms_entered n (entered_at t hs h) rest (subst (λ m. AllByRecursion (λ k. k < m) rest) (sym (length-set hs h (entered t (seat_at hs h)))) inside.1)
-      (all_set (λ (s : CoreHandlerState). n ≤ s.room) hs h (entered t (seat_at hs h)) (AllByRecursion-get_or (λ (s : CoreHandlerState). n ≤ s.room) hs h no_seat all inside.0) all)
+      rooms_entered n (with_ticket_at t hs h) rest (subst (λ m. AllByRecursion (λ k. k < m) rest) (sym (length-set hs h (with_ticket t (core_handler_at hs h)))) inside.1)
+      (all_set (λ (s : CoreHandlerState). n ≤ s.room) hs h (with_ticket t (core_handler_at hs h)) (AllByRecursion-get_or (λ (s : CoreHandlerState). n ≤ s.room) hs h no_core_handler all inside.0) all)
 
 -- the tickets of the first n clients
 abbrev below : ℕ → List Ticket → ℕ

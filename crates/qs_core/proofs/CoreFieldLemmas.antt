@@ -18,7 +18,7 @@ use Rattle.qs_played.specs.declared.schedule.actor.Actor.TheVariants as actor
 use Rattle.qs_core_laws.specs.Core.{blocks, core_step, settings_of}
 use Rattle.qs_core_laws.specs.CoreReached.{ReachedCore}
 use Rattle.qs_core_parts.specs.CoreClients.{AreStocked, CoreClientState, HasLane, IsCoreClient, LaneStays, LaneSteps, turns_to, whole_of}
-use Rattle.qs_core_parts.specs.CoreHandlers.{CanEnterAll, CoreHandlerState, entered_all}
+use Rattle.qs_core_parts.specs.CoreHandlers.{CanEnterAll, CoreHandlerState, with_ticket_at_all}
 use Rattle.qs_core_parts.proofs.ClientModels.{IsSeatOf}
 use Rattle.qs_core.specs.CoreState.{CoreKeeps, CoreState, CoreSteps, GoesOn, IsCoreState, Side, all_blocks, codes_of, core_of, no_side, side_at, side_of}
 use Rattle.qs_core.proofs.CoreLists.{map_here}
@@ -122,7 +122,7 @@ module _ (r s : CoreState) (view : r ≡ s) (kept : IsCoreState r) (keeps : Core
       came = record { whole_is = booked; seat = seated }
 
       abbrev pub booked_state : CoreState
-      booked_state = record { program = r.program; size = r.size; order = r.order ++ now ∷ []; clients = set r.clients c new; handlers = entered_all now r.handlers list }
+      booked_state = record { program = r.program; size = r.size; order = r.order ++ now ∷ []; clients = set r.clients c new; handlers = with_ticket_at_all now r.handlers list }
 
       pub booked_kept : IsCoreState booked_state
       booked_kept = booking.reserve_kept r kept sound keeps_here on_here c inside d here seat stocked ok asked new came lanes
@@ -133,7 +133,7 @@ module _ (r s : CoreState) (view : r ≡ s) (kept : IsCoreState r) (keeps : Core
     -- as the code says it
     module _ (n' : ℕ) (number' : n' ≡ c) (d' : CoreClientState) (value' : d' ≡ get_or r.clients n' d') (u : Ticket) (u_is : u ≡ now) (xs : List ℕ) (xs_are : xs ≡ list)
         (new : CoreClientState) (booked : whole_of new ≡ mind_after_begin (whole_of d') u) (seated : IsCoreClient new) (lanes : new.lanes ≡ d'.lanes)
-        (order : List Ticket) (longer : order ≡ r.order ++ u ∷ []) (hs : List CoreHandlerState) (entered : hs ≡ entered_all u r.handlers xs) where
+        (order : List Ticket) (longer : order ≡ r.order ++ u ∷ []) (hs : List CoreHandlerState) (entered : hs ≡ with_ticket_at_all u r.handlers xs) where
       same_seat : d' ≡ d
       same_seat = value' ∙ ap (λ m. get_or r.clients m d') number' ∙ get_or-any r.clients c d' d inside ∙ sym (value ∙ ap (λ m. get_or r.clients m d) number)
 
@@ -143,20 +143,20 @@ module _ (r s : CoreState) (view : r ≡ s) (kept : IsCoreState r) (keeps : Core
       lanes_here : new.lanes ≡ d.lanes
       lanes_here = lanes ∙ ap (λ (x : CoreClientState). x.lanes) same_seat
 
-      abbrev pub made : CoreState
-      made = record { program = r.program; size = r.size; order = order; clients = set r.clients n' new; handlers = hs }
+      abbrev pub new_state : CoreState
+      new_state = record { program = r.program; size = r.size; order = order; clients = set r.clients n' new; handlers = hs }
 
-      made_is : booked_state new booked_here seated lanes_here ≡ made
+      made_is : booked_state new booked_here seated lanes_here ≡ new_state
       made_is = sym (λ k. record {
         program = r.program;
         size = r.size;
         order = (longer ∙ ap (λ (t : Ticket). r.order ++ t ∷ []) u_is) k;
         clients = set r.clients (number' k) new;
-        handlers = (entered ∙ (λ i. entered_all (u_is i) r.handlers (xs_are i))) k;
+        handlers = (entered ∙ (λ i. with_ticket_at_all (u_is i) r.handlers (xs_are i))) k;
       })
 
-      pub made_kept : IsCoreState made
+      pub made_kept : IsCoreState new_state
       made_kept = subst IsCoreState made_is (booked_kept new booked_here seated lanes_here)
 
-      pub made_steps : CoreSteps s (actor.Client c) made
+      pub made_steps : CoreSteps s (actor.Client c) new_state
       made_steps = subst (CoreSteps s (actor.Client c)) made_is (booked_steps new booked_here seated lanes_here)

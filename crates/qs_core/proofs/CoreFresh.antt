@@ -17,7 +17,7 @@ use Rattle.qs_played.specs.JournalRooms.{fresh_held}
 use Rattle.qs_core_laws.specs.Core.{AreCodes, core_begin}
 use Rattle.qs_core_laws.proofs.CoreCodes.{reserved_is}
 use Rattle.qs_core_parts.specs.CoreClients.{AreStocked, CoreClientState, whole_of}
-use Rattle.qs_core_parts.specs.CoreHandlers.{CoreHandlerState, handler_of, no_seat}
+use Rattle.qs_core_parts.specs.CoreHandlers.{CoreHandlerState, handler_of, no_core_handler}
 use Rattle.qs_core_parts.specs.LaneStates.{IsStocked, LaneState, fresh_lane, lane_at}
 use Rattle.qs_core.specs.CoreState.{AreFreshClients, AreFreshHandlers, CoreState, IsCoreState, IsSide, Side, all_blocks, codes_of, core_of, handler_at, no_side, side_at, side_of, tickets_at}
 use Rattle.qs_core.proofs.CoreLists.{map_here}
@@ -76,8 +76,8 @@ pub record IsFreshSide (s : Side) : Type 0 where
   pub lanes : s.lanes ≡ replicate lanes_of (fresh_lane chunk)
 
 module _ (p : ProgramShape) (mode : Mode) (chunk room : ℕ) (cs : List CoreClientState) (hs : List CoreHandlerState) (clients : AreFreshClients p mode chunk cs) (handlers : AreFreshHandlers p room hs) (sound : IsSound p) where
-  abbrev made : CoreState
-  made = record { program = p; size = chunk; order = []; clients = cs; handlers = hs }
+  abbrev fresh_state : CoreState
+  fresh_state = record { program = p; size = chunk; order = []; clients = cs; handlers = hs }
 
   in_list : (c : ℕ) (d : CoreClientState) → c < length p.clients → side_at cs c ≡ side_of (get_or cs c d)
   in_list c d less = map_here side_of cs c d no_side (subst (λ n. c < n) (sym clients.many) less)
@@ -106,12 +106,12 @@ module _ (p : ProgramShape) (mode : Mode) (chunk room : ℕ) (cs : List CoreClie
       by_test true e = fresh_inside c (grind (arith, e))
       by_test false e = subst IsFreshSide (sym (beyond c (grind (arith, e)))) (record { code = record { dynamic = false; blocks = [] }; chunk = 0; lanes_of = 0; mind = refl; lanes = refl })
 
-  codes_inside : (c : ℕ) → c < length p.clients → IsCodeOf p mode c (codes_of made c)
+  codes_inside : (c : ℕ) → c < length p.clients → IsCodeOf p mode c (codes_of fresh_state c)
   codes_inside c less =
       let f = clients.each c (seat_of c less) less in
       subst (IsCodeOf p mode c) (sym (ap (λ (x : Side). x.mind.code) (in_list c (seat_of c less) less) ∙ ap (λ (m : ClientModel). m.code) f.mind)) f.of
 
-  pub codes_are : AreCodes p mode (codes_of made)
+  pub codes_are : AreCodes p mode (codes_of fresh_state)
   codes_are = record { own = codes_inside; none = λ c out. ap (λ (x : Side). x.mind.code.blocks) (beyond c out) }
 
   handlers_are : (h : ℕ) → handler_at p hs h ≡ free (fresh_held p h)
@@ -120,7 +120,7 @@ module _ (p : ProgramShape) (mode : Mode) (chunk room : ℕ) (cs : List CoreClie
       by_test : (b : Bool) → nat_lt h (length p.objects) ≡ b → handler_at p hs h ≡ free (fresh_held p h)
       by_test true e =
           let less : h < length p.objects = grind (arith, e) in
-          map_here handler_of hs h no_seat (free (fresh_held p h)) (omega (arith, less, handlers.many)) ∙ ap handler_of (handlers.each h no_seat less)
+          map_here handler_of hs h no_core_handler (free (fresh_held p h)) (omega (arith, less, handlers.many)) ∙ ap handler_of (handlers.each h no_core_handler less)
       by_test false e =
           let out : length p.objects ≤ h = grind (arith, e) in
           out_of (map handler_of hs) h (free (fresh_held p h)) (let m : length (map handler_of hs) ≡ length hs = length-map hs handler_of in omega (arith, m, handlers.many, out))
@@ -134,7 +134,7 @@ module _ (p : ProgramShape) (mode : Mode) (chunk room : ℕ) (cs : List CoreClie
       by_test : (b : Bool) → nat_lt h (length p.objects) ≡ b → tickets_at hs h ≡ []
       by_test true e =
           let less : h < length p.objects = grind (arith, e) in
-          map_here queue_of hs h no_seat [] (omega (arith, less, handlers.many)) ∙ ap queue_of (handlers.each h no_seat less)
+          map_here queue_of hs h no_core_handler [] (omega (arith, less, handlers.many)) ∙ ap queue_of (handlers.each h no_core_handler less)
       by_test false e =
           let out : length p.objects ≤ h = grind (arith, e) in
           out_of (map queue_of hs) h [] (let m : length (map queue_of hs) ≡ length hs = length-map hs queue_of in omega (arith, m, handlers.many, out))
@@ -143,9 +143,9 @@ module _ (p : ProgramShape) (mode : Mode) (chunk room : ℕ) (cs : List CoreClie
   counts_are t =
       ap (λ (m : ClientModel). get_or m.counts t.index []) (fresh_side t.client).mind
       ∙ (none_counted (fresh_side t.client).code.blocks t.index
-      ∙ ap no_syncs (ap (λ (m : ClientModel). (code_at m.code t.index).reserved) (sym (fresh_side t.client).mind) ∙ reserved_is p sound mode (codes_of made) codes_are chunk t))
+      ∙ ap no_syncs (ap (λ (m : ClientModel). (code_at m.code t.index).reserved) (sym (fresh_side t.client).mind) ∙ reserved_is p sound mode (codes_of fresh_state) codes_are chunk t))
 
-  pub begins : core_of made ≡ core_begin p
+  pub begins : core_of fresh_state ≡ core_begin p
   unfolding core_of
   begins = λ k. record {
     order = [];
@@ -173,7 +173,7 @@ module _ (p : ProgramShape) (mode : Mode) (chunk room : ℕ) (cs : List CoreClie
   length_replicate zero x = refl
   length_replicate (suc n) x = ap suc (length_replicate n x)
 
-  pub kept : room ≡ all_blocks p → IsCoreState made
+  pub kept : room ≡ all_blocks p → IsCoreState fresh_state
   kept enough = record {
     clients = clients.many;
     handlers = handlers.many;

@@ -9,7 +9,7 @@ use Rattle.qs_objects.proofs.Elements.{AllByRecursion-get_or}
 use Rattle.qs_meaning.specs.Solo.{put}
 use Rattle.qs_chunk.specs.Batch.{Batch, batch}
 use Rattle.qs_handler.specs.Handler.{Handler, act_of}
-use Rattle.qs_handler.proofs.Turns.{acts_lose_nothing}
+use Rattle.qs_handler.proofs.HandlerActs.{acts_lose_nothing}
 use Rattle.qs_handler.specs.declared.mind.Act.TheVariants as acts
 use Rattle.qs_client.specs.ClientModel.{ClientModel, act_due}
 use Rattle.qs_client.specs.MindState.{IsMind, mind_of}
@@ -23,7 +23,7 @@ use Rattle.qs_core_parts.specs.CoreClients.{AreStocked, CoreClientState, HasLane
 use Rattle.qs_core_parts.specs.CoreHandlers.{CoreHandlerState, IsCoreHandler, handler_of}
 use Rattle.qs_core_parts.specs.LaneStates.{IsStocked, LaneState, lane_at}
 use Rattle.qs_core_parts.proofs.LaneStock.{handler_stocked}
-use Rattle.qs_core_parts.proofs.CoreMinds.{Kept, lane_begun, step_keeps, whole_mind}
+use Rattle.qs_core_parts.proofs.CoreMinds.{KeepsMind, lane_begun, step_keeps, whole_mind}
 use Rattle.qs_core_parts.specs.CoreHandlers as seats
 use Rattle.qs_core.specs.CoreState.{CoreState, CoreSteps, IsCoreState, IsSide, Side, all_blocks, codes_of, core_from, core_of, handler_at, side_at, side_of, tickets_at}
 use Rattle.qs_core.proofs.CoreFields.{field_kept, each}
@@ -60,7 +60,7 @@ module _ (s : CoreState) (kept : IsCoreState s) (c : ℕ) (inside : c < length s
   own_here : (side_at s.clients c).mind ≡ own
   own_here = ap (λ (x : Side). x.mind) here
 
-  same : Kept own (whole_of new) (lane_at old.lanes moves.handler) moves.lane
+  same : KeepsMind own (whole_of new) (lane_at old.lanes moves.handler) moves.lane
   same = step_keeps own (whole_of new) old.act (lane_at old.lanes moves.handler) moves.lane moves.steps
 
   is_side : IsSide s.program s.size c (side_of old)
@@ -203,18 +203,18 @@ module _ (s : CoreState) (kept : IsCoreState s) (h : ℕ) (inside : h < length s
   lane_of_guest : h < length (side_at s.clients c).lanes
   lane_of_guest = let lanes = (kept.sides c there).lanes in omega (arith, inside, lanes, kept.handlers)
 
-  abbrev handled : Option (Handler × LaneState) → Option Core
-  handled = handlers.result_of (codes_of s) s.size s.order (side_at s.clients) (handler_at s.program s.handlers) (tickets_at s.handlers) h c lane_of_guest
+  abbrev handler_result : Option (Handler × LaneState) → Option Core
+  handler_result = handlers.result_of (codes_of s) s.size s.order (side_at s.clients) (handler_at s.program s.handlers) (tickets_at s.handlers) h c lane_of_guest
 
-  met : core_step (codes_of s) s.size (core_of s) (actor.Handler h) ≡ handled (seats.lane_step (handler_of old) old.act (lane_at guest.lanes h))
+  met : core_step (codes_of s) s.size (core_of s) (actor.Handler h) ≡ handler_result (seats.lane_step (handler_of old) old.act (lane_at guest.lanes h))
   unfolding core_of
   met =
       handlers.at_lane (codes_of s) s.size s.order (side_at s.clients) (handler_at s.program s.handlers) (tickets_at s.handlers) h c lane_of_guest old.act
       (ap act_of here ∙ sym seat.act) turned
-      ∙ (λ k. handled (seats.lane_step (here k) old.act (lane_at (found k).lanes h)))
+      ∙ (λ k. handler_result (seats.lane_step (here k) old.act (lane_at (found k).lanes h)))
 
   pub handler_rests : seats.lane_step (handler_of old) old.act (lane_at guest.lanes h) ≡ None → core_step (codes_of s) s.size (core_of s) (actor.Handler h) ≡ None
-  handler_rests none = met ∙ ap handled none
+  handler_rests none = met ∙ ap handler_result none
 
   module _ (fits : (b : Batch Request) → old.act ≡ acts.Spare c b → b ≡ batch [] (whole_of guest).size) (new : CoreHandlerState) (k : LaneState)
       (moves : seats.LaneSteps old (lane_at guest.lanes h) new k) where
@@ -222,35 +222,35 @@ module _ (s : CoreState) (kept : IsCoreState s) (h : ℕ) (inside : h < length s
     next = moves.0
 
     -- the client's seat with the lane as it is then
-    abbrev pub visited : CoreClientState
-    visited = record { mind = guest.mind; act = guest.act; lanes = set guest.lanes h k }
+    abbrev pub client_after_visit : CoreClientState
+    client_after_visit = record { mind = guest.mind; act = guest.act; lanes = set guest.lanes h k }
 
     abbrev pub met_after : CoreState
-    met_after = record { program = s.program; size = s.size; order = s.order; clients = set s.clients c visited; handlers = set s.handlers h new }
+    met_after = record { program = s.program; size = s.size; order = s.order; clients = set s.clients c client_after_visit; handlers = set s.handlers h new }
 
     next_is : handler_of new ≡ next
     next_is = ap handler_of moves.2 ∙ acts_lose_nothing next
 
-    same_mind : whole_of visited ≡ whole_of guest
+    same_mind : whole_of client_after_visit ≡ whole_of guest
     unfolding whole_of
     same_mind = refl
 
-    sides_then : put (side_at s.clients) c (record { mind = (side_at s.clients c).mind; lanes = set (side_at s.clients c).lanes h k }) ≡ side_at (set s.clients c visited)
+    sides_then : put (side_at s.clients) c (record { mind = (side_at s.clients c).mind; lanes = set (side_at s.clients c).lanes h k }) ≡ side_at (set s.clients c client_after_visit)
     sides_then =
         (λ i. put (side_at s.clients) c (record { mind = (ap (λ (x : Side). x.mind) found ∙ sym same_mind) i; lanes = ap (λ (x : Side). set x.lanes h k) found i }))
-        ∙ sym (side_put s.clients c visited there)
+        ∙ sym (side_put s.clients c client_after_visit there)
 
     codes_then : codes_of met_after ≡ codes_of s
     codes_then =
-        ap (each (λ (x : Side). x.mind.code)) (side_put s.clients c visited there)
-        ∙ field_kept (λ (x : Side). x.mind.code) (side_at s.clients) c (side_of visited) (ap (λ (m : ClientModel). m.code) (same_mind ∙ sym (ap (λ (x : Side). x.mind) found)))
+        ap (each (λ (x : Side). x.mind.code)) (side_put s.clients c client_after_visit there)
+        ∙ field_kept (λ (x : Side). x.mind.code) (side_at s.clients) c (side_of client_after_visit) (ap (λ (m : ClientModel). m.code) (same_mind ∙ sym (ap (λ (x : Side). x.mind) found)))
 
     pub handler_steps : CoreSteps s (actor.Handler h) met_after
     unfolding core_of
     handler_steps = record {
       steps =
           met
-          ∙ ap handled moves.1
+          ∙ ap handler_result moves.1
           ∙ (λ i. Some (core_from s.order (sides_then i) (handlers_then i) (tickets_then i)));
       program = refl;
       size = refl;
@@ -266,7 +266,7 @@ module _ (s : CoreState) (kept : IsCoreState s) (h : ℕ) (inside : h < length s
     guest_side : IsSide s.program s.size c (side_of guest)
     guest_side = subst (IsSide s.program s.size c) found (kept.sides c there)
 
-    visited_side : IsSide s.program s.size c (side_of visited)
+    visited_side : IsSide s.program s.size c (side_of client_after_visit)
     visited_side = record {
       lanes = length-set guest.lanes h k ∙ guest_side.lanes;
       size = ap (λ (m : ClientModel). m.size) same_mind ∙ guest_side.size;
@@ -280,12 +280,12 @@ module _ (s : CoreState) (kept : IsCoreState s) (h : ℕ) (inside : h < length s
 
     pub handler_kept : IsCoreState met_after
     handler_kept = record {
-      clients = length-set s.clients c visited ∙ kept.clients;
+      clients = length-set s.clients c client_after_visit ∙ kept.clients;
       handlers = length-set s.handlers h new ∙ kept.handlers;
-      sides = λ n less. subst (IsSide s.program s.size n) (λ i. sym (side_put s.clients c visited there) i n)
-          (all_put (IsSide s.program s.size) (length s.clients) (side_at s.clients) c (side_of visited) visited_side kept.sides n (subst (λ m. n < m) (length-set s.clients c visited) less));
-      stocked = all_set AreStocked s.clients c visited
-          (subst (λ (m : ClientModel). AllByRecursion (IsStocked m.size) visited.lanes) (sym same_mind) (all_set (IsStocked (whole_of guest).size) guest.lanes h k lane_stocked stocked))
+      sides = λ n less. subst (IsSide s.program s.size n) (λ i. sym (side_put s.clients c client_after_visit there) i n)
+          (all_put (IsSide s.program s.size) (length s.clients) (side_at s.clients) c (side_of client_after_visit) visited_side kept.sides n (subst (λ m. n < m) (length-set s.clients c client_after_visit) less));
+      stocked = all_set AreStocked s.clients c client_after_visit
+          (subst (λ (m : ClientModel). AllByRecursion (IsStocked m.size) client_after_visit.lanes) (sym same_mind) (all_set (IsStocked (whole_of guest).size) guest.lanes h k lane_stocked stocked))
           kept.stocked;
       rooms = all_set (λ (x : CoreHandlerState). all_blocks s.program ≤ x.room) s.handlers h new (subst (λ (x : CoreHandlerState). all_blocks s.program ≤ x.room) (sym moves.2) roomy) kept.rooms;
       mode = kept.mode;

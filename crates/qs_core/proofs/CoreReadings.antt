@@ -13,7 +13,7 @@ use Rattle.qs_client.specs.ClientModel.{is_between}
 use Rattle.qs_played.specs.JournalRooms.{fresh_held}
 use Rattle.qs_core_laws.specs.CoreReached.{IsBegun, ReachedCore}
 use Rattle.qs_core_laws.specs.CoreSchedule.{all_of, core_played, found_by, held_now, held_or_none, is_done, is_finished, is_idle}
-use Rattle.qs_core_parts.specs.CoreHandlers.{is_waiting, CoreHandlerState, handler_of, no_seat, seat_at, turns_to}
+use Rattle.qs_core_parts.specs.CoreHandlers.{is_waiting, CoreHandlerState, handler_of, no_core_handler, core_handler_at, turns_to}
 use Rattle.qs_core_parts.specs.LaneStates.{lane_at}
 use Rattle.qs_core.specs.CoreShown.{AreBegunBy, AreShowable, AreSomewhere, HaveLanes, TurnTo, are_clear, core_in, held_at, is_clear, is_through, object_at, shown_by}
 use Rattle.qs_core.specs.CoreState.{CoreKeeps, CoreState, IsCoreState, core_of, handler_at, side_at, tickets_at}
@@ -38,11 +38,11 @@ turned_at n (acts.Spare d b) parcel object chunk c e = let is : d ≡ c = grind 
 turned_at n acts.Closed parcel object chunk c e = cc
 
 module _ (s : CoreState) (h : ℕ) (inside : h < length s.handlers) where
-  handler_is : handler_at s.program s.handlers h ≡ handler_of (seat_at s.handlers h)
-  handler_is = map_here handler_of s.handlers h no_seat (free (fresh_held s.program h)) inside
+  handler_is : handler_at s.program s.handlers h ≡ handler_of (core_handler_at s.handlers h)
+  handler_is = map_here handler_of s.handlers h no_core_handler (free (fresh_held s.program h)) inside
 
-  tickets_are : tickets_at s.handlers h ≡ (seat_at s.handlers h).tickets
-  tickets_are = map_here (λ (x : CoreHandlerState). x.tickets) s.handlers h no_seat [] inside
+  tickets_are : tickets_at s.handlers h ≡ (core_handler_at s.handlers h).tickets
+  tickets_are = map_here (λ (x : CoreHandlerState). x.tickets) s.handlers h no_core_handler [] inside
 
   found_same : (x : Handler) → found_by (core_of s) h x ≡ found_by (core_in s.clients s.handlers) h x
   unfolding core_of
@@ -55,9 +55,9 @@ module _ (s : CoreState) (h : ℕ) (inside : h < length s.handlers) where
 
   object_is : found_by (core_of s) h ((core_of s).handler h) ≡ object_at s.clients s.handlers h
   unfolding core_of object_at
-  object_is = ap (found_by (core_of s) h) handler_is ∙ found_same (handler_of (seat_at s.handlers h))
+  object_is = ap (found_by (core_of s) h) handler_is ∙ found_same (handler_of (core_handler_at s.handlers h))
 
-  idle_is : length s.program.clients ≡ length s.clients → is_idle s.program (core_of s) h ≡ (is_waiting (seat_at s.handlers h) && are_clear s.clients h)
+  idle_is : length s.program.clients ≡ length s.clients → is_idle s.program (core_of s) h ≡ (is_waiting (core_handler_at s.handlers h) && are_clear s.clients h)
   unfolding core_of
   idle_is many =
       λ k. is_free (handler_is k) && nat_eq (length (tickets_are k)) 0 && all_of (λ c. is_clear (lane_at (side_at s.clients c).lanes h)) (range_with_len 0 (many k))
@@ -101,11 +101,11 @@ pub finished_is : (s : CoreState) → IsCoreState s → is_finished s.program (c
 unfolding shown_by
 finished_is s is =
     let done = all_range (is_done s.program (core_of s)) (λ c. is_through (side_at s.clients c).mind) 0 (length s.program.clients) (λ c less. done_is s is c (omega (arith, less))) in
-    let idle = all_range (is_idle s.program (core_of s)) (λ h. is_waiting (seat_at s.handlers h) && are_clear s.clients h) 0 (length s.program.objects)
+    let idle = all_range (is_idle s.program (core_of s)) (λ h. is_waiting (core_handler_at s.handlers h) && are_clear s.clients h) 0 (length s.program.objects)
     (λ h less. idle_is s h (omega (arith, less, is.handlers)) (sym is.clients)) in
     (λ k. done k && idle k)
     ∙ (λ k. all_of (λ c. is_through (side_at s.clients c).mind) (range_with_len 0 (sym is.clients k))
-    && all_of (λ h. is_waiting (seat_at s.handlers h) && are_clear s.clients h) (range_with_len 0 (sym is.handlers k)))
+    && all_of (λ h. is_waiting (core_handler_at s.handlers h) && are_clear s.clients h) (range_with_len 0 (sym is.handlers k)))
 
 held_is : (s : CoreState) → IsCoreState s → (h : ℕ) → h < length s.program.objects → held_now (core_of s) h ≡ held_at s.clients s.handlers h
 held_is s is h inside = ap held_or_none (object_is s h (omega (arith, inside, is.handlers)))

@@ -11,7 +11,7 @@ use Rattle.qs_played.proofs.Lists.{range_more}
 use Rattle.qs_core_laws.specs.Core.{Core}
 use Rattle.qs_core_laws.specs.CoreSchedule.{all_of, found_by}
 use Rattle.qs_core_parts.specs.CoreClients.{CoreClientState, IsCoreClient, whole_of}
-use Rattle.qs_core_parts.specs.CoreHandlers.{CoreHandlerState, IsCoreHandler, handler_of, seat_at, turns_to}
+use Rattle.qs_core_parts.specs.CoreHandlers.{CoreHandlerState, IsCoreHandler, handler_of, core_handler_at, turns_to}
 use Rattle.qs_core_parts.specs.LaneStates.{lane_at}
 use Rattle.qs_core_parts.proofs.CoreMinds.{whole_mind}
 use Rattle.qs_core.specs.CoreShown.{TurnsTo, core_in, most_syncs, object_at}
@@ -72,21 +72,21 @@ never_lost (away t) e turned = cc
 never_lost (closed x) e turned = cc
 
 -- where a handler's object is, by its seat
-module _ (cs : List CoreClientState) (hs : List CoreHandlerState) (h : ℕ) (s : CoreHandlerState) (is : s ≡ seat_at hs h) where
+module _ (cs : List CoreClientState) (hs : List CoreHandlerState) (h : ℕ) (s : CoreHandlerState) (is : s ≡ core_handler_at hs h) where
   pub object_here : (x : HeldState) → Some x ≡ held_of (handler_of s) → Some x ≡ object_at cs hs h
   unfolding object_at
-  object_here x e = sym (found_here (core_in cs hs) h (handler_of (seat_at hs h)) x (ap (λ (z : CoreHandlerState). held_of (handler_of z)) (sym is) ∙ sym e))
+  object_here x e = sym (found_here (core_in cs hs) h (handler_of (core_handler_at hs h)) x (ap (λ (z : CoreHandlerState). held_of (handler_of z)) (sym is) ∙ sym e))
 
   pub object_away : IsCoreHandler s → None ≡ held_of (handler_of s) → (c : ℕ) → Some c ≡ turns_to s.act
       → object_at cs hs h ≡ away_at (lane_at (side_at cs c).lanes h).up (lane_at (side_at cs c).lanes h).down ((side_at cs c).mind.client.held h)
   unfolding object_at
   object_away kept e c turned =
-      found_away (core_in cs hs) h (handler_of (seat_at hs h)) c
+      found_away (core_in cs hs) h (handler_of (core_handler_at hs h)) c
       (ap (λ (z : CoreHandlerState). held_of (handler_of z)) (sym is) ∙ sym e)
       (ap (λ (z : CoreHandlerState). turns_to (act_of (handler_of z))) (sym is) ∙ ap turns_to (sym kept.act) ∙ sym turned)
 
   -- the client to which it turns
-  pub turned_inside : IsCoreHandler s → TurnsTo cs (seat_at hs h) → (c : ℕ) → Some c ≡ turns_to s.act → c < length cs
+  pub turned_inside : IsCoreHandler s → TurnsTo cs (core_handler_at hs h) → (c : ℕ) → Some c ≡ turns_to s.act → c < length cs
   turned_inside kept turns c e = turns c (ap (λ (z : CoreHandlerState). turns_to (act_of (handler_of z))) (sym is) ∙ ap turns_to (sym kept.act) ∙ sym e)
 
   pub object_never_lost : IsCoreHandler s → None ≡ held_of (handler_of s) → None ≡ turns_to s.act → ⊥

@@ -9,11 +9,11 @@ use Rattle.qs_meaning.specs.Solo.{put}
 use Rattle.qs_syncset.specs.Codes.{ClientCode}
 use Rattle.qs_chunk.specs.Batch.{Batch}
 use Rattle.qs_chunk.specs.declared.parcel.Parcel.{Parcel}
-use Rattle.qs_handler.specs.Handler.{Handler, act_of, gave, received, taken}
+use Rattle.qs_handler.specs.Handler.{Handler, act_of, gave, accept_parcel, accept_next}
 use Rattle.qs_handler.specs.declared.mind.Act.{Act}
 use Rattle.qs_handler.specs.declared.mind.Act.TheVariants as acts
 use Rattle.qs_played.specs.declared.schedule.actor.Actor.TheVariants as actor
-use Rattle.qs_core_laws.specs.Core.{Core, core_step, gives, handled, handler_step, put_lane, takes_parcel}
+use Rattle.qs_core_laws.specs.Core.{Core, core_step, gives, after_handler, handler_step, put_lane, takes_parcel}
 use Rattle.qs_core_laws.specs.Core as core
 use Rattle.qs_core_parts.specs.CoreHandlers.{beside, gives_up, lane_step, takes_first, turns_to}
 use Rattle.qs_core_parts.specs.LaneStates.{LaneState, lane_at, with_down, with_spare, with_up}
@@ -30,7 +30,7 @@ module _ (code : ℕ → ClientCode) (size : ℕ) (order : List Ticket) (sides :
   before = core_from order sides handler tickets
 
   -- it took a ticket
-  pub ticket_steps : (t : Ticket) (ts : List Ticket) (x : Handler) → act_of (handler h) ≡ acts.TakeTicket → tickets h ≡ t ∷ ts → taken (handler h) (nexts.Ticket t) ≡ Some x
+  pub ticket_steps : (t : Ticket) (ts : List Ticket) (x : Handler) → act_of (handler h) ≡ acts.TakeTicket → tickets h ≡ t ∷ ts → accept_next (handler h) (nexts.Ticket t) ≡ Some x
       → core_step code size before (actor.Handler h) ≡ Some (core_from order sides (put handler h x) (put tickets h ts))
   ticket_steps t ts x asked first is = rw asked (rw first (rw is refl))
 
@@ -88,11 +88,11 @@ module _ (code : ℕ → ClientCode) (size : ℕ) (order : List Ticket) (sides :
     result_of None = None
     result_of (Some q) = Some (after q.0 q.1)
 
-    abbrev stepped : Act → Option Core
-    stepped act = handler_step code size before h act
+    abbrev step_result : Act → Option Core
+    step_result act = handler_step code size before h act
 
-    took : (p : Parcel) (ps : List Parcel) (o : Option Handler) → received (handler h) p ≡ o → lane.down ≡ p ∷ ps
-        → handled code size (core.with_down code size before c h ps) h o ≡ result_of (beside (with_down lane ps) o)
+    took : (p : Parcel) (ps : List Parcel) (o : Option Handler) → accept_parcel (handler h) p ≡ o → lane.down ≡ p ∷ ps
+        → after_handler code size (core.with_down code size before c h ps) h o ≡ result_of (beside (with_down lane ps) o)
     took p ps None is first = refl
     took p ps (Some x) is first = ap Some (comes x (with_down lane ps) _ _ _
         (lanes_put (λ (k : LaneState). k.down) sides c _ h (with_down lane ps) inside refl)
@@ -101,7 +101,7 @@ module _ (code : ℕ → ClientCode) (size : ℕ) (order : List Ticket) (sides :
 
     takes : (ps : List Parcel) → lane.down ≡ ps → takes_parcel code size before h c ps ≡ result_of (takes_first (handler h) lane ps)
     takes [] is = refl
-    takes (p ∷ ps) is = took p ps (received (handler h) p) refl is
+    takes (p ∷ ps) is = took p ps (accept_parcel (handler h) p) refl is
 
     given : (x : HeldState) (o : Option HeldState) → lane.up ≡ o → gives code size before h c x o ≡ result_of (gives_up (handler h) x lane o)
     given x None is = ap Some (comes (gave (handler h)) (with_up lane (Some x)) _ _ _
@@ -110,7 +110,7 @@ module _ (code : ℕ → ClientCode) (size : ℕ) (order : List Ticket) (sides :
         (lanes_kept (λ (k : LaneState). length k.spare) sides c _ h (with_up lane (Some x)) inside refl refl))
     given x (Some y) is = refl
 
-    spared : (b : Batch Request) (room : Bool) → nat_lt (length lane.spare) 4 ≡ room → stepped (acts.Spare c b) ≡ result_of (lane_step (handler h) (acts.Spare c b) lane)
+    spared : (b : Batch Request) (room : Bool) → nat_lt (length lane.spare) 4 ≡ room → step_result (acts.Spare c b) ≡ result_of (lane_step (handler h) (acts.Spare c b) lane)
     spared b true e = rw e (ap Some (comes (gave (handler h)) (with_spare lane (lane.spare ++ b ∷ [])) _ _ _
         (lanes_kept (λ (k : LaneState). k.down) sides c _ h (with_spare lane (lane.spare ++ b ∷ [])) inside refl refl)
         (lanes_kept (λ (k : LaneState). k.up) sides c _ h (with_spare lane (lane.spare ++ b ∷ [])) inside refl refl)
@@ -121,11 +121,11 @@ module _ (code : ℕ → ClientCode) (size : ℕ) (order : List Ticket) (sides :
     client_or_none None = 0
     client_or_none (Some n) = n
 
-    at_act : (act : Act) → turns_to act ≡ Some c → stepped act ≡ result_of (lane_step (handler h) act lane)
+    at_act : (act : Act) → turns_to act ≡ Some c → step_result act ≡ result_of (lane_step (handler h) act lane)
     at_act acts.TakeTicket e = cc
-    at_act (acts.TakeParcel d) e = let same : d ≡ c = ap client_or_none e in subst (λ n. stepped (acts.TakeParcel n) ≡ result_of (lane_step (handler h) (acts.TakeParcel n) lane)) (sym same) (takes lane.down refl)
-    at_act (acts.Give d x) e = let same : d ≡ c = ap client_or_none e in subst (λ n. stepped (acts.Give n x) ≡ result_of (lane_step (handler h) (acts.Give n x) lane)) (sym same) (given x lane.up refl)
-    at_act (acts.Spare d b) e = let same : d ≡ c = ap client_or_none e in subst (λ n. stepped (acts.Spare n b) ≡ result_of (lane_step (handler h) (acts.Spare n b) lane)) (sym same) (spared b (nat_lt (length lane.spare) 4) refl)
+    at_act (acts.TakeParcel d) e = let same : d ≡ c = ap client_or_none e in subst (λ n. step_result (acts.TakeParcel n) ≡ result_of (lane_step (handler h) (acts.TakeParcel n) lane)) (sym same) (takes lane.down refl)
+    at_act (acts.Give d x) e = let same : d ≡ c = ap client_or_none e in subst (λ n. step_result (acts.Give n x) ≡ result_of (lane_step (handler h) (acts.Give n x) lane)) (sym same) (given x lane.up refl)
+    at_act (acts.Spare d b) e = let same : d ≡ c = ap client_or_none e in subst (λ n. step_result (acts.Spare n b) ≡ result_of (lane_step (handler h) (acts.Spare n b) lane)) (sym same) (spared b (nat_lt (length lane.spare) 4) refl)
     at_act acts.Closed e = cc
 
     pub at_lane : (act : Act) → act_of (handler h) ≡ act → turns_to act ≡ Some c → core_step code size before (actor.Handler h) ≡ result_of (lane_step (handler h) act lane)

@@ -68,22 +68,22 @@ module _ (r s : CoreState) (view : r ≡ s) (kept : IsCoreState r) (keeps : Core
 
   -- after it took a ticket, or where there is none
   module _ (asked : d.act ≡ acts.TakeTicket) (new : CoreHandlerState) (b : Bool) (takes : OnTrue b (TakesTicket d new)) (none : b ≡ false → d.tickets ≡ []) (unchanged : b ≡ false → new ≡ d) where
-    abbrev taken : CoreState
-    taken = with_handlers r (set r.handlers n new)
+    abbrev state_after_ticket : CoreState
+    state_after_ticket = with_handlers r (set r.handlers n new)
 
-    pub take_kept : IsCoreState taken
+    pub take_kept : IsCoreState state_after_ticket
     take_kept = by_case b refl takes
       where
-        by_case : (x : Bool) → b ≡ x → OnTrue x (TakesTicket d new) → IsCoreState taken
+        by_case : (x : Bool) → b ≡ x → OnTrue x (TakesTicket d new) → IsCoreState state_after_ticket
         by_case true e took = subst (λ m. IsCoreState (with_handlers r (set r.handlers m new))) (sym number) (ticket_kept r kept h inside d here queue seat roomy asked new took)
         by_case false e took = subst (λ hs. IsCoreState (with_handlers r hs)) (sym (ap (set r.handlers n) (unchanged e ∙ value) ∙ set-get_or r.handlers n d)) kept
 
-    pub take_steps : OnTrue b (CoreSteps s (actor.Handler h) taken)
+    pub take_steps : OnTrue b (CoreSteps s (actor.Handler h) state_after_ticket)
     take_steps = by_case b takes
       where
-        by_case : (x : Bool) → OnTrue x (TakesTicket d new) → OnTrue x (CoreSteps s (actor.Handler h) taken)
+        by_case : (x : Bool) → OnTrue x (TakesTicket d new) → OnTrue x (CoreSteps s (actor.Handler h) state_after_ticket)
         by_case true took =
-            subst (λ y. CoreSteps y (actor.Handler h) taken) view
+            subst (λ y. CoreSteps y (actor.Handler h) state_after_ticket) view
             (subst (λ m. CoreSteps r (actor.Handler h) (with_handlers r (set r.handlers m new))) (sym number) (ticket_steps r kept h inside d here queue seat roomy asked new took))
         by_case false took = tt
 
@@ -153,19 +153,19 @@ module _ (r s : CoreState) (view : r ≡ s) (kept : IsCoreState r) (keeps : Core
       -- after a step at that lane, or without one
       module _ (later : CoreHandlerState) (new : CoreClientState) (b : Bool) (meets : OnTrue b (Meets h g d new later))
           (none : b ≡ false → lane_step (handler_of d) d.act (lane_at g.lanes h) ≡ None) (same_seat : b ≡ false → new ≡ g) (same_handler : b ≡ false → later ≡ d) where
-        abbrev met : CoreState
-        met = record { program = r.program; size = r.size; order = r.order; clients = set r.clients n' new; handlers = set r.handlers n later }
+        abbrev state_after_visit : CoreState
+        state_after_visit = record { program = r.program; size = r.size; order = r.order; clients = set r.clients n' new; handlers = set r.handlers n later }
 
         abbrev at_numbers : CoreClientState → CoreState
         at_numbers x = record { program = r.program; size = r.size; order = r.order; clients = set r.clients c x; handlers = set r.handlers h later }
 
-        met_is : (x : CoreClientState) → new ≡ x → at_numbers x ≡ met
+        met_is : (x : CoreClientState) → new ≡ x → at_numbers x ≡ state_after_visit
         met_is x is = λ i. record { program = r.program; size = r.size; order = r.order; clients = set r.clients (sym number' i) (sym is i); handlers = set r.handlers (sym number i) later }
 
-        pub meet_kept : IsCoreState met
+        pub meet_kept : IsCoreState state_after_visit
         meet_kept = by_case b refl meets
           where
-            by_case : (x : Bool) → b ≡ x → OnTrue x (Meets h g d new later) → IsCoreState met
+            by_case : (x : Bool) → b ≡ x → OnTrue x (Meets h g d new later) → IsCoreState state_after_visit
             by_case true e m = subst IsCoreState (met_is _ m.seat) (handler_kept r kept h inside d here queue seat roomy c turned there g found stocked fits later m.lane m.steps)
             by_case false e m =
                 subst IsCoreState (λ i. record {
@@ -176,12 +176,12 @@ module _ (r s : CoreState) (view : r ≡ s) (kept : IsCoreState r) (keeps : Core
                   handlers = sym (ap (set r.handlers n) (same_handler e ∙ value) ∙ set-get_or r.handlers n d) i;
                 }) kept
 
-        pub meet_steps : OnTrue b (CoreSteps s (actor.Handler h) met)
+        pub meet_steps : OnTrue b (CoreSteps s (actor.Handler h) state_after_visit)
         meet_steps = by_case b meets
           where
-            by_case : (x : Bool) → OnTrue x (Meets h g d new later) → OnTrue x (CoreSteps s (actor.Handler h) met)
+            by_case : (x : Bool) → OnTrue x (Meets h g d new later) → OnTrue x (CoreSteps s (actor.Handler h) state_after_visit)
             by_case true m =
-                subst (λ y. CoreSteps y (actor.Handler h) met) view
+                subst (λ y. CoreSteps y (actor.Handler h) state_after_visit) view
                 (subst (CoreSteps r (actor.Handler h)) (met_is _ m.seat) (handler_steps r kept h inside d here queue seat roomy c turned there g found stocked fits later m.lane m.steps))
             by_case false m = tt
 

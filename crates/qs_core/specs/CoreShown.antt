@@ -12,7 +12,7 @@ use Rattle.qs_client.specs.MindState.{IsMind}
 use Rattle.qs_core_laws.specs.Core.{Core}
 use Rattle.qs_core_laws.specs.CoreSchedule.{all_of, found_by, held_or_none}
 use Rattle.qs_core_parts.specs.CoreClients.{CoreClientState, rows_of, whole_of}
-use Rattle.qs_core_parts.specs.CoreHandlers.{CoreHandlerState, handler_of, seat_at, turns_to, is_waiting}
+use Rattle.qs_core_parts.specs.CoreHandlers.{CoreHandlerState, handler_of, core_handler_at, turns_to, is_waiting}
 use Rattle.qs_core_parts.specs.LaneStates.{LaneState, lane_at}
 use Rattle.qs_core.specs.CoreState.{core_from, side_at}
 
@@ -45,7 +45,7 @@ are_clear cs h = all_of (λ c. is_clear (lane_at (side_at cs c).lanes h)) (range
 
 -- each handler waits, and nothing lies in a lane to it
 abbrev pub are_waiting : List CoreClientState → List CoreHandlerState → Bool
-are_waiting cs hs = all_of (λ h. is_waiting (seat_at hs h) && are_clear cs h) (range_with_len 0 (length hs))
+are_waiting cs hs = all_of (λ h. is_waiting (core_handler_at hs h) && are_clear cs h) (range_with_len 0 (length hs))
 
 -- each client has a lane to handler h, and to each of these handlers
 abbrev pub HaveLane : List CoreClientState → ℕ → Type 0
@@ -59,15 +59,15 @@ abbrev pub TurnsTo : List CoreClientState → CoreHandlerState → Type 0
 TurnsTo cs s = (c : ℕ) → turns_to (act_of (handler_of s)) ≡ Some c → c < length cs
 
 abbrev pub TurnTo : List CoreClientState → List CoreHandlerState → Type 0
-TurnTo cs hs = (h : ℕ) → h < length hs → TurnsTo cs (seat_at hs h)
+TurnTo cs hs = (h : ℕ) → h < length hs → TurnsTo cs (core_handler_at hs h)
 
 -- the machine of these clients and handlers
 abbrev pub core_in : List CoreClientState → List CoreHandlerState → Core
-core_in cs hs = core_from [] (side_at cs) (λ h. handler_of (seat_at hs h)) (λ h. (seat_at hs h).tickets)
+core_in cs hs = core_from [] (side_at cs) (λ h. handler_of (core_handler_at hs h)) (λ h. (core_handler_at hs h).tickets)
 
 -- the object of handler h with its journal, wherever it is
 unfoldable pub object_at : List CoreClientState → List CoreHandlerState → ℕ → Option HeldState
-object_at cs hs h = found_by (core_in cs hs) h (handler_of (seat_at hs h))
+object_at cs hs h = found_by (core_in cs hs) h (handler_of (core_handler_at hs h))
 
 abbrev pub held_at : List CoreClientState → List CoreHandlerState → ℕ → HeldState
 held_at cs hs h = held_or_none (object_at cs hs h)

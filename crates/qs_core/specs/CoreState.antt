@@ -19,7 +19,7 @@ use Rattle.qs_core_laws.specs.Core.{AreCodes, Core, core_begin, core_step}
 use Rattle.qs_core_laws.specs.CoreReached.{ReachedCore}
 use Rattle.qs_core_laws.specs.CoreSchedule.{core_played, core_plays, core_scheduled, on_way}
 use Rattle.qs_core_parts.specs.CoreClients.{AreStocked, CoreClientState, whole_of}
-use Rattle.qs_core_parts.specs.CoreHandlers.{CoreHandlerState, handler_of, handler_seat}
+use Rattle.qs_core_parts.specs.CoreHandlers.{CoreHandlerState, handler_of, handler_with}
 use Rattle.qs_core_parts.specs.LaneStates.{LaneState, fresh_lane, lane_at}
 
 pub record CoreState : Type 0 where
@@ -114,7 +114,7 @@ pub record AreFreshClients (p : ProgramShape) (mode : Mode) (chunk : ℕ) (cs : 
 -- handlers that are free, each with its object as declared and room for so many tickets
 pub record AreFreshHandlers (p : ProgramShape) (room : ℕ) (hs : List CoreHandlerState) : Type 0 where
   pub many : length hs ≡ length p.objects
-  pub each : (h : ℕ) (d : CoreHandlerState) → h < length p.objects → slice_index_or hs h d ≡ handler_seat (free (fresh_held p h)) [] room
+  pub each : (h : ℕ) (d : CoreHandlerState) → h < length p.objects → slice_index_or hs h d ≡ handler_with (free (fresh_held p h)) [] room
 
 -- the machine of a program before its first step, with its clients' codes in this mode
 pub record IsFreshCore (p : ProgramShape) (mode : Mode) (chunk : ℕ) (s : CoreState) : Type 0 where

@@ -6,7 +6,7 @@ ghost use Rattle.qs_core_laws.specs.Core.{core_step};
 ghost use Rattle.qs_core_laws.specs.CoreSchedule.{core_played};
 ghost use Rattle.qs_core.specs.CoreState.{AreFreshClients, AreFreshHandlers, CoreKeeps, CoreSteps, GoesOn, IsCoreState, IsFreshClient, IsFreshCore, core_of, codes_of};
 ghost use Rattle.qs_core_parts.specs.CoreClients.{CoreClientState};
-ghost use Rattle.qs_core_parts.specs.CoreHandlers.{CanEnterAll, CoreHandlerState, entered_all, entered_at, seat_at, turns_to};
+ghost use Rattle.qs_core_parts.specs.CoreHandlers.{CanEnterAll, CoreHandlerState, with_ticket_at_all, with_ticket_at, core_handler_at, turns_to};
 ghost use Rattle.qs_client_run.specs.declared.act.Act.TheVariants as wants;
 ghost use Rattle.qs_played.specs.declared.schedule.actor.Actor.TheVariants as actors;
 
@@ -49,7 +49,7 @@ impl<'p> Model for CoreMachine<'p> {
 // A ticket comes to each handler of a list.
 fn enter_all(handlers: &mut Vec<CoreHandler>, objects: &[u8], ticket: Ticket)
     requires { CanEnterAll ticket handlers.old.items objects.now }
-    ensures entered { handlers.new.items ≡ entered_all ticket handlers.old.items objects.now }
+    ensures entered { handlers.new.items ≡ with_ticket_at_all ticket handlers.old.items objects.now }
 {
     for object in objects {
         enter_at(handlers, *object, ticket);
@@ -58,8 +58,8 @@ fn enter_all(handlers: &mut Vec<CoreHandler>, objects: &[u8], ticket: Ticket)
 
 fn enter_at(handlers: &mut Vec<CoreHandler>, object: u8, ticket: Ticket)
     requires object { object < length handlers.old.items }
-    requires room { length (seat_at handlers.old.items object).tickets < (seat_at handlers.old.items object).room }
-    ensures entered { handlers.new.items ≡ entered_at ticket handlers.old.items object }
+    requires room { length (core_handler_at handlers.old.items object).tickets < (core_handler_at handlers.old.items object).room }
+    ensures entered { handlers.new.items ≡ with_ticket_at ticket handlers.old.items object }
     ensures len { vec_len handlers.new ≡ vec_len handlers.old }
 {
     let handler = &mut handlers[usize::from(object)];
@@ -195,7 +195,7 @@ impl<'p> CoreMachine<'p> {
     {
         self.program.is_sound();
         let client = &self.clients[usize::from(number)];
-        client.is_seat();
+        client.has_next_act();
         let ticket = Ticket {
             client: number,
             index: client.begun() as u8,
@@ -217,7 +217,7 @@ impl<'p> CoreMachine<'p> {
         ensures unchanged { result ≡ false → self.new ≡ self.old }
     {
         let client = &mut self.clients[usize::from(number)];
-        client.is_seat();
+        client.has_next_act();
         client.go_on()
     }
 
@@ -230,7 +230,7 @@ impl<'p> CoreMachine<'p> {
     {
         match self.handlers[usize::from(number)].client() {
             None => self.take_ticket(number),
-            Some(client) => self.meet(number, client),
+            Some(client) => self.serve_lane(number, client),
         }
     }
 
@@ -244,12 +244,12 @@ impl<'p> CoreMachine<'p> {
         ensures unchanged { result ≡ false → self.new ≡ self.old }
     {
         let handler = &mut self.handlers[usize::from(number)];
-        handler.is_seat();
+        handler.has_next_act();
         handler.take_ticket()
     }
 
     // A handler does what it does next at the lane of its client.
-    fn meet(&mut self, number: u8, client: u8) -> bool
+    fn serve_lane(&mut self, number: u8, client: u8) -> bool
         requires number { number < length self.old.handlers }
         requires asked { (d : CoreHandlerState) → turns_to (slice_index_or self.old.handlers number d).act ≡ Some client }
         requires keeps { CoreKeeps self.old }
@@ -258,9 +258,9 @@ impl<'p> CoreMachine<'p> {
         ensures unchanged { result ≡ false → self.new ≡ self.old }
     {
         let handler = &mut self.handlers[usize::from(number)];
-        handler.is_seat();
+        handler.has_next_act();
         let client = &mut self.clients[usize::from(client)];
-        client.meet(number, handler)
+        client.serve_lane(number, handler)
     }
 
     /// What the run has shown.

@@ -9,7 +9,7 @@ ghost use Rattle.qs_client.specs.ClientModel.{has_ended};
 ghost use Rattle.qs_core_parts.specs.CoreHandlers.{is_waiting};
 ghost use Rattle.qs_core.specs.CoreShown.{AreBegunBy, AreShowable, AreMinds, AreSomewhere, HaveLane, HaveLanes, IsBegunBy, TurnTo, TurnsTo, are_clear, are_through, are_waiting, endings_by, held_at, most_syncs, object_at, rows_by, shown_by};
 ghost use Rattle.qs_core.specs.CoreState.{side_at};
-ghost use Rattle.qs_core_parts.specs.CoreHandlers.{IsCoreHandler, seat_at};
+ghost use Rattle.qs_core_parts.specs.CoreHandlers.{IsCoreHandler, core_handler_at};
 
 use qs_core_parts::{CoreClient, CoreHandler};
 use qs_objects::{Held, Journal, Object, Ticket};
@@ -17,7 +17,7 @@ use qs_played::{ClientRows, Endings, Played, Row};
 use std::alloc::{AllocError, Global};
 
 // A client by its number.
-fn seat(clients: &[CoreClient], number: usize) -> &CoreClient
+fn client_at(clients: &[CoreClient], number: usize) -> &CoreClient
     requires number { number < length clients.now }
     ensures mind { whole_of result.now ≡ (side_at clients.now number).mind }
     ensures lanes { result.now.lanes ≡ (side_at clients.now number).lanes }
@@ -26,11 +26,11 @@ fn seat(clients: &[CoreClient], number: usize) -> &CoreClient
 }
 
 // The client of a ticket.
-fn seat_of<'a>(clients: &'a [CoreClient], ticket: &Ticket) -> &'a CoreClient
+fn client_of_ticket<'a>(clients: &'a [CoreClient], ticket: &Ticket) -> &'a CoreClient
     requires begun { IsBegunBy clients.now ticket.now }
     ensures mind { whole_of result.now ≡ (side_at clients.now ticket.now.client).mind }
 {
-    seat(clients, usize::from(ticket.client))
+    client_at(clients, usize::from(ticket.client))
 }
 
 /// For each ticket whether its block has ended.
@@ -44,7 +44,7 @@ pub(crate) fn endings(
 {
     let mut row = Vec::new(alloc);
     for ticket in order {
-        row.push(seat_of(clients, ticket).has_ended(ticket.index))?;
+        row.push(client_of_ticket(clients, ticket).has_ended(ticket.index))?;
     }
     Ok(Row::from_vec(row))
 }
@@ -54,7 +54,7 @@ fn syncs_of(client: &CoreClient) -> u64
     ensures value { result ≡ (whole_of client.now).syncs }
     ensures few { result ≤ most_syncs }
 {
-    client.is_seat();
+    client.has_next_act();
     client.syncs()
 }
 
@@ -65,7 +65,7 @@ pub(crate) fn syncs(clients: &[CoreClient]) -> u64
 {
     let mut syncs = 0;
     for number in 0..clients.len() {
-        syncs += syncs_of(seat(clients, number));
+        syncs += syncs_of(client_at(clients, number));
     }
     syncs
 }
@@ -77,7 +77,7 @@ pub(crate) fn are_done(clients: &[CoreClient]) -> bool
 {
     let mut done = true;
     for number in 0..clients.len() {
-        done = done && seat(clients, number).is_done();
+        done = done && client_at(clients, number).is_done();
     }
     done
 }
@@ -90,7 +90,7 @@ fn is_clear_to(clients: &[CoreClient], handler: usize) -> bool
 {
     let mut clear = true;
     for number in 0..clients.len() {
-        clear = clear && seat(clients, number).lane(handler).is_empty();
+        clear = clear && client_at(clients, number).lane(handler).is_empty();
     }
     clear
 }
@@ -99,7 +99,7 @@ fn is_clear_to(clients: &[CoreClient], handler: usize) -> bool
 fn is_idle(clients: &[CoreClient], handlers: &[CoreHandler], number: usize) -> bool
     requires number { number < length handlers.now }
     requires lanes { HaveLane clients.now number }
-    ensures value { result ≡ (is_waiting (seat_at handlers.now number) && are_clear clients.now number) }
+    ensures value { result ≡ (is_waiting (core_handler_at handlers.now number) && are_clear clients.now number) }
 {
     handlers[number].is_waiting() && is_clear_to(clients, number)
 }
@@ -128,11 +128,11 @@ fn are_finished(clients: &[CoreClient], handlers: &[CoreHandler]) -> bool
 // A handler by its number.
 fn handler_at(handlers: &[CoreHandler], number: u8) -> &CoreHandler
     requires number { number < length handlers.now }
-    ensures seat { result.now ≡ seat_at handlers.now number }
+    ensures seat { result.now ≡ core_handler_at handlers.now number }
     ensures kept { IsCoreHandler result.now }
 {
     let handler = &handlers[usize::from(number)];
-    handler.is_seat();
+    handler.has_next_act();
     handler
 }
 
@@ -145,14 +145,14 @@ fn object<'a>(
     requires number { number < length handlers.now }
     requires few { length handlers.now ≤ most_handlers }
     requires lanes { HaveLane clients.now number }
-    requires turns { TurnsTo clients.now (seat_at handlers.now number) }
+    requires turns { TurnsTo clients.now (core_handler_at handlers.now number) }
     ensures value { option_copied result ≡ object_at clients.now handlers.now number }
 {
     let handler = handler_at(handlers, number);
     match handler.held() {
         Some(held) => Some(held),
         None => match handler.client() {
-            Some(client) => seat(clients, usize::from(client)).away(number),
+            Some(client) => client_at(clients, usize::from(client)).away(number),
             None => None,
         },
     }
@@ -168,7 +168,7 @@ fn copied(
     requires number { number < length handlers.now }
     requires few { length handlers.now ≤ most_handlers }
     requires lanes { HaveLane clients.now number }
-    requires turns { TurnsTo clients.now (seat_at handlers.now number) }
+    requires turns { TurnsTo clients.now (core_handler_at handlers.now number) }
     requires somewhere { IsSome (object_at clients.now handlers.now number) }
     ensures value { IfOk result (λ held. held ≡ held_at clients.now handlers.now number) }
 {
@@ -231,7 +231,7 @@ fn rows(alloc: Global, clients: Vec<CoreClient>) -> Result<Vec<ClientRows>, Allo
 {
     let mut rows = Vec::new(alloc);
     for client in clients {
-        client.is_seat();
+        client.has_next_act();
         rows.push(client.into_rows())?;
     }
     Ok(rows)

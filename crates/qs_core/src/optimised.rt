@@ -4,7 +4,7 @@ ghost use Rattle.std.specs.Prelude.{◌≡◌, ◌++◌, ℕ, List, None, false,
 ghost use Rattle.qs_program.specs.Program.{ProgramShape};
 ghost use Rattle.qs_syncset.specs.declared.mode.Mode.{Mode as ModeShape};
 ghost use Rattle.qs_core_laws.specs.CoreSchedule.{core_played};
-ghost use Rattle.qs_played.specs.Schedule.{actors_of, repeated};
+ghost use Rattle.qs_played.specs.Schedule.{actors_of, rounds_of};
 ghost use Rattle.qs_played.specs.declared.schedule.actor.Actor.{Actor as ActorShape};
 ghost use Rattle.std.specs.Bool.{OnTrue};
 ghost use Rattle.qs_core_laws.specs.Core.{core_step};
@@ -109,7 +109,7 @@ impl<'p> Core<'p> {
 
     /// So many rounds. It ends at the first one that steps nobody, as the further ones would change nothing either.
     pub(crate) fn play_rounds(&mut self, rounds: u32)
-        ensures rounds { (p : ProgramShape) (mode : ModeShape) (size : ℕ) (actors : List ActorShape) → IsPlayedOn p mode size actors self.old → IsPlayedOn p mode size (actors ++ repeated rounds (actors_of p)) self.new }
+        ensures rounds { (p : ProgramShape) (mode : ModeShape) (size : ℕ) (actors : List ActorShape) → IsPlayedOn p mode size actors self.old → IsPlayedOn p mode size (actors ++ rounds_of rounds (actors_of p)) self.new }
     {
         for _round in 0..rounds {
             if !self.round() {

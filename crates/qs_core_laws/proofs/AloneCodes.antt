@@ -4,25 +4,25 @@ use Rattle.std.proofs.lemmas.List.FromFn.{get_or-map-range_with_len}
 use Rattle.qs_program.specs.Loads.{load_of}
 use Rattle.qs_program.specs.Program.{block_at}
 use Rattle.qs_program.specs.Statements.{Statements}
-use Rattle.qs_graph.specs.Nodes.{Place}
+use Rattle.qs_graph.specs.Nodes.{GraphNode}
 use Rattle.qs_syncset.specs.declared.mode.Mode.{Mode}
 use Rattle.qs_syncset.specs.Codes.{IsBlockCode, IsCodeOf, IsGraphOf, code_at}
 use Rattle.qs_syncset.specs.Modes.{is_dynamic, is_static}
-use Rattle.qs_core_laws.specs.CoalescedExamples.{alone, coded}
+use Rattle.qs_core_laws.specs.CoalescedExamples.{alone, codes_with}
 use Rattle.qs_core_laws.specs.Core.{AreCodes}
 
-module _ (mode : Mode) (body : Statements) (g : List Place) (is : IsGraphOf (is_static mode) body g) where
-  only_block : (k : ℕ) → k < 1 → IsBlockCode (is_static mode) (block_at (alone body) 0 k) (code_at (coded (is_dynamic mode) body g 0) k)
+module _ (mode : Mode) (body : Statements) (g : List GraphNode) (is : IsGraphOf (is_static mode) body g) where
+  only_block : (k : ℕ) → k < 1 → IsBlockCode (is_static mode) (block_at (alone body) 0 k) (code_at (codes_with (is_dynamic mode) body g 0) k)
   only_block zero few = record { reserved = refl; graph = is; loads = λ h few. get_or-map-range_with_len (load_of body) 0 8 h h 0 few (omega arith) }
   only_block (suc k) few = absurd (omega (arith, few))
 
-  only_client : (c : ℕ) → c < 1 → IsCodeOf (alone body) mode c (coded (is_dynamic mode) body g c)
+  only_client : (c : ℕ) → c < 1 → IsCodeOf (alone body) mode c (codes_with (is_dynamic mode) body g c)
   only_client zero few = record { dynamic = refl; count = refl; blocks = only_block }
   only_client (suc c) few = absurd (omega (arith, few))
 
-  no_other : (c : ℕ) → 1 ≤ c → (coded (is_dynamic mode) body g c).blocks ≡ []
+  no_other : (c : ℕ) → 1 ≤ c → (codes_with (is_dynamic mode) body g c).blocks ≡ []
   no_other zero out = absurd (omega (arith, out))
   no_other (suc c) out = refl
 
-  pub alone_codes : AreCodes (alone body) mode (coded (is_dynamic mode) body g)
+  pub alone_codes : AreCodes (alone body) mode (codes_with (is_dynamic mode) body g)
   alone_codes = record { own = only_client; none = no_other }

@@ -14,17 +14,17 @@ use Rattle.qs_meaning.specs.Following.{reserves, block_tree, AsksOnly}
 use Rattle.qs_program.specs.Program.{ProgramShape, blocks_of}
 use Rattle.qs_meaning.specs.Serial.{zeros}
 use Rattle.qs_program.specs.Values.{Locals}
-use Rattle.qs_meaning.specs.BlockRecords.{Page, Begins}
-use Rattle.qs_graph.specs.Synced.{Synced, erased}
+use Rattle.qs_meaning.specs.BlockRecords.{BlockRecord, Begins}
+use Rattle.qs_graph.specs.Synced.{Synced, without_syncs}
 use Rattle.qs_syncset.specs.SoundSynced.{IsSoundSynced, IsOnReserved}
-use Rattle.qs_chunk.specs.LaneViews.{Standing, sends, gone}
+use Rattle.qs_chunk.specs.LaneViews.{ObjectStance, sends, gone}
 use Rattle.qs_chunk.specs.declared.parcel.Parcel.{Parcel}
 use Rattle.qs_client_run.specs.Client.{Client, Settings, Settlement, between, begin}
 use Rattle.qs_played.proofs.FunctionUpdate.{put_at, put_at_here, put_at_there, put_all, put_field, put_at_field}
 use Rattle.qs_played.specs.Played.{ticket}
 use Rattle.qs_played.proofs.Orders.{legal-more, counts-more}
 use Rattle.qs_protocol.proofs.ObjectViews.{as_list, HandlerLog, ahead, IsObject}
-use Rattle.qs_protocol.proofs.ClientInvariants.{listed, Lined, Leaving, PlaceOk, standing_at}
+use Rattle.qs_protocol.proofs.ClientInvariants.{objects_of_block, Lined, Leaving, PlaceOk, standing_at}
 use Rattle.qs_protocol.proofs.ClientLogs.{books_ok}
 use Rattle.qs_protocol.proofs.ObjectSteps.{enter_ok}
 use Rattle.qs_protocol.proofs.ActObjects.{settle_begun}
@@ -36,18 +36,18 @@ use Rattle.qs_core_laws.proofs.ClientSteps.{place_page, place_lane, place_gone}
 use Rattle.qs_core_laws.proofs.SendingPreserved.{object_deeds, grown_there}
 use Rattle.qs_core_laws.proofs.LaneHistoryMoves.{begins_kept, none_after, told_here, told_there}
 
-module _ (program : ProgramShape) (fine : (t : Ticket) (l : Locals) → AsksOnly (reserves program t) (block_tree program t l)) (lined : (t : Ticket) → Lined (reserves program t) (listed program t))
+module _ (program : ProgramShape) (fine : (t : Ticket) (l : Locals) → AsksOnly (reserves program t) (block_tree program t l)) (lined : (t : Ticket) → Lined (reserves program t) (objects_of_block program t))
     (s : Core) (y : LaneHistory) (g : ℕ → HandlerLog) (k : CoreInvariant program s y g) (settings : Settings)
     (c n : ℕ) (begun : (s.client c).begun ≡ n) (some : n < blocks_of program c) (l : Locals) (place : (s.client c).stage ≡ between l)
-    (code : Synced) (is_tree : erased code ≡ block_tree program (ticket c n) l) (sound : IsSoundSynced (λ h. false) code) (on : IsOnReserved (listed program (ticket c n)) code) where
+    (code : Synced) (is_tree : without_syncs code ≡ block_tree program (ticket c n) l) (sound : IsSoundSynced (λ h. false) code) (on : IsOnReserved (objects_of_block program (ticket c n)) code) where
   abbrev t : Ticket
   t = ticket c n
 
   abbrev r : Settlement
-  r = begin settings t (listed program t) (s.client c) code
+  r = begin settings t (objects_of_block program t) (s.client c) code
 
   new_begun : r.client.begun ≡ suc n
-  new_begun = settle_begun settings t (listed program t) code (record (s.client c) { begun = suc (s.client c).begun }) ∙ ap suc begun
+  new_begun = settle_begun settings t (objects_of_block program t) code (record (s.client c) { begun = suc (s.client c).begun }) ∙ ap suc begun
 
   pub nothing : (n : ℕ) → (s.client c).begun ≡ n → (h : ℕ) → ((s.client c).held h ≡ None) × ((s.client c).chunk h ≡ None)
   nothing zero b h = (k.idle c b).1 h
@@ -61,11 +61,11 @@ module _ (program : ProgramShape) (fine : (t : Ticket) (l : Locals) → AsksOnly
       let ok : Leaving program (ticket c j) (y.sent (ticket c j)) (y.got (ticket c j)) (s.client c) (y.page (ticket c j)) [] l = subst (PlaceOk program (ticket c j) (y.sent (ticket c j)) (y.got (ticket c j)) (s.client c) (y.page (ticket c j))) place (k.places c j b) in
       ok.rest
 
-  abbrev ends : (pg' : Page) × (pg'.entry ≡ l) × (pg'.trace ≡ r.events) × PlaceOk program t (λ h. []) (λ h. []) r.client pg' r.client.stage
+  abbrev ends : (pg' : BlockRecord) × (pg'.entry ≡ l) × (pg'.trace ≡ r.events) × PlaceOk program t (λ h. []) (λ h. []) r.client pg' r.client.stage
   ends = books_ok program t (λ h. []) (λ h. []) settings (lined t) 0 (s.client c) l code (λ h. (nothing n begun h).0) (λ h. (nothing n begun h).1) (λ h. refl) (λ h. refl)
       is_tree (fine t l) sound on
 
-  abbrev pg : Page
+  abbrev pg : BlockRecord
   pg = ends.0
 
   abbrev Y : LaneHistory
@@ -177,31 +177,31 @@ module _ (program : ProgramShape) (fine : (t : Ticket) (l : Locals) → AsksOnly
         (each_both (λ u (n : same t u ≡ false) (h : (suc u.index ≤ (s.client u.client).begun) × TicketOk program y u). told_old u n h.0 h.1) s.order fresh
         (each_both (λ u a b. (a, b)) s.order k.below k.told))
         told_new;
-    entry = put_at_field (λ (p : Page). p.entry) y.page s.entry t pg l k.entry ends.1;
-    trace = put_at_field (λ (p : Page). p.trace) y.page s.trace t pg r.events k.trace ends.2;
+    entry = put_at_field (λ (p : BlockRecord). p.entry) y.page s.entry t pg l k.entry ends.1;
+    trace = put_at_field (λ (p : BlockRecord). p.trace) y.page s.trace t pg r.events k.trace ends.2;
     idle = put_all (λ d (m : Client). m.begun ≡ 0 → (m.stage ≡ between zeros) × ((h : ℕ) → (m.held h ≡ None) × (m.chunk h ≡ None))) s.client c r.client (λ e. let b = new_begun in absurd (omega (arith, b, e))) (λ d other e. k.idle d e);
     places = λ d j. put_all (λ d (m : Client). (j : ℕ) → m.begun ≡ suc j → PlaceOk program (ticket d j) (Y.sent (ticket d j)) (Y.got (ticket d j)) m (Y.page (ticket d j)) m.stage) s.client c r.client
         (λ j e. let b = new_begun in let i : n ≡ j = omega (arith, b, e) in subst (λ j. PlaceOk program (ticket c j) (Y.sent (ticket c j)) (Y.got (ticket c j)) r.client (Y.page (ticket c j)) r.client.stage) i
         (subst (λ (f : ℕ → List Parcel). PlaceOk program t f (Y.got t) r.client (Y.page t) r.client.stage) (sym (put_at_here y.sent t (λ h. [])))
         (subst (λ (f : ℕ → List HeldState). PlaceOk program t (λ h. []) f r.client (Y.page t) r.client.stage) (sym (put_at_here y.got t (λ h. [])))
-        (subst (λ (p : Page). PlaceOk program t (λ h. []) (λ h. []) r.client p r.client.stage) (sym (put_at_here y.page t pg)) ends.3))))
+        (subst (λ (p : BlockRecord). PlaceOk program t (λ h. []) (λ h. []) r.client p r.client.stage) (sym (put_at_here y.page t pg)) ends.3))))
         (λ d other j e.
         let n = not_this d j other in
         subst (λ (f : ℕ → List Parcel). PlaceOk program (ticket d j) f (Y.got (ticket d j)) (s.client d) (Y.page (ticket d j)) (s.client d).stage) (sym (put_at_there y.sent t (λ h. []) (ticket d j) n))
         (subst (λ (f : ℕ → List HeldState). PlaceOk program (ticket d j) (y.sent (ticket d j)) f (s.client d) (Y.page (ticket d j)) (s.client d).stage) (sym (put_at_there y.got t (λ h. []) (ticket d j) n))
-        (subst (λ (p : Page). PlaceOk program (ticket d j) (y.sent (ticket d j)) (y.got (ticket d j)) (s.client d) p (s.client d).stage) (sym (old_page (ticket d j) n)) (k.places d j e)))) d j;
+        (subst (λ (p : BlockRecord). PlaceOk program (ticket d j) (y.sent (ticket d j)) (y.got (ticket d j)) (s.client d) p (s.client d).stage) (sym (old_page (ticket d j) n)) (k.places d j e)))) d j;
     stands = λ d j. put_all (λ d (m : Client). (j : ℕ) → m.begun ≡ suc j → (h : ℕ) → Y.stands (ticket d j) h ≡ standing_at program (ticket d j) m m.stage h) s.client c r.client
-        (λ j e h. let b = new_begun in let i : n ≡ j = omega (arith, b, e) in subst (λ j. Y.stands (ticket c j) h ≡ standing_at program (ticket c j) r.client r.client.stage h) i (ap (λ (f : ℕ → Standing). f h) (put_at_here y.stands t (standing_at program t r.client r.client.stage))))
-        (λ d other j e h. ap (λ (f : ℕ → Standing). f h) (put_at_there y.stands t (standing_at program t r.client r.client.stage) (ticket d j) (not_this d j other)) ∙ k.stands d j e h) d j;
+        (λ j e h. let b = new_begun in let i : n ≡ j = omega (arith, b, e) in subst (λ j. Y.stands (ticket c j) h ≡ standing_at program (ticket c j) r.client r.client.stage h) i (ap (λ (f : ℕ → ObjectStance). f h) (put_at_here y.stands t (standing_at program t r.client r.client.stage))))
+        (λ d other j e h. ap (λ (f : ℕ → ObjectStance). f h) (put_at_there y.stands t (standing_at program t r.client r.client.stage) (ticket d j) (not_this d j other)) ∙ k.stands d j e h) d j;
     older = λ d j. put_all (λ d (m : Client). (j : ℕ) → suc j < m.begun → (h : ℕ) → reserves program (ticket d j) h ≡ true → Y.stands (ticket d j) h ≡ gone) s.client c r.client
         (λ j lt h m.
         let b = new_begun in
         let lt' : suc j < suc n = omega (arith, b, lt) in
         ⊎_elim
         (λ (is : t ≡ ticket c j). let p : n ≡ j = ap (λ (t : Ticket). t.index) is in absurd (omega (arith, p, lt')))
-        (λ (other : same t (ticket c j) ≡ false). ap (λ (f : ℕ → Standing). f h) (put_at_there y.stands t (standing_at program t r.client r.client.stage) (ticket c j) other) ∙ older_now j h lt' m)
+        (λ (other : same t (ticket c j) ≡ false). ap (λ (f : ℕ → ObjectStance). f h) (put_at_there y.stands t (standing_at program t r.client r.client.stage) (ticket c j) other) ∙ older_now j h lt' m)
         (ticket_cases t (ticket c j)))
-        (λ d other j lt h m. ap (λ (f : ℕ → Standing). f h) (put_at_there y.stands t (standing_at program t r.client r.client.stage) (ticket d j) (not_this d j other)) ∙ k.older d j lt h m) d j;
+        (λ d other j lt h m. ap (λ (f : ℕ → ObjectStance). f h) (put_at_there y.stands t (standing_at program t r.client r.client.stage) (ticket d j) (not_this d j other)) ∙ k.older d j lt h m) d j;
     outside = λ u h none. ⊎_elim
         (λ (is : t ≡ u). subst (λ u. (Y.sent u h ≡ []) × (Y.got u h ≡ [])) is
         (ap (λ (f : ℕ → List Parcel). f h) (put_at_here y.sent t (λ h. [])), ap (λ (f : ℕ → List HeldState). f h) (put_at_here y.got t (λ h. []))))

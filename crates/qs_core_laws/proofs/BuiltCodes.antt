@@ -8,14 +8,14 @@ use Rattle.qs_syncset.specs.declared.mode.Mode.{Mode}
 use Rattle.qs_syncset.specs.Codes.{IsBlockCode, no_code}
 use Rattle.qs_syncset.specs.Modes.{is_dynamic, is_static}
 use Rattle.qs_core_laws.specs.Core.{AreCodes}
-use Rattle.qs_core_laws.specs.CoreExamples.{built, built_block}
+use Rattle.qs_core_laws.specs.CoreExamples.{example_code, built_block}
 
 module _ (p : ProgramShape) (dynamic : Bool) (mode : Mode) (tests : dynamic ≡ is_dynamic mode) (removes_none : is_static mode ≡ false) where
   block_code : (b : BlockShape) → IsBlockCode (is_static mode) b (built_block b)
   block_code b = subst (λ static. IsBlockCode static b (built_block b)) (sym removes_none)
       (record { reserved = refl; graph = refl; loads = λ h few. get_or-map-range_with_len (load_of b.body) 0 8 h h 0 few (omega arith) })
 
-  pub built_codes : AreCodes p mode (built dynamic p)
+  pub built_codes : AreCodes p mode (example_code dynamic p)
   built_codes = record {
     own = λ c inside. record {
       dynamic = tests;

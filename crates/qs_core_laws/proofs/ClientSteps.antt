@@ -12,15 +12,15 @@ use Rattle.qs_meaning.proofs.Each.{each_map, each_both}
 use Rattle.qs_meaning.specs.Following.{reserves}
 use Rattle.qs_program.specs.Program.{ProgramShape}
 use Rattle.qs_meaning.specs.Serial.{zeros}
-use Rattle.qs_meaning.specs.BlockRecords.{Page, IsDone}
-use Rattle.qs_chunk.specs.LaneViews.{Standing, asks, gone, ClientLane}
+use Rattle.qs_meaning.specs.BlockRecords.{BlockRecord, IsDone}
+use Rattle.qs_chunk.specs.LaneViews.{ObjectStance, asks, gone, ClientLane}
 use Rattle.qs_chunk.specs.declared.parcel.Parcel.{Parcel}
 use Rattle.qs_client_run.specs.Client.{Client, ClientStage, between, runs, full, awaits, leaves}
 use Rattle.qs_played.proofs.FunctionUpdate.{put_at, put_at_here, put_at_there, put_all, put_at_field, put_at_kept, put_kept}
 use Rattle.qs_played.specs.Played.{ticket}
 use Rattle.qs_protocol.proofs.ObjectViews.{HandlerLog, IsObject}
 use Rattle.qs_protocol.proofs.ClientInvariants.{in_hand, PlaceOk, standing_at}
-use Rattle.qs_protocol.specs.ClientHistories.{IsOpenPage}
+use Rattle.qs_protocol.specs.ClientHistories.{IsOpenRecord}
 use Rattle.qs_protocol.proofs.ActKinds.{in_hand_gone}
 use Rattle.qs_played.specs.JournalRooms.{fresh_held}
 use Rattle.qs_core_laws.specs.Core.{Core}
@@ -28,14 +28,14 @@ use Rattle.qs_core_laws.proofs.CoreInvariant.{LaneHistory, post, deeds, TicketOk
 use Rattle.qs_core_laws.proofs.LaneHistoryMoves.{begins_kept, none_after, told_here, told_there}
 
 module _ (program : ProgramShape) (t : Ticket) (snt : ℕ → List Parcel) (got : ℕ → List HeldState) where
-  pub place_page : (m : Client) (pg : Page) (pl : ClientStage) → PlaceOk program t snt got m pg pl → IsOpenPage program t pg
+  pub place_page : (m : Client) (pg : BlockRecord) (pl : ClientStage) → PlaceOk program t snt got m pg pl → IsOpenRecord program t pg
   place_page m pg (between l) k = k.page
   place_page m pg (runs code) k = k.0.page
   place_page m pg (full h code) k = k.page
   place_page m pg (awaits h code) k = k.page
   place_page m pg (leaves h hs l) k = k.page
 
-  pub place_lane : (m : Client) (pg : Page) (pl : ClientStage) → PlaceOk program t snt got m pg pl → (h : ℕ) → ClientLane t false (snt h) (got h) (part h pg.trace) (standing_at program t m pl h)
+  pub place_lane : (m : Client) (pg : BlockRecord) (pl : ClientStage) → PlaceOk program t snt got m pg pl → (h : ℕ) → ClientLane t false (snt h) (got h) (part h pg.trace) (standing_at program t m pl h)
   place_lane m pg (between l) k h = k.lanes h
   place_lane m pg (runs code) k h = k.0.lanes h
   place_lane m pg (full g code) k h = k.lanes h
@@ -46,7 +46,7 @@ module _ (program : ProgramShape) (t : Ticket) (snt : ℕ → List Parcel) (got 
   awaits_gone true o c e = cc
   awaits_gone false o c e = in_hand_gone o c e
 
-  pub place_gone : (m : Client) (pg : Page) (pl : ClientStage) → PlaceOk program t snt got m pg pl → (h : ℕ) → standing_at program t m pl h ≡ gone → IsDone pg.rest
+  pub place_gone : (m : Client) (pg : BlockRecord) (pl : ClientStage) → PlaceOk program t snt got m pg pl → (h : ℕ) → standing_at program t m pl h ≡ gone → IsDone pg.rest
   place_gone m pg (between l) k h e = subst IsDone (sym k.rest) tt
   place_gone m pg (runs code) k h e = absurd (in_hand_gone (m.held h) (m.chunk h) e)
   place_gone m pg (full g code) k h e = absurd (in_hand_gone (m.held h) (m.chunk h) e)
@@ -55,7 +55,7 @@ module _ (program : ProgramShape) (t : Ticket) (snt : ℕ → List Parcel) (got 
 
 module _ (program : ProgramShape) (s : Core) (y : LaneHistory) (g : ℕ → HandlerLog) (kept : CoreInvariant program s y g)
     (c k : ℕ) (begun : (s.client c).begun ≡ suc k) (m : Client) (same_begun : m.begun ≡ (s.client c).begun) (events : List Event)
-    (snt : ℕ → List Parcel) (got : ℕ → List HeldState) (pg : Page) (entry : pg.entry ≡ (y.page (ticket c k)).entry) (trace : pg.trace ≡ (y.page (ticket c k)).trace ++ events)
+    (snt : ℕ → List Parcel) (got : ℕ → List HeldState) (pg : BlockRecord) (entry : pg.entry ≡ (y.page (ticket c k)).entry) (trace : pg.trace ≡ (y.page (ticket c k)).trace ++ events)
     (ok : PlaceOk program (ticket c k) snt got m pg m.stage) (out : (h : ℕ) → reserves program (ticket c k) h ≡ false → (snt h ≡ []) × (got h ≡ [])) where
   abbrev pub t : Ticket
   t = ticket c k
@@ -63,8 +63,8 @@ module _ (program : ProgramShape) (s : Core) (y : LaneHistory) (g : ℕ → Hand
   abbrev pub story : LaneHistory
   story = record { page = put_at y.page t pg; sent = put_at y.sent t snt; got = put_at y.got t got; stands = put_at y.stands t (standing_at program t m m.stage) }
 
-  abbrev pub moved : (ℕ → ℕ → List Parcel) → (ℕ → ℕ → Option HeldState) → (ℕ → ℕ → ℕ) → (ℕ → ℕ) → (Ticket → List SyncCount) → Core
-  moved down up spare syncs tallies = record s { client = put s.client c m; trace = put_at s.trace t (s.trace t ++ events); down = down; up = up; spare = spare; syncs = syncs; sync_counts = tallies }
+  abbrev pub state_after : (ℕ → ℕ → List Parcel) → (ℕ → ℕ → Option HeldState) → (ℕ → ℕ → ℕ) → (ℕ → ℕ) → (Ticket → List SyncCount) → Core
+  state_after down up spare syncs tallies = record s { client = put s.client c m; trace = put_at s.trace t (s.trace t ++ events); down = down; up = up; spare = spare; syncs = syncs; sync_counts = tallies }
 
   begun_kept : (d : ℕ) → (put s.client c m d).begun ≡ (s.client d).begun
   begun_kept d = put_kept (λ (m : Client). m.begun) s.client c m same_begun d
@@ -89,8 +89,8 @@ module _ (program : ProgramShape) (s : Core) (y : LaneHistory) (g : ℕ → Hand
   not_this d j n = rw n
 
   pub client_moves : (down : ℕ → ℕ → List Parcel) (up : ℕ → ℕ → Option HeldState) (spare : ℕ → ℕ → ℕ) (syncs : ℕ → ℕ) (tallies : Ticket → List SyncCount) (g' : ℕ → HandlerLog)
-      → ((h : ℕ) → IsObject (filter (λ t. reserves program t h) s.order) (fresh_held program h) (post (moved down up spare syncs tallies) h) (deeds story h) (g' h))
-      → CoreInvariant program (moved down up spare syncs tallies) story g'
+      → ((h : ℕ) → IsObject (filter (λ t. reserves program t h) s.order) (fresh_held program h) (post (state_after down up spare syncs tallies) h) (deeds story h) (g' h))
+      → CoreInvariant program (state_after down up spare syncs tallies) story g'
   client_moves down up spare syncs tallies g' objects = record {
     legal = kept.legal;
     counts = λ d. kept.counts d ∙ sym (begun_kept d);
@@ -100,22 +100,22 @@ module _ (program : ProgramShape) (s : Core) (y : LaneHistory) (g : ℕ → Hand
         (λ (is : t ≡ u). subst (TicketOk program story) is (told_new (subst (TicketOk program y) (sym is) old) (omega arith)))
         (λ (other : same t u ≡ false). told_old u other lt old)
         (ticket_cases t u)) s.order kept.below kept.told;
-    entry = λ u. put_at_kept (λ (p : Page). p.entry) y.page t pg entry u ∙ kept.entry u;
-    trace = put_at_field (λ (p : Page). p.trace) y.page s.trace t pg (s.trace t ++ events) kept.trace (trace ∙ ap (λ es. es ++ events) (kept.trace t));
+    entry = λ u. put_at_kept (λ (p : BlockRecord). p.entry) y.page t pg entry u ∙ kept.entry u;
+    trace = put_at_field (λ (p : BlockRecord). p.trace) y.page s.trace t pg (s.trace t ++ events) kept.trace (trace ∙ ap (λ es. es ++ events) (kept.trace t));
     idle = put_all (λ d (m : Client). m.begun ≡ 0 → (m.stage ≡ between zeros) × ((h : ℕ) → (m.held h ≡ None) × (m.chunk h ≡ None))) s.client c m (λ e. absurd (omega arith)) (λ d other e. kept.idle d e);
     places = λ d j. put_all (λ d (m : Client). (j : ℕ) → m.begun ≡ suc j → PlaceOk program (ticket d j) (story.sent (ticket d j)) (story.got (ticket d j)) m (story.page (ticket d j)) m.stage) s.client c m
         (λ j e. let i : k ≡ j = omega arith in subst (λ j. PlaceOk program (ticket c j) (story.sent (ticket c j)) (story.got (ticket c j)) m (story.page (ticket c j)) m.stage) i
         (subst (λ (f : ℕ → List Parcel). PlaceOk program t f (story.got t) m (story.page t) m.stage) (sym (put_at_here y.sent t snt))
         (subst (λ (f : ℕ → List HeldState). PlaceOk program t snt f m (story.page t) m.stage) (sym (put_at_here y.got t got))
-        (subst (λ (p : Page). PlaceOk program t snt got m p m.stage) (sym (put_at_here y.page t pg)) ok))))
+        (subst (λ (p : BlockRecord). PlaceOk program t snt got m p m.stage) (sym (put_at_here y.page t pg)) ok))))
         (λ d other j e.
         let n = not_this d j other in
         subst (λ (f : ℕ → List Parcel). PlaceOk program (ticket d j) f (story.got (ticket d j)) (s.client d) (story.page (ticket d j)) (s.client d).stage) (sym (put_at_there y.sent t snt (ticket d j) n))
         (subst (λ (f : ℕ → List HeldState). PlaceOk program (ticket d j) (y.sent (ticket d j)) f (s.client d) (story.page (ticket d j)) (s.client d).stage) (sym (put_at_there y.got t got (ticket d j) n))
-        (subst (λ (p : Page). PlaceOk program (ticket d j) (y.sent (ticket d j)) (y.got (ticket d j)) (s.client d) p (s.client d).stage) (sym (old_page (ticket d j) n)) (kept.places d j e)))) d j;
+        (subst (λ (p : BlockRecord). PlaceOk program (ticket d j) (y.sent (ticket d j)) (y.got (ticket d j)) (s.client d) p (s.client d).stage) (sym (old_page (ticket d j) n)) (kept.places d j e)))) d j;
     stands = λ d j. put_all (λ d (m : Client). (j : ℕ) → m.begun ≡ suc j → (h : ℕ) → story.stands (ticket d j) h ≡ standing_at program (ticket d j) m m.stage h) s.client c m
-        (λ j e h. let i : k ≡ j = omega arith in subst (λ j. story.stands (ticket c j) h ≡ standing_at program (ticket c j) m m.stage h) i (ap (λ (f : ℕ → Standing). f h) (put_at_here y.stands t (standing_at program t m m.stage))))
-        (λ d other j e h. ap (λ (f : ℕ → Standing). f h) (put_at_there y.stands t (standing_at program t m m.stage) (ticket d j) (not_this d j other)) ∙ kept.stands d j e h) d j;
+        (λ j e h. let i : k ≡ j = omega arith in subst (λ j. story.stands (ticket c j) h ≡ standing_at program (ticket c j) m m.stage h) i (ap (λ (f : ℕ → ObjectStance). f h) (put_at_here y.stands t (standing_at program t m m.stage))))
+        (λ d other j e h. ap (λ (f : ℕ → ObjectStance). f h) (put_at_there y.stands t (standing_at program t m m.stage) (ticket d j) (not_this d j other)) ∙ kept.stands d j e h) d j;
     older = λ d j lt h reserved.
         ⊎_elim
         (λ (is : t ≡ ticket d j).
@@ -123,7 +123,7 @@ module _ (program : ProgramShape) (s : Core) (y : LaneHistory) (g : ℕ → Hand
         let q : (s.client c).begun ≡ (s.client d).begun = ap (λ (t : Ticket). (s.client t.client).begun) is in
         let b = begun_kept d in
         absurd (omega (arith, b)))
-        (λ (other : same t (ticket d j) ≡ false). ap (λ (f : ℕ → Standing). f h) (put_at_there y.stands t (standing_at program t m m.stage) (ticket d j) other) ∙ kept.older d j (subst (λ n. suc j < n) (begun_kept d) lt) h reserved)
+        (λ (other : same t (ticket d j) ≡ false). ap (λ (f : ℕ → ObjectStance). f h) (put_at_there y.stands t (standing_at program t m m.stage) (ticket d j) other) ∙ kept.older d j (subst (λ n. suc j < n) (begun_kept d) lt) h reserved)
         (ticket_cases t (ticket d j));
     outside = λ u h none. ⊎_elim
         (λ (is : t ≡ u). subst (λ u. (story.sent u h ≡ []) × (story.got u h ≡ [])) is

@@ -2,7 +2,7 @@
 use Rattle.std.proofs.Common.{◌≡◌, ◌<◌, ◌≤◌, arith, ℕ, suc, Bool, true, false, true≢false, if◌then◌else◌, ◌==◌, List, [], ◌∷◌, ◌++◌, map, filter, refl, sym, ap, ap₂, ◌∙◌, subst, ◌⊎◌, inl, inr, ⊎_elim, append-nil, Option, Some, None}
 use Rattle.std.specs.List.{AllByRecursion}
 use Rattle.qs_objects.specs.Journals.{HeldState}
-use Rattle.qs_objects.specs.Parts.{logged, part, same}
+use Rattle.qs_objects.specs.Parts.{command_event, part, same}
 use Rattle.qs_objects.specs.declared.held.Event.{Event}
 use Rattle.qs_objects.specs.declared.held.Ticket.{Ticket}
 use Rattle.qs_objects.specs.declared.Request.{Request}
@@ -15,7 +15,7 @@ use Rattle.qs_meaning.proofs.Histories.{Among, Apart, parts_of}
 use Rattle.qs_meaning.proofs.SerialRuns.{legal_apart}
 use Rattle.qs_meaning.proofs.SoundTrees.{blocks_ask_only}
 use Rattle.qs_meaning.proofs.TreeWalks.{unnamed}
-use Rattle.qs_chunk.specs.LaneViews.{Standing, sends, asks, gone, ClientLane, HandlerLane}
+use Rattle.qs_chunk.specs.LaneViews.{ObjectStance, sends, asks, gone, ClientLane, HandlerLane}
 use Rattle.qs_chunk.specs.declared.parcel.Parcel.{Parcel}
 use Rattle.qs_chunk.specs.LaneParts.{commands_in, lane_of}
 use Rattle.qs_chunk.specs.LaneViews as views
@@ -145,10 +145,10 @@ module _ (program : ProgramShape) (sound : IsSound program) (s : Core) (y : Lane
   pub part_out : (t : Ticket) → TicketOk program y t → reserves program t h ≡ false → parts_of y.page h t ≡ []
   part_out t told out = unnamed (reserves program t) (block_tree program t (y.page t).entry) (y.page t).trace (y.page t).rest h (blocks_ask_only program sound t (y.page t).entry) told.page.path out
 
-  empty_chunk : (t : Ticket) (events : List Event) (c : Standing) → ClientLane t false [] [] events c → events ≡ [] → chunk_of c ≡ []
+  empty_chunk : (t : Ticket) (events : List Event) (c : ObjectStance) → ClientLane t false [] [] events c → events ≡ [] → chunk_of c ≡ []
   empty_chunk t events c lane none = ap chunk_of lane.1 ∙ no_events lane.0 (sym lane.3 ∙ none)
     where
-      no_events : (rs : List Request) → map logged rs ≡ [] → rs ≡ []
+      no_events : (rs : List Request) → map command_event rs ≡ [] → rs ≡ []
       no_events [] e = refl
       no_events (r ∷ rs) e = absurd (cc)
 

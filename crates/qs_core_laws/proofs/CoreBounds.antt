@@ -22,7 +22,7 @@ use Rattle.qs_syncset.specs.Codes.{ClientCode}
 use Rattle.qs_chunk.specs.Lanes.{HasSize}
 use Rattle.qs_chunk.specs.declared.parcel.Parcel.{Parcel}
 use Rattle.qs_chunk.specs.declared.parcel.Parcel.TheVariants as parcels
-use Rattle.qs_handler.specs.Handler.{Handler, free, serves, spares, gives, away, closed, taken, received, gave}
+use Rattle.qs_handler.specs.Handler.{Handler, free, serves, spares, gives, away, closed, accept_next, accept_parcel, gave}
 use Rattle.qs_handler.specs.Handler as handlers
 use Rattle.qs_client_run.specs.Client.{Client, ClientStage, Settings, Settlement, act_at, act_of, between, runs, full, awaits, leaves, begin, call_act, clear, first_client, take_object, after_parcel, take_chunk, work}
 use Rattle.qs_client_run.specs.declared.act.Act.{Act}
@@ -35,12 +35,12 @@ use Rattle.qs_played.specs.declared.schedule.actor.Actor.TheVariants as actor
 use Rattle.qs_protocol.proofs.ActKinds.{outside_not_send}
 use Rattle.qs_protocol.proofs.ActObjects.{sent_begun, got_begun, chunk_begun, settle_begun, not_send, not_await, not_need}
 use Rattle.qs_chunk.specs.Limits.{lane_room, spare_room}
-use Rattle.qs_core_laws.specs.Core.{Core, AreCodes, blocks, client_step, core_begin, core_step, gets, gives_chunk, handled, handler_step, put_lane, reserved_of, reserves_from, settings_of, takes_chunk, takes_parcel, takes_ticket, tree_of, with_down, with_tickets}
+use Rattle.qs_core_laws.specs.Core.{Core, AreCodes, blocks, client_step, core_begin, core_step, gets, gives_chunk, after_handler, handler_step, put_lane, reserved_of, reserves_from, settings_of, takes_chunk, takes_parcel, takes_ticket, tree_of, with_down, with_tickets}
 use Rattle.qs_core_laws.specs.CoreSchedule.{core_plays}
 use Rattle.qs_played.specs.Schedule.{or_stay}
 use Rattle.qs_core_laws.proofs.CoreCodes.{blocks_are}
 use Rattle.qs_core_laws.proofs.HandlerSteps.{some_is}
-use Rattle.qs_core_laws.proofs.CoreSteps.{Kept, begin_kept, begun_by, is_between, step_kept}
+use Rattle.qs_core_laws.proofs.CoreSteps.{HasInvariant, begin_kept, begun_by, is_between, step_kept}
 use Rattle.qs_core_laws.specs.Core as core
 
 -- what a client sends has the chunks' size
@@ -76,7 +76,7 @@ sends_sizes settings n m (leaves g hs l) h parcel e = clears_sizes settings g (m
 abbrev pub GivesBack : ℕ → Handler → Type 0
 GivesBack size v = (t : Ticket) (x : HeldState) (n : ℕ) → v ≡ spares t x n → n ≡ size
 
-received_back : (size : ℕ) (v w : Handler) (parcel : Parcel) → HasSize size parcel → received v parcel ≡ Some w → GivesBack size w
+received_back : (size : ℕ) (v w : Handler) (parcel : Parcel) → HasSize size parcel → accept_parcel v parcel ≡ Some w → GivesBack size w
 received_back size (serves t x) w (parcels.Work chunk) sized e u z n is = let same_size : chunk.capacity ≡ n = cc (e, is) in sym same_size ∙ sized
 received_back size (serves t x) w parcels.Sync sized e u z n is = absurd (cc (e, is))
 received_back size (serves t x) w parcels.End sized e u z n is = absurd (cc (e, is))
@@ -90,7 +90,7 @@ received_back size (spares t x m) w parcel sized e u z n is = absurd (cc)
 received_back size (gives t x) w parcel sized e u z n is = absurd (cc)
 received_back size (closed x) w parcel sized e u z n is = absurd (cc)
 
-taken_back : (size : ℕ) (v w : Handler) (t : Ticket) → taken v (nexts.Ticket t) ≡ Some w → GivesBack size w
+taken_back : (size : ℕ) (v w : Handler) (t : Ticket) → accept_next v (nexts.Ticket t) ≡ Some w → GivesBack size w
 taken_back size (free x) w t e u z n is = absurd (cc (e, is))
 taken_back size (serves s x) w t e u z n is = absurd (cc)
 taken_back size (spares s x m) w t e u z n is = absurd (cc)
@@ -118,7 +118,7 @@ module _ (program : ProgramShape) (sound : IsSound program) (mode : Mode) (code 
     pub fresh : (t : Ticket) → (s.client t.client).begun ≤ t.index → (s.entry t ≡ []) × (s.trace t ≡ [])
 
   abbrev KeptOf : Core → Type 0
-  KeptOf s = Kept program sound mode code codes size s
+  KeptOf s = HasInvariant program sound mode code codes size s
 
   module _ (s : Core) (k : KeptOf s) (b : CoreBounded s) where
     abbrev asks_for : ℕ → Act
@@ -176,7 +176,7 @@ module _ (program : ProgramShape) (sound : IsSound program) (mode : Mode) (code 
         one_of (nat_lt (length (s.down c h)) lane_room) _ s' e
         (client_bounded c ((s.client c).begun - 1) (after_parcel (settings_of code size c) (now c) (reserved_of code size (now c)) (s.client c) h parcel).client
         (after_parcel (settings_of code size c) (now c) (reserved_of code size (now c)) (s.client c) h parcel).events
-        (put_lane s.down c h (s.down c h ++ parcel ∷ [])) s.up s.spare (core.synced code size s.syncs c parcel) (core.tallied code size s.sync_counts (now c) h parcel)
+        (put_lane s.down c h (s.down c h ++ parcel ∷ [])) s.up s.spare (core.syncs_after code size s.syncs c parcel) (core.sync_counts_after code size s.sync_counts (now c) h parcel)
         (begun_of c (Send h parcel) act (λ l i a. not_send (settings_of code size c) (blocks code size c) (s.client c) l h parcel i a))
         (sent_begun (settings_of code size c) (now c) (reserved_of code size (now c)) (s.client c) h parcel)
         (lane_holds (AllByRecursion (HasSize size)) s.down c h (s.down c h ++ parcel ∷ [])
@@ -264,17 +264,17 @@ module _ (program : ProgramShape) (sound : IsSound program) (mode : Mode) (code 
 
     ticket_bounded : (h : ℕ) (ts : List Ticket) (s' : Core) → takes_ticket code size s h ts ≡ Some s' → CoreBounded s'
     ticket_bounded h [] s' e = absurd (cc)
-    ticket_bounded h (t ∷ ts) s' e = by_next (taken (s.handler h) (nexts.Ticket t)) refl e
+    ticket_bounded h (t ∷ ts) s' e = by_next (accept_next (s.handler h) (nexts.Ticket t)) refl e
       where
-        by_next : (o : Option Handler) → taken (s.handler h) (nexts.Ticket t) ≡ o → handled code size (with_tickets code size s h ts) h o ≡ Some s' → CoreBounded s'
+        by_next : (o : Option Handler) → accept_next (s.handler h) (nexts.Ticket t) ≡ o → after_handler code size (with_tickets code size s h ts) h o ≡ Some s' → CoreBounded s'
         by_next None o e = absurd (cc)
         by_next (Some v) o e = subst CoreBounded (some_is _ s' e) (handler_bounded h v s.down s.up s.spare (put s.tickets h ts) (taken_back size (s.handler h) v t o) b.sizes)
 
     parcel_bounded : (h c : ℕ) (ps : List Parcel) (s' : Core) → AllByRecursion (HasSize size) ps → takes_parcel code size s h c ps ≡ Some s' → CoreBounded s'
     parcel_bounded h c [] s' sized e = absurd (cc)
-    parcel_bounded h c (parcel ∷ ps) s' sized e = by_next (received (s.handler h) parcel) refl e
+    parcel_bounded h c (parcel ∷ ps) s' sized e = by_next (accept_parcel (s.handler h) parcel) refl e
       where
-        by_next : (o : Option Handler) → received (s.handler h) parcel ≡ o → handled code size (with_down code size s c h ps) h o ≡ Some s' → CoreBounded s'
+        by_next : (o : Option Handler) → accept_parcel (s.handler h) parcel ≡ o → after_handler code size (with_down code size s c h ps) h o ≡ Some s' → CoreBounded s'
         by_next None o e = absurd (cc)
         by_next (Some v) o e =
             subst CoreBounded (some_is _ s' e)

@@ -6,7 +6,7 @@ use Rattle.qs_meaning.specs.Following.{block_tree}
 use Rattle.qs_program.specs.Program.{BlockShape, ProgramShape, blocks_of}
 use Rattle.qs_program.specs.Sound.{IsSound}
 use Rattle.qs_program.specs.Values.{Locals}
-use Rattle.qs_graph.specs.Synced.{erased}
+use Rattle.qs_graph.specs.Synced.{without_syncs}
 use Rattle.qs_syncset.specs.declared.mode.Mode.{Mode}
 use Rattle.qs_syncset.specs.Codes.{BlockCode, ClientCode, no_code}
 use Rattle.qs_syncset.specs.SoundSynced.{IsSoundSynced, IsOnReserved}
@@ -14,7 +14,7 @@ use Rattle.qs_syncset.proofs.CodeWalks.{walks_are_sound}
 use Rattle.qs_client_run.specs.BlockSizes.{longest}
 use Rattle.qs_client_run.proofs.CodeBounds.{longest_covers}
 use Rattle.qs_played.proofs.ReservedObjects.{none_beyond, no_text}
-use Rattle.qs_protocol.proofs.ClientInvariants.{listed}
+use Rattle.qs_protocol.proofs.ClientInvariants.{objects_of_block}
 use Rattle.qs_core_laws.specs.Core.{AreCodes, blocks, reserved_of, tree_of}
 
 module _ (program : ProgramShape) (sound : IsSound program) (mode : Mode) (code : ℕ → ClientCode) (codes : AreCodes program mode code) (size : ℕ) where
@@ -25,15 +25,15 @@ module _ (program : ProgramShape) (sound : IsSound program) (mode : Mode) (code 
       by_client true e = (codes.own c (grind (arith, e))).count
       by_client false e = ap length (codes.none c (grind (arith, e))) ∙ sym (none_beyond program sound c (grind (arith, e)))
 
-  pub reserved_is : (t : Ticket) → reserved_of code size t ≡ listed program t
+  pub reserved_is : (t : Ticket) → reserved_of code size t ≡ objects_of_block program t
   reserved_is t = by_block (nat_lt t.index (blocks_of program t.client)) refl
     where
-      by_block : (b : Bool) → nat_lt t.index (blocks_of program t.client) ≡ b → reserved_of code size t ≡ listed program t
+      by_block : (b : Bool) → nat_lt t.index (blocks_of program t.client) ≡ b → reserved_of code size t ≡ objects_of_block program t
       by_block true e =
           let some : t.index < blocks_of program t.client = grind (arith, e) in
           by_client some (nat_lt t.client (length program.clients)) refl
         where
-          by_client : t.index < blocks_of program t.client → (b : Bool) → nat_lt t.client (length program.clients) ≡ b → reserved_of code size t ≡ listed program t
+          by_client : t.index < blocks_of program t.client → (b : Bool) → nat_lt t.client (length program.clients) ≡ b → reserved_of code size t ≡ objects_of_block program t
           by_client some true e = ((codes.own t.client (grind (arith, e))).blocks t.index some).reserved
           by_client some false e = let n = none_beyond program sound t.client (grind (arith, e)) in absurd (omega (arith, n, some))
       by_block false e =
@@ -44,11 +44,11 @@ module _ (program : ProgramShape) (sound : IsSound program) (mode : Mode) (code 
 
   -- a block's tree with its synchronisations
   pub block_walk : (t : Ticket) (l : Locals) → t.index < blocks_of program t.client
-      → (erased (tree_of code size t l) ≡ block_tree program t l) × IsSoundSynced (λ h. false) (tree_of code size t l) × IsOnReserved (listed program t) (tree_of code size t l)
+      → (without_syncs (tree_of code size t l) ≡ block_tree program t l) × IsSoundSynced (λ h. false) (tree_of code size t l) × IsOnReserved (objects_of_block program t) (tree_of code size t l)
   block_walk t l some = by_client (nat_lt t.client (length program.clients)) refl
     where
       by_client : (b : Bool) → nat_lt t.client (length program.clients) ≡ b
-          → (erased (tree_of code size t l) ≡ block_tree program t l) × IsSoundSynced (λ h. false) (tree_of code size t l) × IsOnReserved (listed program t) (tree_of code size t l)
+          → (without_syncs (tree_of code size t l) ≡ block_tree program t l) × IsSoundSynced (λ h. false) (tree_of code size t l) × IsOnReserved (objects_of_block program t) (tree_of code size t l)
       by_client true e =
           let counts : List ℕ = replicate (longest (code t.client).blocks) 0 in
           let long : length counts ≡ longest (code t.client).blocks = length-replicate (longest (code t.client).blocks) 0 in

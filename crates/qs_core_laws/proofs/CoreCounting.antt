@@ -25,7 +25,7 @@ use Rattle.qs_syncset.proofs.CountedSyncs.{code_asks}
 use Rattle.qs_syncset.proofs.SyncTrees.{IsAsking}
 use Rattle.qs_chunk.specs.declared.parcel.Parcel.{Parcel}
 use Rattle.qs_chunk.specs.declared.parcel.Parcel.TheVariants as parcels
-use Rattle.qs_handler.specs.Handler.{Handler, gave, received, taken}
+use Rattle.qs_handler.specs.Handler.{Handler, gave, accept_parcel, accept_next}
 use Rattle.qs_handler.specs.Handler as handlers
 use Rattle.qs_handler.specs.declared.mind.Act as handler_acts
 use Rattle.qs_handler.specs.declared.mind.Act.TheVariants as acts
@@ -47,12 +47,12 @@ use Rattle.qs_protocol.proofs.ClientCounts.{CountAt, Counts, Even, Over, chunk_c
 use Rattle.qs_protocol.proofs.ClientInvariants.{PlaceOk, Leaving}
 use Rattle.qs_protocol.proofs.ObjectViews.{HandlerLog}
 use Rattle.qs_chunk.specs.Limits.{lane_room, spare_room}
-use Rattle.qs_core_laws.specs.Core.{Core, AreCodes, blocks, client_step, core_begin, core_step, gets, gives, gives_chunk, handled, handler_step, handles, lies, put_ticket, reserved, reserved_of, reserves_from, sends, settings_of, settled, takes_chunk, takes_parcel, takes_ticket, tree_of, with_down, with_spare, with_tickets, with_up}
+use Rattle.qs_core_laws.specs.Core.{Core, AreCodes, blocks, client_step, core_begin, core_step, gets, gives, gives_chunk, after_handler, handler_step, handles, lies, put_ticket, after_reserve, reserved_of, reserves_from, sends, settings_of, after_act, takes_chunk, takes_parcel, takes_ticket, tree_of, with_down, with_spare, with_tickets, with_up}
 use Rattle.qs_core_laws.specs.CoreSchedule.{core_plays}
 use Rattle.qs_played.specs.Schedule.{or_stay}
 use Rattle.qs_client_run.proofs.CodeBounds.{longest_covers}
 use Rattle.qs_core_laws.proofs.CoreInvariant.{LaneHistory, CoreInvariant}
-use Rattle.qs_core_laws.proofs.CoreSteps.{Kept, begin_kept, begun_by, has_more, is_between, next_of, step_kept}
+use Rattle.qs_core_laws.proofs.CoreSteps.{HasInvariant, begin_kept, begun_by, has_more, is_between, next_of, step_kept}
 use Rattle.qs_core_laws.proofs.HandlerSteps.{some_is}
 
 module _ (program : ProgramShape) (sound : IsSound program) (mode : Mode) (code : ℕ → ClientCode) (codes : AreCodes program mode code) (size : ℕ) where
@@ -232,7 +232,7 @@ module _ (program : ProgramShape) (sound : IsSound program) (mode : Mode) (code 
       begun_still c h parcel = sent_begun (settings_of code size c) (now c) (reserved_of code size (now c)) (s.client c) h parcel
 
       sent_by : (c h : ℕ) (parcel : Parcel) → asks_for c ≡ Send h parcel → (s.client c).begun ≡ suc ((s.client c).begun - 1)
-          → AreCounted (settled code size (lies code size s c h parcel) c (now c) (after_sent c h parcel))
+          → AreCounted (after_act code size (lies code size s c h parcel) c (now c) (after_sent c h parcel))
       sent_by c h (parcels.Home x) act b =
           let parcel = parcels.Home x in
           (n, without_sync c ((s.client c).begun - 1) b (after_sent c h parcel) (begun_still c h parcel) (sent_counts c h parcel act b), given)
@@ -255,7 +255,7 @@ module _ (program : ProgramShape) (sound : IsSound program) (mode : Mode) (code 
       send_does : (c h : ℕ) (parcel : Parcel) (s' : Core) → asks_for c ≡ Send h parcel → sends code size s c h parcel ≡ Some s' → AreCounted s'
       send_does c h parcel s' act e =
           let b = begun_at c (Send h parcel) act (λ l i a. not_send (settings_of code size c) (blocks code size c) (s.client c) l h parcel i a) in
-          one_of (nat_lt (length (s.down c h)) lane_room) (settled code size (lies code size s c h parcel) c (now c) (after_sent c h parcel)) s' e
+          one_of (nat_lt (length (s.down c h)) lane_room) (after_act code size (lies code size s c h parcel) c (now c) (after_sent c h parcel)) s' e
           (sent_by c h parcel act b)
 
       get_does : (c h : ℕ) (o : Option HeldState) (s' : Core) → asks_for c ≡ Await h → gets code size s c h o ≡ Some s' → AreCounted s'
@@ -265,7 +265,7 @@ module _ (program : ProgramShape) (sound : IsSound program) (mode : Mode) (code 
           let j = (s.client c).begun - 1 in
           let b = begun_at c (Await h) act (λ l i a. not_await (settings_of code size c) (blocks code size c) (s.client c) l h i a) in
           let r : Settlement = take_object (settings_of code size c) t (reserved_of code size t) (s.client c) x (s.client c).stage in
-          subst AreCounted (some_is (settled code size (with_up code size s c h None) c t r) s' e) (
+          subst AreCounted (some_is (after_act code size (with_up code size s c h None) c t r) s' e) (
             n,
             without_sync c j b r (got_begun (settings_of code size c) t (reserved_of code size t) (s.client c) h x (s.client c).stage)
                 (got_counts (settings_of code size c) t (reserved_of code size t) (tree_of code size t (s.entry t)) (s.trace t) (n t) (s.client c) x
@@ -280,7 +280,7 @@ module _ (program : ProgramShape) (sound : IsSound program) (mode : Mode) (code 
           let j = (s.client c).begun - 1 in
           let b = begun_at c (NeedChunk h) act (λ l i a. not_need (settings_of code size c) (blocks code size c) (s.client c) l h i a) in
           let r : Settlement = take_chunk (settings_of code size c) t (reserved_of code size t) (s.client c) h (s.client c).stage in
-          subst AreCounted (some_is (settled code size (with_spare code size s c h m) c t r) s' e) (
+          subst AreCounted (some_is (after_act code size (with_spare code size s c h m) c t r) s' e) (
             n,
             without_sync c j b r (chunk_begun (settings_of code size c) t (reserved_of code size t) (s.client c) h (s.client c).stage)
                 (chunk_counts (settings_of code size c) t (reserved_of code size t) (tree_of code size t (s.entry t)) (s.trace t) (n t) (s.client c) h
@@ -370,7 +370,7 @@ module _ (program : ProgramShape) (sound : IsSound program) (mode : Mode) (code 
       reserve_does c s' act e =
           let at = is_between program sound mode code codes size s y g kept c (s.client c).begun refl act in
           let m = (s.client c).begun in
-          subst AreCounted (some_is (reserved code size s c (ticket c m) at.0 (after_booked c m at.0)) s' (sym (ap (reserves_from code size s c) at.1) ∙ e))
+          subst AreCounted (some_is (after_reserve code size s c (ticket c m) at.0 (after_booked c m at.0)) s' (sym (ap (reserves_from code size s c) at.1) ∙ e))
           (n, reserved_counts c m at.0 refl at.1 (tree_asks c m at.0 (has_more program sound mode code codes size s y g kept c at.0 at.1 act)), given)
 
       client_does : (c : ℕ) (act : Act) (s' : Core) → asks_for c ≡ act → client_step code size s c act ≡ Some s' → AreCounted s'
@@ -381,7 +381,7 @@ module _ (program : ProgramShape) (sound : IsSound program) (mode : Mode) (code 
       client_does c Finished s' act e = absurd (cc)
 
     -- the steps of handlers change nothing of this
-    handled_does : (a : Core) → CountedBy a n → AreTold n a.sync_counts → (h : ℕ) (o : Option Handler) (s' : Core) → handled code size a h o ≡ Some s' → AreCounted s'
+    handled_does : (a : Core) → CountedBy a n → AreTold n a.sync_counts → (h : ℕ) (o : Option Handler) (s' : Core) → after_handler code size a h o ≡ Some s' → AreCounted s'
     handled_does a counted told h None s' e = absurd (cc)
     handled_does a counted told h (Some x) s' e = subst AreCounted (some_is (handles code size a h x) s' e)
         (n, record { newest = counted.newest; older = counted.older; fresh = counted.fresh; total = counted.total }, told)
@@ -390,13 +390,13 @@ module _ (program : ProgramShape) (sound : IsSound program) (mode : Mode) (code 
     ticket_does h [] s' e = absurd (cc)
     ticket_does h (t ∷ ts) s' e =
         handled_does (with_tickets code size s h ts) (record { newest = k.newest; older = k.older; fresh = k.fresh; total = k.total }) given h
-        (taken (s.handler h) (nexts.Ticket t)) s' e
+        (accept_next (s.handler h) (nexts.Ticket t)) s' e
 
     parcel_does : (h c : ℕ) (ps : List Parcel) (s' : Core) → takes_parcel code size s h c ps ≡ Some s' → AreCounted s'
     parcel_does h c [] s' e = absurd (cc)
     parcel_does h c (parcel ∷ ps) s' e =
         handled_does (with_down code size s c h ps) (record { newest = k.newest; older = k.older; fresh = k.fresh; total = k.total }) given h
-        (received (s.handler h) parcel) s' e
+        (accept_parcel (s.handler h) parcel) s' e
 
     give_does : (h c : ℕ) (x : HeldState) (o : Option HeldState) (s' : Core) → gives code size s h c x o ≡ Some s' → AreCounted s'
     give_does h c x None s' e =
@@ -421,7 +421,7 @@ module _ (program : ProgramShape) (sound : IsSound program) (mode : Mode) (code 
     step_counted y g kept (actor.Handler h) s' e = handler_does h (handlers.act_of (s.handler h)) s' e
 
   abbrev KeptCounted : Core → Type 0
-  KeptCounted s = Kept program sound mode code codes size s × AreCounted s
+  KeptCounted s = HasInvariant program sound mode code codes size s × AreCounted s
 
   stays_both : (s : Core) (o : Option Core) → ((s' : Core) → o ≡ Some s' → KeptCounted s') → KeptCounted s → KeptCounted (or_stay s o)
   stays_both s None step k = k

@@ -7,24 +7,24 @@ use Rattle.qs_objects.specs.declared.held.Ticket.{Ticket}
 use Rattle.qs_meaning.specs.Following.{reserves}
 use Rattle.qs_program.specs.Program.{ProgramShape}
 use Rattle.qs_meaning.specs.Serial.{IsLegal, zeros}
-use Rattle.qs_meaning.specs.BlockRecords.{Page, Begins, IsDone}
-use Rattle.qs_chunk.specs.LaneViews.{Standing, gone, ClientLane}
+use Rattle.qs_meaning.specs.BlockRecords.{BlockRecord, Begins, IsDone}
+use Rattle.qs_chunk.specs.LaneViews.{ObjectStance, gone, ClientLane}
 use Rattle.qs_chunk.specs.declared.parcel.Parcel.{Parcel}
 use Rattle.qs_client_run.specs.Client.{between}
 use Rattle.qs_played.specs.Played.{ticket}
 use Rattle.qs_played.proofs.Orders.{counts_after}
 use Rattle.qs_protocol.proofs.ClientInvariants.{PlaceOk, standing_at}
-use Rattle.qs_protocol.specs.ClientHistories.{HasNone, IsOpenPage}
+use Rattle.qs_protocol.specs.ClientHistories.{HasNone, IsOpenRecord}
 use Rattle.qs_protocol.proofs.ObjectViews.{as_list, ObjectView, ClientLog, HandlerLog, IsObject}
 use Rattle.qs_played.specs.JournalRooms.{fresh_held}
 use Rattle.qs_core_laws.specs.Core.{Core}
 
 -- of each ticket its page, and for each object what its client sent and got, and how it stands
 pub record LaneHistory : Type 0 where
-  pub page : Ticket → Page
+  pub page : Ticket → BlockRecord
   pub sent : Ticket → ℕ → List Parcel
   pub got : Ticket → ℕ → List HeldState
-  pub stands : Ticket → ℕ → Standing
+  pub stands : Ticket → ℕ → ObjectStance
 
 abbrev pub post : Core → ℕ → ObjectView
 post s h = record { handler = s.handler h; tickets = s.tickets h; down = λ c. s.down c h; up = λ c. as_list (s.up c h) }
@@ -34,7 +34,7 @@ deeds y h = record { sent = λ t. y.sent t h; got = λ t. y.got t h; events = λ
 
 -- a ticket's page and lanes; where it has left an object, the block is over
 pub record TicketOk (program : ProgramShape) (y : LaneHistory) (t : Ticket) : Type 0 where
-  pub page : IsOpenPage program t (y.page t)
+  pub page : IsOpenRecord program t (y.page t)
   pub begins : Begins y.page t.client t.index (y.page t).entry
   pub lane : (h : ℕ) → ClientLane t false (y.sent t h) (y.got t h) (part h (y.page t).trace) (y.stands t h)
   pub gone : (h : ℕ) → y.stands t h ≡ gone → IsDone (y.page t).rest

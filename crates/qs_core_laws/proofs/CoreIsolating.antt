@@ -3,16 +3,16 @@ use Rattle.std.proofs.Common.{◌≡◌, ◌<◌, ◌≤◌, ℕ, zero, suc, ◌
 use Rattle.std.proofs.lemmas.List.{get_or-map, get_or_past, length-map}
 use Rattle.std.proofs.lemmas.List.FromFn.{get_or-map-range_with_len, length-range_with_len}
 use Rattle.std.specs.List.{range_with_len}
-use Rattle.qs_objects.specs.Journals.{HeldState, replay, unstamped, IsHonest}
+use Rattle.qs_objects.specs.Journals.{HeldState, replay, without_tickets, IsHonest}
 use Rattle.qs_objects.specs.Parts.{HasEntry}
 use Rattle.qs_objects.specs.declared.held.Ticket.{Ticket}
 use Rattle.qs_objects.proofs.Choices.{and_cases}
 use Rattle.qs_meaning.specs.Following.{reserves}
 use Rattle.qs_program.specs.Program.{ProgramShape, blocks_of}
-use Rattle.qs_meaning.specs.Serial.{declared, no_state}
+use Rattle.qs_meaning.specs.Serial.{declared_states, no_state}
 use Rattle.qs_program.specs.Sound.{IsSound}
 use Rattle.qs_meaning.proofs.Each.{each_map}
-use Rattle.qs_meaning.proofs.Histories.{Among, Flow, Line, done_of, parts_of}
+use Rattle.qs_meaning.proofs.Histories.{Among, Flow, ObjectCourse, done_of, parts_of}
 use Rattle.qs_meaning.specs.BlockRecords.{IsDone}
 use Rattle.qs_meaning.proofs.SerialRuns.{line}
 use Rattle.qs_meaning.specs.Interaction as tree
@@ -72,18 +72,18 @@ module _ (program : ProgramShape) (sound : IsSound program) (s : Core) (y : Lane
   abbrev Busy : ℕ → Type 0
   Busy h = ahead (post s h) ≡ [] → ⊥
 
-  abbrev x : ℕ → Line
+  abbrev x : ℕ → ObjectCourse
   x = line program sound y.page (on_way s) (λ h. (shown h).object) Busy (λ h. (shown h).journal)
 
-  flows : (h : ℕ) → Flow (x h) (declared program h) (shown h).journal s.order × IsHonest (declared program h) (unstamped (shown h).journal) × (replay (declared program h) (unstamped (shown h).journal) ≡ (shown h).object)
+  flows : (h : ℕ) → Flow (x h) (declared_states program h) (shown h).journal s.order × IsHonest (declared_states program h) (without_tickets (shown h).journal) × (replay (declared_states program h) (without_tickets (shown h).journal) ≡ (shown h).object)
   flows h =
       let f = goes program sound s y g k h in
       let whole : (shown h).journal ≡ f.0 = ap (λ (o : HeldState). o.journal) (shown_is h) ∙ f.1 in
       let object : (shown h).object ≡ (now program (lined program sound) s y g k h).object = ap (λ (o : HeldState). o.object) (shown_is h) in (
-        subst (λ j. Flow (x h) (declared program h) j s.order) (sym whole)
-            (subst (λ o. Flow (record { may = λ t. reserves program t h; parts = parts_of y.page h; done = done_of y.page; waits = on_way s h; busy = Busy h; present = o }) (declared program h) f.0 s.order) (sym object) f.2),
-        subst (λ j. IsHonest (declared program h) (unstamped j)) (sym whole) f.3,
-        ap (λ j. replay (declared program h) (unstamped j)) whole ∙ (f.4 ∙ sym object),
+        subst (λ j. Flow (x h) (declared_states program h) j s.order) (sym whole)
+            (subst (λ o. Flow (record { may = λ t. reserves program t h; parts = parts_of y.page h; done = done_of y.page; waits = on_way s h; busy = Busy h; present = o }) (declared_states program h) f.0 s.order) (sym object) f.2),
+        subst (λ j. IsHonest (declared_states program h) (without_tickets j)) (sym whole) f.3,
+        ap (λ j. replay (declared_states program h) (without_tickets j)) whole ∙ (f.4 ∙ sym object),
       )
 
   journal_is : (h : ℕ) → h < length program.objects → journal_of r h ≡ (shown h).journal

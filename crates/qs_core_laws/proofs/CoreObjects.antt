@@ -10,7 +10,7 @@ use Rattle.qs_objects.proofs.Choices.{eqb_self, apart_eqb, num_cases}
 use Rattle.qs_meaning.specs.Following.{reserves}
 use Rattle.qs_program.specs.Program.{ProgramShape}
 use Rattle.qs_program.specs.Sound.{is_in}
-use Rattle.qs_chunk.specs.LaneViews.{Standing, sends, asks, holds, gone, ClientLane, HandlerLane, HandlerGives, object_of}
+use Rattle.qs_chunk.specs.LaneViews.{ObjectStance, sends, asks, holds, gone, ClientLane, HandlerLane, HandlerGives, object_of}
 use Rattle.qs_chunk.specs.declared.parcel.Parcel.{Parcel}
 use Rattle.qs_chunk.specs.LaneParts.{away_at}
 use Rattle.qs_chunk.specs.LaneViews as views
@@ -18,7 +18,7 @@ use Rattle.qs_chunk.specs.declared.parcel.Parcel.TheVariants as parcels
 use Rattle.qs_handler.specs.Handler.{Handler, free, serves, spares, gives, away, closed, serving}
 use Rattle.qs_client_run.specs.Client.{Client, ClientStage, between, runs, full, awaits, leaves}
 use Rattle.qs_protocol.proofs.ObjectViews.{stance, as_list, HandlerLog, ahead}
-use Rattle.qs_protocol.proofs.ClientInvariants.{in_hand, listed, Lined, standing_at}
+use Rattle.qs_protocol.proofs.ClientInvariants.{in_hand, objects_of_block, Lined, standing_at}
 use Rattle.qs_protocol.proofs.LaneWays.{LastOf, none_of}
 use Rattle.qs_core_laws.specs.Core.{Core}
 use Rattle.qs_core_laws.proofs.CoreInvariant.{LaneHistory, post, CoreInvariant}
@@ -27,7 +27,7 @@ use Rattle.qs_core_laws.proofs.HandlerSteps.{deeds_ok, of_ahead, may_ahead}
 use Rattle.qs_core_laws.proofs.SendingPreserved.{newest}
 
 -- where an object is that was given: on its way up, in hand, or on its way home
-abbrev pub Where : List Parcel → List HeldState → Standing → HeldState → Type 0
+abbrev pub Where : List Parcel → List HeldState → ObjectStance → HeldState → Type 0
 Where way up c z = ((way ≡ []) × (up ≡ z ∷ []) × (c ≡ asks)) ⊎ (((way ≡ []) × (up ≡ []) × ((y : HeldState) × (c ≡ holds y))) ⊎ ((y : HeldState) × (w : List Parcel) × (way ≡ parcels.Home y ∷ w) × (up ≡ [])))
 
 list_some : (o : Option HeldState) (x : HeldState) → as_list o ≡ x ∷ [] → o ≡ Some x
@@ -45,7 +45,7 @@ no_more : (more up : List HeldState) → [] ≡ more ++ up → up ≡ []
 no_more [] up e = sym e
 no_more (m ∷ more) up e = absurd (cc)
 
-waits_where : (t : Ticket) (x z : HeldState) (way : List Parcel) (gots gave up : List HeldState) (es : List Event) (c : Standing)
+waits_where : (t : Ticket) (x z : HeldState) (way : List Parcel) (gots gave up : List HeldState) (es : List Event) (c : ObjectStance)
     → ClientLane t true way gots es c → HandlerGives x gave (views.lent z) → gave ≡ gots ++ up → Where way up c z
 waits_where t x z way gots [] up es c k l e = absurd (cc (l))
 waits_where t x z [] [] (g ∷ gave) up es c k l e =
@@ -58,7 +58,7 @@ waits_where t x z (parcels.Work chunk ∷ w) gots (g ∷ gave) up es c k l e = a
 waits_where t x z (parcels.Sync ∷ w) gots (g ∷ gave) up es c k l e = absurd k
 waits_where t x z (parcels.End ∷ w) gots (g ∷ gave) up es c k l e = absurd k
 
-pub lent_where : (t : Ticket) (x z : HeldState) (received way : List Parcel) (gots gave up : List HeldState) (es : List Event) (c : Standing)
+pub lent_where : (t : Ticket) (x z : HeldState) (received way : List Parcel) (gots gave up : List HeldState) (es : List Event) (c : ObjectStance)
     → ClientLane t false (received ++ way) gots es c → HandlerLane t false x received gave (views.lent z) → gave ≡ gots ++ up → Where way up c z
 lent_where t x z [] way gots gave up es c k l e = absurd (cc (l.1))
 lent_where t x z (parcels.Work chunk ∷ received) way gots gave up es c k l e = lent_where t _ z received way gots gave up k.0 c k.3 l e
@@ -104,7 +104,7 @@ object_now y h (gives t x) lent way = x
 object_now y h (away t) lent way = object_of (views.lent lent) (y.stands t h) (way t)
 object_now y h (closed x) lent way = x
 
-module _ (program : ProgramShape) (lined : (t : Ticket) → Lined (reserves program t) (listed program t)) (s : Core) (y : LaneHistory) (g : ℕ → HandlerLog) (k : CoreInvariant program s y g) where
+module _ (program : ProgramShape) (lined : (t : Ticket) → Lined (reserves program t) (objects_of_block program t)) (s : Core) (y : LaneHistory) (g : ℕ → HandlerLog) (k : CoreInvariant program s y g) where
   abbrev pub now : ℕ → HeldState
   now h = object_now y h (s.handler h) (g h).lent (g h).way
 

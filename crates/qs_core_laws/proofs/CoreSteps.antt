@@ -14,7 +14,7 @@ use Rattle.qs_syncset.specs.declared.mode.Mode.{Mode}
 use Rattle.qs_syncset.specs.Codes.{ClientCode}
 use Rattle.qs_chunk.specs.LaneViews.{sends}
 use Rattle.qs_chunk.specs.declared.parcel.Parcel.{Parcel}
-use Rattle.qs_handler.specs.Handler.{Handler, free, serves, spares, gives, away, closed, taken, received, gave}
+use Rattle.qs_handler.specs.Handler.{Handler, free, serves, spares, gives, away, closed, accept_next, accept_parcel, gave}
 use Rattle.qs_handler.specs.Handler as handlers
 use Rattle.qs_client_run.specs.Client.{Settlement, act_of, act_at, between, after_parcel, take_object, take_chunk, begin}
 use Rattle.qs_client_run.specs.declared.act.Act.{Act}
@@ -26,7 +26,7 @@ use Rattle.qs_protocol.proofs.ObjectViews.{HandlerLog}
 use Rattle.qs_protocol.proofs.ActObjects.{not_send, not_await, not_need, reserve_at}
 use Rattle.qs_played.specs.JournalRooms.{fresh_held}
 use Rattle.qs_chunk.specs.Limits.{lane_room, spare_room}
-use Rattle.qs_core_laws.specs.Core.{Core, AreCodes, blocks, client_step, core_begin, core_step, gets, gives_chunk, handled, handler_step, handles, lies, put_lane, reserves_from, settings_of, settled, synced, takes_chunk, takes_parcel, takes_ticket, tree_of, with_down, with_spare, with_tickets, with_up}
+use Rattle.qs_core_laws.specs.Core.{Core, AreCodes, blocks, client_step, core_begin, core_step, gets, gives_chunk, after_handler, handler_step, handles, lies, put_lane, reserves_from, settings_of, after_act, syncs_after, takes_chunk, takes_parcel, takes_ticket, tree_of, with_down, with_spare, with_tickets, with_up}
 use Rattle.qs_core_laws.specs.CoreSchedule.{core_plays}
 use Rattle.qs_played.specs.Schedule.{or_stay}
 use Rattle.qs_core_laws.proofs.CoreInvariant.{LaneHistory, CoreInvariant}
@@ -47,12 +47,12 @@ reserves_more true e = refl
 reserves_more false e = absurd (cc)
 
 module _ (program : ProgramShape) (sound : IsSound program) (mode : Mode) (code : ℕ → ClientCode) (codes : AreCodes program mode code) (size : ℕ) where
-  abbrev pub Kept : Core → Type 0
-  Kept s = (y : LaneHistory) × (g : ℕ → HandlerLog) × CoreInvariant program s y g
+  abbrev pub HasInvariant : Core → Type 0
+  HasInvariant s = (y : LaneHistory) × (g : ℕ → HandlerLog) × CoreInvariant program s y g
 
   module _ (s : Core) (y : LaneHistory) (g : ℕ → HandlerLog) (k : CoreInvariant program s y g) where
-    one_of : (b : Bool) (a s' : Core) → (if b then Some a else None) ≡ Some s' → Kept a → Kept s'
-    one_of true a s' e h = subst Kept (some_is a s' e) h
+    one_of : (b : Bool) (a s' : Core) → (if b then Some a else None) ≡ Some s' → HasInvariant a → HasInvariant s'
+    one_of true a s' e h = subst HasInvariant (some_is a s' e) h
     one_of false a s' e h = absurd (cc)
 
     -- what the client does next
@@ -65,27 +65,27 @@ module _ (program : ProgramShape) (sound : IsSound program) (mode : Mode) (code 
     abbrev now : ℕ → Ticket
     now c = ticket c ((s.client c).begun - 1)
 
-    send_does : (c h : ℕ) (parcel : Parcel) (s' : Core) → next_of c ≡ Send h parcel → core.sends code size s c h parcel ≡ Some s' → Kept s'
+    send_does : (c h : ℕ) (parcel : Parcel) (s' : Core) → next_of c ≡ Send h parcel → core.sends code size s c h parcel ≡ Some s' → HasInvariant s'
     send_does c h parcel s' act e =
         one_of (nat_lt (length (s.down c h)) lane_room) _ s' e
-        (subst (λ names. Kept (settled code size (lies code size s c h parcel) c (now c) (after_parcel (settings_of code size c) (now c) names (s.client c) h parcel))) (sym (reserved_is program sound mode code codes size (now c)))
-        (send_kept program (lined program sound) (settings_of code size c) (blocks code size c) s y g k c ((s.client c).begun - 1) h parcel (synced code size s.syncs c parcel)
-        (core.tallied code size s.sync_counts (now c) h parcel)
+        (subst (λ names. HasInvariant (after_act code size (lies code size s c h parcel) c (now c) (after_parcel (settings_of code size c) (now c) names (s.client c) h parcel))) (sym (reserved_is program sound mode code codes size (now c)))
+        (send_kept program (lined program sound) (settings_of code size c) (blocks code size c) s y g k c ((s.client c).begun - 1) h parcel (syncs_after code size s.syncs c parcel)
+        (core.sync_counts_after code size s.sync_counts (now c) h parcel)
         (begun_by c (Send h parcel) act (λ l i a. not_send (settings_of code size c) (blocks code size c) (s.client c) l h parcel i a)) act))
 
-    get_does : (c h : ℕ) (o : Option HeldState) (s' : Core) → s.up c h ≡ o → next_of c ≡ Await h → gets code size s c h o ≡ Some s' → Kept s'
+    get_does : (c h : ℕ) (o : Option HeldState) (s' : Core) → s.up c h ≡ o → next_of c ≡ Await h → gets code size s c h o ≡ Some s' → HasInvariant s'
     get_does c h None s' up act e = absurd (cc)
     get_does c h (Some x) s' up act e =
-        subst Kept (some_is _ s' e)
-        (subst (λ names. Kept (settled code size (with_up code size s c h None) c (now c) (take_object (settings_of code size c) (now c) names (s.client c) x (s.client c).stage))) (sym (reserved_is program sound mode code codes size (now c)))
+        subst HasInvariant (some_is _ s' e)
+        (subst (λ names. HasInvariant (after_act code size (with_up code size s c h None) c (now c) (take_object (settings_of code size c) (now c) names (s.client c) x (s.client c).stage))) (sym (reserved_is program sound mode code codes size (now c)))
         (get_kept program (lined program sound) (settings_of code size c) (blocks code size c) s y g k c ((s.client c).begun - 1) h x
         (begun_by c (Await h) act (λ l i a. not_await (settings_of code size c) (blocks code size c) (s.client c) l h i a)) act up))
 
-    chunk_does : (c h n : ℕ) (s' : Core) → next_of c ≡ NeedChunk h → takes_chunk code size s c h n ≡ Some s' → Kept s'
+    chunk_does : (c h n : ℕ) (s' : Core) → next_of c ≡ NeedChunk h → takes_chunk code size s c h n ≡ Some s' → HasInvariant s'
     chunk_does c h zero s' act e = absurd (cc)
     chunk_does c h (suc n) s' act e =
-        subst Kept (some_is _ s' e)
-        (subst (λ names. Kept (settled code size (with_spare code size s c h n) c (now c) (take_chunk (settings_of code size c) (now c) names (s.client c) h (s.client c).stage))) (sym (reserved_is program sound mode code codes size (now c)))
+        subst HasInvariant (some_is _ s' e)
+        (subst (λ names. HasInvariant (after_act code size (with_spare code size s c h n) c (now c) (take_chunk (settings_of code size c) (now c) names (s.client c) h (s.client c).stage))) (sym (reserved_is program sound mode code codes size (now c)))
         (chunk_kept program (lined program sound) (settings_of code size c) (blocks code size c) s y g k c ((s.client c).begun - 1) h (put_lane s.spare c h n)
         (begun_by c (NeedChunk h) act (λ l i a. not_need (settings_of code size c) (blocks code size c) (s.client c) l h i a)) act))
 
@@ -119,61 +119,61 @@ module _ (program : ProgramShape) (sound : IsSound program) (mode : Mode) (code 
           trace = core.put_ticket s.trace t r.events;
         }
 
-    reserve_does : (c : ℕ) (s' : Core) → next_of c ≡ Reserve → reserves_from code size s c (s.client c).stage ≡ Some s' → Kept s'
+    reserve_does : (c : ℕ) (s' : Core) → next_of c ≡ Reserve → reserves_from code size s c (s.client c).stage ≡ Some s' → HasInvariant s'
     reserve_does c s' act e =
         let at = is_between c (s.client c).begun refl act in
         let t : Ticket = ticket c (s.client c).begun in
         let some = has_more c at.0 at.1 act in
         let w = block_walk program sound mode code codes size t at.0 some in
-        subst Kept (some_is _ s' (sym (ap (reserves_from code size s c) at.1) ∙ e))
-        (subst (λ names. Kept (booked_core c t at.0 names)) (sym (reserved_is program sound mode code codes size t))
+        subst HasInvariant (some_is _ s' (sym (ap (reserves_from code size s c) at.1) ∙ e))
+        (subst (λ names. HasInvariant (booked_core c t at.0 names)) (sym (reserved_is program sound mode code codes size t))
         (reserve_kept program (blocks_ask_only program sound) (lined program sound) s y g k (settings_of code size c) c (s.client c).begun refl some at.0 at.1 (tree_of code size t at.0) w.0 w.1 w.2))
 
-    client_does : (c : ℕ) (act : Act) (s' : Core) → next_of c ≡ act → client_step code size s c act ≡ Some s' → Kept s'
+    client_does : (c : ℕ) (act : Act) (s' : Core) → next_of c ≡ act → client_step code size s c act ≡ Some s' → HasInvariant s'
     client_does c Reserve s' act e = reserve_does c s' act e
     client_does c (Send h parcel) s' act e = send_does c h parcel s' act e
     client_does c (Await h) s' act e = get_does c h (s.up c h) s' refl act e
     client_does c (NeedChunk h) s' act e = chunk_does c h (s.spare c h) s' act e
     client_does c Finished s' act e = absurd (cc)
 
-    ticket_does : (h : ℕ) (x : HeldState) (ts : List Ticket) (s' : Core) → s.handler h ≡ free x → s.tickets h ≡ ts → takes_ticket code size s h ts ≡ Some s' → Kept s'
+    ticket_does : (h : ℕ) (x : HeldState) (ts : List Ticket) (s' : Core) → s.handler h ≡ free x → s.tickets h ≡ ts → takes_ticket code size s h ts ≡ Some s' → HasInvariant s'
     ticket_does h x [] s' v q e = absurd (cc)
     ticket_does h x (t ∷ ts) s' v q e =
-        subst Kept (some_is _ s' (sym (ap (λ v. handled code size (with_tickets code size s h ts) h (taken v (nexts.Ticket t))) v) ∙ e)) (y, _, take_kept program s y g k h x t ts v q)
+        subst HasInvariant (some_is _ s' (sym (ap (λ v. after_handler code size (with_tickets code size s h ts) h (accept_next v (nexts.Ticket t))) v) ∙ e)) (y, _, take_kept program s y g k h x t ts v q)
 
     -- a parcel that was taken leads the handler somewhere
-    handled_to : (a : Core) (h : ℕ) (o : Option Handler) (s' : Core) → handled code size a h o ≡ Some s' → (v : Handler) × (o ≡ Some v) × (handles code size a h v ≡ s')
+    handled_to : (a : Core) (h : ℕ) (o : Option Handler) (s' : Core) → after_handler code size a h o ≡ Some s' → (v : Handler) × (o ≡ Some v) × (handles code size a h v ≡ s')
     handled_to a h None s' e = absurd (cc)
     handled_to a h (Some v) s' e = (v, refl, some_is _ s' e)
 
-    serves_does : (h : ℕ) (t : Ticket) (x : HeldState) (ps : List Parcel) (s' : Core) → s.handler h ≡ serves t x → s.down t.client h ≡ ps → takes_parcel code size s h t.client ps ≡ Some s' → Kept s'
+    serves_does : (h : ℕ) (t : Ticket) (x : HeldState) (ps : List Parcel) (s' : Core) → s.handler h ≡ serves t x → s.down t.client h ≡ ps → takes_parcel code size s h t.client ps ≡ Some s' → HasInvariant s'
     serves_does h t x [] s' v q e = absurd (cc)
     serves_does h t x (parcel ∷ ps) s' v q e =
-        let to = handled_to (with_down code size s t.client h ps) h (received (s.handler h) parcel) s' e in
-        let r = serves_kept program s y g k h t x parcel ps to.0 v q (sym (ap (λ v. received v parcel) v) ∙ to.1) in
-        subst Kept to.2 (y, r.0, r.1)
+        let to = handled_to (with_down code size s t.client h ps) h (accept_parcel (s.handler h) parcel) s' e in
+        let r = serves_kept program s y g k h t x parcel ps to.0 v q (sym (ap (λ v. accept_parcel v parcel) v) ∙ to.1) in
+        subst HasInvariant to.2 (y, r.0, r.1)
 
-    away_does : (h : ℕ) (t : Ticket) (ps : List Parcel) (s' : Core) → s.handler h ≡ away t → s.down t.client h ≡ ps → takes_parcel code size s h t.client ps ≡ Some s' → Kept s'
+    away_does : (h : ℕ) (t : Ticket) (ps : List Parcel) (s' : Core) → s.handler h ≡ away t → s.down t.client h ≡ ps → takes_parcel code size s h t.client ps ≡ Some s' → HasInvariant s'
     away_does h t [] s' v q e = absurd (cc)
     away_does h t (parcel ∷ ps) s' v q e =
-        let to = handled_to (with_down code size s t.client h ps) h (received (s.handler h) parcel) s' e in
-        let r = away_kept program s y g k h t parcel ps to.0 v q (sym (ap (λ v. received v parcel) v) ∙ to.1) in
-        subst Kept to.2 (y, r.0, r.1)
+        let to = handled_to (with_down code size s t.client h ps) h (accept_parcel (s.handler h) parcel) s' e in
+        let r = away_kept program s y g k h t parcel ps to.0 v q (sym (ap (λ v. accept_parcel v parcel) v) ∙ to.1) in
+        subst HasInvariant to.2 (y, r.0, r.1)
 
-    give_does : (h : ℕ) (t : Ticket) (x : HeldState) (o : Option HeldState) (s' : Core) → s.handler h ≡ gives t x → s.up t.client h ≡ o → core.gives code size s h t.client x o ≡ Some s' → Kept s'
+    give_does : (h : ℕ) (t : Ticket) (x : HeldState) (o : Option HeldState) (s' : Core) → s.handler h ≡ gives t x → s.up t.client h ≡ o → core.gives code size s h t.client x o ≡ Some s' → HasInvariant s'
     give_does h t x None s' v q e =
         let r = give_kept program s y g k h t x v q in
-        subst Kept (some_is _ s' (sym (ap (λ v. Some (handles code size (with_up code size s t.client h (Some x)) h (gave v))) v) ∙ e)) (y, r.0, r.1)
+        subst HasInvariant (some_is _ s' (sym (ap (λ v. Some (handles code size (with_up code size s t.client h (Some x)) h (gave v))) v) ∙ e)) (y, r.0, r.1)
     give_does h t x (Some u) s' v q e = absurd (cc)
 
-    spare_does : (h : ℕ) (t : Ticket) (x : HeldState) (n : ℕ) (s' : Core) → s.handler h ≡ spares t x n → gives_chunk code size s h t.client ≡ Some s' → Kept s'
+    spare_does : (h : ℕ) (t : Ticket) (x : HeldState) (n : ℕ) (s' : Core) → s.handler h ≡ spares t x n → gives_chunk code size s h t.client ≡ Some s' → HasInvariant s'
     spare_does h t x n s' v e =
         let m = suc (s.spare t.client h) in
         let r = spare_kept program s y g k h t x n (put_lane s.spare t.client h m) v in
         one_of (nat_lt (s.spare t.client h) spare_room) (handles code size (with_spare code size s t.client h m) h (serves t x)) s'
         (sym (ap (λ v. if nat_lt (s.spare t.client h) spare_room then Some (handles code size (with_spare code size s t.client h m) h (gave v)) else None) v) ∙ e) (y, r.0, r.1)
 
-    handler_does : (h : ℕ) (v : Handler) (s' : Core) → s.handler h ≡ v → handler_step code size s h (handlers.act_of v) ≡ Some s' → Kept s'
+    handler_does : (h : ℕ) (v : Handler) (s' : Core) → s.handler h ≡ v → handler_step code size s h (handlers.act_of v) ≡ Some s' → HasInvariant s'
     handler_does h (free x) s' v e = ticket_does h x (s.tickets h) s' v refl e
     handler_does h (serves t x) s' v e = serves_does h t x (s.down t.client h) s' v refl e
     handler_does h (spares t x n) s' v e = spare_does h t x n s' v e
@@ -181,19 +181,19 @@ module _ (program : ProgramShape) (sound : IsSound program) (mode : Mode) (code 
     handler_does h (away t) s' v e = away_does h t (s.down t.client h) s' v refl e
     handler_does h (closed x) s' v e = absurd (cc)
 
-    pub step_kept : (a : Actor) (s' : Core) → core_step code size s a ≡ Some s' → Kept s'
+    pub step_kept : (a : Actor) (s' : Core) → core_step code size s a ≡ Some s' → HasInvariant s'
     step_kept (actor.Client c) s' e = client_does c (next_of c) s' refl e
     step_kept (actor.Handler h) s' e = handler_does h (s.handler h) s' refl e
 
-  stays_kept : (s : Core) (o : Option Core) → ((s' : Core) → o ≡ Some s' → Kept s') → Kept s → Kept (or_stay s o)
+  stays_kept : (s : Core) (o : Option Core) → ((s' : Core) → o ≡ Some s' → HasInvariant s') → HasInvariant s → HasInvariant (or_stay s o)
   stays_kept s None step k = k
   stays_kept s (Some s') step k = step s' refl
 
-  pub plays_kept : (actors : List Actor) (s : Core) → Kept s → Kept (core_plays code size actors s)
+  pub plays_kept : (actors : List Actor) (s : Core) → HasInvariant s → HasInvariant (core_plays code size actors s)
   plays_kept [] s k = k
   plays_kept (a ∷ rest) s k = plays_kept rest (or_stay s (core_step code size s a)) (stays_kept s (core_step code size s a) (λ s' e. step_kept s k.0 k.1 k.2 a s' e) k)
 
-  pub begin_kept : Kept (core_begin program)
+  pub begin_kept : HasInvariant (core_begin program)
   begin_kept = (
     record {
       page = λ t. record { entry = []; trace = []; rest = block_tree program (ticket 0 0) [] };
@@ -230,5 +230,5 @@ module _ (program : ProgramShape) (sound : IsSound program) (mode : Mode) (code 
     },
   )
 
-  pub run_kept : (actors : List Actor) → Kept (core_plays code size actors (core_begin program))
+  pub run_kept : (actors : List Actor) → HasInvariant (core_plays code size actors (core_begin program))
   run_kept actors = plays_kept actors (core_begin program) begin_kept

@@ -14,7 +14,7 @@ use Rattle.qs_chunk.specs.Runs.{ran_all}
 use Rattle.qs_chunk.specs.declared.parcel.Parcel.{Parcel}
 use Rattle.qs_chunk.specs.LaneViews as views
 use Rattle.qs_chunk.specs.declared.parcel.Parcel.TheVariants as parcels
-use Rattle.qs_handler.specs.Handler.{Handler, free, serves, spares, gives, away, serving, received}
+use Rattle.qs_handler.specs.Handler.{Handler, free, serves, spares, gives, away, serving, accept_parcel}
 use Rattle.qs_played.proofs.FunctionUpdate.{put_at, put_field}
 use Rattle.qs_played.proofs.Orders.{each_among}
 use Rattle.qs_protocol.proofs.ObjectViews.{stance, as_list, ObjectView, HandlerLog, ahead, IsObject, IsClientLog}
@@ -155,13 +155,13 @@ module _ (program : ProgramShape) (s : Core) (y : LaneHistory) (g : ℕ → Hand
       (f.0, f.1, f.2, subst (λ v. MayCome v p f.0) st f.3)
 
   pub serves_kept : (h : ℕ) (t : Ticket) (z : HeldState) (p : Parcel) (ps : List Parcel) (v : Handler) → s.handler h ≡ serves t z → s.down t.client h ≡ p ∷ ps
-      → received (serves t z) p ≡ Some v → Takes h t.client ps v
+      → accept_parcel (serves t z) p ≡ Some v → Takes h t.client ps v
   serves_kept h t z p ps v e d r =
       let f = serves_first h t z p ps e d in
       by_parcel p f.0 (ap serving e) (ap (λ v. stance v (g h).lent) e) f.1 f.2 f.3 r
     where
       by_parcel : (p : Parcel) (w : List Parcel) → (one : serving (s.handler h) ≡ t ∷ []) → stance (s.handler h) (g h).lent ≡ views.serves z → (g h).way t ≡ p ∷ w → ps ≡ w ++ flat_map (g h).way (filter (λ (u : Ticket). u.client == t.client) (s.tickets h)) → MayCome (views.serves z) p w
-          → received (serves t z) p ≡ Some v → Takes h t.client ps v
+          → accept_parcel (serves t z) p ≡ Some v → Takes h t.client ps v
       by_parcel (parcels.Work chunk) w one st a i come r =
           subst (Takes h t.client ps) (some_is _ v r)
           (on_kept h (spares t (ran_all z t chunk.items) chunk.capacity) t (parcels.Work chunk) ps w one refl a i (subst (λ v. HandlerGoes t v (parcels.Work chunk ∷ []) [] (views.serves (ran_all z t chunk.items))) (sym st) (handler_work t z chunk)))
@@ -179,13 +179,13 @@ module _ (program : ProgramShape) (s : Core) (y : LaneHistory) (g : ℕ → Hand
                 (parcel_end (Mine h) (fresh_held program h) (post s h) (deeds y h) (g h) t one (k.objects h) (deeds_ok h) z ps e (a ∙ ap (λ w. parcels.End ∷ w) come) (i ∙ ap (λ w. w ++ flat_map (g h).way (filter (λ (u : Ticket). u.client == t.client) (s.tickets h))) come)),
           )
 
-  pub away_kept : (h : ℕ) (t : Ticket) (p : Parcel) (ps : List Parcel) (v : Handler) → s.handler h ≡ away t → s.down t.client h ≡ p ∷ ps → received (away t) p ≡ Some v → Takes h t.client ps v
+  pub away_kept : (h : ℕ) (t : Ticket) (p : Parcel) (ps : List Parcel) (v : Handler) → s.handler h ≡ away t → s.down t.client h ≡ p ∷ ps → accept_parcel (away t) p ≡ Some v → Takes h t.client ps v
   away_kept h t p ps v e d r =
       let f = away_first h t p ps e d in
       by_parcel p f.0 (ap serving e) (ap (λ v. stance v (g h).lent) e) f.1 f.2 f.3 r
     where
       by_parcel : (p : Parcel) (w : List Parcel) → (one : serving (s.handler h) ≡ t ∷ []) → stance (s.handler h) (g h).lent ≡ views.lent (g h).lent → (g h).way t ≡ p ∷ w → ps ≡ w ++ flat_map (g h).way (filter (λ (u : Ticket). u.client == t.client) (s.tickets h)) → MayCome (views.lent (g h).lent) p w
-          → received (away t) p ≡ Some v → Takes h t.client ps v
+          → accept_parcel (away t) p ≡ Some v → Takes h t.client ps v
       by_parcel (parcels.Work chunk) w one st a i come r = absurd come
       by_parcel parcels.Sync w one st a i come r = absurd come
       by_parcel (parcels.Home x) w one st a i come r =

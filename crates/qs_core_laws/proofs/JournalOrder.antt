@@ -3,10 +3,10 @@ use Rattle.std.proofs.Common.{◌≡◌, ◌+◌, ◌≤◌, arith, ℕ, suc, Bo
 use Rattle.std.specs.List.{AllByRecursion}
 use Rattle.std.proofs.lemmas.List.{length-append, length-map, map-append}
 use Rattle.qs_objects.specs.Act.{act, account, buffer, grid}
-use Rattle.qs_objects.specs.Journals.{HeldState, after, answer, has_room, noted, replay, unstamp, unstamped, IsHonest}
+use Rattle.qs_objects.specs.Journals.{HeldState, after, answer, has_room, with_entry, replay, unstamp, without_tickets, IsHonest}
 use Rattle.qs_objects.specs.Laws.{IsCommand}
 use Rattle.qs_objects.specs.Operations.{is_query}
-use Rattle.qs_objects.specs.Parts.{logged, stamp}
+use Rattle.qs_objects.specs.Parts.{command_event, stamp}
 use Rattle.qs_objects.specs.declared.Op.{Op}
 use Rattle.qs_objects.specs.declared.Op.TheVariants.{Deposit, Withdraw, Balance, Refused, Put, DropFirst, TakeFirst, First, Size, SetCell, AddCell, Fill, GetCell, RowSum}
 use Rattle.qs_objects.specs.declared.held.Entry.{Entry}
@@ -18,7 +18,7 @@ use Rattle.qs_meaning.specs.Following.{reserves, block_tree}
 use Rattle.qs_program.specs.Program.{ProgramShape, text_of}
 use Rattle.qs_program.specs.Sound.{IsSound}
 use Rattle.qs_meaning.proofs.Each.{each_map, each_both, each_unfiltered}
-use Rattle.qs_meaning.proofs.Histories.{Among, Flow, Line, NoQuery, OnlyCommands, done_of, parts_of, unstamp_all}
+use Rattle.qs_meaning.proofs.Histories.{Among, Flow, ObjectCourse, NoQuery, OnlyCommands, done_of, parts_of, unstamp_all}
 use Rattle.qs_meaning.proofs.RequestPaths.{requests_within}
 use Rattle.qs_chunk.specs.LaneViews.{AllCommands, Extends, gone, ClientLane, HandlerLane, object_of}
 use Rattle.qs_chunk.specs.LaneParts.{commands_in}
@@ -77,8 +77,8 @@ grown t x [] y k le = record {
 grown t x (e ∷ es) y k le = by_case (has_room x) refl (λ x k le. grown t x es y k le) k
   where
     by_case : (b : Bool) → has_room x ≡ b → ((x : HeldState) → Extends t x es y → length x.journal + length es ≤ x.room → Grown t x es y)
-        → (e.reply ≡ (if b then noted x t e.request (act x.object e.request.op e.request.args) else (x, None)).1)
-        × Extends t (if b then noted x t e.request (act x.object e.request.op e.request.args) else (x, None)).0 es y
+        → (e.reply ≡ (if b then with_entry x t e.request (act x.object e.request.op e.request.args) else (x, None)).1)
+        × Extends t (if b then with_entry x t e.request (act x.object e.request.op e.request.args) else (x, None)).0 es y
         → Grown t x (e ∷ es) y
     by_case false h ih k = absurd (let le' : length x.journal + suc (length es) ≤ x.room = le in let full : x.room ≤ length x.journal = grind (arith, h) in omega (arith, le', full))
     by_case true h ih k =
@@ -93,15 +93,15 @@ grown t x (e ∷ es) y k le = by_case (has_room x) refl (λ x k le. grown t x es
         }
 
 -- an honest journal after these events
-pub stamped_honest : (t : Ticket) (x z : HeldState) (es : List Event) (j : List Entry) → Grown t x es z → IsHonest z.object (unstamped j) → IsHonest x.object (unstamped (map (stamp t) es ++ j))
+pub stamped_honest : (t : Ticket) (x z : HeldState) (es : List Event) (j : List Entry) → Grown t x es z → IsHonest z.object (without_tickets j) → IsHonest x.object (without_tickets (map (stamp t) es ++ j))
 stamped_honest t x z es j e k =
-    let is : unstamped (map (stamp t) es ++ j) ≡ es ++ unstamped j = map-append unstamp (map (stamp t) es) j ∙ ap (λ es. es ++ unstamped j) (unstamp_all t es) in
-    subst (IsHonest x.object) (sym is) (IsHonest-append x.object es (unstamped j) e.honest (subst (λ s. IsHonest s (unstamped j)) e.state k))
+    let is : without_tickets (map (stamp t) es ++ j) ≡ es ++ without_tickets j = map-append unstamp (map (stamp t) es) j ∙ ap (λ es. es ++ without_tickets j) (unstamp_all t es) in
+    subst (IsHonest x.object) (sym is) (IsHonest-append x.object es (without_tickets j) e.honest (subst (λ s. IsHonest s (without_tickets j)) e.state k))
 
-pub stamped_replay : (t : Ticket) (x z : HeldState) (es : List Event) (j : List Entry) → Grown t x es z → replay x.object (unstamped (map (stamp t) es ++ j)) ≡ replay z.object (unstamped j)
+pub stamped_replay : (t : Ticket) (x z : HeldState) (es : List Event) (j : List Entry) → Grown t x es z → replay x.object (without_tickets (map (stamp t) es ++ j)) ≡ replay z.object (without_tickets j)
 stamped_replay t x z es j e =
-    let is : unstamped (map (stamp t) es ++ j) ≡ es ++ unstamped j = map-append unstamp (map (stamp t) es) j ∙ ap (λ es. es ++ unstamped j) (unstamp_all t es) in
-    ap (replay x.object) is ∙ (replay-append x.object es (unstamped j) ∙ ap (λ s. replay s (unstamped j)) (sym e.state))
+    let is : without_tickets (map (stamp t) es ++ j) ≡ es ++ without_tickets j = map-append unstamp (map (stamp t) es) j ∙ ap (λ es. es ++ without_tickets j) (unstamp_all t es) in
+    ap (replay x.object) is ∙ (replay-append x.object es (without_tickets j) ∙ ap (λ s. replay s (without_tickets j)) (sym e.state))
 
 pub grown_room : (t : Ticket) (x z : HeldState) (es : List Event) (n : ℕ) → Grown t x es z → length x.journal + (length es + n) ≤ x.room → length z.journal + n ≤ z.room
 grown_room t x z es n e le =
@@ -112,7 +112,7 @@ grown_room t x z es n e le =
 -- of the first ticket that is to be served: what was run, from the object that it found, and the commands that wait
 pub record FirstPart (t : Ticket) (found : HeldState) (es : List Event) (ws : List Request) (now : HeldState) : Type 0 where
   pub ran : List Event
-  pub parts : es ≡ ran ++ map logged ws
+  pub parts : es ≡ ran ++ map command_event ws
   pub extends : Extends t found ran now
   pub commands : AllByRecursion NoQuery ws
 
@@ -129,7 +129,7 @@ module _ (program : ProgramShape) (sound : IsSound program) (s : Core) (y : Lane
   abbrev pub now : HeldState
   now = object_now y h (s.handler h) (g h).lent (g h).way
 
-  abbrev pub line_of : Line
+  abbrev pub line_of : ObjectCourse
   line_of = record { may = λ t. reserves program t h; parts = parts; done = done_of y.page; waits = waits; busy = Busy; present = now.object }
 
   -- the tickets that are to be served
@@ -148,7 +148,7 @@ module _ (program : ProgramShape) (sound : IsSound program) (s : Core) (y : Lane
       subst (λ ps. ClientLane u false ps [] (parts u) (y.stands u h)) l.2 (subst (λ gs. ClientLane u false (y.sent u h) gs (parts u) (y.stands u h)) l.1 (l.0.2.lane h)) in
       let w = waits_are u ((g h).way u) (parts u) (y.stands u h) lane in
       let is = waits_ahead program sound s y g k h u a l.0 in (
-        w.0 ∙ ap (map logged) (sym is),
+        w.0 ∙ ap (map command_event) (sym is),
         subst (AllByRecursion NoQuery) (sym is) (no_queries (commands_in ((g h).way u) ++ chunk_of (y.stands u h)) w.1),
       )
 
@@ -177,7 +177,7 @@ module _ (program : ProgramShape) (sound : IsSound program) (s : Core) (y : Lane
         (λ none. cc (here, none)),
         record {
           ran = w.ran;
-          parts = w.part ∙ ap (λ rs. w.ran ++ map logged rs) (sym ws);
+          parts = w.part ∙ ap (λ rs. w.ran ++ map command_event rs) (sym ws);
           extends = subst (Extends t (g h).found w.ran) (sym is) w.extends;
           commands = subst (AllByRecursion NoQuery) (sym ws) (no_queries (commands_in ((g h).way t) ++ chunk_of (y.stands t h)) w.commands);
         },
@@ -205,13 +205,13 @@ module _ (program : ProgramShape) (sound : IsSound program) (s : Core) (y : Lane
   tail_by (closed x) e = absurd ((k.objects h).opened x e)
 
   -- what the journal got from here on, and where it leads
-  abbrev Goes : HeldState → List Ticket → Type 0
-  Goes x ts = (j : List Entry) × (now.journal ≡ x.journal ++ j) × Flow line_of x.object j ts × IsHonest x.object (unstamped j) × (replay x.object (unstamped j) ≡ now.object)
+  abbrev JournalLeads : HeldState → List Ticket → Type 0
+  JournalLeads x ts = (j : List Entry) × (now.journal ≡ x.journal ++ j) × Flow line_of x.object j ts × IsHonest x.object (without_tickets j) × (replay x.object (without_tickets j) ≡ now.object)
 
   abbrev size_of : List Ticket → ℕ
   size_of ts = total (λ t. length (parts t)) ts
 
-  flow_pass : (t : Ticket) (ts : List Ticket) (x : HeldState) → TicketOk program y t → reserves program t h ≡ false → Goes x ts → Goes x (t ∷ ts)
+  flow_pass : (t : Ticket) (ts : List Ticket) (x : HeldState) → TicketOk program y t → reserves program t h ≡ false → JournalLeads x ts → JournalLeads x (t ∷ ts)
   flow_pass t ts x told out r = (
     r.0,
     r.1,
@@ -220,7 +220,7 @@ module _ (program : ProgramShape) (sound : IsSound program) (s : Core) (y : Lane
         ran = [];
         later = r.0;
         journal_is = refl;
-        part_is = part_out program sound s y g k h t told out ∙ sym (ap (map logged) (waits_out program sound s y g k h t told out));
+        part_is = part_out program sound s y g k h t told out ∙ sym (ap (map command_event) (waits_out program sound s y g k h t told out));
         honest = tt;
         commands = subst (AllByRecursion NoQuery) (sym (waits_out program sound s y g k h t told out)) tt;
       },
@@ -231,7 +231,7 @@ module _ (program : ProgramShape) (sound : IsSound program) (s : Core) (y : Lane
   )
 
   flow_over : (t : Ticket) (ts : List Ticket) (x z : HeldState) → TicketOk program y t → waits t ≡ [] → Extends t x (parts t) z → y.stands t h ≡ gone
-      → length x.journal + (length (parts t) + size_of ts) ≤ x.room → (length z.journal + size_of ts ≤ z.room → Goes z ts) → Goes x (t ∷ ts)
+      → length x.journal + (length (parts t) + size_of ts) ≤ x.room → (length z.journal + size_of ts ≤ z.room → JournalLeads z ts) → JournalLeads x (t ∷ ts)
   flow_over t ts x z told none extends left le next =
       let e = grown t x (parts t) z extends (omega (arith, le)) in
       let r = next (grown_room t x z (parts t) (size_of ts) e le) in (
@@ -242,7 +242,7 @@ module _ (program : ProgramShape) (sound : IsSound program) (s : Core) (y : Lane
             ran = parts t;
             later = r.0;
             journal_is = refl;
-            part_is = sym (ap (λ ws. parts t ++ map logged ws) none ∙ append-nil (parts t));
+            part_is = sym (ap (λ ws. parts t ++ map command_event ws) none ∙ append-nil (parts t));
             honest = e.honest;
             commands = subst (AllByRecursion NoQuery) (sym none) tt;
           },
@@ -253,9 +253,9 @@ module _ (program : ProgramShape) (sound : IsSound program) (s : Core) (y : Lane
       )
 
   flow_first : (t : Ticket) (ts us : List Ticket) (x : HeldState) → Busy → FirstPart t x (parts t) (waits t) now → filter (λ t. reserves program t h) ts ≡ us
-      → AllByRecursion (λ u. OnlyCommands (parts u) (waits u)) us → AllByRecursion (TicketOk program y) ts → length x.journal + (length (parts t) + size_of ts) ≤ x.room → Goes x (t ∷ ts)
+      → AllByRecursion (λ u. OnlyCommands (parts u) (waits u)) us → AllByRecursion (TicketOk program y) ts → length x.journal + (length (parts t) + size_of ts) ≤ x.room → JournalLeads x (t ∷ ts)
   flow_first t ts us x busy f is all told le =
-      let short : length (parts t) ≡ length f.ran + length (map logged (waits t)) = ap length f.parts ∙ length-append f.ran (map logged (waits t)) in
+      let short : length (parts t) ≡ length f.ran + length (map command_event (waits t)) = ap length f.parts ∙ length-append f.ran (map command_event (waits t)) in
       let e = grown t x f.ran now f.extends (omega (arith, le, short)) in (
         map (stamp t) f.ran,
         e.journal,
@@ -266,7 +266,7 @@ module _ (program : ProgramShape) (sound : IsSound program) (s : Core) (y : Lane
             refl,
             each_unfiltered (λ u. OnlyCommands (parts u) (waits u)) (λ u. reserves program u h) ts (subst (AllByRecursion (λ u. OnlyCommands (parts u) (waits u))) (sym is) all)
                 (each_map {Q = λ u. reserves program u h ≡ false → OnlyCommands (parts u) (waits u)} (λ u (ok : TicketOk program y u) out. (
-                  part_out program sound s y g k h u ok out ∙ sym (ap (map logged) (waits_out program sound s y g k h u ok out)),
+                  part_out program sound s y g k h u ok out ∙ sym (ap (map command_event) (waits_out program sound s y g k h u ok out)),
                   subst (AllByRecursion NoQuery) (sym (waits_out program sound s y g k h u ok out)) tt,
                 )) ts told),
           ),
@@ -279,7 +279,7 @@ module _ (program : ProgramShape) (sound : IsSound program) (s : Core) (y : Lane
   Past past x found = PastOf (λ t. y.sent t h) (λ t. y.got t h) x past found × AllByRecursion (IsMine program sound s y g k h) past × AllByRecursion (λ t. waits t ≡ []) past
 
   goes_along : (ts past q : List Ticket) (x found : HeldState) → filter (λ t. reserves program t h) ts ≡ past ++ q → Past past x found → Tail q found → AllByRecursion (TicketOk program y) ts
-      → length x.journal + size_of ts ≤ x.room → Goes x ts
+      → length x.journal + size_of ts ≤ x.room → JournalLeads x ts
   goes_along [] [] [] x found e p tail told le =
       let is : x ≡ now = p.0 ∙ tail in
       ([], ap (λ (o : HeldState). o.journal) (sym is) ∙ sym (append-nil x.journal), (refl, ap (λ (o : HeldState). o.object) is), tt, ap (λ (o : HeldState). o.object) is)
@@ -289,8 +289,8 @@ module _ (program : ProgramShape) (sound : IsSound program) (s : Core) (y : Lane
     where
       by_case : (b : Bool) → reserves program t h ≡ b → (past q : List Ticket) → (if b then t ∷ filter (λ t. reserves program t h) ts else filter (λ t. reserves program t h) ts) ≡ past ++ q
           → Past past x found → Tail q found
-          → ((past q : List Ticket) (x : HeldState) → filter (λ t. reserves program t h) ts ≡ past ++ q → Past past x found → Tail q found → length x.journal + size_of ts ≤ x.room → Goes x ts)
-          → Goes x (t ∷ ts)
+          → ((past q : List Ticket) (x : HeldState) → filter (λ t. reserves program t h) ts ≡ past ++ q → Past past x found → Tail q found → length x.journal + size_of ts ≤ x.room → JournalLeads x ts)
+          → JournalLeads x (t ∷ ts)
       by_case false out past q e p tail ih = flow_pass t ts x told.0 out (ih past q x e p tail (omega (arith, le)))
       by_case true own [] [] e p tail ih = absurd (cc)
       by_case true own [] (u ∷ us) e p tail ih =
@@ -316,7 +316,7 @@ module _ (program : ProgramShape) (sound : IsSound program) (s : Core) (y : Lane
       let room = all_left program h in
       omega (arith, short, whole, room)
 
-  pub goes : Goes (fresh_held program h) s.order
+  pub goes : JournalLeads (fresh_held program h) s.order
   goes =
       goes_along s.order (g h).past (ahead (post s h)) (fresh_held program h) (g h).found (k.objects h).split
       ((k.objects h).served, mine_past program sound s y g k h, waits_past program sound s y g k h)

@@ -6,13 +6,13 @@ use Rattle.qs_objects.specs.declared.held.Ticket.{Ticket}
 use Rattle.qs_objects.proofs.Choices.{ticket_cases}
 use Rattle.qs_program.specs.Program.{ProgramShape}
 use Rattle.qs_program.specs.Values.{Locals}
-use Rattle.qs_meaning.specs.BlockRecords.{Page, Begins, IsDone}
+use Rattle.qs_meaning.specs.BlockRecords.{BlockRecord, Begins, IsDone}
 use Rattle.qs_meaning.specs.Interaction as tree
-use Rattle.qs_chunk.specs.LaneViews.{Standing, gone, ClientLane}
+use Rattle.qs_chunk.specs.LaneViews.{ObjectStance, gone, ClientLane}
 use Rattle.qs_chunk.specs.declared.parcel.Parcel.{Parcel}
 use Rattle.qs_played.specs.Played.{ticket}
 use Rattle.qs_played.proofs.FunctionUpdate.{put_at, put_at_here, put_at_there}
-use Rattle.qs_protocol.specs.ClientHistories.{IsOpenPage}
+use Rattle.qs_protocol.specs.ClientHistories.{IsOpenRecord}
 use Rattle.qs_core_laws.proofs.CoreInvariant.{LaneHistory, TicketOk}
 
 -- a client's last ticket comes before none of its tickets
@@ -22,7 +22,7 @@ none_after begun t last d j low i next is =
     let counts : begun t.client ≡ begun d = ap (λ (t : Ticket). begun t.client) is in
     omega (arith, last, low, next, index, counts)
 
-module _ (program : ProgramShape) (y : LaneHistory) (t : Ticket) (pg : Page) (snt : ℕ → List Parcel) (got : ℕ → List HeldState) (stood : ℕ → Standing) where
+module _ (program : ProgramShape) (y : LaneHistory) (t : Ticket) (pg : BlockRecord) (snt : ℕ → List Parcel) (got : ℕ → List HeldState) (stood : ℕ → ObjectStance) where
   abbrev pub story_at : LaneHistory
   story_at = record { page = put_at y.page t pg; sent = put_at y.sent t snt; got = put_at y.got t got; stands = put_at y.stands t stood }
 
@@ -35,28 +35,28 @@ module _ (program : ProgramShape) (y : LaneHistory) (t : Ticket) (pg : Page) (sn
   begins_kept d (suc i) a b e apart h =
       ⊎_elim
       (λ (is : t ≡ ticket d i). absurd (apart i refl is))
-      (λ (other : same t (ticket d i) ≡ false). ap (λ (p : Page). p.rest) (old_page (ticket d i) other) ∙ (h ∙ ap tree.Done e))
+      (λ (other : same t (ticket d i) ≡ false). ap (λ (p : BlockRecord). p.rest) (old_page (ticket d i) other) ∙ (h ∙ ap tree.Done e))
       (ticket_cases t (ticket d i))
 
-  pub told_here : IsOpenPage program t pg → Begins story_at.page t.client t.index pg.entry → ((h : ℕ) → ClientLane t false (snt h) (got h) (part h pg.trace) (stood h)) → ((h : ℕ) → stood h ≡ gone → IsDone pg.rest)
+  pub told_here : IsOpenRecord program t pg → Begins story_at.page t.client t.index pg.entry → ((h : ℕ) → ClientLane t false (snt h) (got h) (part h pg.trace) (stood h)) → ((h : ℕ) → stood h ≡ gone → IsDone pg.rest)
       → TicketOk program story_at t
   told_here page begins lanes over = record {
-    page = subst (IsOpenPage program t) (sym (put_at_here y.page t pg)) page;
-    begins = subst (λ (p : Page). Begins story_at.page t.client t.index p.entry) (sym (put_at_here y.page t pg)) begins;
-    lane = λ h. subst (λ (p : Page). ClientLane t false (story_at.sent t h) (story_at.got t h) (part h p.trace) (story_at.stands t h)) (sym (put_at_here y.page t pg))
+    page = subst (IsOpenRecord program t) (sym (put_at_here y.page t pg)) page;
+    begins = subst (λ (p : BlockRecord). Begins story_at.page t.client t.index p.entry) (sym (put_at_here y.page t pg)) begins;
+    lane = λ h. subst (λ (p : BlockRecord). ClientLane t false (story_at.sent t h) (story_at.got t h) (part h p.trace) (story_at.stands t h)) (sym (put_at_here y.page t pg))
         (subst (λ (f : ℕ → List Parcel). ClientLane t false (f h) (story_at.got t h) (part h pg.trace) (story_at.stands t h)) (sym (put_at_here y.sent t snt))
         (subst (λ (f : ℕ → List HeldState). ClientLane t false (snt h) (f h) (part h pg.trace) (story_at.stands t h)) (sym (put_at_here y.got t got))
-        (subst (λ (f : ℕ → Standing). ClientLane t false (snt h) (got h) (part h pg.trace) (f h)) (sym (put_at_here y.stands t stood)) (lanes h))));
-    gone = λ h e. subst (λ (p : Page). IsDone p.rest) (sym (put_at_here y.page t pg)) (over h (ap (λ (f : ℕ → Standing). f h) (sym (put_at_here y.stands t stood)) ∙ e));
+        (subst (λ (f : ℕ → ObjectStance). ClientLane t false (snt h) (got h) (part h pg.trace) (f h)) (sym (put_at_here y.stands t stood)) (lanes h))));
+    gone = λ h e. subst (λ (p : BlockRecord). IsDone p.rest) (sym (put_at_here y.page t pg)) (over h (ap (λ (f : ℕ → ObjectStance). f h) (sym (put_at_here y.stands t stood)) ∙ e));
   }
 
   pub told_there : (u : Ticket) → same t u ≡ false → ((i : ℕ) → u.index ≡ suc i → t ≡ ticket u.client i → ⊥) → TicketOk program y u → TicketOk program story_at u
   told_there u n apart old = record {
-    page = subst (IsOpenPage program u) (sym (old_page u n)) old.page;
-    begins = begins_kept u.client u.index (y.page u).entry (story_at.page u).entry (sym (ap (λ (p : Page). p.entry) (old_page u n))) apart old.begins;
-    lane = λ h. subst (λ (p : Page). ClientLane u false (story_at.sent u h) (story_at.got u h) (part h p.trace) (story_at.stands u h)) (sym (old_page u n))
+    page = subst (IsOpenRecord program u) (sym (old_page u n)) old.page;
+    begins = begins_kept u.client u.index (y.page u).entry (story_at.page u).entry (sym (ap (λ (p : BlockRecord). p.entry) (old_page u n))) apart old.begins;
+    lane = λ h. subst (λ (p : BlockRecord). ClientLane u false (story_at.sent u h) (story_at.got u h) (part h p.trace) (story_at.stands u h)) (sym (old_page u n))
         (subst (λ (f : ℕ → List Parcel). ClientLane u false (f h) (story_at.got u h) (part h (y.page u).trace) (story_at.stands u h)) (sym (put_at_there y.sent t snt u n))
         (subst (λ (f : ℕ → List HeldState). ClientLane u false (y.sent u h) (f h) (part h (y.page u).trace) (story_at.stands u h)) (sym (put_at_there y.got t got u n))
-        (subst (λ (f : ℕ → Standing). ClientLane u false (y.sent u h) (y.got u h) (part h (y.page u).trace) (f h)) (sym (put_at_there y.stands t stood u n)) (old.lane h))));
-    gone = λ h e. subst (λ (p : Page). IsDone p.rest) (sym (old_page u n)) (old.gone h (ap (λ (f : ℕ → Standing). f h) (sym (put_at_there y.stands t stood u n)) ∙ e));
+        (subst (λ (f : ℕ → ObjectStance). ClientLane u false (y.sent u h) (y.got u h) (part h (y.page u).trace) (f h)) (sym (put_at_there y.stands t stood u n)) (old.lane h))));
+    gone = λ h e. subst (λ (p : BlockRecord). IsDone p.rest) (sym (old_page u n)) (old.gone h (ap (λ (f : ℕ → ObjectStance). f h) (sym (put_at_there y.stands t stood u n)) ∙ e));
   }

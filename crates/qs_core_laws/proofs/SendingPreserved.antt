@@ -11,11 +11,11 @@ use Rattle.qs_objects.proofs.Choices.{apart_eqb, num_cases, ticket_cases, ticket
 use Rattle.qs_meaning.specs.Solo.{put}
 use Rattle.qs_meaning.proofs.Each.{each_map, each_front, each_kept}
 use Rattle.qs_meaning.proofs.Histories.{Among}
-use Rattle.qs_meaning.specs.BlockRecords.{Page}
+use Rattle.qs_meaning.specs.BlockRecords.{BlockRecord}
 use Rattle.qs_meaning.proofs.TreeWalks.{put_here, put_there}
 use Rattle.qs_meaning.specs.Following.{reserves}
 use Rattle.qs_program.specs.Program.{ProgramShape}
-use Rattle.qs_chunk.specs.LaneViews.{Standing, asks, gone, ClientLane}
+use Rattle.qs_chunk.specs.LaneViews.{ObjectStance, asks, gone, ClientLane}
 use Rattle.qs_chunk.specs.declared.parcel.Parcel.{Parcel}
 use Rattle.qs_handler.specs.Handler.{serving}
 use Rattle.qs_client_run.specs.Client.{Client, Settings, Settlement, act_of, after_parcel, take_chunk}
@@ -25,7 +25,7 @@ use Rattle.qs_played.proofs.FunctionUpdate.{put_at, put_at_here, put_at_there}
 use Rattle.qs_played.specs.Played.{ticket}
 use Rattle.qs_played.proofs.Orders.{legal_among}
 use Rattle.qs_protocol.proofs.ObjectViews.{as_list, PastOf, ObjectView, ClientLog, HandlerLog, ahead, IsObject}
-use Rattle.qs_protocol.proofs.ClientInvariants.{listed, Lined, PlaceOk}
+use Rattle.qs_protocol.proofs.ClientInvariants.{objects_of_block, Lined, PlaceOk}
 use Rattle.qs_protocol.proofs.LaneWays.{LastOf}
 use Rattle.qs_protocol.proofs.LaneWholes.{match_over}
 use Rattle.qs_protocol.proofs.ClientLogs.{sends_ok, gets_ok, chunks_ok}
@@ -35,7 +35,7 @@ use Rattle.qs_played.specs.JournalRooms.{fresh_held}
 use Rattle.qs_core_laws.specs.Core.{Core, put_lane}
 use Rattle.qs_core_laws.proofs.CoreInvariant.{LaneHistory, post, deeds, TicketOk, CoreInvariant}
 use Rattle.qs_core_laws.proofs.HandlerSteps.{put_lane_at, put_lane_there, put_up_at, put_up_there, post_path, deeds_ok, of_ahead, may_ahead}
-use Rattle.qs_core_laws.proofs.ClientSteps.{client_moves, moved, story}
+use Rattle.qs_core_laws.proofs.ClientSteps.{client_moves, state_after, story}
 
 pub grown_here : {A : Type 0} (f : Ticket → ℕ → A) (t : Ticket) (h : ℕ) (a : A) (u : Ticket) → put_at f t (put (f t) h a) u h ≡ put_at (λ u. f u h) t a u
 grown_here f t h a u = by_case (same t u)
@@ -59,7 +59,7 @@ object_deeds mine x b y z g e e' k =
     (record { split = k.split; served = k.served; free = k.free; opened = k.opened; sent = k.sent; lane = k.lane; gots = k.gots; later = k.later; down = k.down; up = k.up; rising = k.rising }))
 
 -- whom a handler is through with has sent the end
-pub past_gone : (sent : Ticket → List Parcel) (got : Ticket → List HeldState) (events : Ticket → List Event) (stands : Ticket → Standing) (ts : List Ticket) (x z : HeldState) → PastOf sent got x ts z
+pub past_gone : (sent : Ticket → List Parcel) (got : Ticket → List HeldState) (events : Ticket → List Event) (stands : Ticket → ObjectStance) (ts : List Ticket) (x z : HeldState) → PastOf sent got x ts z
     → AllByRecursion (λ t. ClientLane t false (sent t) (got t) (events t) (stands t)) ts → AllByRecursion (λ t. stands t ≡ gone) ts
 past_gone sent got events stands [] x z p l = tt
 past_gone sent got events stands (t ∷ ts) x z p l = ((match_over t x p.0 (sent t) (got t) p.1 (events t) (stands t) l.0 p.2 p.3).1, past_gone sent got events stands ts p.0 z p.4 l.1)
@@ -81,7 +81,7 @@ among_back t [] ys n a = a
 among_back t (x ∷ xs) ys n (inl is) = absurd (same_self_not t x is n.0)
 among_back t (x ∷ xs) ys n (inr a) = among_back t xs ys n.1 a
 
-module _ (program : ProgramShape) (lined : (t : Ticket) → Lined (reserves program t) (listed program t)) (settings : Settings) (blocks : ℕ)
+module _ (program : ProgramShape) (lined : (t : Ticket) → Lined (reserves program t) (objects_of_block program t)) (settings : Settings) (blocks : ℕ)
     (s : Core) (y : LaneHistory) (g : ℕ → HandlerLog) (k : CoreInvariant program s y g) where
   abbrev Mine : ℕ → List Ticket
   Mine h = filter (λ t. reserves program t h) s.order
@@ -114,13 +114,13 @@ module _ (program : ProgramShape) (lined : (t : Ticket) → Lined (reserves prog
       by_order u e le = ⊎_elim (λ (lt : u.index < n). inl lt) (λ (is : u.index ≡ n). inr (ticket_path e (sym is))) (below_cases u.index n le)
 
   module _ (c n : ℕ) (begun : (s.client c).begun ≡ suc n) (m : Client) (same_begun : m.begun ≡ (s.client c).begun) (events : List Event)
-      (snt : ℕ → List Parcel) (got : ℕ → List HeldState) (pg : Page) (entry : pg.entry ≡ (y.page (ticket c n)).entry) (trace : pg.trace ≡ (y.page (ticket c n)).trace ++ events)
+      (snt : ℕ → List Parcel) (got : ℕ → List HeldState) (pg : BlockRecord) (entry : pg.entry ≡ (y.page (ticket c n)).entry) (trace : pg.trace ≡ (y.page (ticket c n)).trace ++ events)
       (ok : PlaceOk program (ticket c n) snt got m pg m.stage) (out : (h : ℕ) → reserves program (ticket c n) h ≡ false → (snt h ≡ []) × (got h ≡ [])) where
     abbrev Y : LaneHistory
     Y = story program s y g k c n begun m same_begun events snt got pg entry trace ok out
 
     abbrev S : (ℕ → ℕ → List Parcel) → (ℕ → ℕ → Option HeldState) → (ℕ → ℕ → ℕ) → (ℕ → ℕ) → (Ticket → List SyncCount) → Core
-    S = moved program s y g k c n begun m same_begun events snt got pg entry trace ok out
+    S = state_after program s y g k c n begun m same_begun events snt got pg entry trace ok out
 
     -- one object changes
     at_object : (down : ℕ → ℕ → List Parcel) (up : ℕ → ℕ → Option HeldState) (spare : ℕ → ℕ → ℕ) (syncs : ℕ → ℕ) (tallies : Ticket → List SyncCount) (h : ℕ) (b : ObjectView) (new : HandlerLog)
@@ -157,11 +157,11 @@ module _ (program : ProgramShape) (lined : (t : Ticket) → Lined (reserves prog
   Keeps s' = (y' : LaneHistory) × (g' : ℕ → HandlerLog) × CoreInvariant program s' y' g'
 
   pub send_kept : (c n h : ℕ) (p : Parcel) (syncs : ℕ → ℕ) (tallies : Ticket → List SyncCount) → (s.client c).begun ≡ suc n → act_of settings blocks (s.client c) ≡ Send h p
-      → Keeps (after c (ticket c n) (after_parcel settings (ticket c n) (listed program (ticket c n)) (s.client c) h p) (put_lane s.down c h (s.down c h ++ p ∷ [])) s.up s.spare syncs tallies)
+      → Keeps (after c (ticket c n) (after_parcel settings (ticket c n) (objects_of_block program (ticket c n)) (s.client c) h p) (put_lane s.down c h (s.down c h ++ p ∷ [])) s.up s.spare syncs tallies)
   send_kept c n h p syncs tallies begun act =
       let t : Ticket = ticket c n in
       let m : Client = s.client c in
-      let r : Settlement = after_parcel settings t (listed program t) m h p in
+      let r : Settlement = after_parcel settings t (objects_of_block program t) m h p in
       let ok = k.places c n begun in
       let at = send_at program t (y.sent t) (y.got t) settings blocks m (y.page t) m.stage ok h p act in
       let here = λ (e : y.stands t h ≡ gone). at.1 (sym (k.stands c n begun h) ∙ e) in
@@ -175,26 +175,26 @@ module _ (program : ProgramShape) (lined : (t : Ticket) → Lined (reserves prog
             (num_cases h j),
         (k.outside t j no).1,
       ) in (
-        story program s y g k c n begun r.client (sent_begun settings t (listed program t) m h p) r.events snt (y.got t) ends.0 ends.1 ends.2 ends.3 out,
+        story program s y g k c n begun r.client (sent_begun settings t (objects_of_block program t) m h p) r.events snt (y.got t) ends.0 ends.1 ends.2 ends.3 out,
         put g h new,
-        at_object c n begun r.client (sent_begun settings t (listed program t) m h p) r.events snt (y.got t) ends.0 ends.1 ends.2 ends.3 out
+        at_object c n begun r.client (sent_begun settings t (objects_of_block program t) m h p) r.events snt (y.got t) ends.0 ends.1 ends.2 ends.3 out
             (put_lane s.down c h (s.down c h ++ p ∷ [])) s.up s.spare syncs tallies h (record (post s h) { down = put (λ c. s.down c h) c (s.down c h ++ p ∷ []) }) new
             (post_path _ _ refl refl (fun_ext (put_lane_at s.down c h (s.down c h ++ p ∷ []))) refl)
             (λ j other. post_path _ _ refl refl (fun_ext (λ d. put_lane_there s.down c h (s.down c h ++ p ∷ []) d j other)) refl)
             (λ j other. (put_there (y.sent t) h (y.sent t h ++ p ∷ []) j other, refl))
             (object_deeds (Mine h) (fresh_held program h) (record (post s h) { down = put (λ c. s.down c h) c (s.down c h ++ p ∷ []) })
             (record (deeds y h) { sent = put_at (λ u. y.sent u h) t (y.sent t h ++ p ∷ []) })
-            (deeds (story program s y g k c n begun r.client (sent_begun settings t (listed program t) m h p) r.events snt (y.got t) ends.0 ends.1 ends.2 ends.3 out) h) new
+            (deeds (story program s y g k c n begun r.client (sent_begun settings t (objects_of_block program t) m h p) r.events snt (y.got t) ends.0 ends.1 ends.2 ends.3 out) h) new
             (λ u. sym (grown_here y.sent t h (y.sent t h ++ p ∷ []) u)) (λ u. sym (grown_there y.got t (y.got t) h refl u))
             (send_ok (Mine h) (fresh_held program h) (post s h) (deeds y h) (g h) t p (newest c n h begun at.0 here) (past_apart t h here) (k.objects h))),
       )
 
   pub get_kept : (c n h : ℕ) (x : HeldState) → (s.client c).begun ≡ suc n → act_of settings blocks (s.client c) ≡ Await h → s.up c h ≡ Some x
-      → Keeps (after c (ticket c n) (clients.take_object settings (ticket c n) (listed program (ticket c n)) (s.client c) x (s.client c).stage) s.down (put_lane s.up c h None) s.spare s.syncs s.sync_counts)
+      → Keeps (after c (ticket c n) (clients.take_object settings (ticket c n) (objects_of_block program (ticket c n)) (s.client c) x (s.client c).stage) s.down (put_lane s.up c h None) s.spare s.syncs s.sync_counts)
   get_kept c n h x begun act up =
       let t : Ticket = ticket c n in
       let m : Client = s.client c in
-      let r : Settlement = clients.take_object settings t (listed program t) m x m.stage in
+      let r : Settlement = clients.take_object settings t (objects_of_block program t) m x m.stage in
       let ok = k.places c n begun in
       let at = await_at program t (y.sent t) (y.got t) settings blocks m (y.page t) m.stage ok h act in
       let here = λ (e : y.stands t h ≡ gone). asks_gone (sym at.1 ∙ (sym (k.stands c n begun h) ∙ e)) in
@@ -208,16 +208,16 @@ module _ (program : ProgramShape) (lined : (t : Ticket) → Lined (reserves prog
             (num_cases h j),
       ) in
       let one = up_serving (Mine h) (fresh_held program h) (post s h) (deeds y h) (g h) t x [] (k.objects h) (ap as_list up) (λ u one_u at_c. older u begun one_u at_c) (deeds_ok program s y g k h).lane in (
-        story program s y g k c n begun r.client (got_begun settings t (listed program t) m h x m.stage) r.events (y.sent t) got ends.0 ends.1 ends.2 ends.3 out,
+        story program s y g k c n begun r.client (got_begun settings t (objects_of_block program t) m h x m.stage) r.events (y.sent t) got ends.0 ends.1 ends.2 ends.3 out,
         put g h (g h),
-        at_object c n begun r.client (got_begun settings t (listed program t) m h x m.stage) r.events (y.sent t) got ends.0 ends.1 ends.2 ends.3 out
+        at_object c n begun r.client (got_begun settings t (objects_of_block program t) m h x m.stage) r.events (y.sent t) got ends.0 ends.1 ends.2 ends.3 out
             s.down (put_lane s.up c h None) s.spare s.syncs s.sync_counts h (record (post s h) { up = put (λ c. as_list (s.up c h)) c [] }) (g h)
             (post_path _ _ refl refl refl (fun_ext (put_up_at s.up c h None)))
             (λ j other. post_path _ _ refl refl refl (fun_ext (λ d. put_up_there s.up c h None d j other)))
             (λ j other. (refl, put_there (y.got t) h (y.got t h ++ x ∷ []) j other))
             (object_deeds (Mine h) (fresh_held program h) (record (post s h) { up = put (λ c. as_list (s.up c h)) c [] })
             (record (deeds y h) { got = put_at (λ u. y.got u h) t (y.got t h ++ x ∷ []) })
-            (deeds (story program s y g k c n begun r.client (got_begun settings t (listed program t) m h x m.stage) r.events (y.sent t) got ends.0 ends.1 ends.2 ends.3 out) h) (g h)
+            (deeds (story program s y g k c n begun r.client (got_begun settings t (objects_of_block program t) m h x m.stage) r.events (y.sent t) got ends.0 ends.1 ends.2 ends.3 out) h) (g h)
             (λ u. sym (grown_there y.sent t (y.sent t) h refl u)) (λ u. sym (grown_here y.got t h (y.got t h ++ x ∷ []) u))
             (got_ok (Mine h) (fresh_held program h) (post s h) (deeds y h) (g h) t x [] one (ap as_list up) (past_apart t h here) (k.objects h))),
       )
@@ -240,15 +240,15 @@ module _ (program : ProgramShape) (lined : (t : Ticket) → Lined (reserves prog
           (num_cases u.index n)
 
   pub chunk_kept : (c n h : ℕ) (spare : ℕ → ℕ → ℕ) → (s.client c).begun ≡ suc n → act_of settings blocks (s.client c) ≡ NeedChunk h
-      → Keeps (after c (ticket c n) (take_chunk settings (ticket c n) (listed program (ticket c n)) (s.client c) h (s.client c).stage) s.down s.up spare s.syncs s.sync_counts)
+      → Keeps (after c (ticket c n) (take_chunk settings (ticket c n) (objects_of_block program (ticket c n)) (s.client c) h (s.client c).stage) s.down s.up spare s.syncs s.sync_counts)
   chunk_kept c n h spare begun act =
       let t : Ticket = ticket c n in
       let m : Client = s.client c in
-      let r : Settlement = take_chunk settings t (listed program t) m h m.stage in
+      let r : Settlement = take_chunk settings t (objects_of_block program t) m h m.stage in
       let ok = k.places c n begun in
       let ends = chunks_ok program t (y.sent t) (y.got t) settings (lined t) blocks m (y.page t) h ok act in
       let out = λ (j : ℕ) (no : reserves program t j ≡ false). k.outside t j no in (
-        story program s y g k c n begun r.client (chunk_begun settings t (listed program t) m h m.stage) r.events (y.sent t) (y.got t) ends.0 ends.1 ends.2 ends.3 out,
+        story program s y g k c n begun r.client (chunk_begun settings t (objects_of_block program t) m h m.stage) r.events (y.sent t) (y.got t) ends.0 ends.1 ends.2 ends.3 out,
         g,
-        at_none c n begun r.client (chunk_begun settings t (listed program t) m h m.stage) r.events (y.sent t) (y.got t) ends.0 ends.1 ends.2 ends.3 out spare s.syncs s.sync_counts (λ j. (refl, refl)),
+        at_none c n begun r.client (chunk_begun settings t (objects_of_block program t) m h m.stage) r.events (y.sent t) (y.got t) ends.0 ends.1 ends.2 ends.3 out spare s.syncs s.sync_counts (λ j. (refl, refl)),
       )

@@ -7,7 +7,7 @@ use Rattle.qs_program.specs.Program.{ProgramShape}
 use Rattle.qs_program.specs.Statements.{Statements}
 use Rattle.qs_graph.specs.GraphExamples.{leave_first, query_in_repeat}
 use Rattle.qs_graph.specs.Graphs.{block_graph}
-use Rattle.qs_graph.specs.Nodes.{Place}
+use Rattle.qs_graph.specs.Nodes.{GraphNode}
 use Rattle.qs_syncset.specs.declared.mode.Mode.{Mode}
 use Rattle.qs_syncset.specs.declared.mode.Mode.TheVariants.{Plain, Dynamic, Static, Both}
 use Rattle.qs_syncset.specs.Codes.{ClientCode}
@@ -16,7 +16,7 @@ use Rattle.qs_syncset.specs.Modes.{is_dynamic}
 use Rattle.qs_played.specs.ExampleRuns.{answers}
 use Rattle.qs_played.specs.Played.{Played}
 use Rattle.qs_core_laws.specs.Core.{AreCodes}
-use Rattle.qs_core_laws.specs.CoreExamples.{counted}
+use Rattle.qs_core_laws.specs.CoreExamples.{sync_count}
 use Rattle.qs_core_laws.specs.CoreSchedule.{core_played, core_scheduled}
 
 -- an account of 100, and a client whose one block is this
@@ -24,19 +24,19 @@ abbrev pub alone : Statements → ProgramShape
 alone body = on_one hundred (body ∷ [])
 
 -- the codes of its clients, with this graph
-abbrev pub coded : Bool → Statements → List Place → ℕ → ClientCode
-coded dynamic body g zero = record {
+abbrev pub codes_with : Bool → Statements → List GraphNode → ℕ → ClientCode
+codes_with dynamic body g zero = record {
   dynamic = dynamic;
   blocks = record { reserved = 0 ∷ []; graph = g; loads = map (load_of body) (range_with_len 0 8) } ∷ [];
 }
-coded dynamic body g (suc c) = record { dynamic = dynamic; blocks = [] }
+codes_with dynamic body g (suc c) = record { dynamic = dynamic; blocks = [] }
 
-abbrev pub shown_alone : Mode → Statements → List Place → Played
-shown_alone mode body g = core_played (alone body) (core_scheduled (alone body) (coded (is_dynamic mode) body g) 8 [] 40)
+abbrev pub shown_alone : Mode → Statements → List GraphNode → Played
+shown_alone mode body g = core_played (alone body) (core_scheduled (alone body) (codes_with (is_dynamic mode) body g) 8 [] 40)
 
 -- in this mode the block has this graph; after 40 rounds it has finished with these replies (None to a command) and so many syncs
-pub record PlaysAlone (body : Statements) (mode : Mode) (g : List Place) (replies : List (Option ℤ)) (syncs : ℕ) : Type 0 where
-  pub codes : AreCodes (alone body) mode (coded (is_dynamic mode) body g)
+pub record PlaysAlone (body : Statements) (mode : Mode) (g : List GraphNode) (replies : List (Option ℤ)) (syncs : ℕ) : Type 0 where
+  pub codes : AreCodes (alone body) mode (codes_with (is_dynamic mode) body g)
   pub replies_are : answers (shown_alone mode body g) ≡ replies ∷ []
   pub syncs_are : (shown_alone mode body g).syncs ≡ syncs
   pub finished_is : (shown_alone mode body g).finished ≡ true
@@ -61,5 +61,5 @@ pub record CoalescedExamples : Type 0 where
   pub calls_static : PlaysAlone call_in_repeat Static (block_graph call_in_repeat) (some 100 ∷ some 100 ∷ None ∷ some 101 ∷ None ∷ []) 3
   pub calls_both : PlaysAlone call_in_repeat Both (block_graph call_in_repeat) (some 100 ∷ some 100 ∷ None ∷ some 101 ∷ None ∷ []) 2
   -- a Sync for each turn of the repeat and one before it
-  pub counts_static : (shown_alone Static call_in_repeat (block_graph call_in_repeat)).sync_counts ≡ (counted 0 3 ∷ []) ∷ []
-  pub counts_both : (shown_alone Both call_in_repeat (block_graph call_in_repeat)).sync_counts ≡ (counted 0 2 ∷ []) ∷ []
+  pub counts_static : (shown_alone Static call_in_repeat (block_graph call_in_repeat)).sync_counts ≡ (sync_count 0 3 ∷ []) ∷ []
+  pub counts_both : (shown_alone Both call_in_repeat (block_graph call_in_repeat)).sync_counts ≡ (sync_count 0 2 ∷ []) ∷ []

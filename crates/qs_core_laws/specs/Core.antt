@@ -18,7 +18,7 @@ use Rattle.qs_syncset.specs.Codes.{ClientCode, IsCodeOf, code_at}
 use Rattle.qs_chunk.specs.declared.parcel.Parcel.{Parcel}
 use Rattle.qs_chunk.specs.declared.parcel.Parcel.TheVariants.{Work, Sync, Home, End}
 use Rattle.qs_chunk.specs.Limits.{lane_room, spare_room}
-use Rattle.qs_handler.specs.Handler.{Handler, free, gave, received, taken}
+use Rattle.qs_handler.specs.Handler.{Handler, free, gave, accept_parcel, accept_next}
 use Rattle.qs_handler.specs.Handler as handlers
 use Rattle.qs_handler.specs.declared.mind.Act as handler_acts
 use Rattle.qs_handler.specs.declared.mind.Act.TheVariants as acts
@@ -83,15 +83,15 @@ module _ (code : ℕ → ClientCode) (size : ℕ) where
   current c m = ticket c (m.begun - 1)
 
   -- a client after an act, with what entered its block's trace
-  abbrev pub settled : Core → ℕ → Ticket → Settlement → Core
-  settled s c t r = record s {
+  abbrev pub after_act : Core → ℕ → Ticket → Settlement → Core
+  after_act s c t r = record s {
     client = put s.client c r.client;
     trace = put_ticket s.trace t (s.trace t ++ r.events);
   }
 
   -- Reserve: the ticket comes to the order, and to the queue of each handler of the block's list
-  abbrev pub reserved : Core → ℕ → Ticket → Locals → Settlement → Core
-  reserved s c t l r = record s {
+  abbrev pub after_reserve : Core → ℕ → Ticket → Locals → Settlement → Core
+  after_reserve s c t l r = record s {
     order = s.order ++ t ∷ [];
     client = put s.client c r.client;
     tickets = λ h. if may t h then s.tickets h ++ t ∷ [] else s.tickets h;
@@ -102,30 +102,30 @@ module _ (code : ℕ → ClientCode) (size : ℕ) where
   abbrev pub reserves_from : Core → ℕ → ClientStage → Option Core
   reserves_from s c (between l) =
       let t = ticket c (s.client c).begun in
-      Some (reserved s c t l (begin (settings_of c) t (reserved_of t) (s.client c) (tree_of t l)))
+      Some (after_reserve s c t l (begin (settings_of c) t (reserved_of t) (s.client c) (tree_of t l)))
   reserves_from s c (runs rest) = None
   reserves_from s c (full h rest) = None
   reserves_from s c (awaits h rest) = None
   reserves_from s c (leaves h hs l) = None
 
   -- the Syncs of a client once it sent this
-  abbrev pub synced : (ℕ → ℕ) → ℕ → Parcel → ℕ → ℕ
-  synced syncs c Sync = put syncs c (suc (syncs c))
-  synced syncs c (Work chunk) = syncs
-  synced syncs c (Home x) = syncs
-  synced syncs c End = syncs
+  abbrev pub syncs_after : (ℕ → ℕ) → ℕ → Parcel → ℕ → ℕ
+  syncs_after syncs c Sync = put syncs c (suc (syncs c))
+  syncs_after syncs c (Work chunk) = syncs
+  syncs_after syncs c (Home x) = syncs
+  syncs_after syncs c End = syncs
 
   -- and apart for the block that it is in
-  abbrev pub tallied : (Ticket → List SyncCount) → Ticket → ℕ → Parcel → Ticket → List SyncCount
-  tallied counts t h Sync = put_ticket counts t (with_sync h (counts t))
-  tallied counts t h (Work chunk) = counts
-  tallied counts t h (Home x) = counts
-  tallied counts t h End = counts
+  abbrev pub sync_counts_after : (Ticket → List SyncCount) → Ticket → ℕ → Parcel → Ticket → List SyncCount
+  sync_counts_after counts t h Sync = put_ticket counts t (with_sync h (counts t))
+  sync_counts_after counts t h (Work chunk) = counts
+  sync_counts_after counts t h (Home x) = counts
+  sync_counts_after counts t h End = counts
 
   abbrev pub lies : Core → ℕ → ℕ → Parcel → Core
   lies s c h parcel = record s {
-    syncs = synced s.syncs c parcel;
-    sync_counts = tallied s.sync_counts (current c (s.client c)) h parcel;
+    syncs = syncs_after s.syncs c parcel;
+    sync_counts = sync_counts_after s.sync_counts (current c (s.client c)) h parcel;
     down = put_lane s.down c h (s.down c h ++ parcel ∷ []);
   }
 
@@ -135,7 +135,7 @@ module _ (code : ℕ → ClientCode) (size : ℕ) where
       let m = s.client c in
       let t = current c m in
       if nat_lt (length (s.down c h)) lane_room
-      then Some (settled (lies s c h parcel) c t (after_parcel (settings_of c) t (reserved_of t) m h parcel))
+      then Some (after_act (lies s c h parcel) c t (after_parcel (settings_of c) t (reserved_of t) m h parcel))
       else None
 
   abbrev pub with_up : Core → ℕ → ℕ → Option HeldState → Core
@@ -150,7 +150,7 @@ module _ (code : ℕ → ClientCode) (size : ℕ) where
   gets s c h (Some x) =
       let m = s.client c in
       let t = current c m in
-      Some (settled (with_up s c h None) c t (take_object (settings_of c) t (reserved_of t) m x m.stage))
+      Some (after_act (with_up s c h None) c t (take_object (settings_of c) t (reserved_of t) m x m.stage))
 
   -- an empty chunk is taken
   abbrev pub takes_chunk : Core → ℕ → ℕ → ℕ → Option Core
@@ -158,7 +158,7 @@ module _ (code : ℕ → ClientCode) (size : ℕ) where
   takes_chunk s c h (suc n) =
       let m = s.client c in
       let t = current c m in
-      Some (settled (with_spare s c h n) c t (take_chunk (settings_of c) t (reserved_of t) m h m.stage))
+      Some (after_act (with_spare s c h n) c t (take_chunk (settings_of c) t (reserved_of t) m h m.stage))
 
   abbrev pub client_step : Core → ℕ → client_acts.Act → Option Core
   client_step s c wants.Reserve = reserves_from s c (s.client c).stage
@@ -177,19 +177,19 @@ module _ (code : ℕ → ClientCode) (size : ℕ) where
   with_down s c h ps = record s { down = put_lane s.down c h ps }
 
   -- a handler that came to this with what it took, where that may come to it
-  abbrev pub handled : Core → ℕ → Option Handler → Option Core
-  handled s h None = None
-  handled s h (Some x) = Some (handles s h x)
+  abbrev pub after_handler : Core → ℕ → Option Handler → Option Core
+  after_handler s h None = None
+  after_handler s h (Some x) = Some (handles s h x)
 
   -- TakeTicket
   abbrev pub takes_ticket : Core → ℕ → List Ticket → Option Core
   takes_ticket s h [] = None
-  takes_ticket s h (t ∷ ts) = handled (with_tickets s h ts) h (taken (s.handler h) (nexts.Ticket t))
+  takes_ticket s h (t ∷ ts) = after_handler (with_tickets s h ts) h (accept_next (s.handler h) (nexts.Ticket t))
 
   -- TakeParcel
   abbrev pub takes_parcel : Core → ℕ → ℕ → List Parcel → Option Core
   takes_parcel s h c [] = None
-  takes_parcel s h c (parcel ∷ ps) = handled (with_down s c h ps) h (received (s.handler h) parcel)
+  takes_parcel s h c (parcel ∷ ps) = after_handler (with_down s c h ps) h (accept_parcel (s.handler h) parcel)
 
   -- GiveObject
   abbrev pub gives : Core → ℕ → ℕ → HeldState → Option HeldState → Option Core

@@ -24,11 +24,11 @@ use Rattle.qs_core_laws.specs.CoreSchedule.{core_played, core_scheduled, on_way}
 abbrev pub built_block : BlockShape → BlockCode
 built_block b = record { reserved = b.reserved; graph = block_graph b.body; loads = map (load_of b.body) (range_with_len 0 8) }
 
-abbrev pub built : Bool → ProgramShape → ℕ → ClientCode
-built dynamic p c = record { dynamic = dynamic; blocks = map built_block (client_at p c).blocks }
+abbrev pub example_code : Bool → ProgramShape → ℕ → ClientCode
+example_code dynamic p c = record { dynamic = dynamic; blocks = map built_block (client_at p c).blocks }
 
 abbrev pub core_shown : Bool → ProgramShape → List Actor → ℕ → Played
-core_shown dynamic p picks rounds = core_played p (core_scheduled p (built dynamic p) 8 picks rounds)
+core_shown dynamic p picks rounds = core_played p (core_scheduled p (example_code dynamic p) 8 picks rounds)
 
 -- in chunks of 8, after a schedule a program has these tickets, replies, states, syncs, and this end
 pub record CorePlays (dynamic : Bool) (p : ProgramShape) (picks : List Actor) (rounds : ℕ) (order : List Ticket) (ended : List Bool)
@@ -46,16 +46,16 @@ twice = program (hundred ∷ []) (client (block (0 ∷ []) (command (call 0 Depo
 
 -- the numbers of a ticket's commands on their way, after so many steps of client 0
 abbrev pub waiting : ProgramShape → ℕ → Ticket → List (List ℤ)
-waiting p steps t = map (λ (r : Request). r.args) (on_way (core_scheduled p (built false p) 8 (replicate steps (actor.Client 0)) 0) 0 t)
+waiting p steps t = map (λ (r : Request). r.args) (on_way (core_scheduled p (example_code false p) 8 (replicate steps (actor.Client 0)) 0) 0 t)
 
 -- so many Syncs for an object of a block's list
-abbrev pub counted : ℕ → ℕ → SyncCount
-counted object count = record { object = object; count = count }
+abbrev pub sync_count : ℕ → ℕ → SyncCount
+sync_count object count = record { object = object; count = count }
 
 pub record CoreExamples : Type 0 where
   -- these are the codes of every program
-  pub plain : (p : ProgramShape) → AreCodes p modes.Plain (built false p)
-  pub dynamic : (p : ProgramShape) → AreCodes p modes.Dynamic (built true p)
+  pub plain : (p : ProgramShape) → AreCodes p modes.Plain (example_code false p)
+  pub dynamic : (p : ProgramShape) → AreCodes p modes.Dynamic (example_code true p)
   -- the deposit and the query, cut at each number of rounds
   pub no_round : CorePlays false deposit_of_5 [] 0 [] [] [] (holding 100 ∷ []) 0 false
   pub reserved : CorePlays false deposit_of_5 [] 1 only (false ∷ []) ([] ∷ []) (holding 100 ∷ []) 0 false
@@ -99,9 +99,9 @@ pub record CoreExamples : Type 0 where
   pub second_in_chunk : waiting twice 6 (ticket 0 1) ≡ (pos 2 ∷ []) ∷ []
   pub others : waiting twice 8 (ticket 1 0) ≡ []
   -- the Syncs for each block and each object of its list; of an open block one more than its trace has queries
-  pub counts_of_one : (core_shown true deposit_of_5 [] 9).sync_counts ≡ (counted 0 1 ∷ []) ∷ []
-  pub counts_while_open : (core_shown true deposit_of_5 [] 4).sync_counts ≡ (counted 0 1 ∷ []) ∷ []
+  pub counts_of_one : (core_shown true deposit_of_5 [] 9).sync_counts ≡ (sync_count 0 1 ∷ []) ∷ []
+  pub counts_while_open : (core_shown true deposit_of_5 [] 4).sync_counts ≡ (sync_count 0 1 ∷ []) ∷ []
   pub counted_before_its_reply : answers (core_shown true deposit_of_5 [] 4) ≡ (None ∷ []) ∷ []
   pub counts_of_both :
       (core_shown false transfer (actor.Client 0 ∷ actor.Client 1 ∷ actor.Client 1 ∷ actor.Client 1 ∷ actor.Client 1 ∷ actor.Client 1 ∷ []) 40).sync_counts
-      ≡ (counted 0 1 ∷ counted 1 1 ∷ []) ∷ (counted 0 0 ∷ []) ∷ (counted 1 1 ∷ []) ∷ []
+      ≡ (sync_count 0 1 ∷ sync_count 1 1 ∷ []) ∷ (sync_count 0 0 ∷ []) ∷ (sync_count 1 1 ∷ []) ∷ []

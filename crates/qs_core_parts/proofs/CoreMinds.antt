@@ -76,37 +76,37 @@ lane_begun n h ok turned = by_count n.client.begun refl
     by_count (suc k) e = omega arith
 
 -- a step at a lane keeps the mind's code, size and ticket, and that the lane's chunks are empty
-pub record Kept (m n : ClientModel) (l k : LaneState) : Type 0 where
+pub record KeepsMind (m n : ClientModel) (l k : LaneState) : Type 0 where
   pub code : n.code ≡ m.code
   pub size : n.size ≡ m.size
   pub ticket : n.ticket ≡ m.ticket
   pub stocked : (size : ℕ) → IsStocked size l → IsStocked size k
 
-abbrev KeptBy : ClientModel → LaneState → Option (ClientModel × LaneState) → Type 0
-KeptBy m l None = Unit {0}
-KeptBy m l (Some q) = Kept m q.0 l q.1
+abbrev KeepsMindBy : ClientModel → LaneState → Option (ClientModel × LaneState) → Type 0
+KeepsMindBy m l None = Unit {0}
+KeepsMindBy m l (Some q) = KeepsMind m q.0 l q.1
 
 tail_stocked : (size : ℕ) (bs : List (Batch Request)) (l : LaneState) → l.spare ≡ bs → IsStocked size l → AllByRecursion (λ (b : Batch Request). b ≡ batch [] size) bs
 tail_stocked size bs l is all = subst (AllByRecursion (λ (b : Batch Request). b ≡ batch [] size)) is all
 
-all_kept : (m : ClientModel) (act : Act) (l : LaneState) → KeptBy m l (lane_step m act l)
+all_kept : (m : ClientModel) (act : Act) (l : LaneState) → KeepsMindBy m l (lane_step m act l)
 all_kept m acts.Reserve l = tt
 all_kept m (acts.Send h p) l = by_room (nat_lt (length l.down) lane_room) refl
   where
-    by_room : (b : Bool) → nat_lt (length l.down) lane_room ≡ b → KeptBy m l (lane_step m (acts.Send h p) l)
+    by_room : (b : Bool) → nat_lt (length l.down) lane_room ≡ b → KeepsMindBy m l (lane_step m (acts.Send h p) l)
     by_room true e = rw e (record { code = refl; size = refl; ticket = refl; stocked = λ size all. all })
     by_room false e = rw e tt
 all_kept m (acts.Await h) l = by_object l.up
   where
-    by_object : (o : Option HeldState) → KeptBy m l (takes_object m l o)
+    by_object : (o : Option HeldState) → KeepsMindBy m l (takes_object m l o)
     by_object None = tt
     by_object (Some x) = record { code = refl; size = refl; ticket = refl; stocked = λ size all. all }
 all_kept m (acts.NeedChunk h) l = by_spare l.spare refl
   where
-    by_spare : (bs : List (Batch Request)) → l.spare ≡ bs → KeptBy m l (takes_empty m h l bs)
+    by_spare : (bs : List (Batch Request)) → l.spare ≡ bs → KeepsMindBy m l (takes_empty m h l bs)
     by_spare [] e = tt
     by_spare (b ∷ bs) e = record { code = refl; size = refl; ticket = refl; stocked = λ size all. (tail_stocked size (b ∷ bs) l e all).1 }
 all_kept m acts.Finished l = tt
 
-pub step_keeps : (m n : ClientModel) (act : Act) (l k : LaneState) → lane_step m act l ≡ Some (n, k) → Kept m n l k
-step_keeps m n act l k e = subst (KeptBy m l) e (all_kept m act l)
+pub step_keeps : (m n : ClientModel) (act : Act) (l k : LaneState) → lane_step m act l ≡ Some (n, k) → KeepsMind m n l k
+step_keeps m n act l k e = subst (KeepsMindBy m l) e (all_kept m act l)

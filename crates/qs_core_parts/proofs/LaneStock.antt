@@ -5,7 +5,7 @@ use Rattle.qs_objects.specs.Journals.{HeldState}
 use Rattle.qs_objects.specs.declared.Request.{Request}
 use Rattle.qs_chunk.specs.Batch.{Batch, batch}
 use Rattle.qs_chunk.specs.declared.parcel.Parcel.{Parcel}
-use Rattle.qs_handler.specs.Handler.{Handler, received}
+use Rattle.qs_handler.specs.Handler.{Handler, accept_parcel}
 use Rattle.qs_handler.specs.declared.mind.Act.{Act}
 use Rattle.qs_handler.specs.declared.mind.Act.TheVariants as acts
 use Rattle.qs_core_parts.specs.CoreHandlers.{beside, gives_up, lane_step, takes_first, turns_to}
@@ -30,7 +30,7 @@ module _ (h : Handler) (c : ℕ) (l : LaneState) (size : ℕ) (stocked : IsStock
 
       by_parcels : (ps : List Parcel) → StockedBy size (takes_first h l ps)
       by_parcels [] = tt
-      by_parcels (p ∷ ps) = by_handler ps (received h p)
+      by_parcels (p ∷ ps) = by_handler ps (accept_parcel h p)
   by_act (acts.Give d x) e fits = by_object l.up
     where
       by_object : (o : Option HeldState) → StockedBy size (gives_up h x l o)

@@ -7,7 +7,7 @@ use Rattle.qs_meaning.specs.Serial.{no_state}
 use Rattle.qs_chunk.specs.Lanes.{may_stand}
 use Rattle.qs_chunk.specs.declared.parcel.Parcel.{Parcel}
 use Rattle.qs_handler.specs.declared.mind.Act.{Act}
-use Rattle.qs_handler.specs.Handler.{is_free, Handler, act_of, free, gave, is_away, received, taken, with_act}
+use Rattle.qs_handler.specs.Handler.{is_free, Handler, act_of, free, gave, is_away, accept_parcel, accept_next, with_act}
 use Rattle.qs_handler.specs.declared.mind.Act.TheVariants as acts
 use Rattle.qs_core_parts.specs.LaneStates.{LaneState, with_down, with_spare, with_up}
 
@@ -26,8 +26,8 @@ pub record CoreHandlerState : Type 0 where
   pub tickets : List Ticket
   pub room : ℕ
 
-abbrev pub handler_seat : Handler → List Ticket → ℕ → CoreHandlerState
-handler_seat h ts room = record { mind = gave h; act = act_of h; tickets = ts; room = room }
+abbrev pub handler_with : Handler → List Ticket → ℕ → CoreHandlerState
+handler_with h ts room = record { mind = gave h; act = act_of h; tickets = ts; room = room }
 
 -- the handler with what the act carries
 abbrev pub handler_of : CoreHandlerState → Handler
@@ -43,8 +43,8 @@ pub record IsCoreHandler (s : CoreHandlerState) : Type 0 where
   pub mind : s.mind ≡ gave (handler_of s)
 
 -- with a ticket at the end of its queue
-abbrev pub entered : Ticket → CoreHandlerState → CoreHandlerState
-entered t s = record { mind = s.mind; act = s.act; tickets = s.tickets ++ t ∷ []; room = s.room }
+abbrev pub with_ticket : Ticket → CoreHandlerState → CoreHandlerState
+with_ticket t s = record { mind = s.mind; act = s.act; tickets = s.tickets ++ t ∷ []; room = s.room }
 
 -- the client whose lane it turns to
 abbrev pub turns_to : Act → Option ℕ
@@ -60,7 +60,7 @@ beside l (Some h) = Some (h, l)
 
 abbrev pub takes_first : Handler → LaneState → List Parcel → Option (Handler × LaneState)
 takes_first h l [] = None
-takes_first h l (p ∷ ps) = beside (with_down l ps) (received h p)
+takes_first h l (p ∷ ps) = beside (with_down l ps) (accept_parcel h p)
 
 abbrev pub gives_up : Handler → HeldState → LaneState → Option HeldState → Option (Handler × LaneState)
 gives_up h x l None = Some (gave h, with_up l (Some x))
@@ -76,34 +76,34 @@ lane_step h acts.Closed l = None
 
 -- it came to this by a step at a lane
 abbrev pub LaneSteps : CoreHandlerState → LaneState → CoreHandlerState → LaneState → Type 0
-LaneSteps old l new k = (h : Handler) × (lane_step (handler_of old) old.act l ≡ Some (h, k)) × (new ≡ handler_seat h old.tickets old.room)
+LaneSteps old l new k = (h : Handler) × (lane_step (handler_of old) old.act l ≡ Some (h, k)) × (new ≡ handler_with h old.tickets old.room)
 
 -- it took the first ticket of its queue
 abbrev pub TakesTicket : CoreHandlerState → CoreHandlerState → Type 0
 TakesTicket old new =
     (t : Ticket) × (ts : List Ticket) × (h : Handler)
-    × (old.tickets ≡ t ∷ ts) × (taken (handler_of old) (nexts.Ticket t) ≡ Some h) × (new ≡ handler_seat h ts old.room)
+    × (old.tickets ≡ t ∷ ts) × (accept_next (handler_of old) (nexts.Ticket t) ≡ Some h) × (new ≡ handler_with h ts old.room)
 
 -- a parcel that comes to it may stand there
 abbrev pub MayCome : CoreHandlerState → LaneState → Type 0
 MayCome s l = (c : ℕ) (p : Parcel) (ps : List Parcel) → s.act ≡ acts.TakeParcel c → l.down ≡ p ∷ ps → IsTrue (may_stand (is_away (handler_of s)) p)
 
 -- no handler
-abbrev pub no_seat : CoreHandlerState
-no_seat = handler_seat (free (record { object = no_state; journal = []; room = 0 })) [] 0
+abbrev pub no_core_handler : CoreHandlerState
+no_core_handler = handler_with (free (record { object = no_state; journal = []; room = 0 })) [] 0
 
-abbrev pub seat_at : List CoreHandlerState → ℕ → CoreHandlerState
-seat_at hs h = slice_index_or hs h no_seat
+abbrev pub core_handler_at : List CoreHandlerState → ℕ → CoreHandlerState
+core_handler_at hs h = slice_index_or hs h no_core_handler
 
 -- one handler has one more ticket, and each handler of a list
-abbrev pub entered_at : Ticket → List CoreHandlerState → ℕ → List CoreHandlerState
-entered_at t hs h = slice_set hs h (entered t (seat_at hs h))
+abbrev pub with_ticket_at : Ticket → List CoreHandlerState → ℕ → List CoreHandlerState
+with_ticket_at t hs h = slice_set hs h (with_ticket t (core_handler_at hs h))
 
-abbrev pub entered_all : Ticket → List CoreHandlerState → List ℕ → List CoreHandlerState
-entered_all t hs [] = hs
-entered_all t hs (h ∷ rest) = entered_all t (entered_at t hs h) rest
+abbrev pub with_ticket_at_all : Ticket → List CoreHandlerState → List ℕ → List CoreHandlerState
+with_ticket_at_all t hs [] = hs
+with_ticket_at_all t hs (h ∷ rest) = with_ticket_at_all t (with_ticket_at t hs h) rest
 
 -- there are these handlers, and each has room for one more ticket
 abbrev pub CanEnterAll : Ticket → List CoreHandlerState → List ℕ → Type 0
 CanEnterAll t hs [] = Unit {0}
-CanEnterAll t hs (h ∷ rest) = (h < length hs) × (length (seat_at hs h).tickets < (seat_at hs h).room) × CanEnterAll t (entered_at t hs h) rest
+CanEnterAll t hs (h ∷ rest) = (h < length hs) × (length (core_handler_at hs h).tickets < (core_handler_at hs h).room) × CanEnterAll t (with_ticket_at t hs h) rest

@@ -72,7 +72,7 @@ impl CoreClient {
     }
 
     /// What holds of every client: its act is the next one of its mind. It does nothing.
-    pub fn is_seat(&self)
+    pub fn has_next_act(&self)
         ensures seat { IsCoreClient self.now }
         ensures mind { IsMind (mind_of self.now.mind) }
     {
@@ -193,7 +193,7 @@ impl CoreClient {
     }
 
     /// A handler does what it does next at the client's lane to it; false where it can't.
-    pub fn meet(&mut self, number: u8, handler: &mut CoreHandler) -> bool
+    pub fn serve_lane(&mut self, number: u8, handler: &mut CoreHandler) -> bool
         requires lane { number < length self.old.lanes }
         requires comes { MayCome handler.old (lane_at self.old.lanes number) }
         ensures steps { OnTrue result (Meets number self.old handler.old self.new handler.new) }
@@ -202,7 +202,7 @@ impl CoreClient {
         ensures handler { result ≡ false → handler.new ≡ handler.old }
     {
         let lane = &mut self.lanes[usize::from(number)];
-        handler.meet(lane)
+        handler.serve_lane(lane)
     }
 
     /// How many of its blocks were begun.

@@ -8,7 +8,7 @@ ghost use Rattle.std.specs.Bool.{OnTrue};
 ghost use Rattle.qs_handler.specs.Handler.{free, held_of};
 ghost use Rattle.qs_handler.specs.declared.mind.Act.TheVariants as acts;
 ghost use Rattle.qs_core_parts.specs.CoreHandlers.{is_waiting, takes_ticket};
-ghost use Rattle.qs_core_parts.specs.CoreHandlers.{IsCoreHandler, LaneSteps, MayCome, TakesTicket, entered, handler_of, handler_seat, lane_step, turns_to};
+ghost use Rattle.qs_core_parts.specs.CoreHandlers.{IsCoreHandler, LaneSteps, MayCome, TakesTicket, with_ticket, handler_of, handler_with, lane_step, turns_to};
 
 use crate::lane::Lane;
 use qs_handler::{Act, Mind};
@@ -53,7 +53,7 @@ impl Model for CoreHandler {
 impl CoreHandler {
     /// One that is free, with its object and room for so many tickets.
     pub fn new(alloc: Global, held: Held, room: usize) -> Result<CoreHandler, AllocError>
-        ensures fresh { IfOk result (λ s. s ≡ handler_seat (free held) [] room) }
+        ensures fresh { IfOk result (λ s. s ≡ handler_with (free held) [] room) }
     {
         let tickets = VecDeque::with_capacity(alloc, room)?;
         let mut mind = Mind::new(held);
@@ -69,13 +69,13 @@ impl CoreHandler {
     /// A ticket comes to the end of its queue.
     pub fn enter(&mut self, ticket: Ticket)
         requires room { length self.old.tickets < self.old.room }
-        ensures entered { self.new ≡ entered ticket self.old }
+        ensures entered { self.new ≡ with_ticket ticket self.old }
     {
         self.tickets.push_back_reserved(ticket);
     }
 
     /// What holds of every handler: its act is the next one of its mind. It does nothing.
-    pub fn is_seat(&self)
+    pub fn has_next_act(&self)
         ensures seat { IsCoreHandler self.now }
     {
         let _ = &self.mind;
@@ -112,7 +112,7 @@ impl CoreHandler {
     }
 
     /// What it does next at its client's lane; false where it can't.
-    pub fn meet(&mut self, lane: &mut Lane) -> bool
+    pub fn serve_lane(&mut self, lane: &mut Lane) -> bool
         requires comes { MayCome self.old lane.old }
         ensures steps { OnTrue result (LaneSteps self.old lane.old self.new lane.new) }
         ensures none { result ≡ false → lane_step (handler_of self.old) self.old.act lane.old ≡ None }

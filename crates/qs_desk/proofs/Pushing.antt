@@ -9,7 +9,7 @@ use Rattle.qs_objects.specs.declared.held.Next.TheVariants.{Ticket, Closed}
 use Rattle.qs_meaning.specs.Following.{reserves}
 use Rattle.qs_program.specs.Program.{ProgramShape}
 use Rattle.qs_desk.specs.Limits.{all_bookings}
-use Rattle.qs_desk.specs.Lines.{LineView, IsLineOf, grown, closed_line, MayGrow, MayClose}
+use Rattle.qs_desk.specs.TicketQueues.{QueueView, IsQueueOf, with_ticket, closed_queue, MayGrow, MayClose}
 use Rattle.qs_desk.specs.Tickets.{of_handler, pushed_to, IsFor, AreFor, for_front}
 
 alone : (p : ProgramShape) (h : ℕ) (x : Next) → IsFor p h x → AreFor p h (x ∷ [])
@@ -58,7 +58,7 @@ fewer p h (u ∷ ts) = by (reserves p u h) (fewer p h ts)
 open_is : (p : ProgramShape) (h : ℕ) (ts : List held.Ticket) → pushed_to p h ts false ≡ map Ticket (of_handler p h ts)
 open_is p h ts = append-nil (map Ticket (of_handler p h ts))
 
-module _ (p : ProgramShape) (names : List TableId) (history : List held.Ticket) (h : ℕ) (l : LineView) (is : IsLineOf p names history false h l) where
+module _ (p : ProgramShape) (names : List TableId) (history : List held.Ticket) (h : ℕ) (l : QueueView) (is : IsQueueOf p names history false h l) where
   sent : l.sent ≡ map Ticket (of_handler p h history)
   sent = is.3 ∙ open_is p h history
 
@@ -72,15 +72,15 @@ module _ (p : ProgramShape) (names : List TableId) (history : List held.Ticket) 
   may_close short =
       (roomy short, subst (λ w. AreFor w.program w.handler (l.sent ++ Closed ∷ [])) (sym is.2) (subst (λ xs. AreFor p h (xs ++ Closed ∷ [])) (sym sent) (for_more p h history Closed tt)))
 
-  pub is_grown : (t : held.Ticket) → IsLineOf p names (history ++ t ∷ []) false h (grown p t h l)
+  pub is_grown : (t : held.Ticket) → IsQueueOf p names (history ++ t ∷ []) false h (with_ticket p t h l)
   is_grown t = by (reserves p t h) refl
     where
       both : (b : Bool) → reserves p t h ≡ b → map Ticket (of_handler p h (history ++ t ∷ [])) ≡ map Ticket (of_handler p h history) ++ map Ticket (cond b (t ∷ []) [])
       both b e = ap (map Ticket) (filter-append (λ u. reserves p u h) history (t ∷ []) ∙ ap (λ x. of_handler p h history ++ cond x (t ∷ []) []) e) ∙ map-append Ticket (of_handler p h history) (cond b (t ∷ []) [])
 
-      by : (b : Bool) → reserves p t h ≡ b → IsLineOf p names (history ++ t ∷ []) false h (cond b (record l { sent = l.sent ++ Ticket t ∷ [] }) l)
+      by : (b : Bool) → reserves p t h ≡ b → IsQueueOf p names (history ++ t ∷ []) false h (cond b (record l { sent = l.sent ++ Ticket t ∷ [] }) l)
       by true e = (is.0, is.1, is.2, ap (λ xs. xs ++ Ticket t ∷ []) sent ∙ sym (both true e) ∙ sym (open_is p h (history ++ t ∷ [])))
       by false e = (is.0, is.1, is.2, sent ∙ sym (append-nil (map Ticket (of_handler p h history))) ∙ sym (both false e) ∙ sym (open_is p h (history ++ t ∷ [])))
 
-  pub is_closed : IsLineOf p names history true h (closed_line l)
+  pub is_closed : IsQueueOf p names history true h (closed_queue l)
   is_closed = (is.0, is.1, is.2, ap (λ xs. xs ++ Closed ∷ []) sent)

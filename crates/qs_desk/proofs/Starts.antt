@@ -3,7 +3,7 @@ use Rattle.std.proofs.Common.{◌≡◌, ℕ, zero, suc, ◌<◌, Some, List, []
 use Rattle.atomic_table.specs.Seated.{TableId}
 use Rattle.qs_program.specs.Program.{ProgramShape}
 use Rattle.qs_program.specs.Limits.{most_handlers}
-use Rattle.qs_desk.specs.Lines.{LineView, line_at, line_name, new_end, end_at}
+use Rattle.qs_desk.specs.TicketQueues.{QueueView, queue_at, queue_name, new_end, end_at}
 use Rattle.qs_desk.specs.Places.{places}
 
 pub ends_more : (p : ProgramShape) (names : List TableId) (n : TableId) → length names < most_handlers
@@ -18,13 +18,13 @@ ends_more p (a ∷ b ∷ c ∷ d ∷ e ∷ f ∷ []) n less = refl
 ends_more p (a ∷ b ∷ c ∷ d ∷ e ∷ f ∷ g ∷ []) n less = refl
 ends_more p (a ∷ b ∷ c ∷ d ∷ e ∷ f ∷ g ∷ h ∷ rest) n less = absurd (omega (arith, less))
 
-pub at_end : (P : ℕ → LineView → Type 0) (lines : List LineView) (l : LineView) → ((h : ℕ) → h < length lines → P h (line_at lines h)) → P (length lines) l
-    → (h : ℕ) → h < length (lines ++ l ∷ []) → P h (line_at (lines ++ l ∷ []) h)
+pub at_end : (P : ℕ → QueueView → Type 0) (senders : List QueueView) (l : QueueView) → ((h : ℕ) → h < length senders → P h (queue_at senders h)) → P (length senders) l
+    → (h : ℕ) → h < length (senders ++ l ∷ []) → P h (queue_at (senders ++ l ∷ []) h)
 at_end P [] l each last zero less = last
 at_end P [] l each last (suc h) less = absurd (omega (arith, less))
-at_end P (x ∷ lines) l each last zero less = each 0 (omega arith)
-at_end P (x ∷ lines) l each last (suc h) less = at_end (λ k. P (suc k)) lines l (λ k within. each (suc k) (omega (arith, within))) last h (omega (arith, less))
+at_end P (x ∷ senders) l each last zero less = each 0 (omega arith)
+at_end P (x ∷ senders) l each last (suc h) less = at_end (λ k. P (suc k)) senders l (λ k within. each (suc k) (omega (arith, within))) last h (omega (arith, less))
 
-pub names_len : (lines : List LineView) → length (map line_name lines) ≡ length lines
+pub names_len : (senders : List QueueView) → length (map queue_name senders) ≡ length senders
 names_len [] = refl
-names_len (l ∷ lines) = ap suc (names_len lines)
+names_len (l ∷ senders) = ap suc (names_len senders)

@@ -12,42 +12,42 @@ use Rattle.qs_program.specs.Sound.{IsSound}
 use Rattle.qs_program.specs.Limits.{most_clients}
 use Rattle.qs_desk.specs.Desks.{IsDesk}
 use Rattle.qs_desk.specs.Limits.{all_bookings}
-use Rattle.qs_desk.specs.Lines.{LineView, line_at, line_name, IsLineOf, IsNewLine, grown, closed_line, MayGrow, MayClose}
+use Rattle.qs_desk.specs.TicketQueues.{QueueView, queue_at, queue_name, IsQueueOf, IsNewQueue, with_ticket, closed_queue, MayGrow, MayClose}
 use Rattle.qs_desk.specs.Tickets.{ticket, of_client}
 use Rattle.qs_desk.proofs.Orders.{legal_more, short}
 use Rattle.qs_desk.proofs.Starts.{names_len}
 use Rattle.qs_desk.proofs.Pushing.{may_grow, may_close, is_grown, is_closed}
 
-named : (lines : List LineView) (h : ℕ) → h < length lines → slice_get (map line_name lines) h ≡ Some (line_at lines h).name
+named : (senders : List QueueView) (h : ℕ) → h < length senders → slice_get (map queue_name senders) h ≡ Some (queue_at senders h).name
 named [] h less = absurd (omega (arith, less))
-named (l ∷ lines) zero less = refl
-named (l ∷ lines) (suc h) less = named lines h (omega (arith, less))
+named (l ∷ senders) zero less = refl
+named (l ∷ senders) (suc h) less = named senders h (omega (arith, less))
 
 none : (n k : ℕ) → slice_index (replicate n 0) k ≡ 0
 none zero k = refl
 none (suc n) zero = refl
 none (suc n) (suc k) = none n k
 
-pub starts : (p : ProgramShape) (names : List TableId) (lines : List LineView) → IsSound p → map line_name lines ≡ names → length lines ≡ length p.objects
-    → ((h : ℕ) → h < length lines → IsNewLine p h (line_at lines h)) → IsDesk p names [] false lines (replicate most_clients 0)
-starts p names lines sound are all new = record {
+pub starts : (p : ProgramShape) (names : List TableId) (senders : List QueueView) → IsSound p → map queue_name senders ≡ names → length senders ≡ length p.objects
+    → ((h : ℕ) → h < length senders → IsNewQueue p h (queue_at senders h)) → IsDesk p names [] false senders (replicate most_clients 0)
+starts p names senders sound are all new = record {
   sound = sound;
   legal = tt;
-  pushed = λ h less. let n = new h less in (ap (λ ns. slice_get ns h) (sym are) ∙ named lines h less, ap (λ (l : LineView). l.room) n, ap (λ (l : LineView). l.key) n, ap (λ (l : LineView). l.sent) n);
-  all = (sym (names_len lines) ∙ ap length are, ap length (sym are) ∙ names_len lines ∙ all);
+  pushed = λ h less. let n = new h less in (ap (λ ns. slice_get ns h) (sym are) ∙ named senders h less, ap (λ (l : QueueView). l.room) n, ap (λ (l : QueueView). l.key) n, ap (λ (l : QueueView). l.sent) n);
+  all = (sym (names_len senders) ∙ ap length are, ap length (sym are) ∙ names_len senders ∙ all);
   counted = λ c less. none 8 c;
   eight = refl;
 }
 
-module _ (p : ProgramShape) (names : List TableId) (history : List Ticket) (lines : List LineView) (books : List ℕ) (is : IsDesk p names history false lines books) where
+module _ (p : ProgramShape) (names : List TableId) (history : List Ticket) (senders : List QueueView) (books : List ℕ) (is : IsDesk p names history false senders books) where
   pub few_tickets : length history ≤ all_bookings
   few_tickets = short p history is.sound is.legal
 
-  pub all_may_grow : (t : Ticket) (h : ℕ) → h < length lines → MayGrow p t h (line_at lines h)
-  all_may_grow t h less = may_grow p names history h (line_at lines h) (is.pushed h less) t few_tickets
+  pub all_may_grow : (t : Ticket) (h : ℕ) → h < length senders → MayGrow p t h (queue_at senders h)
+  all_may_grow t h less = may_grow p names history h (queue_at senders h) (is.pushed h less) t few_tickets
 
-  pub all_may_close : (h : ℕ) → h < length lines → MayClose (line_at lines h)
-  all_may_close h less = may_close p names history h (line_at lines h) (is.pushed h less) few_tickets
+  pub all_may_close : (h : ℕ) → h < length senders → MayClose (queue_at senders h)
+  all_may_close h less = may_close p names history h (queue_at senders h) (is.pushed h less) few_tickets
 
   module _ (c n : ℕ) (place : c < most_clients) (was : slice_index books c ≡ n) (some : n < blocks_of p c) where
     abbrev pub t : Ticket
@@ -76,27 +76,27 @@ module _ (p : ProgramShape) (names : List TableId) (history : List Ticket) (line
         let at : slice_index (slice_set books c (n + 1)) k ≡ slice_index books k = get_or-set_other books c k (n + 1) 0 (λ e. x.1 (sym e)) in rw x.0 (omega (arith, at)))
         (eqb_tells c k)
 
-    pub desk_more : (lines' : List LineView) → length lines' ≡ length lines → ((h : ℕ) → h < length lines → line_at lines' h ≡ grown p t h (line_at lines h))
+    pub desk_more : (lines' : List QueueView) → length lines' ≡ length senders → ((h : ℕ) → h < length senders → queue_at lines' h ≡ with_ticket p t h (queue_at senders h))
         → IsDesk p names (history ++ t ∷ []) false lines' (slice_set books c (n + 1))
     desk_more lines' len grew = record {
       sound = is.sound;
       legal = legal;
       pushed = λ h less.
-          let less' : h < length lines = omega (arith, less, len) in
-          subst (IsLineOf p names (history ++ t ∷ []) false h) (sym (grew h less')) (is_grown p names history h (line_at lines h) (is.pushed h less') t);
+          let less' : h < length senders = omega (arith, less, len) in
+          subst (IsQueueOf p names (history ++ t ∷ []) false h) (sym (grew h less')) (is_grown p names history h (queue_at senders h) (is.pushed h less') t);
       all = (len ∙ is.all.0, is.all.1);
       counted = λ k less. book_more k ∙ ap (λ m. m + cond (c == k) 1 0) (is.counted k less) ∙ sym (more k);
       eight = length-set books c (n + 1) ∙ is.eight;
     }
 
-  pub desk_closed : (lines' : List LineView) → length lines' ≡ length lines → ((h : ℕ) → h < length lines → line_at lines' h ≡ closed_line (line_at lines h))
+  pub desk_closed : (lines' : List QueueView) → length lines' ≡ length senders → ((h : ℕ) → h < length senders → queue_at lines' h ≡ closed_queue (queue_at senders h))
       → IsDesk p names history true lines' books
   desk_closed lines' len grew = record {
     sound = is.sound;
     legal = is.legal;
     pushed = λ h less.
-        let less' : h < length lines = omega (arith, less, len) in
-        subst (IsLineOf p names history true h) (sym (grew h less')) (is_closed p names history h (line_at lines h) (is.pushed h less'));
+        let less' : h < length senders = omega (arith, less, len) in
+        subst (IsQueueOf p names history true h) (sym (grew h less')) (is_closed p names history h (queue_at senders h) (is.pushed h less'));
     all = (len ∙ is.all.0, is.all.1);
     counted = is.counted;
     eight = is.eight;

@@ -6,15 +6,15 @@ use Rattle.qs_program.specs.Program.{ProgramShape}
 use Rattle.qs_meaning.specs.Serial.{IsLegal}
 use Rattle.qs_program.specs.Sound.{IsSound}
 use Rattle.qs_program.specs.Limits.{most_clients}
-use Rattle.qs_desk.specs.Lines.{LineView, line_at, IsLineOf}
+use Rattle.qs_desk.specs.TicketQueues.{QueueView, queue_at, IsQueueOf}
 use Rattle.qs_desk.specs.Tickets.{of_client}
 
 -- the history is a legal order; what was pushed to a handler are its tickets that reserve the handler, in that order; the books have
 -- each client's tickets
-pub record IsDesk (p : ProgramShape) (names : List TableId) (history : List Ticket) (closed : Bool) (lines : List LineView) (books : List ℕ) : Type 0 where
+pub record IsDesk (p : ProgramShape) (names : List TableId) (history : List Ticket) (closed : Bool) (senders : List QueueView) (books : List ℕ) : Type 0 where
   pub sound : IsSound p
   pub legal : IsLegal p history
-  pub pushed : (h : ℕ) → h < length lines → IsLineOf p names history closed h (line_at lines h)
-  pub all : (length lines ≡ length names) × (length names ≡ length p.objects)
+  pub pushed : (h : ℕ) → h < length senders → IsQueueOf p names history closed h (queue_at senders h)
+  pub all : (length senders ≡ length names) × (length names ≡ length p.objects)
   pub counted : (c : ℕ) → c < most_clients → slice_index books c ≡ length (of_client c history)
   pub eight : length books ≡ most_clients

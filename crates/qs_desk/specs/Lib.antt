@@ -3,5 +3,5 @@ pub mod Views
 pub mod Tickets
 pub mod Places
 pub mod Plans
-pub mod Lines
+pub mod TicketQueues
 pub mod Desks

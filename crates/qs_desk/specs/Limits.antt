@@ -7,5 +7,5 @@ abbrev pub all_bookings : ℕ
 all_bookings = most_tickets
 
 -- of a handler's queue: all bookings and the closing mark
-abbrev pub line_room : ℕ
-line_room = suc all_bookings
+abbrev pub queue_room : ℕ
+queue_room = suc all_bookings

@@ -2,11 +2,11 @@
 use Rattle.std.specs.Prelude.{ℕ, nat_lt, if◌then◌else◌, List, [], ◌∷◌, length, Option, Some, None}
 use Rattle.qs_program.specs.Program.{ProgramShape}
 use Rattle.qs_desk.specs.Views.{ShareView}
-use Rattle.qs_desk.specs.declared.share.Mark.{Mark}
-use Rattle.qs_desk.specs.declared.share.Mark.TheVariants.{First, Second, Third, Fourth, Fifth, Sixth, Seventh, Eighth}
+use Rattle.qs_desk.specs.declared.share.LedgerShare.{LedgerShare}
+use Rattle.qs_desk.specs.declared.share.LedgerShare.TheVariants.{First, Second, Third, Fourth, Fifth, Sixth, Seventh, Eighth}
 
 module _ {D : Type 0} where
-  abbrev pub client_of : Mark D → ℕ
+  abbrev pub client_of : LedgerShare D → ℕ
   client_of (First m) = 0
   client_of (Second m) = 1
   client_of (Third m) = 2
@@ -16,7 +16,7 @@ module _ {D : Type 0} where
   client_of (Seventh m) = 6
   client_of (Eighth m) = 7
 
-  abbrev pub parts_of : Mark D → ℕ
+  abbrev pub parts_of : LedgerShare D → ℕ
   parts_of (First m) = m.parts
   parts_of (Second m) = m.parts
   parts_of (Third m) = m.parts
@@ -26,7 +26,7 @@ module _ {D : Type 0} where
   parts_of (Seventh m) = m.parts
   parts_of (Eighth m) = m.parts
 
-  abbrev pub amount_of : Mark D → ℕ
+  abbrev pub amount_of : LedgerShare D → ℕ
   amount_of (First m) = m.amount
   amount_of (Second m) = m.amount
   amount_of (Third m) = m.amount

@@ -6,14 +6,14 @@ ghost use Rattle.qs_program.specs.Program.{blocks_of};
 ghost use Rattle.qs_meaning.specs.Serial.{IsLegal};
 ghost use Rattle.qs_program.specs.Sound.{IsSound};
 ghost use Rattle.qs_desk.specs.Limits.{all_bookings};
-ghost use Rattle.qs_desk.specs.Lines.{line_at, grown, closed_line, line_name, IsNewLine, MayGrow, MayClose};
+ghost use Rattle.qs_desk.specs.TicketQueues.{queue_at, with_ticket, closed_queue, queue_name, IsNewQueue, MayGrow, MayClose};
 ghost use Rattle.qs_desk.specs.Plans.{lists_of};
 ghost use Rattle.qs_desk.specs.Tickets.{ticket, of_client, pushed_to};
 ghost use Rattle.qs_objects.specs.declared.held.Next.{Next};
 
 use crate::name::DeskName;
 use crate::plan::Plan;
-use crate::queue::{Line, LineEnd, Tickets};
+use crate::queue::{TicketSender, TicketTaker, Tickets};
 use crate::share::{Books, Share};
 use qs_objects::{Next, Ticket};
 use std::marker::Model;
@@ -23,7 +23,7 @@ use std::sync::Wait;
 pub struct Desk<D: DeskName> {
     plan: Plan,
     history: Vec<Ticket>,
-    lines: Vec<Line>,
+    senders: Vec<TicketSender>,
     books: Books<D>,
     closed: bool,
 }
@@ -33,7 +33,7 @@ impl<D: DeskName> Drop for Desk<D> {
         let Desk {
             plan: _,
             history: _,
-            lines: _,
+            senders: _,
             books: _,
             closed: _,
         } = self;
@@ -52,7 +52,7 @@ impl<D: DeskName> Model for Desk<D> {
     ghost view = { λ d. record { history = d.history.items; closed = d.closed } };
 
     ghost invariant = { λ d.
-        IsDesk D.program D.queues d.history.items d.closed d.lines.items d.books
+        IsDesk D.program D.queues d.history.items d.closed d.senders.items d.books
         × (d.plan ≡ lists_of D.program)
         × (all_bookings ≤ vec_capacity d.history) };
 }
@@ -61,20 +61,20 @@ impl<D: DeskName> Desk<D> {
     pub(crate) fn new(
         plan: Plan,
         history: Vec<Ticket>,
-        lines: Vec<Line>,
+        senders: Vec<TicketSender>,
         books: Books<D>,
     ) -> Desk<D>
         requires program { IsSound D.program × (plan ≡ lists_of D.program) }
         requires history { (history.items ≡ []) × (all_bookings ≤ vec_capacity history) }
-        requires names { (map line_name lines.items ≡ D.queues) × (length lines.items ≡ length D.program.objects) }
-        requires lines { (h : ℕ) → h < length lines.items → IsNewLine D.program h (line_at lines.items h) }
+        requires names { (map queue_name senders.items ≡ D.queues) × (length senders.items ≡ length D.program.objects) }
+        requires senders { (h : ℕ) → h < length senders.items → IsNewQueue D.program h (queue_at senders.items h) }
         requires books { books ≡ replicate most_clients 0 }
         ensures desk { result ≡ record { history = []; closed = false } }
     {
         Desk {
             plan,
             history,
-            lines,
+            senders,
             books,
             closed: false,
         }
@@ -92,7 +92,7 @@ impl<D: DeskName> Desk<D> {
         let ticket = share.next();
         self.books.count(share);
         self.history.push_reserved(ticket);
-        push_ticket::<D, R>(rt, &self.plan, &mut self.lines, ticket);
+        push_ticket::<D, R>(rt, &self.plan, &mut self.senders, ticket);
         ticket
     }
 
@@ -102,7 +102,7 @@ impl<D: DeskName> Desk<D> {
         ensures closed { self.new ≡ record self.old { closed = true } }
     {
         self.closed = true;
-        push_closed(rt, &mut self.lines);
+        push_closed(rt, &mut self.senders);
     }
 
     /// The tickets of all reservations, in their order, which is legal.
@@ -113,7 +113,7 @@ impl<D: DeskName> Desk<D> {
         let Desk {
             plan: _,
             history: order,
-            lines: _,
+            senders: _,
             books: _,
             closed: _,
         } = self;
@@ -134,40 +134,45 @@ impl<D: DeskName> Desk<D> {
         ensures front { (rest : List Next) × (pushed_to D.program tickets.handler self.old.history self.old.closed ≡ tickets.taken ++ rest) }
     {
         let (handler, end) = tickets.into_end();
-        meet(self.lines.as_mut_slice(), handler, end);
+        compare_queue(self.senders.as_mut_slice(), handler, end);
     }
 }
 
 // The two ends of a handler's queue meet.
-fn meet(lines: &mut [Line], handler: u8, end: LineEnd)
-    requires { (handler < length lines.old) × (end.name ≡ (line_at lines.old handler).name) }
-    ensures same { lines.new ≡ lines.old }
-    ensures front { (rest : List Next) × ((line_at lines.old handler).sent ≡ end.received ++ rest) }
+fn compare_queue(senders: &mut [TicketSender], handler: u8, end: TicketTaker)
+    requires { (handler < length senders.old) × (end.name ≡ (queue_at senders.old handler).name) }
+    ensures same { senders.new ≡ senders.old }
+    ensures front { (rest : List Next) × ((queue_at senders.old handler).sent ≡ end.received ++ rest) }
 {
-    lines[usize::from(handler)].agree(end);
+    senders[usize::from(handler)].agree(end);
 }
 
 // Pushes a ticket to each handler that its block reserves.
-fn push_ticket<D: DeskName, R: Wait>(rt: &R, plan: &Plan, lines: &mut Vec<Line>, ticket: Ticket)
+fn push_ticket<D: DeskName, R: Wait>(
+    rt: &R,
+    plan: &Plan,
+    senders: &mut Vec<TicketSender>,
+    ticket: Ticket,
+)
     requires plan { plan.now ≡ lists_of D.program }
-    requires room { (h : ℕ) → h < length lines.old.items → MayGrow D.program ticket h (line_at lines.old.items h) }
-    ensures len { length lines.new.items ≡ length lines.old.items }
-    ensures grown { (h : ℕ) → h < length lines.old.items → line_at lines.new.items h ≡ grown D.program ticket h (line_at lines.old.items h) }
+    requires room { (h : ℕ) → h < length senders.old.items → MayGrow D.program ticket h (queue_at senders.old.items h) }
+    ensures len { length senders.new.items ≡ length senders.old.items }
+    ensures grown { (h : ℕ) → h < length senders.old.items → queue_at senders.new.items h ≡ with_ticket D.program ticket h (queue_at senders.old.items h) }
 {
-    for handler in 0..lines.len() {
+    for handler in 0..senders.len() {
         if plan.reserves(ticket, handler) {
-            lines[handler].push(rt, Next::Ticket(ticket));
+            senders[handler].push(rt, Next::Ticket(ticket));
         }
     }
 }
 
 // Pushes the closing mark to each handler.
-fn push_closed<R: Wait>(rt: &R, lines: &mut Vec<Line>)
-    requires room { (h : ℕ) → h < length lines.old.items → MayClose (line_at lines.old.items h) }
-    ensures len { length lines.new.items ≡ length lines.old.items }
-    ensures closed { (h : ℕ) → h < length lines.old.items → line_at lines.new.items h ≡ closed_line (line_at lines.old.items h) }
+fn push_closed<R: Wait>(rt: &R, senders: &mut Vec<TicketSender>)
+    requires room { (h : ℕ) → h < length senders.old.items → MayClose (queue_at senders.old.items h) }
+    ensures len { length senders.new.items ≡ length senders.old.items }
+    ensures closed { (h : ℕ) → h < length senders.old.items → queue_at senders.new.items h ≡ closed_queue (queue_at senders.old.items h) }
 {
-    for handler in 0..lines.len() {
-        lines[handler].push(rt, Next::Closed);
+    for handler in 0..senders.len() {
+        senders[handler].push(rt, Next::Closed);
     }
 }

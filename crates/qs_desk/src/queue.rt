@@ -2,7 +2,7 @@
 
 ghost use Rattle.std.specs.Prelude.{◌≡◌, ◌<◌, [], ◌∷◌, ◌++◌, length, IfOk};
 ghost use Rattle.qs_desk.specs.Tickets.{IsFor};
-ghost use Rattle.qs_desk.specs.Lines.{whose, new_line, new_end, IsEndOf};
+ghost use Rattle.qs_desk.specs.TicketQueues.{owner, new_queue, new_end, IsEndOf};
 
 use crate::name::DeskName;
 use qs_objects::Next;
@@ -13,7 +13,7 @@ use std::marker::{Brand, Model, PhantomData};
 use std::sync::Wait;
 
 /// Whose tickets may be in a queue: those of the blocks of this program that reserve this handler. No value of it is made.
-pub struct Whose {
+pub struct QueueOwner {
     pub program: Program,
     pub handler: u8,
 }
@@ -21,9 +21,9 @@ pub struct Whose {
 /// Tickets whose blocks reserve the handler, and at last the closing mark.
 pub struct Reserving;
 
-impl Protocol<Next, Whose> for Reserving {
+impl Protocol<Next, QueueOwner> for Reserving {
     ghost use Rattle.qs_desk.specs.Tickets.{AreFor, for_front};
-    ghost use Rattle.qs_desk.specs.Lines.{nobody};
+    ghost use Rattle.qs_desk.specs.TicketQueues.{no_owner};
 
     ghost good = { λ w xs. AreFor w.program w.handler xs };
 
@@ -31,14 +31,14 @@ impl Protocol<Next, Whose> for Reserving {
 
     ghost front = { λ w xs ys is. for_front w.program w.handler xs ys is };
 
-    ghost unset = { nobody };
+    ghost unset = { no_owner };
 }
 
 /// The desk's end.
-pub type Line = Sender<Next, Whose, Reserving>;
+pub type TicketSender = Sender<Next, QueueOwner, Reserving>;
 
 /// The handler's end.
-pub type LineEnd = Taker<Next, Whose, Reserving>;
+pub type TicketTaker = Taker<Next, QueueOwner, Reserving>;
 
 /// A program and a handler that are known only as the queue is made.
 trait Chosen {
@@ -65,33 +65,33 @@ struct ChosenKey<N> {
     of: PhantomData<N>,
 }
 
-impl<N: Chosen> Key<Whose> for ChosenKey<N> {
-    ghost use Rattle.qs_desk.specs.Lines.{whose};
+impl<N: Chosen> Key<QueueOwner> for ChosenKey<N> {
+    ghost use Rattle.qs_desk.specs.TicketQueues.{owner};
 
-    ghost key = { whose N.program N.handler };
+    ghost key = { owner N.program N.handler };
 }
 
 fn make_chosen<N: Chosen>(
     alloc: Global,
     program: &Program,
     handler: u8,
-) -> Result<(Line, LineEnd), AllocError>
+) -> Result<(TicketSender, TicketTaker), AllocError>
     requires { (N.program ≡ program.now) × (N.handler ≡ handler) }
-    ensures line { IfOk result (λ ends. ends.0 ≡ new_line program.now ends.1.name handler) }
+    ensures sender { IfOk result (λ ends. ends.0 ≡ new_queue program.now ends.1.name handler) }
     ensures end { IfOk result (λ ends. ends.1 ≡ new_end program.now ends.1.name handler) }
 {
     let _program = program;
     let _handler = handler;
-    make_ends::<Next, Whose, Reserving, ChosenKey<N>>(alloc, QUEUE_ROOM)
+    make_ends::<Next, QueueOwner, Reserving, ChosenKey<N>>(alloc, QUEUE_ROOM)
 }
 
 /// Both ends of a handler's queue, with room for the tickets of all blocks that there can be, and the closing mark.
-pub(crate) fn make_line(
+pub(crate) fn make_queue(
     alloc: Global,
     program: &Program,
     handler: u8,
-) -> Result<(Line, LineEnd), AllocError>
-    ensures line { IfOk result (λ ends. ends.0 ≡ new_line program.now ends.1.name handler) }
+) -> Result<(TicketSender, TicketTaker), AllocError>
+    ensures sender { IfOk result (λ ends. ends.0 ≡ new_queue program.now ends.1.name handler) }
     ensures end { IfOk result (λ ends. ends.1 ≡ new_end program.now ends.1.name handler) }
 {
     make_chosen::<Brand>(alloc, program, handler)
@@ -100,7 +100,7 @@ pub(crate) fn make_line(
 /// A handler's end of its queue of tickets at a desk.
 pub struct Tickets<D: DeskName> {
     handler: u8,
-    end: LineEnd,
+    end: TicketTaker,
     of: PhantomData<D>,
 }
 
@@ -115,7 +115,7 @@ impl<D: DeskName> Drop for Tickets<D> {
 }
 
 impl<D: DeskName> Model for Tickets<D> {
-    ghost use Rattle.qs_desk.specs.Lines.{IsEndOf};
+    ghost use Rattle.qs_desk.specs.TicketQueues.{IsEndOf};
     ghost use Rattle.qs_desk.specs.Views.{TicketsView};
 
     ghost Value = { TicketsView };
@@ -126,7 +126,7 @@ impl<D: DeskName> Model for Tickets<D> {
 }
 
 impl<D: DeskName> Tickets<D> {
-    pub(crate) fn new(handler: u8, end: LineEnd) -> Tickets<D>
+    pub(crate) fn new(handler: u8, end: TicketTaker) -> Tickets<D>
         requires { IsEndOf D.program D.queues handler end }
         ensures { result ≡ record { handler = handler; taken = end.received } }
     {
@@ -153,7 +153,7 @@ impl<D: DeskName> Tickets<D> {
     }
 
     /// Its queue's end, and its handler.
-    pub(crate) fn into_end(self) -> (u8, LineEnd)
+    pub(crate) fn into_end(self) -> (u8, TicketTaker)
         ensures handler { result.0 ≡ self.handler }
         ensures taken { result.1.received ≡ self.taken }
         ensures end { IsEndOf D.program D.queues self.handler result.1 }

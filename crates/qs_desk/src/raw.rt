@@ -2,15 +2,15 @@
 
 ghost use Rattle.std.specs.Prelude.{◌≡◌, ℕ, ◌<◌, ◌≤◌, length, vec_len, vec_capacity, map, false, [], ◌∷◌, IfOk, None, slice_index_or};
 ghost use Rattle.qs_program.specs.Sound.{IsSound};
-ghost use Rattle.qs_desk.specs.Lines.{line_at, line_name, IsNewLine, end_at, tickets_at};
+ghost use Rattle.qs_desk.specs.TicketQueues.{queue_at, queue_name, IsNewQueue, end_at, tickets_at};
 ghost use Rattle.qs_desk.specs.Places.{places, share_at};
 ghost use Rattle.qs_desk.specs.Plans.{lists_of};
 
 use crate::desk::Desk;
 use crate::name::DeskName;
 use crate::plan::Plan;
-use crate::queue::{Line, LineEnd, Tickets, make_line};
-use crate::share::{Blanks, Share};
+use crate::queue::{TicketSender, TicketTaker, Tickets, make_queue};
+use crate::share::{BlankLedgers, Share};
 use qs_objects::Ticket;
 use qs_program::{MOST_CLIENTS, MOST_HANDLERS, MOST_TICKETS, Program};
 use std::alloc::{AllocError, Global};
@@ -22,9 +22,9 @@ pub struct RawDesk {
     program: Snapshot<Program>,
     plan: Plan,
     history: Vec<Ticket>,
-    lines: Vec<Line>,
-    ends: [Option<LineEnd>; MOST_HANDLERS],
-    blanks: Blanks,
+    senders: Vec<TicketSender>,
+    ends: [Option<TicketTaker>; MOST_HANDLERS],
+    blanks: BlankLedgers,
 }
 
 impl Drop for RawDesk {
@@ -33,7 +33,7 @@ impl Drop for RawDesk {
             program: _,
             plan: _,
             history: _,
-            lines: _,
+            senders: _,
             ends: _,
             blanks: _,
         } = self;
@@ -44,7 +44,7 @@ impl Model for RawDesk {
     ghost use Rattle.std.specs.Prelude.{◌≡◌, ℕ, ◌≤◌, ◌<◌, map, length, [], vec_capacity};
     ghost use Rattle.qs_program.specs.Sound.{IsSound};
     ghost use Rattle.qs_desk.specs.Limits.{all_bookings};
-    ghost use Rattle.qs_desk.specs.Lines.{line_at, line_name, IsNewLine, end_at};
+    ghost use Rattle.qs_desk.specs.TicketQueues.{queue_at, queue_name, IsNewQueue, end_at};
     ghost use Rattle.qs_desk.specs.Places.{places};
     ghost use Rattle.qs_desk.specs.Plans.{lists_of};
     ghost use Rattle.qs_desk.specs.Views.{RawView, raw_code};
@@ -53,15 +53,15 @@ impl Model for RawDesk {
 
     ghost coded = { raw_code };
 
-    ghost view = { λ r. record { program = r.program.value; queues = map line_name r.lines.items; ledgers = r.blanks } };
+    ghost view = { λ r. record { program = r.program.value; queues = map queue_name r.senders.items; ledgers = r.blanks } };
 
     ghost invariant = { λ r.
         IsSound r.program.value
         × (r.plan ≡ lists_of r.program.value)
         × (r.history.items ≡ []) × (all_bookings ≤ vec_capacity r.history)
-        × (length r.lines.items ≡ length r.program.value.objects)
-        × ((h : ℕ) → h < length r.lines.items → IsNewLine r.program.value h (line_at r.lines.items h))
-        × (r.ends ≡ map (end_at r.program.value (map line_name r.lines.items)) places) };
+        × (length r.senders.items ≡ length r.program.value.objects)
+        × ((h : ℕ) → h < length r.senders.items → IsNewQueue r.program.value h (queue_at r.senders.items h))
+        × (r.ends ≡ map (end_at r.program.value (map queue_name r.senders.items)) places) };
 }
 
 /// What a desk begins with: the desk, a share for each client, and the tickets of each handler.
@@ -72,23 +72,23 @@ pub struct DeskParts<D: DeskName> {
     pub tickets: [Option<Tickets<D>>; MOST_HANDLERS],
 }
 
-fn make_lines(
+fn make_queues(
     alloc: Global,
     program: &Program,
-) -> Result<(Vec<Line>, [Option<LineEnd>; MOST_HANDLERS]), AllocError>
+) -> Result<(Vec<TicketSender>, [Option<TicketTaker>; MOST_HANDLERS]), AllocError>
     ensures len { IfOk result (λ made. length made.0.items ≡ length program.now.objects) }
-    ensures lines { IfOk result (λ made. (h : ℕ) → h < length made.0.items → IsNewLine program.now h (line_at made.0.items h)) }
-    ensures ends { IfOk result (λ made. made.1 ≡ map (end_at program.now (map line_name made.0.items)) places) }
+    ensures senders { IfOk result (λ made. (h : ℕ) → h < length made.0.items → IsNewQueue program.now h (queue_at made.0.items h)) }
+    ensures ends { IfOk result (λ made. made.1 ≡ map (end_at program.now (map queue_name made.0.items)) places) }
 {
     program.is_sound();
-    let mut lines = Vec::new(alloc);
+    let mut senders = Vec::new(alloc);
     let mut ends = [None, None, None, None, None, None, None, None];
     for handler in 0..program.objects() {
-        let (line, end) = make_line(alloc, program, handler as u8)?;
-        lines.push(line)?;
+        let (sender, end) = make_queue(alloc, program, handler as u8)?;
+        senders.push(sender)?;
         ends[handler] = Some(end);
     }
-    Ok((lines, ends))
+    Ok((senders, ends))
 }
 
 impl RawDesk {
@@ -100,14 +100,14 @@ impl RawDesk {
         program.is_sound();
         let plan = Plan::new(alloc, program)?;
         let history = Vec::with_capacity(alloc, MOST_TICKETS)?;
-        let (lines, ends) = make_lines(alloc, program)?;
+        let (senders, ends) = make_queues(alloc, program)?;
         Ok(RawDesk {
             program: Snapshot::of(program),
             plan,
             history,
-            lines,
+            senders,
             ends,
-            blanks: Blanks::new(),
+            blanks: BlankLedgers::new(),
         })
     }
 
@@ -124,13 +124,13 @@ impl RawDesk {
             program: _,
             plan,
             history,
-            lines,
+            senders,
             ends,
             blanks,
         } = self;
         let (books, shares) = blanks.open::<D>(&plan);
         DeskParts {
-            desk: Desk::new(plan, history, lines, books),
+            desk: Desk::new(plan, history, senders, books),
             shares,
             tickets: name_all(ends),
         }
@@ -138,7 +138,7 @@ impl RawDesk {
 }
 
 // The tickets of a handler whose queue has an end.
-fn name_end<D: DeskName>(handler: u8, end: Option<LineEnd>) -> Option<Tickets<D>>
+fn name_end<D: DeskName>(handler: u8, end: Option<TicketTaker>) -> Option<Tickets<D>>
     requires names { length D.queues ≡ length D.program.objects }
     requires end { end ≡ end_at D.program D.queues handler }
     ensures tickets { result ≡ tickets_at D.program handler }
@@ -150,7 +150,7 @@ fn name_end<D: DeskName>(handler: u8, end: Option<LineEnd>) -> Option<Tickets<D>
 }
 
 fn name_all<D: DeskName>(
-    ends: [Option<LineEnd>; MOST_HANDLERS],
+    ends: [Option<TicketTaker>; MOST_HANDLERS],
 ) -> [Option<Tickets<D>>; MOST_HANDLERS]
     requires names { length D.queues ≡ length D.program.objects }
     requires ends { ends ≡ map (end_at D.program D.queues) places }

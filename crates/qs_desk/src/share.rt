@@ -15,11 +15,11 @@ use std::marker::{Model, PhantomData};
 use std::sync::ledger::{self, Blank, Book, Ledger};
 
 /// The ledger of the client with this number.
-pub struct Place<D: DeskName, const CLIENT: u8> {
+pub struct ClientLedger<D: DeskName, const CLIENT: u8> {
     of: PhantomData<D>,
 }
 
-impl<D: DeskName, const CLIENT: u8> Ledger for Place<D, CLIENT> {
+impl<D: DeskName, const CLIENT: u8> Ledger for ClientLedger<D, CLIENT> {
     ghost use Rattle.std.specs.Prelude.{slice_index};
 
     ghost name = { slice_index D.ledgers CLIENT };
@@ -29,15 +29,15 @@ impl<D: DeskName, const CLIENT: u8> Ledger for Place<D, CLIENT> {
 
 /// The whole of one client's ledger.
 #[derive(Drop)]
-pub enum Mark<D: DeskName> {
-    First(ledger::Share<Place<D, 0>>),
-    Second(ledger::Share<Place<D, 1>>),
-    Third(ledger::Share<Place<D, 2>>),
-    Fourth(ledger::Share<Place<D, 3>>),
-    Fifth(ledger::Share<Place<D, 4>>),
-    Sixth(ledger::Share<Place<D, 5>>),
-    Seventh(ledger::Share<Place<D, 6>>),
-    Eighth(ledger::Share<Place<D, 7>>),
+pub enum LedgerShare<D: DeskName> {
+    First(ledger::Share<ClientLedger<D, 0>>),
+    Second(ledger::Share<ClientLedger<D, 1>>),
+    Third(ledger::Share<ClientLedger<D, 2>>),
+    Fourth(ledger::Share<ClientLedger<D, 3>>),
+    Fifth(ledger::Share<ClientLedger<D, 4>>),
+    Sixth(ledger::Share<ClientLedger<D, 5>>),
+    Seventh(ledger::Share<ClientLedger<D, 6>>),
+    Eighth(ledger::Share<ClientLedger<D, 7>>),
 }
 
 /// A client's share of a desk: how many blocks the client has booked there. A desk has one for each client.
@@ -45,7 +45,7 @@ pub struct Share<D: DeskName> {
     client: u8,
     count: u8,
     blocks: usize,
-    mark: Mark<D>,
+    ledger_share: LedgerShare<D>,
 }
 
 impl<D: DeskName> Drop for Share<D> {
@@ -54,7 +54,7 @@ impl<D: DeskName> Drop for Share<D> {
             client: _,
             count: _,
             blocks: _,
-            mark: _,
+            ledger_share: _,
         } = self;
     }
 }
@@ -70,7 +70,7 @@ impl<D: DeskName> Model for Share<D> {
     ghost view = { λ s. record { client = s.client; count = s.count } };
 
     ghost invariant = { λ s.
-        (s.client ≡ client_of s.mark) × (parts_of s.mark ≡ 1) × (s.count ≡ amount_of s.mark) × (s.blocks ≡ blocks_of D.program s.client) };
+        (s.client ≡ client_of s.ledger_share) × (parts_of s.ledger_share ≡ 1) × (s.count ≡ amount_of s.ledger_share) × (s.blocks ≡ blocks_of D.program s.client) };
 }
 
 impl<D: DeskName> Share<D> {
@@ -107,9 +107,13 @@ impl<D: DeskName> Share<D> {
 }
 
 // The share of a client that the program has.
-fn first_share<D: DeskName>(plan: &Plan, client: u8, mark: Mark<D>) -> Option<Share<D>>
+fn first_share<D: DeskName>(
+    plan: &Plan,
+    client: u8,
+    ledger_share: LedgerShare<D>,
+) -> Option<Share<D>>
     requires plan { plan.now ≡ lists_of D.program }
-    requires mark { (client_of mark ≡ client) × (parts_of mark ≡ 1) × (amount_of mark ≡ 0) }
+    requires ledger_share { (client_of ledger_share ≡ client) × (parts_of ledger_share ≡ 1) × (amount_of ledger_share ≡ 0) }
     ensures share { result ≡ share_at D.program client }
 {
     if usize::from(client) >= plan.clients() {
@@ -119,20 +123,20 @@ fn first_share<D: DeskName>(plan: &Plan, client: u8, mark: Mark<D>) -> Option<Sh
         client,
         count: 0,
         blocks: plan.blocks_of(client),
-        mark,
+        ledger_share,
     })
 }
 
 /// How many blocks each client has booked, as the desk counts them.
 pub struct Books<D: DeskName> {
-    first: Book<Place<D, 0>>,
-    second: Book<Place<D, 1>>,
-    third: Book<Place<D, 2>>,
-    fourth: Book<Place<D, 3>>,
-    fifth: Book<Place<D, 4>>,
-    sixth: Book<Place<D, 5>>,
-    seventh: Book<Place<D, 6>>,
-    eighth: Book<Place<D, 7>>,
+    first: Book<ClientLedger<D, 0>>,
+    second: Book<ClientLedger<D, 1>>,
+    third: Book<ClientLedger<D, 2>>,
+    fourth: Book<ClientLedger<D, 3>>,
+    fifth: Book<ClientLedger<D, 4>>,
+    sixth: Book<ClientLedger<D, 5>>,
+    seventh: Book<ClientLedger<D, 6>>,
+    eighth: Book<ClientLedger<D, 7>>,
 }
 
 impl<D: DeskName> Drop for Books<D> {
@@ -161,7 +165,7 @@ impl<D: DeskName> Model for Books<D> {
 
 /// Ledgers that have no type yet, one for each client.
 #[derive(Drop)]
-pub struct Blanks {
+pub struct BlankLedgers {
     first: Blank,
     second: Blank,
     third: Blank,
@@ -172,7 +176,7 @@ pub struct Blanks {
     eighth: Blank,
 }
 
-impl Model for Blanks {
+impl Model for BlankLedgers {
     ghost use Rattle.std.specs.Prelude.{◌≡◌, List, ℕ, [], ◌∷◌};
 
     ghost Value = { List ℕ };
@@ -185,9 +189,9 @@ impl Model for Blanks {
         × (b.fifth.parts ≡ 1) × (b.sixth.parts ≡ 1) × (b.seventh.parts ≡ 1) × (b.eighth.parts ≡ 1) };
 }
 
-impl Blanks {
-    pub(crate) fn new() -> Blanks {
-        Blanks {
+impl BlankLedgers {
+    pub(crate) fn new() -> BlankLedgers {
+        BlankLedgers {
             first: Blank::new(1),
             second: Blank::new(1),
             third: Blank::new(1),
@@ -209,14 +213,14 @@ impl Blanks {
         ensures books { result.0 ≡ replicate most_clients 0 }
         ensures shares { result.1 ≡ map (share_at D.program) places }
     {
-        let (first, a) = self.first.open::<Place<D, 0>>();
-        let (second, b) = self.second.open::<Place<D, 1>>();
-        let (third, c) = self.third.open::<Place<D, 2>>();
-        let (fourth, d) = self.fourth.open::<Place<D, 3>>();
-        let (fifth, e) = self.fifth.open::<Place<D, 4>>();
-        let (sixth, f) = self.sixth.open::<Place<D, 5>>();
-        let (seventh, g) = self.seventh.open::<Place<D, 6>>();
-        let (eighth, h) = self.eighth.open::<Place<D, 7>>();
+        let (first, a) = self.first.open::<ClientLedger<D, 0>>();
+        let (second, b) = self.second.open::<ClientLedger<D, 1>>();
+        let (third, c) = self.third.open::<ClientLedger<D, 2>>();
+        let (fourth, d) = self.fourth.open::<ClientLedger<D, 3>>();
+        let (fifth, e) = self.fifth.open::<ClientLedger<D, 4>>();
+        let (sixth, f) = self.sixth.open::<ClientLedger<D, 5>>();
+        let (seventh, g) = self.seventh.open::<ClientLedger<D, 6>>();
+        let (eighth, h) = self.eighth.open::<ClientLedger<D, 7>>();
         let books = Books {
             first,
             second,
@@ -228,28 +232,28 @@ impl Blanks {
             eighth,
         };
         let shares = [
-            first_share(plan, 0, Mark::First(a)),
-            first_share(plan, 1, Mark::Second(b)),
-            first_share(plan, 2, Mark::Third(c)),
-            first_share(plan, 3, Mark::Fourth(d)),
-            first_share(plan, 4, Mark::Fifth(e)),
-            first_share(plan, 5, Mark::Sixth(f)),
-            first_share(plan, 6, Mark::Seventh(g)),
-            first_share(plan, 7, Mark::Eighth(h)),
+            first_share(plan, 0, LedgerShare::First(a)),
+            first_share(plan, 1, LedgerShare::Second(b)),
+            first_share(plan, 2, LedgerShare::Third(c)),
+            first_share(plan, 3, LedgerShare::Fourth(d)),
+            first_share(plan, 4, LedgerShare::Fifth(e)),
+            first_share(plan, 5, LedgerShare::Sixth(f)),
+            first_share(plan, 6, LedgerShare::Seventh(g)),
+            first_share(plan, 7, LedgerShare::Eighth(h)),
         ];
         (books, shares)
     }
 }
 
 // One more block in a client's ledger.
-fn count_one<L: Ledger>(book: &mut Book<L>, mark: &mut ledger::Share<L>)
-    requires whole { (mark.old.parts ≡ 1) × (L.parts ≡ 1) }
-    ensures before { mark.old.amount ≡ book.old.total }
+fn count_one<L: Ledger>(book: &mut Book<L>, ledger_share: &mut ledger::Share<L>)
+    requires whole { (ledger_share.old.parts ≡ 1) × (L.parts ≡ 1) }
+    ensures before { ledger_share.old.amount ≡ book.old.total }
     ensures book { book.new.total ≡ book.old.total + 1 }
-    ensures mark { (mark.new.amount ≡ mark.old.amount + 1) × (mark.new.parts ≡ 1) }
+    ensures ledger_share { (ledger_share.new.amount ≡ ledger_share.old.amount + 1) × (ledger_share.new.parts ≡ 1) }
 {
-    book.audit(mark);
-    book.add(mark, 1);
+    book.audit(ledger_share);
+    book.add(ledger_share, 1);
 }
 
 impl<D: DeskName> Books<D> {
@@ -260,15 +264,15 @@ impl<D: DeskName> Books<D> {
         ensures place { share.old.client < most_clients }
     {
         let books = self;
-        match &mut share.mark {
-            Mark::First(mark) => books.first.audit(mark),
-            Mark::Second(mark) => books.second.audit(mark),
-            Mark::Third(mark) => books.third.audit(mark),
-            Mark::Fourth(mark) => books.fourth.audit(mark),
-            Mark::Fifth(mark) => books.fifth.audit(mark),
-            Mark::Sixth(mark) => books.sixth.audit(mark),
-            Mark::Seventh(mark) => books.seventh.audit(mark),
-            Mark::Eighth(mark) => books.eighth.audit(mark),
+        match &mut share.ledger_share {
+            LedgerShare::First(ledger_share) => books.first.audit(ledger_share),
+            LedgerShare::Second(ledger_share) => books.second.audit(ledger_share),
+            LedgerShare::Third(ledger_share) => books.third.audit(ledger_share),
+            LedgerShare::Fourth(ledger_share) => books.fourth.audit(ledger_share),
+            LedgerShare::Fifth(ledger_share) => books.fifth.audit(ledger_share),
+            LedgerShare::Sixth(ledger_share) => books.sixth.audit(ledger_share),
+            LedgerShare::Seventh(ledger_share) => books.seventh.audit(ledger_share),
+            LedgerShare::Eighth(ledger_share) => books.eighth.audit(ledger_share),
         }
     }
 
@@ -281,15 +285,15 @@ impl<D: DeskName> Books<D> {
         ensures share { share.new ≡ record share.old { count = share.old.count + 1 } }
     {
         let books = self;
-        match &mut share.mark {
-            Mark::First(mark) => count_one(&mut books.first, mark),
-            Mark::Second(mark) => count_one(&mut books.second, mark),
-            Mark::Third(mark) => count_one(&mut books.third, mark),
-            Mark::Fourth(mark) => count_one(&mut books.fourth, mark),
-            Mark::Fifth(mark) => count_one(&mut books.fifth, mark),
-            Mark::Sixth(mark) => count_one(&mut books.sixth, mark),
-            Mark::Seventh(mark) => count_one(&mut books.seventh, mark),
-            Mark::Eighth(mark) => count_one(&mut books.eighth, mark),
+        match &mut share.ledger_share {
+            LedgerShare::First(ledger_share) => count_one(&mut books.first, ledger_share),
+            LedgerShare::Second(ledger_share) => count_one(&mut books.second, ledger_share),
+            LedgerShare::Third(ledger_share) => count_one(&mut books.third, ledger_share),
+            LedgerShare::Fourth(ledger_share) => count_one(&mut books.fourth, ledger_share),
+            LedgerShare::Fifth(ledger_share) => count_one(&mut books.fifth, ledger_share),
+            LedgerShare::Sixth(ledger_share) => count_one(&mut books.sixth, ledger_share),
+            LedgerShare::Seventh(ledger_share) => count_one(&mut books.seventh, ledger_share),
+            LedgerShare::Eighth(ledger_share) => count_one(&mut books.eighth, ledger_share),
         }
         share.count += 1;
     }

@@ -4,21 +4,21 @@ use Rattle.std.proofs.Math.Path.{fun_ext}
 use Rattle.qs_objects.specs.Journals.{answer}
 use Rattle.qs_program.specs.Statements.{Statements, end, command, query, assign, choose, again, leave}
 use Rattle.qs_program.specs.Values.{Locals, test_value, request_of}
-use Rattle.qs_meaning.specs.Solo.{States, Outcome, changed, value_of, event, solo}
-use Rattle.qs_meaning.specs.Interaction.{Interaction, noted, run, tree_of}
+use Rattle.qs_meaning.specs.Solo.{States, BlockResult, states_after, value_of, event, solo}
+use Rattle.qs_meaning.specs.Interaction.{Interaction, after_event, run, tree_of}
 use Rattle.qs_meaning.specs.Interaction as tree
 use Rattle.qs_meaning.proofs.Trees.{trees_agree}
-use Rattle.qs_graph.specs.Nodes.{Place}
-use Rattle.qs_graph.specs.Synced.{Synced, Done, Next, turns, meaning, synced_of, erased}
-use Rattle.qs_graph.specs.Walk.{Spot, Move, Ends, Goes, Calls, Syncs, Queries, move, said, walk}
-use Rattle.qs_graph.specs.WalkAlone.{done, walk_alone}
+use Rattle.qs_graph.specs.Nodes.{GraphNode}
+use Rattle.qs_graph.specs.Synced.{Synced, Done, Next, turns, meaning, synced_of, without_syncs}
+use Rattle.qs_graph.specs.Walk.{Spot, Move, Ends, Goes, Calls, Syncs, Queries, move, tree_of_move, walk}
+use Rattle.qs_graph.specs.WalkAlone.{result_of_move, walk_alone}
 use Rattle.qs_graph.specs.WalkLaws.{SyncsErased}
 
 -- what a tree with its synchronisations does, is what it does without them
 abbrev Erases : Next → tree.Next → Type 0
-Erases f k = (l : Locals) → erased (f l) ≡ k l
+Erases f k = (l : Locals) → without_syncs (f l) ≡ k l
 
-erases_if : (b : Bool) (p q : Synced) (u v : Interaction) → erased p ≡ u → erased q ≡ v → erased (if b then p else q) ≡ (if b then u else v)
+erases_if : (b : Bool) (p q : Synced) (u v : Interaction) → without_syncs p ≡ u → without_syncs q ≡ v → without_syncs (if b then p else q) ≡ (if b then u else v)
 erases_if true p q u v h w = h
 erases_if false p q u v h w = w
 
@@ -45,20 +45,20 @@ erases (leave rest) next leaves plain out h w l = w l
 pub syncs_erased : SyncsErased
 syncs_erased b l = erases b Done Done tree.Done tree.Done (λ l. refl) (λ l. refl) l
 
-done_is_run : (go : Spot → States → Outcome) (say : Spot → Synced) → ((s : Spot) (st : States) → go s st ≡ run (erased (say s)) st)
-    → (l : Locals) (st : States) (m : Move) → done go l st m ≡ run (erased (said say l m)) st
+done_is_run : (go : Spot → States → BlockResult) (say : Spot → Synced) → ((s : Spot) (st : States) → go s st ≡ run (without_syncs (say s)) st)
+    → (l : Locals) (st : States) (m : Move) → result_of_move go l st m ≡ run (without_syncs (tree_of_move say l m)) st
 done_is_run go say h l st Ends = refl
 done_is_run go say h l st (Goes s) = h s st
-done_is_run go say h l st (Calls r s) = ap (noted (event r None)) (h s (changed st r))
+done_is_run go say h l st (Calls r s) = ap (after_event (event r None)) (h s (states_after st r))
 done_is_run go say h l st (Syncs o s) = h s st
-done_is_run go say h l st (Queries r s) = let v = answer (st r.object) r in ap (noted (event r v)) (h (s (value_of v)) (changed st r))
+done_is_run go say h l st (Queries r s) = let v = answer (st r.object) r in ap (after_event (event r v)) (h (s (value_of v)) (states_after st r))
 
-pub alone_is_run : (g : List Place) (n : ℕ) (s : Spot) (st : States) → walk_alone g n s st ≡ run (erased (walk g n s)) st
+pub alone_is_run : (g : List GraphNode) (n : ℕ) (s : Spot) (st : States) → walk_alone g n s st ≡ run (without_syncs (walk g n s)) st
 alone_is_run g zero s st = refl
 alone_is_run g (suc n) s st = done_is_run (walk_alone g n) (walk g n) (alone_is_run g n) s.locals st (move g s)
 
 -- a walk that says a block's tree does what the block alone does
-pub alone_is_solo : (g : List Place) (n : ℕ) (s : Spot) (st : States) (b : Statements) (l : Locals) → walk g n s ≡ synced_of b l
+pub alone_is_solo : (g : List GraphNode) (n : ℕ) (s : Spot) (st : States) (b : Statements) (l : Locals) → walk g n s ≡ synced_of b l
     → walk_alone g n s st ≡ solo b l st
 alone_is_solo g n s st b l says =
-    alone_is_run g n s st ∙ ap (λ p. run (erased p) st) says ∙ ap (λ p. run p st) (syncs_erased b l) ∙ sym (trees_agree b l st)
+    alone_is_run g n s st ∙ ap (λ p. run (without_syncs p) st) says ∙ ap (λ p. run p st) (syncs_erased b l) ∙ sym (trees_agree b l st)

@@ -6,10 +6,10 @@ use Rattle.qs_graph.specs.declared.node.Node.{Node}
 use Rattle.qs_graph.specs.declared.node.Node.TheVariants.{Entry, Local, Branch, Sync, Query, Call, Exit}
 use Rattle.qs_graph.specs.declared.node.Action.TheVariants.{Assign, SetCount, Nothing}
 use Rattle.qs_graph.specs.declared.node.Choice.TheVariants.{If, Repeat}
-use Rattle.qs_graph.specs.Nodes.{Place, place_at, exit}
+use Rattle.qs_graph.specs.Nodes.{GraphNode, place_at, exit}
 use Rattle.qs_graph.specs.Paths.{IsAmong, HasEdge, IsPath}
-use Rattle.qs_graph.specs.WellFormed.{edge_count, IsPlace, IsGraph}
-use Rattle.qs_graph.specs.Walk.{Spot, EachNext, move, move_by, turned}
+use Rattle.qs_graph.specs.WellFormed.{edge_count, IsGraphNode, IsGraph}
+use Rattle.qs_graph.specs.Walk.{Spot, EachNext, move, move_by, after_repeat}
 use Rattle.qs_graph.specs.WalkLaws.{WalksGoAlongPaths}
 use Rattle.qs_graph.proofs.Saying.{next_up}
 
@@ -25,7 +25,7 @@ if_among : (b : Bool) (n m : ℕ) (es : List ℕ) → IsAmong n es → IsAmong m
 if_among true n m es h w = h
 if_among false n m es h w = w
 
-turned_among : (k : ℕ) (s : Spot) (n m : ℕ) (es : List ℕ) → IsAmong n es → IsAmong m es → IsAmong (turned k s n m).node es
+turned_among : (k : ℕ) (s : Spot) (n m : ℕ) (es : List ℕ) → IsAmong n es → IsAmong m es → IsAmong (after_repeat k s n m).node es
 turned_among zero s n m es h w = w
 turned_among (suc k) s n m es h w = h
 
@@ -44,10 +44,10 @@ along (Call c) es s e = first_among es (omega arith)
 along Exit es s e = tt
 
 -- each move goes along an edge
-pub goes_along : (g : List Place) (s : Spot) → IsGraph g → s.node < length g → EachNext (λ t. HasEdge g s.node t.node) (move g s)
+pub goes_along : (g : List GraphNode) (s : Spot) → IsGraph g → s.node < length g → EachNext (λ t. HasEdge g s.node t.node) (move g s)
 unfolding move
 goes_along g s ok inside =
-    let here : IsPlace (length g) (place_at g s.node) = AllByRecursion-get_or (IsPlace (length g)) g s.node exit ok.places inside in
+    let here : IsGraphNode (length g) (place_at g s.node) = AllByRecursion-get_or (IsGraphNode (length g)) g s.node exit ok.places inside in
     along (place_at g s.node).node (place_at g s.node).edges s here.count
 
 pub walks_go_along_paths : WalksGoAlongPaths

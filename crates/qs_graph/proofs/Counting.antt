@@ -11,9 +11,9 @@ use Rattle.std.specs.Prelude.{Bool}
 use Rattle.qs_graph.specs.declared.node.Node.TheVariants.{Local, Branch}
 use Rattle.qs_graph.specs.declared.node.Action.TheVariants.{SetCount}
 use Rattle.qs_graph.specs.declared.node.Choice.TheVariants as by
-use Rattle.qs_graph.specs.Nodes.{Place, to, to_either}
+use Rattle.qs_graph.specs.Nodes.{GraphNode, to, to_either}
 use Rattle.qs_graph.specs.Graphs.{node_count, first_node, places_of}
-use Rattle.qs_graph.proofs.Standing.{length_places}
+use Rattle.qs_graph.proofs.StatementPlaces.{length_places}
 
 pub count_cons : (s : Stmt) (xs : List Stmt) → node_count (statements_of (s ∷ xs)) ≡ node_count (single s) + node_count (statements_of xs)
 count_cons (Command c) xs = omega arith
@@ -39,10 +39,10 @@ Joins at next out s xs =
     ≡ places_of at (first_node (at + node_count (single s)) next (statements_of xs)) out (single s)
     ++ places_of (at + node_count (single s)) next out (statements_of xs)
 
-repeat_list : (p q : Place) (xs zs : List Place) → p ∷ q ∷ (xs ++ zs) ≡ (p ∷ q ∷ (xs ++ [])) ++ zs
+repeat_list : (p q : GraphNode) (xs zs : List GraphNode) → p ∷ q ∷ (xs ++ zs) ≡ (p ∷ q ∷ (xs ++ [])) ++ zs
 repeat_list p q xs zs = ap (λ r. p ∷ q ∷ r) (sym (append_assoc xs [] zs))
 
-if_list : (p : Place) (xs ys zs : List Place) → p ∷ (xs ++ (ys ++ zs)) ≡ (p ∷ (xs ++ (ys ++ []))) ++ zs
+if_list : (p : GraphNode) (xs ys zs : List GraphNode) → p ∷ (xs ++ (ys ++ zs)) ≡ (p ∷ (xs ++ (ys ++ []))) ++ zs
 if_list p xs ys zs = ap (λ r. p ∷ r) (sym (append_assoc xs (ys ++ []) zs ∙ ap (λ r. xs ++ r) (append_assoc ys [] zs)))
 
 if_joins : (at next out : ℕ) (t : Test) (b : Bool) (first other rest : Statements) (m : ℕ)
@@ -106,14 +106,14 @@ pub after_last : (xs : List Stmt) (i at next : ℕ) → length xs ≤ i + 1 → 
 after_last xs i at next h = ap (λ ys. first_node at next (statements_of ys)) (drop_past xs (i + 1) h)
 
 -- one more statement: `now` is what was added before it, `whole` what there will be at last
-module _ (stmts : List Stmt) (now : List Place) (i next out total : ℕ) (whole : List Place)
+module _ (stmts : List Stmt) (now : List GraphNode) (i next out total : ℕ) (whole : List GraphNode)
     (long_is : length now + node_count (statements_of (drop i stmts)) ≡ total)
     (added_is : now ++ places_of (length now) next out (statements_of (drop i stmts)) ≡ whole) where
-  pub record Added (new : List Place) : Type 0 where
+  pub record Added (new : List GraphNode) : Type 0 where
     pub long : length new + node_count (statements_of (drop (i + 1) stmts)) ≡ total
     pub added : new ++ places_of (length new) next out (statements_of (drop (i + 1) stmts)) ≡ whole
 
-  pub goes_on : (new : List Place) (after : ℕ) (item : Stmt) → i < length stmts → item ≡ get_or stmts i item
+  pub goes_on : (new : List GraphNode) (after : ℕ) (item : Stmt) → i < length stmts → item ≡ get_or stmts i item
       → after ≡ first_node (length now + node_count (single item)) next (statements_of (drop (i + 1) stmts))
       → new ≡ now ++ places_of (length now) after out (single item) → Added new
   goes_on new after item within is after_is new_is =
@@ -139,13 +139,13 @@ module _ (stmts : List Stmt) (now : List Place) (i next out total : ℕ) (whole 
             ∙ added_is;
       }
 
-pub longer : (xs ys : List Place) (next out : ℕ) (b : Statements)
+pub longer : (xs ys : List GraphNode) (next out : ℕ) (b : Statements)
     → ys ≡ xs ++ places_of (length xs) next out b → length ys ≡ length xs + node_count b
 longer xs ys next out b e = ap length e ∙ length-append xs (places_of (length xs) next out b)
     ∙ ap (λ n. length xs + n) (length_places (length xs) next out b)
 
 -- the places of an `if`, added one part after another
-pub if_done : (p0 p1 p2 p3 : List Place) (p : Place) (t : Test) (b : Bool) (first other : Statements) (next out : ℕ)
+pub if_done : (p0 p1 p2 p3 : List GraphNode) (p : GraphNode) (t : Test) (b : Bool) (first other : Statements) (next out : ℕ)
     → p1 ≡ p0 ++ p ∷ [] → p2 ≡ p1 ++ places_of (length p1) next out first → p3 ≡ p2 ++ places_of (length p2) next out other
     → p ≡ to_either (Branch (by.If t)) (first_node (length p0 + 1) next first) (first_node (length p0 + 1 + node_count first) next other)
     → p3 ≡ p0 ++ places_of (length p0) next out (choose t b first other end)

@@ -5,19 +5,19 @@ use Rattle.qs_program.specs.Statements.{Statements, end, command, query, assign,
 use Rattle.qs_graph.specs.declared.node.Node.TheVariants.{Entry, Local, Branch, Query, Call}
 use Rattle.qs_graph.specs.declared.node.Action.TheVariants.{Assign}
 use Rattle.qs_graph.specs.declared.node.Choice.TheVariants.{If, Repeat}
-use Rattle.qs_graph.specs.Nodes.{Place, place_at, to, to_either, exit}
+use Rattle.qs_graph.specs.Nodes.{GraphNode, place_at, to, to_either, exit}
 use Rattle.qs_graph.specs.Graphs.{node_count, first_node, places_of, block_graph}
 use Rattle.qs_graph.specs.Drawn.{AreDrawn, IsDrawing, GraphsAreDrawings}
-use Rattle.qs_graph.proofs.Standing.{Stands, at_end, length_places, stands_first, stands_rest, stands_in}
+use Rattle.qs_graph.proofs.StatementPlaces.{Stands, at_end, length_places, stands_first, stands_rest, stands_in}
 
-stands_joined : (g : List Place) (at n : ℕ) (xs ys : List Place) → length xs ≡ n → Stands g at xs → Stands g (at + n) ys → Stands g at (xs ++ ys)
+stands_joined : (g : List GraphNode) (at n : ℕ) (xs ys : List GraphNode) → length xs ≡ n → Stands g at xs → Stands g (at + n) ys → Stands g at (xs ++ ys)
 stands_joined g at n [] ys e h w = let same : at + n ≡ at = omega arith in rw (← same) w
 stands_joined g at n (x ∷ xs) ys e h w =
     let same : at + n ≡ (at + 1) + length xs = omega arith in
     (h.0, h.1, stands_joined g (at + 1) (length xs) xs ys refl h.2 (subst (λ m. Stands g m ys) same w))
 
 -- a graph is the list that stands in the whole of it
-stands_whole : (pre g ps : List Place) → Stands (pre ++ g) (length pre) ps → length g ≡ length ps → g ≡ ps
+stands_whole : (pre g ps : List GraphNode) → Stands (pre ++ g) (length pre) ps → length g ≡ length ps → g ≡ ps
 stands_whole pre [] [] h e = refl
 stands_whole pre [] (p ∷ ps) h e = absurd (omega (arith, e))
 stands_whole pre (q ∷ g) [] h e = absurd (omega (arith, e))
@@ -25,12 +25,12 @@ stands_whole pre (q ∷ g) (p ∷ ps) h e =
     let same : (pre ++ q ∷ []) ++ g ≡ pre ++ q ∷ g = append_assoc pre (q ∷ []) g in
     let long : length pre + 1 ≡ length (pre ++ q ∷ []) = sym (length-append pre (q ∷ [])) in
     let more : Stands ((pre ++ q ∷ []) ++ g) (length (pre ++ q ∷ [])) ps =
-    subst (λ m. Stands ((pre ++ q ∷ []) ++ g) m ps) long (subst (λ (l : List Place). Stands l (length pre + 1) ps) (sym same) h.2) in
+    subst (λ m. Stands ((pre ++ q ∷ []) ++ g) m ps) long (subst (λ (l : List GraphNode). Stands l (length pre + 1) ps) (sym same) h.2) in
     let first : q ≡ p = sym (at_end pre q g) ∙ h.1 in
     let rest : g ≡ ps = stands_whole (pre ++ q ∷ []) g ps more (omega (arith, e)) in
     ap (λ r. r ∷ g) first ∙ ap (λ l. p ∷ l) rest
 
-module _ (g : List Place) where
+module _ (g : List GraphNode) where
   -- what stands is drawn
   drawn : (b : Statements) (at past next out : ℕ) → past ≡ at + node_count b → Stands g at (places_of at next out b)
       → AreDrawn g b at past (first_node at next b) next out
@@ -196,7 +196,7 @@ graph_drawn body =
       count = omega (arith, long, length_places 1 last last body);
     }
 
-drawing_alone : (g : List Place) (body : Statements) → IsDrawing g body → g ≡ block_graph body
+drawing_alone : (g : List GraphNode) (body : Statements) → IsDrawing g body → g ≡ block_graph body
 drawing_alone g body is =
     let last = 1 + node_count body in
     let places = places_of 1 last last body in

@@ -6,36 +6,36 @@ use Rattle.qs_program.specs.Statements.{Statements, end, assign, command, query,
 use Rattle.qs_program.specs.Values.{Locals, expr_value, test_value, request_of}
 use Rattle.qs_graph.specs.declared.node.Node.TheVariants as node
 use Rattle.qs_graph.specs.declared.node.Choice.TheVariants.{Repeat}
-use Rattle.qs_graph.specs.Nodes.{Place, to, to_either, exit, place_at}
+use Rattle.qs_graph.specs.Nodes.{GraphNode, to, to_either, exit, place_at}
 use Rattle.qs_graph.specs.Graphs.{node_count, first_node, places_of, block_graph}
 use Rattle.qs_graph.specs.Synced.{Synced, Done, Next, turns, meaning, synced_of}
-use Rattle.qs_graph.specs.Walk.{Spot, Goes, entry, move, turned}
+use Rattle.qs_graph.specs.Walk.{Spot, Goes, entry, move, after_repeat}
 use Rattle.qs_graph.specs.Steps.{steps, whole_steps}
-use Rattle.qs_graph.proofs.Standing.{Stands, length_places, stands_first, stands_rest, stands_in}
+use Rattle.qs_graph.proofs.StatementPlaces.{Stands, length_places, stands_first, stands_rest, stands_in}
 use Rattle.qs_graph.proofs.Weights.{product}
 use Rattle.qs_graph.proofs.Saying.{Says, says_up, move_is, says_done, says_next, says_call, says_sync, says_query}
 
 -- the counts of branches before a number are as they were
-pub record Kept (at : ℕ) (c d : List ℕ) : Type 0 where
+pub record KeepsCounts (at : ℕ) (c d : List ℕ) : Type 0 where
   pub long : length d ≡ length c
   pub below : (r : ℕ) → r < at → slice_index_or d r 0 ≡ slice_index_or c r 0
 
-kept_same : (at : ℕ) (c : List ℕ) → Kept at c c
+kept_same : (at : ℕ) (c : List ℕ) → KeepsCounts at c c
 kept_same at c = record { long = refl; below = λ r h. refl }
 
-kept_also : (m n : ℕ) (c d e : List ℕ) → m ≤ n → Kept m c d → Kept n d e → Kept m c e
+kept_also : (m n : ℕ) (c d e : List ℕ) → m ≤ n → KeepsCounts m c d → KeepsCounts n d e → KeepsCounts m c e
 kept_also m n c d e h k w = record { long = w.long ∙ k.long; below = λ r u. w.below r (omega arith) ∙ k.below r u }
 
-kept_set : (m r n : ℕ) (c : List ℕ) → m ≤ r → Kept m c (slice_set c r n)
+kept_set : (m r n : ℕ) (c : List ℕ) → m ≤ r → KeepsCounts m c (slice_set c r n)
 kept_set m r n c h = record { long = length-set c r n; below = λ q w. get_or-set_other c r q n 0 (λ e. omega arith) }
 
 abbrev spot : ℕ → Locals → List ℕ → Spot
 spot n l c = record { node = n; locals = l; counts = c }
 
-module _ (g : List Place) where
+module _ (g : List GraphNode) where
   -- from the node n the walk says what `next` says, whatever happened to the counts from `at` on
   abbrev Leads : (at k : ℕ) (c : List ℕ) (n : ℕ) → Next → Type 0
-  Leads at k c n next = (l : Locals) (d : List ℕ) → Kept at c d → Says g k (spot n l d) (next l)
+  Leads at k c n next = (l : Locals) (d : List ℕ) → KeepsCounts at c d → Says g k (spot n l d) (next l)
 
   abbrev Follows : Statements → (at next out : ℕ) → Type 0
   Follows b at next out =
@@ -43,7 +43,7 @@ module _ (g : List Place) where
       → (l : Locals) → Says g (k + steps b) (spot (first_node at next b) l c) (meaning b sequel leaves l)
 
   leads_less : (m n k j : ℕ) (c d : List ℕ) (at : ℕ) (sequel : Next)
-      → m ≤ n → k ≤ j → Kept m c d → Leads m k c at sequel → Leads n j d at sequel
+      → m ≤ n → k ≤ j → KeepsCounts m c d → Leads m k c at sequel → Leads n j d at sequel
   leads_less m n k j c d at sequel h u w leads l e kept =
       says_up g k j (spot at l e) (sequel l) u (leads l e (kept_also m n c d e h w kept))
 
@@ -63,18 +63,18 @@ module _ (g : List Place) where
       (inner : Follows body (at + 2) (at + 1) after)
       (room : at + 2 + node_count body ≤ length c)
       (leads : Leads at k c after later) where
-    turns_ok : (n : ℕ) (l : Locals) (d : List ℕ) → Kept at c d → slice_index_or d (at + 1) 0 ≡ n
+    turns_ok : (n : ℕ) (l : Locals) (d : List ℕ) → KeepsCounts at c d → slice_index_or d (at + 1) 0 ≡ n
         → Says g (k + 1 + n * (1 + steps body)) (spot (at + 1) l d) (turns n (λ turn. meaning body turn later) later l)
     turns_ok zero l d kept e =
         let goes : move g (spot (at + 1) l d) ≡ Goes (spot after l d) =
-        move_is g (at + 1) l d _ here ∙ ap (λ n. Goes (turned n (spot (at + 1) l d) (first_node (at + 2) (at + 1) body) after)) e in
+        move_is g (at + 1) l d _ here ∙ ap (λ n. Goes (after_repeat n (spot (at + 1) l d) (first_node (at + 2) (at + 1) body) after)) e in
         says_up g (suc k) _ _ _ (omega arith) (says_next g k (spot (at + 1) l d) within (spot after l d) (later l) goes (leads l d kept))
     turns_ok (suc n) l d kept e =
         let d1 = slice_set d (at + 1) n in
         let goes : move g (spot (at + 1) l d) ≡ Goes (spot (first_node (at + 2) (at + 1) body) l d1) =
-        move_is g (at + 1) l d _ here ∙ ap (λ n. Goes (turned n (spot (at + 1) l d) (first_node (at + 2) (at + 1) body) after)) e in
+        move_is g (at + 1) l d _ here ∙ ap (λ n. Goes (after_repeat n (spot (at + 1) l d) (first_node (at + 2) (at + 1) body) after)) e in
         let j = k + 1 + n * (1 + steps body) in
-        let kept1 : Kept at c d1 = kept_also at at c d d1 (omega arith) kept (kept_set at (at + 1) n d (omega arith)) in
+        let kept1 : KeepsCounts at c d1 = kept_also at at c d d1 (omega arith) kept (kept_set at (at + 1) n d (omega arith)) in
         let inside : at + 1 < length d = omega (arith, kept.long) in
         let more = turns n (λ turn. meaning body turn later) later in
         let again_ok : Leads (at + 2) j d1 (at + 1) more =

@@ -2,9 +2,9 @@
 use Rattle.std.proofs.Common.{◌≡◌, ℕ, ◌<◌, inl, inr, List, [], ◌∷◌, length, arith, subst, sym}
 use Rattle.std.specs.List.{AllByRecursion}
 use Rattle.qs_graph.specs.declared.node.Node.TheVariants.{Entry}
-use Rattle.qs_graph.specs.Nodes.{Place, place_at, exit}
+use Rattle.qs_graph.specs.Nodes.{GraphNode, place_at, exit}
 use Rattle.qs_graph.specs.Paths.{IsAmong, HasEdge}
-use Rattle.qs_graph.specs.WellFormed.{IsPlace, IsGraph}
+use Rattle.qs_graph.specs.WellFormed.{IsGraphNode, IsGraph}
 use Rattle.qs_graph.specs.WalkLaws.{PathsStayInside}
 use Rattle.qs_graph.proofs.Ranges.{all_at}
 
@@ -13,12 +13,12 @@ among_below n k [] each h = absurd h
 among_below n k (e ∷ es) each (inl same) = subst (λ m. m < k) (sym same) each.0
 among_below n k (e ∷ es) each (inr later) = among_below n k es each.1 later
 
-pub edge_inside : (g : List Place) (m n : ℕ) → IsGraph g → HasEdge g m n → n < length g
+pub edge_inside : (g : List GraphNode) (m n : ℕ) → IsGraph g → HasEdge g m n → n < length g
 edge_inside g m n ok edge =
-    all_at (IsPlace (length g)) (λ (p : Place). IsAmong n p.edges → n < length g) g m exit ok.places
+    all_at (IsGraphNode (length g)) (λ (p : GraphNode). IsAmong n p.edges → n < length g) g m exit ok.places
     (λ p w. among_below n (length g) p.edges w.edges) (λ h. absurd h) edge
 
-some_node : (g : List Place) → (place_at g 0).node ≡ Entry → 0 < length g
+some_node : (g : List GraphNode) → (place_at g 0).node ≡ Entry → 0 < length g
 some_node [] e = cc
 some_node (p ∷ ps) e = omega arith
 

@@ -1,4 +1,4 @@
-pub mod Standing
+pub mod StatementPlaces
 pub mod Drawings
 pub mod Saying
 pub mod Following

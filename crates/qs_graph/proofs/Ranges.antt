@@ -11,12 +11,12 @@ use Rattle.qs_program.specs.Limits.{most_handlers, most_objects}
 use Rattle.qs_graph.specs.declared.node.Node.{Node}
 use Rattle.qs_graph.specs.declared.node.Node.TheVariants.{Entry, Local, Branch, Sync, Query, Call, Exit}
 use Rattle.qs_graph.specs.declared.node.Action.TheVariants.{Assign, SetCount, Nothing}
-use Rattle.qs_graph.specs.Nodes.{Place, exit}
+use Rattle.qs_graph.specs.Nodes.{GraphNode, exit}
 use Rattle.qs_graph.specs.Graphs.{node_count, first_node, places_of, block_graph}
-use Rattle.qs_graph.specs.WellFormed.{edge_count, IsCallInRange, IsInRange, IsPlace}
+use Rattle.qs_graph.specs.WellFormed.{edge_count, IsCallInRange, IsInRange, IsGraphNode}
 use Rattle.qs_graph.specs.SoundNodes.{IsSoundNode}
 use Rattle.qs_graph.specs.WalkLaws.{BlocksHaveGraphs}
-use Rattle.qs_graph.proofs.Standing.{length_places}
+use Rattle.qs_graph.proofs.StatementPlaces.{length_places}
 
 pub all_append : {X : Type 0} (P : X → Type 0) (xs ys : List X) → AllByRecursion P xs → AllByRecursion P ys → AllByRecursion P (xs ++ ys)
 all_append P [] ys h w = w
@@ -51,15 +51,15 @@ all_map P Q [] h each = tt
 all_map P Q (x ∷ xs) h each = (h x each.0, all_map P Q xs h each.1)
 
 -- a place among n nodes, sound by a block's list
-pub record IsSoundPlace (objects : List Declared) (reserved : List ℕ) (n : ℕ) (p : Place) : Type 0 where
+pub record IsSoundGraphNode (objects : List Declared) (reserved : List ℕ) (n : ℕ) (p : GraphNode) : Type 0 where
   pub edges : AllByRecursion (λ m. m < n) p.edges
   pub count : length p.edges ≡ edge_count p.node
   pub sound : IsSoundNode objects reserved p.node
 
 -- the places of a sound body, where its nodes, what comes next and what a `leave` leads to are among n nodes
 module _ (objects : List Declared) (reserved : List ℕ) (n : ℕ) where
-  abbrev Fine : List Place → Type 0
-  Fine ps = AllByRecursion (IsSoundPlace objects reserved n) ps
+  abbrev Fine : List GraphNode → Type 0
+  Fine ps = AllByRecursion (IsSoundGraphNode objects reserved n) ps
 
   places_fine : (b : Statements) (at next out : ℕ) → IsSoundBody objects reserved b → at + node_count b ≤ n → next < n → out < n
       → Fine (places_of at next out b)
@@ -89,9 +89,9 @@ module _ (objects : List Declared) (reserved : List ℕ) (n : ℕ) where
       let ys = places_of at_other after out other in
       let zs = places_of at_rest next out rest in (
         record { edges = (one, (two, tt)); count = refl; sound = sound.0 },
-        all_append (IsSoundPlace objects reserved n) (places_of (at + 1) after out first) (ys ++ zs)
+        all_append (IsSoundGraphNode objects reserved n) (places_of (at + 1) after out first) (ys ++ zs)
             (places_fine first (at + 1) after out sound.1 (omega arith) later u)
-            (all_append (IsSoundPlace objects reserved n) ys zs
+            (all_append (IsSoundGraphNode objects reserved n) ys zs
             (places_fine other at_other after out sound.2 (omega arith) later u)
             (places_fine rest at_rest next out sound.3 (omega arith) w u)),
       )
@@ -103,7 +103,7 @@ module _ (objects : List Declared) (reserved : List ℕ) (n : ℕ) where
         record { edges = (omega arith, tt); count = refl; sound = tt },
         (
           record { edges = (one, (later, tt)); count = refl; sound = tt },
-          all_append (IsSoundPlace objects reserved n) (places_of (at + 2) (at + 1) after body) (places_of at_rest next out rest)
+          all_append (IsSoundGraphNode objects reserved n) (places_of (at + 2) (at + 1) after body) (places_of at_rest next out rest)
               (places_fine body (at + 2) (at + 1) after sound.1 (omega arith) (omega arith) later)
               (places_fine rest at_rest next out sound.2 (omega arith) w u),
         ),
@@ -144,14 +144,14 @@ pub record IsSoundText (objects : List Declared) (b : BlockShape) : Type 0 where
   pub body : IsSoundBody objects b.reserved b.body
 
 block_fine : (objects : List Declared) (b : BlockShape) → IsSoundText objects b
-    → AllByRecursion (IsSoundPlace objects b.reserved (length (block_graph b.body))) (block_graph b.body)
+    → AllByRecursion (IsSoundGraphNode objects b.reserved (length (block_graph b.body))) (block_graph b.body)
 block_fine objects b sound =
     let n = length (block_graph b.body) in
     let last = 1 + node_count b.body in
     let long : n ≡ 2 + node_count b.body = length_graph b.body in
     let below : last < n = omega arith in (
       record { edges = (first_below 1 last n b.body (omega arith) below, tt); count = refl; sound = tt },
-      all_append (IsSoundPlace objects b.reserved n) (places_of 1 last last b.body) (exit ∷ [])
+      all_append (IsSoundGraphNode objects b.reserved n) (places_of 1 last last b.body) (exit ∷ [])
           (places_fine objects b.reserved n b.body 1 last last sound.body (omega arith) below below)
           (record { edges = tt; count = refl; sound = tt }, tt),
     )
@@ -173,13 +173,13 @@ blocks_have_graphs p c k sound =
     record {
       graph = record {
         entry = refl;
-        places = all_map (IsSoundPlace p.objects b.reserved (length g)) (IsPlace (length g)) g
+        places = all_map (IsSoundGraphNode p.objects b.reserved (length g)) (IsGraphNode (length g)) g
             (λ q w. record {
               edges = w.edges;
               count = w.count;
               in_range = node_ok p.objects sound.objects b.reserved text.known q.node w.sound;
             }) fine;
       };
-      sound = all_map (IsSoundPlace p.objects b.reserved (length g)) (λ (q : Place). IsSoundNode p.objects b.reserved q.node) g
+      sound = all_map (IsSoundGraphNode p.objects b.reserved (length g)) (λ (q : GraphNode). IsSoundNode p.objects b.reserved q.node) g
           (λ q w. w.sound) fine;
     }

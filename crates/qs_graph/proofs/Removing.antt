@@ -6,9 +6,9 @@ use Rattle.qs_program.specs.Values.{Locals}
 use Rattle.qs_graph.specs.declared.node.Node.{Node}
 use Rattle.qs_graph.specs.declared.node.Node.TheVariants.{Entry, Local, Branch, Sync, Query, Call, Exit}
 use Rattle.qs_graph.specs.declared.node.Action.TheVariants.{Nothing}
-use Rattle.qs_graph.specs.Nodes.{Place, place_at, first_target, second_target, IsSync}
-use Rattle.qs_graph.specs.Synced.{Synced, erased}
-use Rattle.qs_graph.specs.Walk.{Spot, Move, Ends, Goes, Calls, Syncs, Queries, move, move_at, move_by, said, walk, EachNext, Within}
+use Rattle.qs_graph.specs.Nodes.{GraphNode, place_at, first_target, second_target, IsSync}
+use Rattle.qs_graph.specs.Synced.{Synced, without_syncs}
+use Rattle.qs_graph.specs.Walk.{Spot, Move, Ends, Goes, Calls, Syncs, Queries, move, move_at, move_by, tree_of_move, walk, EachNext, Within}
 use Rattle.qs_graph.specs.Removal.{IsKeptOrRemoved, IsRemoval, RemovalsKeepWalks}
 use Rattle.qs_graph.proofs.Saying.{next_up}
 
@@ -24,7 +24,7 @@ removed_next P (Call c) s n m sync w = absurd sync
 removed_next P Exit s n m sync w = absurd sync
 
 removed_said : (f : Spot → Synced) (l : Locals) (v : Node) (s : Spot) (n m : ℕ) → IsSync v
-    → erased (said f l (move_by (Local Nothing) s n m)) ≡ erased (said f l (move_by v s n m))
+    → without_syncs (tree_of_move f l (move_by (Local Nothing) s n m)) ≡ without_syncs (tree_of_move f l (move_by v s n m))
 removed_said f l (Sync h) s n m sync = refl
 removed_said f l Entry s n m sync = absurd sync
 removed_said f l (Local a) s n m sync = absurd sync
@@ -33,42 +33,42 @@ removed_said f l (Query x c) s n m sync = absurd sync
 removed_said f l (Call c) s n m sync = absurd sync
 removed_said f l Exit s n m sync = absurd sync
 
-place_next : (P : Spot → Type 0) (p q : Place) (s : Spot) → IsKeptOrRemoved p q → EachNext P (move_at p s) → EachNext P (move_at q s)
+place_next : (P : Spot → Type 0) (p q : GraphNode) (s : Spot) → IsKeptOrRemoved p q → EachNext P (move_at p s) → EachNext P (move_at q s)
 place_next P p q s (inl same) w = subst (λ r. EachNext P (move_at r s)) (sym same) w
 place_next P p q s (inr gone) w =
     subst (λ r. EachNext P (move_at r s)) (sym gone.1) (removed_next P p.node s (first_target p) (second_target p) gone.0 w)
 
-place_said : (f : Spot → Synced) (l : Locals) (p q : Place) (s : Spot) → IsKeptOrRemoved p q
-    → erased (said f l (move_at q s)) ≡ erased (said f l (move_at p s))
-place_said f l p q s (inl same) = ap (λ r. erased (said f l (move_at r s))) same
+place_said : (f : Spot → Synced) (l : Locals) (p q : GraphNode) (s : Spot) → IsKeptOrRemoved p q
+    → without_syncs (tree_of_move f l (move_at q s)) ≡ without_syncs (tree_of_move f l (move_at p s))
+place_said f l p q s (inl same) = ap (λ r. without_syncs (tree_of_move f l (move_at r s))) same
 place_said f l p q s (inr gone) =
-    ap (λ r. erased (said f l (move_at r s))) gone.1 ∙ removed_said f l p.node s (first_target p) (second_target p) gone.0
+    ap (λ r. without_syncs (tree_of_move f l (move_at r s))) gone.1 ∙ removed_said f l p.node s (first_target p) (second_target p) gone.0
 
-move_next : (P : Spot → Type 0) (g h : List Place) (s : Spot) → IsRemoval g h → EachNext P (move g s) → EachNext P (move h s)
+move_next : (P : Spot → Type 0) (g h : List GraphNode) (s : Spot) → IsRemoval g h → EachNext P (move g s) → EachNext P (move h s)
 unfolding move
 move_next P g h s gone w = place_next P (place_at g s.node) (place_at h s.node) s (gone.places s.node) w
 
-move_said : (f : Spot → Synced) (g h : List Place) (s : Spot) → IsRemoval g h
-    → erased (said f s.locals (move h s)) ≡ erased (said f s.locals (move g s))
+move_said : (f : Spot → Synced) (g h : List GraphNode) (s : Spot) → IsRemoval g h
+    → without_syncs (tree_of_move f s.locals (move h s)) ≡ without_syncs (tree_of_move f s.locals (move g s))
 unfolding move
 move_said f g h s gone = place_said f s.locals (place_at g s.node) (place_at h s.node) s (gone.places s.node)
 
-erased_same : (P : Spot → Type 0) (f k : Spot → Synced) → ((s : Spot) → P s → erased (f s) ≡ erased (k s)) → (l : Locals) (m : Move)
-    → EachNext P m → erased (said f l m) ≡ erased (said k l m)
+erased_same : (P : Spot → Type 0) (f k : Spot → Synced) → ((s : Spot) → P s → without_syncs (f s) ≡ without_syncs (k s)) → (l : Locals) (m : Move)
+    → EachNext P m → without_syncs (tree_of_move f l m) ≡ without_syncs (tree_of_move k l m)
 erased_same P f k h l Ends w = refl
 erased_same P f k h l (Goes s) w = h s w
 erased_same P f k h l (Calls r s) w = ap (tree.Call r) (h s w)
 erased_same P f k h l (Syncs o s) w = h s w
 erased_same P f k h l (Queries r s) w = ap (tree.Query r) (fun_ext (λ v. h (s v) (w v)))
 
-module _ (g h : List Place) (gone : IsRemoval g h) where
+module _ (g h : List GraphNode) (gone : IsRemoval g h) where
   stays_within : (n : ℕ) (s : Spot) → Within g n s → Within h n s
   stays_within zero s w = absurd w
   stays_within (suc n) s w =
       let inside : s.node < length h = omega (arith, gone.long, w.0) in
       (inside, move_next (Within h n) g h s gone (next_up (Within g n) (Within h n) (stays_within n) (move g s) w.1))
 
-  says_same : (n : ℕ) (s : Spot) → Within g n s → erased (walk h n s) ≡ erased (walk g n s)
+  says_same : (n : ℕ) (s : Spot) → Within g n s → without_syncs (walk h n s) ≡ without_syncs (walk g n s)
   says_same zero s w = absurd w
   says_same (suc n) s w =
       move_said (walk h n) g h s gone ∙ erased_same (Within g n) (walk h n) (walk g n) (says_same n) s.locals (move g s) w.1

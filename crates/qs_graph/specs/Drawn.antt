@@ -4,12 +4,12 @@ use Rattle.qs_program.specs.Statements.{Statements, end, command, query, assign,
 use Rattle.qs_graph.specs.declared.node.Node.TheVariants.{Entry, Local, Branch, Sync, Query, Call}
 use Rattle.qs_graph.specs.declared.node.Action.TheVariants.{Assign, SetCount, Nothing}
 use Rattle.qs_graph.specs.declared.node.Choice.TheVariants.{If, Repeat}
-use Rattle.qs_graph.specs.Nodes.{Place, place_at, to, to_either, exit}
+use Rattle.qs_graph.specs.Nodes.{GraphNode, place_at, to, to_either, exit}
 use Rattle.qs_graph.specs.Graphs.{block_graph}
 
-module _ (g : List Place) where
+module _ (g : List GraphNode) where
   -- the node of a number, with its edges
-  abbrev pub IsNode : ℕ → Place → Type 0
+  abbrev pub IsNode : ℕ → GraphNode → Type 0
   IsNode n p = (n < length g) × (place_at g n ≡ p)
 
   -- the statements have the numbers from `at` to before `past` in text order, and begin at `first`; `next` comes after the last of them,
@@ -36,7 +36,7 @@ module _ (g : List Place) where
       (after : ℕ) × (first ≡ at) × IsNode at (to (Local Nothing) out) × AreDrawn rest (at + 1) past after next out
 
 -- node 0 is Entry, then come the nodes of the statements, and Exit is last and comes after them
-pub record IsDrawing (g : List Place) (body : Statements) : Type 0 where
+pub record IsDrawing (g : List GraphNode) (body : Statements) : Type 0 where
   pub first : ℕ
   pub last : ℕ
   pub entry : place_at g 0 ≡ to Entry first
@@ -47,4 +47,4 @@ pub record IsDrawing (g : List Place) (body : Statements) : Type 0 where
 -- the graph of a block is drawn so, and nothing else is
 pub record GraphsAreDrawings : Type 0 where
   pub drawn : (body : Statements) → IsDrawing (block_graph body) body
-  pub alone : (g : List Place) (body : Statements) → IsDrawing g body → g ≡ block_graph body
+  pub alone : (g : List GraphNode) (body : Statements) → IsDrawing g body → g ≡ block_graph body

@@ -49,8 +49,8 @@ abbrev pub other_body_alone : Statements
 other_body_alone = choose below_one true end (assign 0 two end) end
 
 -- repeat 2 { if x < 1 { repeat 3 { leave; x = a.balance(); } } else { leave; } a.deposit(1); } repeat 0 { }
-abbrev pub nested : Statements
-nested =
+abbrev pub nested_repeats : Statements
+nested_repeats =
     again 2 (choose below_one true (again 3 (leave (query 0 balance end)) end) (leave end) (command deposit end)) (again 0 end end)
 
 pub record GraphExamples : Type 0 where
@@ -68,7 +68,7 @@ pub record GraphExamples : Type 0 where
       ∷ to (Sync 0) 6 ∷ to (Query 1 balance) 7 ∷ exit ∷ []
   pub other_alone : block_graph other_body_alone
       ≡ to Entry 1 ∷ to_either (Branch (If below_one)) 3 2 ∷ to (Local (Assign 0 two)) 3 ∷ exit ∷ []
-  pub inner : block_graph nested
+  pub inner : block_graph nested_repeats
       ≡ to Entry 1 ∷ to (Local (SetCount 2)) 2 ∷ to_either (Branch Repeat) 3 11 ∷ to_either (Branch (If below_one)) 4 9
       ∷ to (Local (SetCount 3)) 5 ∷ to_either (Branch Repeat) 6 10 ∷ to (Local Nothing) 10 ∷ to (Sync 0) 8 ∷ to (Query 0 balance) 5
       ∷ to (Local Nothing) 11 ∷ to (Call deposit) 2 ∷ to (Local (SetCount 0)) 12 ∷ to_either (Branch Repeat) 12 13 ∷ exit ∷ []

@@ -4,7 +4,7 @@ use Rattle.qs_program.specs.Statements.{Statements, end, command, query, assign,
 use Rattle.qs_graph.specs.declared.node.Node.TheVariants.{Entry, Local, Branch, Sync, Query, Call}
 use Rattle.qs_graph.specs.declared.node.Action.TheVariants.{Assign, SetCount, Nothing}
 use Rattle.qs_graph.specs.declared.node.Choice.TheVariants.{If, Repeat}
-use Rattle.qs_graph.specs.Nodes.{Place, to, to_either, exit}
+use Rattle.qs_graph.specs.Nodes.{GraphNode, to, to_either, exit}
 
 -- how many nodes statements have
 abbrev pub node_count : Statements → ℕ
@@ -22,7 +22,7 @@ first_node at next end = next
 first_node at next _ = at
 
 -- the places of statements that are numbered from `at`, where `next` comes after them and a `leave` goes to `out`
-abbrev pub places_of : (at next out : ℕ) → Statements → List Place
+abbrev pub places_of : (at next out : ℕ) → Statements → List GraphNode
 places_of at next out end = []
 places_of at next out (assign x e rest) =
     to (Local (Assign x e)) (first_node (at + 1) next rest) ∷ places_of (at + 1) next out rest
@@ -44,7 +44,7 @@ places_of at next out (again n body rest) =
     ∷ (places_of (at + 2) (at + 1) after body ++ places_of at_rest next out rest)
 places_of at next out (leave rest) = to (Local Nothing) out ∷ places_of (at + 1) next out rest
 
-abbrev pub block_graph : Statements → List Place
+abbrev pub block_graph : Statements → List GraphNode
 block_graph body =
     let last = 1 + node_count body in
     to Entry (first_node 1 last body) ∷ (places_of 1 last last body ++ exit ∷ [])

@@ -10,7 +10,7 @@ use Rattle.qs_graph.specs.declared.node.Action.{Action}
 use Rattle.qs_graph.specs.declared.node.Action.TheVariants.{Assign}
 use Rattle.qs_graph.specs.declared.node.Choice.{Choice}
 use Rattle.qs_graph.specs.declared.node.Choice.TheVariants.{If, Repeat}
-use Rattle.qs_graph.specs.Nodes.{Place}
+use Rattle.qs_graph.specs.Nodes.{GraphNode}
 
 abbrev pub IsSoundAction : Action → Type 0
 IsSoundAction (Assign x e) = (x < most_variables) × IsSoundExpr e
@@ -30,5 +30,5 @@ module _ (objects : List Declared) (reserved : List ℕ) where
   IsSoundNode (Call c) = IsSoundCall objects reserved false c
   IsSoundNode _ = Unit {0}
 
-  abbrev pub AreSoundNodes : List Place → Type 0
+  abbrev pub AreSoundNodes : List GraphNode → Type 0
   AreSoundNodes g = AllByRecursion (λ p. IsSoundNode p.node) g

@@ -34,8 +34,8 @@ abbrev pub synced_of : Statements → Locals → Synced
 synced_of body l = meaning body Done Done l
 
 -- the tree without its synchronisations
-abbrev pub erased : Synced → Interaction
-erased (Done l) = tree.Done l
-erased (Call r next) = tree.Call r (erased next)
-erased (Sync h next) = erased next
-erased (Query r next) = tree.Query r (λ v. erased (next v))
+abbrev pub without_syncs : Synced → Interaction
+without_syncs (Done l) = tree.Done l
+without_syncs (Call r next) = tree.Call r (without_syncs next)
+without_syncs (Sync h next) = without_syncs next
+without_syncs (Query r next) = tree.Query r (λ v. without_syncs (next v))

@@ -18,14 +18,14 @@ abbrev pub both : ℤ → ℤ → Locals
 both x y = x ∷ y ∷ []
 
 -- a query and its synchronisation
-abbrev pub asked : (ℤ → Synced) → Synced
-asked next = Sync 0 (Query balance_of_a next)
+abbrev pub query_then : (ℤ → Synced) → Synced
+query_then next = Sync 0 (Query balance_of_a next)
 
 pub record SyncedExamples : Type 0 where
   pub four_queries : synced_of query_in_repeat (both (pos 0) (pos 0))
-      ≡ asked (λ v. asked (λ w. asked (λ u. asked (λ t. Done (both t (pos 0))))))
+      ≡ query_then (λ v. query_then (λ w. query_then (λ u. query_then (λ t. Done (both t (pos 0))))))
   pub nothing : synced_of empty_bodies (both (pos 7) (pos 8)) ≡ Done (both (pos 7) (pos 8))
-  pub left_at_once : synced_of leave_first (both (pos 0) (pos 0)) ≡ asked (λ v. asked (λ w. Done (both v w)))
-  pub first_body : synced_of two_bodies (both (pos 0) (pos 0)) ≡ Call deposit_1 (asked (λ v. Done (both (pos 0) v)))
-  pub second_body : synced_of two_bodies (both (pos 1) (pos 0)) ≡ asked (λ v. asked (λ w. Done (both v w)))
+  pub left_at_once : synced_of leave_first (both (pos 0) (pos 0)) ≡ query_then (λ v. query_then (λ w. Done (both v w)))
+  pub first_body : synced_of two_bodies (both (pos 0) (pos 0)) ≡ Call deposit_1 (query_then (λ v. Done (both (pos 0) v)))
+  pub second_body : synced_of two_bodies (both (pos 1) (pos 0)) ≡ query_then (λ v. query_then (λ w. Done (both v w)))
   pub most_nodes : whole_steps query_in_repeat ≡ 15

@@ -8,7 +8,7 @@ use Rattle.qs_graph.specs.declared.node.Action.{Action}
 use Rattle.qs_graph.specs.declared.node.Action.TheVariants.{Assign, SetCount, Nothing}
 use Rattle.qs_graph.specs.declared.node.Choice.{Choice}
 use Rattle.qs_graph.specs.declared.node.Choice.TheVariants.{If, Repeat}
-use Rattle.qs_graph.specs.Nodes.{Place, place_at, first_target, second_target}
+use Rattle.qs_graph.specs.Nodes.{GraphNode, place_at, first_target, second_target}
 use Rattle.qs_graph.specs.Synced.{Synced, Done, Call, Sync, Query}
 use Rattle.qs_program.specs.declared.code.Call as calls
 
@@ -40,20 +40,20 @@ pub data Move : Type 0 where
   Queries : (request : Request) → (to : ℤ → Spot) → Move
 
 -- after a local node that leads to n; a count is kept at the branch that comes next
-abbrev pub acted : Action → Spot → ℕ → Spot
-acted (Assign x e) s n = at_node (with_value s x (expr_value s.locals e)) n
-acted (SetCount k) s n = at_node (with_count s n k) n
-acted Nothing s n = at_node s n
+abbrev pub after_local : Action → Spot → ℕ → Spot
+after_local (Assign x e) s n = at_node (with_value s x (expr_value s.locals e)) n
+after_local (SetCount k) s n = at_node (with_count s n k) n
+after_local Nothing s n = at_node s n
 
 -- after a repeat's branch with this count: once more to the body, or on
-abbrev pub turned : ℕ → Spot → (first second : ℕ) → Spot
-turned zero s first second = at_node s second
-turned (suc k) s first second = at_node (with_count s s.node k) first
+abbrev pub after_repeat : ℕ → Spot → (first second : ℕ) → Spot
+after_repeat zero s first second = at_node s second
+after_repeat (suc k) s first second = at_node (with_count s s.node k) first
 
 -- after a branch
-abbrev pub chosen : Choice → Spot → (first second : ℕ) → Spot
-chosen (If t) s first second = at_node s (if test_value s.locals t then first else second)
-chosen Repeat s first second = turned (slice_index_or s.counts s.node 0) s first second
+abbrev pub after_branch : Choice → Spot → (first second : ℕ) → Spot
+after_branch (If t) s first second = at_node s (if test_value s.locals t then first else second)
+after_branch Repeat s first second = after_repeat (slice_index_or s.counts s.node 0) s first second
 
 -- the object that a name of a block stands for: in a client's own block a name is the number of its object
 abbrev pub bound : ℕ → ℕ
@@ -66,31 +66,31 @@ bound_request l c = record (request_of l c) { object = bound c.object }
 -- what a node does; here alone a walk reads the names of nodes
 abbrev pub move_by : Node → Spot → (first second : ℕ) → Move
 move_by node.Entry s first second = Goes (at_node s first)
-move_by (node.Local a) s first second = Goes (acted a s first)
-move_by (node.Branch c) s first second = Goes (chosen c s first second)
+move_by (node.Local a) s first second = Goes (after_local a s first)
+move_by (node.Branch c) s first second = Goes (after_branch c s first second)
 move_by (node.Sync h) s first second = Syncs (bound h) (at_node s first)
 move_by (node.Query x c) s first second = Queries (bound_request s.locals c) (λ v. at_node (with_value s x v) first)
 move_by (node.Call c) s first second = Calls (bound_request s.locals c) (at_node s first)
 move_by node.Exit s first second = Ends
 
-abbrev pub move_at : Place → Spot → Move
+abbrev pub move_at : GraphNode → Spot → Move
 move_at p s = move_by p.node s (first_target p) (second_target p)
 
-unfoldable pub move : List Place → Spot → Move
+unfoldable pub move : List GraphNode → Spot → Move
 move g s = move_at (place_at g s.node) s
 
 -- what is said from here, where `go` tells it of the spots that follow
-abbrev pub said : (Spot → Synced) → Locals → Move → Synced
-said go l Ends = Done l
-said go l (Goes s) = go s
-said go l (Calls r s) = Call r (go s)
-said go l (Syncs h s) = Sync h (go s)
-said go l (Queries r s) = Query r (λ v. go (s v))
+abbrev pub tree_of_move : (Spot → Synced) → Locals → Move → Synced
+tree_of_move go l Ends = Done l
+tree_of_move go l (Goes s) = go s
+tree_of_move go l (Calls r s) = Call r (go s)
+tree_of_move go l (Syncs h s) = Sync h (go s)
+tree_of_move go l (Queries r s) = Query r (λ v. go (s v))
 
 -- all that a walk of at most n nodes says
-abbrev pub walk : List Place → ℕ → Spot → Synced
+abbrev pub walk : List GraphNode → ℕ → Spot → Synced
 walk g zero s = Done s.locals
-walk g (suc n) s = said (walk g n) s.locals (move g s)
+walk g (suc n) s = tree_of_move (walk g n) s.locals (move g s)
 
 -- a property of the spots that a move leads to
 abbrev pub EachNext : (Spot → Type 0) → Move → Type 0
@@ -101,7 +101,7 @@ EachNext P (Syncs h s) = P s
 EachNext P (Queries r s) = (v : ℤ) → P (s v)
 
 -- each walk from here, whatever the replies, stays in the graph and is at Exit within n nodes
-abbrev pub Within : List Place → ℕ → Spot → Type 0
+abbrev pub Within : List GraphNode → ℕ → Spot → Type 0
 Within g zero s = ⊥
 Within g (suc n) s = (s.node < length g) × EachNext (Within g n) (move g s)
 
@@ -110,6 +110,6 @@ abbrev pub silent_by : (Spot → ℕ) → Move → ℕ
 silent_by go (Goes s) = suc (go s)
 silent_by go _ = 0
 
-abbrev pub silent : List Place → ℕ → Spot → ℕ
+abbrev pub silent : List GraphNode → ℕ → Spot → ℕ
 silent g zero s = 0
 silent g (suc n) s = silent_by (silent g n) (move g s)

@@ -7,13 +7,13 @@ use Rattle.qs_meaning.specs.Interaction.{tree_of}
 use Rattle.qs_program.specs.Loads.{weight_of}
 use Rattle.qs_program.specs.Program.{ProgramShape, block_at}
 use Rattle.qs_program.specs.Sound.{IsSound}
-use Rattle.qs_graph.specs.Nodes.{Place}
+use Rattle.qs_graph.specs.Nodes.{GraphNode}
 use Rattle.qs_graph.specs.Graphs.{block_graph}
 use Rattle.qs_graph.specs.Paths.{IsPath}
 use Rattle.qs_graph.specs.WellFormed.{IsGraph}
 use Rattle.qs_graph.specs.SoundNodes.{AreSoundNodes}
-use Rattle.qs_graph.specs.Synced.{synced_of, erased}
-use Rattle.qs_graph.specs.Walk.{Spot, Goes, entry, move, said, walk, EachNext, Within, silent}
+use Rattle.qs_graph.specs.Synced.{synced_of, without_syncs}
+use Rattle.qs_graph.specs.Walk.{Spot, Goes, entry, move, tree_of_move, walk, EachNext, Within, silent}
 use Rattle.qs_graph.specs.WalkAlone.{walk_alone}
 use Rattle.qs_graph.specs.Steps.{steps, whole_steps, limit}
 
@@ -41,26 +41,26 @@ WalksWithinLimit =
 
 -- the tree without its synchronisations is the block's interaction tree
 abbrev pub SyncsErased : Type 0
-SyncsErased = (body : Statements) (l : Locals) → erased (synced_of body l) ≡ tree_of body l
+SyncsErased = (body : Statements) (l : Locals) → without_syncs (synced_of body l) ≡ tree_of body l
 
 -- where a walk is within the limit, so is each spot that follows; what it says is what its node says and then what they say;
 -- and a silent move leaves fewer silent moves before the next one that is not
-pub record Unfolds (g : List Place) (s : Spot) : Type 0 where
+pub record Unfolds (g : List GraphNode) (s : Spot) : Type 0 where
   pub next : EachNext (Within g limit) (move g s)
-  pub here : walk g limit s ≡ said (walk g limit) s.locals (move g s)
+  pub here : walk g limit s ≡ tree_of_move (walk g limit) s.locals (move g s)
   pub falls : (t : Spot) → move g s ≡ Goes t → silent g limit t < silent g limit s
 
 abbrev pub WalksUnfold : Type 0
-WalksUnfold = (g : List Place) (s : Spot) → Within g limit s → Unfolds g s
+WalksUnfold = (g : List GraphNode) (s : Spot) → Within g limit s → Unfolds g s
 
 -- a path stays in its graph
 abbrev pub PathsStayInside : Type 0
-PathsStayInside = (g : List Place) (before : List ℕ) (n : ℕ) → IsGraph g → IsPath g before n → n < length g
+PathsStayInside = (g : List GraphNode) (before : List ℕ) (n : ℕ) → IsGraph g → IsPath g before n → n < length g
 
 -- a walk goes along edges, and so along a path
 abbrev pub WalksGoAlongPaths : Type 0
 WalksGoAlongPaths =
-    (g : List Place) (s : Spot) (before : List ℕ) → IsGraph g → s.node < length g → IsPath g before s.node
+    (g : List GraphNode) (s : Spot) (before : List ℕ) → IsGraph g → s.node < length g → IsPath g before s.node
     → EachNext (λ t. IsPath g (s.node ∷ before) t.node) (move g s)
 
 -- the places of a block are a graph, and its nodes are sound by the block's list

@@ -7,7 +7,7 @@ use Rattle.qs_graph.specs.declared.node.Node.{Node}
 use Rattle.qs_graph.specs.declared.node.Node.TheVariants.{Entry, Local, Branch, Sync, Query, Call, Exit}
 use Rattle.qs_graph.specs.declared.node.Action.{Action}
 use Rattle.qs_graph.specs.declared.node.Action.TheVariants.{Assign}
-use Rattle.qs_graph.specs.Nodes.{Place, place_at}
+use Rattle.qs_graph.specs.Nodes.{GraphNode, place_at}
 
 -- how many edges a node has
 abbrev pub edge_count : Node → ℕ
@@ -32,12 +32,12 @@ IsInRange (Call c) = IsCallInRange c
 IsInRange _ = Unit {0}
 
 -- a place among n nodes
-pub record IsPlace (n : ℕ) (p : Place) : Type 0 where
+pub record IsGraphNode (n : ℕ) (p : GraphNode) : Type 0 where
   pub edges : AllByRecursion (λ m. m < n) p.edges
   pub count : length p.edges ≡ edge_count p.node
   pub in_range : IsInRange p.node
 
 -- node 0 is Entry, each edge leads to a node, each node has as many edges as its kind, and numbers are in range
-pub record IsGraph (g : List Place) : Type 0 where
+pub record IsGraph (g : List GraphNode) : Type 0 where
   pub entry : (place_at g 0).node ≡ Entry
-  pub places : AllByRecursion (IsPlace (length g)) g
+  pub places : AllByRecursion (IsGraphNode (length g)) g

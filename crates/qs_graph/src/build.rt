@@ -12,7 +12,7 @@ ghost use Rattle.qs_graph.specs.Graphs.{node_count, first_node as first_of, plac
 
 use crate::copies::copied;
 use crate::counts::{nodes_of, nodes_of_stmt};
-use crate::graphs::{Graph, Place};
+use crate::graphs::{Graph, GraphNode};
 use crate::node::{Action, Choice, Named, Node};
 use qs_program::{Body, Call as Request, Program, Stmt};
 use std::alloc::{AllocError, Global};
@@ -70,15 +70,15 @@ fn reserved_by(program: &Program, client: u8, block: u8) -> &[u8]
 }
 
 // All room is taken at once; where it was given, there are fewer nodes than the greatest number.
-fn block_places(alloc: Global, body: &Body) -> Result<Vec<Place>, AllocError>
+fn block_places(alloc: Global, body: &Body) -> Result<Vec<GraphNode>, AllocError>
     ensures ok { IfOk result (λ places. places.items ≡ block_graph body.now) }
 {
     let count = nodes_of(body);
     let mut places = Vec::with_capacity(alloc, count.saturating_add(2))?;
     let last = count + 1;
-    places.push_reserved(Place::to(Node::Entry, first_node(body, 1, last)));
+    places.push_reserved(GraphNode::to(Node::Entry, first_node(body, 1, last)));
     add_body(alloc, &mut places, body, last, last)?;
-    places.push_reserved(Place::exit());
+    places.push_reserved(GraphNode::exit());
     Ok(places)
 }
 
@@ -90,27 +90,27 @@ fn first_node(body: &Body, at: usize, next: usize) -> usize
 }
 
 // Adds a node with one edge.
-fn add_to(places: &mut Vec<Place>, node: Node, next: usize)
+fn add_to(places: &mut Vec<GraphNode>, node: Node, next: usize)
     requires room { length places.old.items < vec_capacity places.old }
     ensures added { places.new.items ≡ places.old.items ++ to node next ∷ [] }
     ensures room { vec_capacity places.new ≡ vec_capacity places.old }
 {
-    places.push_reserved(Place::to(node, next));
+    places.push_reserved(GraphNode::to(node, next));
 }
 
 // Adds a branch.
-fn add_branch(places: &mut Vec<Place>, choice: Choice, first: usize, second: usize)
+fn add_branch(places: &mut Vec<GraphNode>, choice: Choice, first: usize, second: usize)
     requires room { length places.old.items < vec_capacity places.old }
     ensures added { places.new.items ≡ places.old.items ++ to_either (Branch choice) first second ∷ [] }
     ensures room { vec_capacity places.new ≡ vec_capacity places.old }
 {
-    places.push_reserved(Place::to_either(Node::Branch(choice), first, second));
+    places.push_reserved(GraphNode::to_either(Node::Branch(choice), first, second));
 }
 
 // Adds the node of a command.
 fn add_call(
     alloc: Global,
-    places: &mut Vec<Place>,
+    places: &mut Vec<GraphNode>,
     call: &Request,
     next: usize,
 ) -> Result<(), AllocError>
@@ -125,7 +125,7 @@ fn add_call(
 // Adds the nodes of a query, which are numbered from `at`.
 fn add_query(
     alloc: Global,
-    places: &mut Vec<Place>,
+    places: &mut Vec<GraphNode>,
     variable: u8,
     call: &Request,
     next: usize,
@@ -145,7 +145,7 @@ fn add_query(
 #[cycle(add)]
 fn add_body(
     alloc: Global,
-    places: &mut Vec<Place>,
+    places: &mut Vec<GraphNode>,
     body: &Body,
     next: usize,
     out: usize,
@@ -169,7 +169,7 @@ fn add_body(
 #[cycle(add)]
 fn add_stmt(
     alloc: Global,
-    places: &mut Vec<Place>,
+    places: &mut Vec<GraphNode>,
     stmt: &Stmt,
     next: usize,
     out: usize,

@@ -18,48 +18,48 @@ pub(crate) enum Targets {
 
 /// A node and where it leads.
 #[derive(Drop)]
-pub(crate) struct Place {
+pub(crate) struct GraphNode {
     node: Node,
     targets: Targets,
 }
 
-impl Model for Place {
+impl Model for GraphNode {
     ghost use Rattle.qs_graph.specs.Nodes as nodes;
     ghost use Rattle.qs_graph.specs.Shapes.{place_code, edges_of};
 
-    ghost Value = { nodes.Place };
+    ghost Value = { nodes.GraphNode };
 
     ghost coded = { place_code };
 
     ghost view = { λ p. record { node = p.node; edges = edges_of p.targets } };
 }
 
-impl Place {
+impl GraphNode {
     /// A node with one edge.
-    pub(crate) fn to(node: Node, next: usize) -> Place
+    pub(crate) fn to(node: Node, next: usize) -> GraphNode
         ensures value { result ≡ to node next }
     {
-        Place {
+        GraphNode {
             node,
             targets: Targets::One([next]),
         }
     }
 
     /// A node with two edges, in this order.
-    pub(crate) fn to_either(node: Node, first: usize, second: usize) -> Place
+    pub(crate) fn to_either(node: Node, first: usize, second: usize) -> GraphNode
         ensures value { result ≡ to_either node first second }
     {
-        Place {
+        GraphNode {
             node,
             targets: Targets::Two([first, second]),
         }
     }
 
     /// The last node.
-    pub(crate) fn exit() -> Place
+    pub(crate) fn exit() -> GraphNode
         ensures value { result ≡ exit }
     {
-        Place {
+        GraphNode {
             node: Node::Exit,
             targets: Targets::None,
         }
@@ -78,7 +78,7 @@ impl Place {
 
 /// The control-flow graph of a block: nodes by number, each with its edges in order, and the names of the block's list.
 pub struct Graph {
-    places: Vec<Place>,
+    places: Vec<GraphNode>,
     names: Vec<Named>,
 }
 
@@ -104,7 +104,7 @@ impl Model for Graph {
 
 impl Graph {
     /// A graph of places that are known to be one.
-    pub(crate) fn of(places: Vec<Place>, names: Vec<Named>) -> Graph
+    pub(crate) fn of(places: Vec<GraphNode>, names: Vec<Named>) -> Graph
         requires graph { IsGraph places.items }
         ensures value { result.nodes ≡ places.items }
         ensures names { result.names ≡ names.items }

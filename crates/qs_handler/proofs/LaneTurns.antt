@@ -11,12 +11,12 @@ use Rattle.qs_chunk.proofs.LaneFronts.{asked_last}
 use Rattle.qs_chunk.specs.declared.parcel.Parcel.{Parcel}
 use Rattle.qs_chunk.specs.declared.parcel.Parcel.TheVariants.{Work, Sync, Home, End}
 use Rattle.qs_handler.specs.Handler.{Handler, free, serves, spares, gives, away, closed}
-use Rattle.qs_handler.specs.HandlerLanes.{IsQuiet, StandsAt, BeginsAtLanes, TicketsKeepLanes, AsksForWhatFollows, ParcelsKeepLanes, ParcelsKeepOtherLanes, GivesAreAskedFor, GivesKeepOtherLanes, SparesAreEmpty, SparesKeepLanes, EndsAtLanes, HandlerLaneLaws}
+use Rattle.qs_handler.specs.HandlerLanes.{OwesNothing, StandsAt, BeginsAtLanes, TicketsKeepLanes, AsksForWhatFollows, ParcelsKeepLanes, ParcelsKeepOtherLanes, GivesAreAskedFor, GivesKeepOtherLanes, SparesAreEmpty, SparesKeepLanes, EndsAtLanes, HandlerLaneLaws}
 
 syncs_with : (ps : List Parcel) (p : Parcel) → syncs (ps ++ p ∷ []) ≡ syncs ps + (if is_sync p then 1 else 0)
 syncs_with ps p = let parted = sum_by-append (λ q. if is_sync q then 1 else 0) ps (p ∷ []) in omega arith
 
-quiet_on : (ps : List Parcel) (p : Parcel) (given : List HeldState) → is_sync p ≡ false → length given ≡ syncs ps → IsQuiet (ps ++ p ∷ []) given
+quiet_on : (ps : List Parcel) (p : Parcel) (given : List HeldState) → is_sync p ≡ false → length given ≡ syncs ps → OwesNothing (ps ++ p ∷ []) given
 quiet_on ps p given none served = record {
   last = asked_last false ps p ∙ none;
   served = served ∙ sym (syncs_with ps p ∙ ap (λ b. syncs ps + (if b then 1 else 0)) none ∙ omega arith);

@@ -1,4 +1,4 @@
-pub mod Turns
+pub mod HandlerActs
 pub mod LaneTurns
 pub mod Runs
 pub mod RunTurns

@@ -9,7 +9,7 @@ use Rattle.qs_chunk.specs.Runs.{ran_all}
 use Rattle.qs_chunk.specs.declared.parcel.Parcel.{Parcel}
 use Rattle.qs_chunk.specs.declared.parcel.Parcel.TheVariants.{Work, Sync, Home, End}
 use Rattle.qs_handler.specs.Handler as handlers
-use Rattle.qs_handler.specs.Handler.{Handler, free, serves, away, closed, act_of, gave, taken, received}
+use Rattle.qs_handler.specs.Handler.{Handler, free, serves, away, closed, act_of, gave, accept_next, accept_parcel}
 use Rattle.qs_handler.specs.HandlerRuns.{Task, takes, receives, gives, spares, TasksLead, received_from, given_to, taken_by}
 use Rattle.qs_handler.specs.HandlerTurns.{Turn, TurnsLead, turns_for, HasTurns, HandlersTakeTurns}
 
@@ -151,7 +151,7 @@ comes_of : (h new : Handler) (tasks : List Task) (z : HeldState) → Some h ≡ 
 comes_of h new tasks z e k = subst (λ m. Comes m tasks z) (cc (e)) k
 
 serves_on : (t : tickets.Ticket) (x : HeldState) (p : Parcel) (new : Handler) (tasks : List Task) (z : HeldState)
-    → received (serves t x) p ≡ Some new → Comes new tasks z → Comes (serves t x) (receives t.client p ∷ tasks) z
+    → accept_parcel (serves t x) p ≡ Some new → Comes new tasks z → Comes (serves t x) (receives t.client p ∷ tasks) z
 serves_on t x (Work chunk) new tasks z e k =
     parcel_more t (Has t (ran_all x t chunk.items)) (Has t x) tasks z (Work chunk) (λ ps xs y l. l)
     (comes_of (handlers.spares t (ran_all x t chunk.items) chunk.capacity) new tasks z e k)
@@ -161,7 +161,7 @@ serves_on t x (Home y) new tasks z e k = absurd (cc (e))
 serves_on t x End new tasks z e k = end_more t x tasks z (comes_of (free x) new tasks z e k)
 
 comes_home : (t : tickets.Ticket) (p : Parcel) (new : Handler) (tasks : List Task) (z : HeldState)
-    → received (away t) p ≡ Some new → Comes new tasks z → Comes (away t) (receives t.client p ∷ tasks) z
+    → accept_parcel (away t) p ≡ Some new → Comes new tasks z → Comes (away t) (receives t.client p ∷ tasks) z
 comes_home t (Home y) new tasks z e k =
     parcel_more t (Has t y) (Lent t) tasks z (Home y) (λ ps xs left l x. (xs, refl, l)) (comes_of (serves t y) new tasks z e k)
 comes_home t (Work chunk) new tasks z e k = absurd (cc (e))

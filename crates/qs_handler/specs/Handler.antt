@@ -42,18 +42,18 @@ with_act (away t) (acts.Give c x) = gives t x
 with_act h act = h
 
 -- with the next ticket, or the word that none comes, where it asks for one
-abbrev pub taken : Handler → Next → Option Handler
-taken (free x) (nexts.Ticket t) = Some (serves t x)
-taken (free x) nexts.Closed = Some (closed x)
-taken h next = None
+abbrev pub accept_next : Handler → Next → Option Handler
+accept_next (free x) (nexts.Ticket t) = Some (serves t x)
+accept_next (free x) nexts.Closed = Some (closed x)
+accept_next h next = None
 
 -- with a parcel of the block that it serves, where the parcel may stand there
-abbrev pub received : Handler → Parcel → Option Handler
-received (serves t x) (Work chunk) = Some (spares t (ran_all x t chunk.items) chunk.capacity)
-received (serves t x) Sync = Some (gives t x)
-received (serves t x) End = Some (free x)
-received (away t) (Home x) = Some (serves t x)
-received h parcel = None
+abbrev pub accept_parcel : Handler → Parcel → Option Handler
+accept_parcel (serves t x) (Work chunk) = Some (spares t (ran_all x t chunk.items) chunk.capacity)
+accept_parcel (serves t x) Sync = Some (gives t x)
+accept_parcel (serves t x) End = Some (free x)
+accept_parcel (away t) (Home x) = Some (serves t x)
+accept_parcel h parcel = None
 
 abbrev pub is_away : Handler → Bool
 is_away (away t) = true

@@ -7,11 +7,11 @@ use Rattle.qs_chunk.specs.Batch.{Batch, batch}
 use Rattle.qs_chunk.specs.Lanes.{HasSize, is_asked}
 use Rattle.qs_chunk.specs.LaneRun.{syncs}
 use Rattle.qs_chunk.specs.declared.parcel.Parcel.{Parcel}
-use Rattle.qs_handler.specs.Handler.{Handler, free, serves, spares, gives, away, closed, act_of, gave, taken, received, is_away}
+use Rattle.qs_handler.specs.Handler.{Handler, free, serves, spares, gives, away, closed, act_of, gave, accept_next, accept_parcel, is_away}
 use Rattle.qs_handler.specs.declared.mind.Act.TheVariants as acts
 
 -- the last parcel is no Sync, and each Sync was served
-pub record IsQuiet (parcels : List Parcel) (given : List HeldState) : Type 0 where
+pub record OwesNothing (parcels : List Parcel) (given : List HeldState) : Type 0 where
   pub last : is_asked false parcels ≡ false
   pub served : length given ≡ syncs parcels
 
@@ -28,14 +28,14 @@ pub record IsServed (parcels : List Parcel) (given : List HeldState) : Type 0 wh
 -- A handler at the lane of a client, with chunks of this size. From the client of the block that it serves, the last parcel is a Sync
 -- exactly where it is to give its object or is without it, and a chunk that it is to give back has the lane's size.
 abbrev pub StandsAt : ℕ → ℕ → Handler → List Parcel → List HeldState → Type 0
-StandsAt size client (free x) parcels given = IsQuiet parcels given
-StandsAt size client (serves t x) parcels given = IsQuiet parcels given
-StandsAt size client (spares t x n) parcels given = IsQuiet parcels given × (t.client ≡ client → n ≡ size)
+StandsAt size client (free x) parcels given = OwesNothing parcels given
+StandsAt size client (serves t x) parcels given = OwesNothing parcels given
+StandsAt size client (spares t x n) parcels given = OwesNothing parcels given × (t.client ≡ client → n ≡ size)
 StandsAt size client (gives t x) parcels given =
-    (t.client ≡ client → IsUnserved parcels given) × (t.client ≢ client → IsQuiet parcels given)
+    (t.client ≡ client → IsUnserved parcels given) × (t.client ≢ client → OwesNothing parcels given)
 StandsAt size client (away t) parcels given =
-    (t.client ≡ client → IsServed parcels given) × (t.client ≢ client → IsQuiet parcels given)
-StandsAt size client (closed x) parcels given = IsQuiet parcels given
+    (t.client ≡ client → IsServed parcels given) × (t.client ≢ client → OwesNothing parcels given)
+StandsAt size client (closed x) parcels given = OwesNothing parcels given
 
 -- so it stands to each lane before its first ticket, and tickets change nothing
 abbrev pub BeginsAtLanes : Type 0
@@ -44,7 +44,7 @@ BeginsAtLanes = (size client : ℕ) (x : HeldState) → StandsAt size client (fr
 abbrev pub TicketsKeepLanes : Type 0
 TicketsKeepLanes =
     (size client : ℕ) (h new : Handler) (next : Next) (parcels : List Parcel) (given : List HeldState)
-    → taken h next ≡ Some new → StandsAt size client h parcels given → StandsAt size client new parcels given
+    → accept_next h next ≡ Some new → StandsAt size client h parcels given → StandsAt size client new parcels given
 
 -- where it asks for a client's parcel, what may stand there by its own state is what may follow in that lane
 abbrev pub AsksForWhatFollows : Type 0
@@ -56,13 +56,13 @@ AsksForWhatFollows =
 abbrev pub ParcelsKeepLanes : Type 0
 ParcelsKeepLanes =
     (size client : ℕ) (h new : Handler) (parcel : Parcel) (parcels : List Parcel) (given : List HeldState)
-    → act_of h ≡ acts.TakeParcel client → received h parcel ≡ Some new → HasSize size parcel
+    → act_of h ≡ acts.TakeParcel client → accept_parcel h parcel ≡ Some new → HasSize size parcel
     → StandsAt size client h parcels given → StandsAt size client new (parcels ++ parcel ∷ []) given
 
 abbrev pub ParcelsKeepOtherLanes : Type 0
 ParcelsKeepOtherLanes =
     (size client other : ℕ) (h new : Handler) (parcel : Parcel) (parcels : List Parcel) (given : List HeldState)
-    → act_of h ≡ acts.TakeParcel client → received h parcel ≡ Some new → client ≢ other
+    → act_of h ≡ acts.TakeParcel client → accept_parcel h parcel ≡ Some new → client ≢ other
     → StandsAt size other h parcels given → StandsAt size other new parcels given
 
 -- It gives its object to a client only where the last parcel that it received from the client is a Sync which is not served yet; then

@@ -8,7 +8,7 @@ use Rattle.qs_chunk.specs.Batch.{Batch, batch}
 use Rattle.qs_chunk.specs.Lanes.{HasSize, is_asked}
 use Rattle.qs_chunk.specs.LaneRun.{syncs}
 use Rattle.qs_chunk.specs.declared.parcel.Parcel.{Parcel}
-use Rattle.qs_handler.specs.Handler.{Handler, free, act_of, gave, taken, received}
+use Rattle.qs_handler.specs.Handler.{Handler, free, act_of, gave, accept_next, accept_parcel}
 use Rattle.qs_handler.specs.HandlerLanes.{StandsAt}
 use Rattle.qs_handler.specs.declared.mind.Act.TheVariants as acts
 
@@ -22,9 +22,9 @@ pub data Task : Type 0 where
 -- these tasks, each of which the handler was told to do, lead it from one state to another
 abbrev pub TasksLead : Handler → List Task → Handler → Type 0
 TasksLead h [] end = h ≡ end
-TasksLead h (takes next ∷ tasks) end = (new : Handler) × (taken h next ≡ Some new) × TasksLead new tasks end
+TasksLead h (takes next ∷ tasks) end = (new : Handler) × (accept_next h next ≡ Some new) × TasksLead new tasks end
 TasksLead h (receives c parcel ∷ tasks) end =
-    (new : Handler) × (act_of h ≡ acts.TakeParcel c) × (received h parcel ≡ Some new) × TasksLead new tasks end
+    (new : Handler) × (act_of h ≡ acts.TakeParcel c) × (accept_parcel h parcel ≡ Some new) × TasksLead new tasks end
 TasksLead h (gives c x ∷ tasks) end = (act_of h ≡ acts.Give c x) × TasksLead (gave h) tasks end
 TasksLead h (spares c chunk ∷ tasks) end = (act_of h ≡ acts.Spare c chunk) × TasksLead (gave h) tasks end
 

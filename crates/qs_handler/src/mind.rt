@@ -4,7 +4,7 @@ ghost use Rattle.std.specs.Prelude.{◌≡◌, ℕ, [], IsTrue, false, Some, opt
 ghost use Rattle.qs_chunk.specs.Batch.{batch};
 ghost use Rattle.qs_chunk.specs.Lanes.{may_stand};
 ghost use Rattle.qs_chunk.specs.Runs.{ran_all};
-ghost use Rattle.qs_handler.specs.Handler.{free, serves, away, closed, act_of, gave, taken, received, is_away, held_of};
+ghost use Rattle.qs_handler.specs.Handler.{free, serves, away, closed, act_of, gave, accept_next, accept_parcel, is_away, held_of};
 ghost use Rattle.qs_handler.specs.Stages.{handler_of, IsTidy};
 
 use qs_chunk::{Chunk, Parcel};
@@ -69,7 +69,7 @@ fn run_all(ticket: Ticket, held: &mut Held, chunk: &mut Chunk<Request>)
 // A handler that serves a block, and has its object, takes a parcel.
 fn serve(ticket: Ticket, held: Held, parcel: Parcel) -> Stage
     requires stands { IsTrue (may_stand false parcel) }
-    ensures stage { received (serves ticket held) parcel ≡ Some (handler_of result) }
+    ensures stage { accept_parcel (serves ticket held) parcel ≡ Some (handler_of result) }
     ensures tidy { IsTidy result }
 {
     match parcel {
@@ -112,7 +112,7 @@ impl Stage {
 
     fn with_ticket(self, next: Next) -> Stage
         requires asked { act_of (handler_of self) ≡ Act.TakeTicket }
-        ensures stage { taken (handler_of self) next ≡ Some (handler_of result) }
+        ensures stage { accept_next (handler_of self) next ≡ Some (handler_of result) }
         ensures tidy { IsTidy result }
     {
         match self {
@@ -127,7 +127,7 @@ impl Stage {
     fn with_parcel(self, parcel: Parcel) -> Stage
         requires asked { (client : ℕ) × (act_of (handler_of self) ≡ Act.TakeParcel client) }
         requires stands { IsTrue (may_stand (is_away (handler_of self)) parcel) }
-        ensures stage { received (handler_of self) parcel ≡ Some (handler_of result) }
+        ensures stage { accept_parcel (handler_of self) parcel ≡ Some (handler_of result) }
         ensures tidy { IsTidy result }
     {
         match self {
@@ -171,7 +171,7 @@ impl Mind {
     /// What the queue of queues had next.
     pub fn ticket(&mut self, next: Next)
         requires asked { act_of self.old ≡ Act.TakeTicket }
-        ensures taken { taken self.old next ≡ Some self.new }
+        ensures taken { accept_next self.old next ≡ Some self.new }
     {
         let stage = mem::replace(&mut self.stage, Stage::Away(NOBODY));
         self.stage = stage.with_ticket(next);
@@ -181,7 +181,7 @@ impl Mind {
     pub fn parcel(&mut self, parcel: Parcel)
         requires asked { (client : ℕ) × (act_of self.old ≡ Act.TakeParcel client) }
         requires stands { IsTrue (may_stand (is_away self.old) parcel) }
-        ensures received { received self.old parcel ≡ Some self.new }
+        ensures received { accept_parcel self.old parcel ≡ Some self.new }
     {
         let stage = mem::replace(&mut self.stage, Stage::Away(NOBODY));
         self.stage = stage.with_parcel(parcel);

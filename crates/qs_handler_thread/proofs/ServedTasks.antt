@@ -18,13 +18,13 @@ use Rattle.qs_chunk.specs.Lanes.{HasSize, MayFollow, is_asked, may_stand}
 use Rattle.qs_chunk.specs.Runs.{ran_all}
 use Rattle.qs_chunk.specs.declared.parcel.Parcel.{Parcel}
 use Rattle.qs_chunk.specs.declared.parcel.Parcel.TheVariants.{Work, Sync, Home, End}
-use Rattle.qs_handler.specs.Handler.{Handler, free, serves, spares, gives, away, closed, act_of, gave, is_away, received, serving, taken}
+use Rattle.qs_handler.specs.Handler.{Handler, free, serves, spares, gives, away, closed, act_of, gave, is_away, accept_parcel, serving, accept_next}
 use Rattle.qs_handler.specs.HandlerLanes.{StandsAt}
 use Rattle.qs_handler.specs.HandlerRuns.{Task, TasksLead, given_to, received_from, taken_by}
 use Rattle.qs_handler.specs.HandlerRuns as tasks
 use Rattle.qs_handler.specs.declared.mind.Act.TheVariants as acts
 use Rattle.qs_handler.proofs.LaneTurns.{handler_lane_laws}
-use Rattle.qs_handler.proofs.Turns.{parcels_stand, tickets_are_asked_for}
+use Rattle.qs_handler.proofs.HandlerActs.{parcels_stand, tickets_are_asked_for}
 use Rattle.qs_handler.proofs.Runs.{handler_run_laws}
 use Rattle.qs_desk.specs.Tickets.{IsFor}
 use Rattle.qs_desk.specs.Views.{TicketsView}
@@ -119,7 +119,7 @@ serving_gave P (gives t x) all = all
 serving_gave P (away t) all = all
 serving_gave P (closed x) all = all
 
-serving_received : (P : Ticket → Type 0) (m m' : Handler) (parcel : Parcel) → received m parcel ≡ Some m' → AllByRecursion P (serving m) → AllByRecursion P (serving m')
+serving_received : (P : Ticket → Type 0) (m m' : Handler) (parcel : Parcel) → accept_parcel m parcel ≡ Some m' → AllByRecursion P (serving m) → AllByRecursion P (serving m')
 serving_received P (free x) m' parcel e all = absurd (cc)
 serving_received P (serves t x) m' (Work chunk) e all = let is : spares t (ran_all x t chunk.items) chunk.capacity ≡ m' = cc in subst (λ m. AllByRecursion P (serving m)) is all
 serving_received P (serves t x) m' Sync e all = let is : gives t x ≡ m' = cc in subst (λ m. AllByRecursion P (serving m)) is all
@@ -134,7 +134,7 @@ serving_received P (away t) m' End e all = absurd (cc)
 serving_received P (closed x) m' parcel e all = absurd (cc)
 
 module _ (p : ProgramShape) (h : ℕ) where
-  serving_taken : (m m' : Handler) (next : Next) → taken m next ≡ Some m' → IsFor p h next → AllByRecursion (λ t. reserves p t h ≡ true) (serving m')
+  serving_taken : (m m' : Handler) (next : Next) → accept_next m next ≡ Some m' → IsFor p h next → AllByRecursion (λ t. reserves p t h ≡ true) (serving m')
   serving_taken (free x) m' (nexts.Ticket t) e own = let is : serves t x ≡ m' = cc in subst (λ m. AllByRecursion (λ t. reserves p t h ≡ true) (serving m)) is (own, tt)
   serving_taken (free x) m' nexts.Closed e own = let is : closed x ≡ m' = cc in subst (λ m. AllByRecursion (λ t. reserves p t h ≡ true) (serving m)) is tt
   serving_taken (serves t x) m' next e own = absurd (cc)
@@ -145,12 +145,12 @@ module _ (p : ProgramShape) (h : ℕ) where
 
   module _ (x : HeldState) (start : List (Option InView)) where
     -- what the thread has done so far, whatever it was
-    abbrev pub Kept : Handler → TicketsView → List (Option InView) → Type 0
-    Kept m tickets lanes = (done : List Task) × IsServing p h x start done m tickets lanes
+    abbrev pub HasTasks : Handler → TicketsView → List (Option InView) → Type 0
+    HasTasks m tickets lanes = (done : List Task) × IsServing p h x start done m tickets lanes
 
     -- before its first ticket
     pub begins : (m : Handler) (tickets : TicketsView) → m ≡ free x → tickets.handler ≡ h → tickets.taken ≡ [] → ((c : ℕ) → IsFresh (lane_at start c))
-        → Kept m tickets start
+        → HasTasks m tickets start
     begins m tickets is handler none fresh = (
       [],
       record {
@@ -169,13 +169,13 @@ module _ (p : ProgramShape) (h : ℕ) where
         at_lane c (Some k) f = (refl, refl, f.0, f.1, tt)
 
     -- the act of a handler that takes a ticket, and its ends after it
-    pub took_ticket : (m n m' : Handler) (next : Next) (tickets tickets' : TicketsView) (lanes : List (Option InView)) → Kept m tickets lanes
-        → n ≡ gave m → act_of m ≡ acts.TakeTicket → taken n next ≡ Some m' → IsFor p tickets.handler next
-        → tickets' ≡ record { handler = tickets.handler; taken = tickets.taken ++ next ∷ [] } → Kept m' tickets' lanes
+    pub took_ticket : (m n m' : Handler) (next : Next) (tickets tickets' : TicketsView) (lanes : List (Option InView)) → HasTasks m tickets lanes
+        → n ≡ gave m → act_of m ≡ acts.TakeTicket → accept_next n next ≡ Some m' → IsFor p tickets.handler next
+        → tickets' ≡ record { handler = tickets.handler; taken = tickets.taken ++ next ∷ [] } → HasTasks m' tickets' lanes
     took_ticket m n m' next tickets tickets' lanes k at asks takes own more =
         let done = k.0 in
         let same : gave m ≡ m = (tickets_are_asked_for m next).1 asks in
-        let here : taken m next ≡ Some m' = ap (λ m. taken m next) (sym (at ∙ same)) ∙ takes in (
+        let here : accept_next m next ≡ Some m' = ap (λ m. accept_next m next) (sym (at ∙ same)) ∙ takes in (
           done ++ tasks.takes next ∷ [],
           record {
             lead = tasks_lead done (tasks.takes next ∷ []) (free x) m m' k.1.lead (m', here, refl);
@@ -186,7 +186,7 @@ module _ (p : ProgramShape) (h : ℕ) where
           },
         )
 
-    module _ (m n : Handler) (tickets : TicketsView) (lanes : List (Option InView)) (k : Kept m tickets lanes) (at : n ≡ gave m)
+    module _ (m n : Handler) (tickets : TicketsView) (lanes : List (Option InView)) (k : HasTasks m tickets lanes) (at : n ≡ gave m)
         (reached : (t : Ticket) → reserves p t h ≡ true → (t.client < most_clients) × IsSome (lane_at start t.client)) where
       -- it has a lane to the client that it serves
       reaches : (c : ℕ) → Serves m c → (c < most_clients) × IsSome (lane_at lanes c)
@@ -225,13 +225,13 @@ module _ (p : ProgramShape) (h : ℕ) where
           follows.0
 
       pub received_parcel : (m' : Handler) (c : ℕ) (parcel : Parcel) (lane : InView) (lanes' : List (Option InView)) → act_of m ≡ acts.TakeParcel c
-          → lane_at lanes c ≡ Some lane → received n parcel ≡ Some m' → MayFollow lane.size (is_asked false lane.received) parcel
-          → lanes' ≡ slice_set lanes c (Some (record lane { received = lane.received ++ parcel ∷ [] })) → Kept m' tickets lanes'
+          → lane_at lanes c ≡ Some lane → accept_parcel n parcel ≡ Some m' → MayFollow lane.size (is_asked false lane.received) parcel
+          → lanes' ≡ slice_set lanes c (Some (record lane { received = lane.received ++ parcel ∷ [] })) → HasTasks m' tickets lanes'
       received_parcel m' c parcel lane lanes' asks is receives follows more =
           let done = k.0 in
           let d = tasks.receives c parcel in
           let same : gave m ≡ m = (parcels_stand m c parcel asks).1 in
-          let here : received m parcel ≡ Some m' = ap (λ m. received m parcel) (sym (at ∙ same)) ∙ receives in
+          let here : accept_parcel m parcel ≡ Some m' = ap (λ m. accept_parcel m parcel) (sym (at ∙ same)) ∙ receives in
           let b = lane_is c lane is in (
             done ++ d ∷ [],
             record {
@@ -272,7 +272,7 @@ module _ (p : ProgramShape) (h : ℕ) where
           (g.0, g.1)
 
       pub gave_object : (c : ℕ) (y : HeldState) (lane : InView) (lanes' : List (Option InView)) → act_of m ≡ acts.Give c y → lane_at lanes c ≡ Some lane
-          → lanes' ≡ slice_set lanes c (Some (record lane { given = lane.given ++ y ∷ [] })) → Kept n tickets lanes'
+          → lanes' ≡ slice_set lanes c (Some (record lane { given = lane.given ++ y ∷ [] })) → HasTasks n tickets lanes'
       gave_object c y lane lanes' asks is more =
           let done = k.0 in
           let d = tasks.gives c y in
@@ -313,7 +313,7 @@ module _ (p : ProgramShape) (h : ℕ) where
       is_empty c chunk lane asks is = handler_lane_laws.spares lane.size c m chunk lane.received lane.given asks (stands c lane is)
 
       pub spared_chunk : (c : ℕ) (chunk : Batch Request) (lane : InView) (lanes' : List (Option InView)) → act_of m ≡ acts.Spare c chunk → lane_at lanes c ≡ Some lane
-          → (lanes' ≡ slice_set lanes c (Some (record lane { spared = lane.spared + 1 }))) ⊎ (lanes' ≡ lanes) → Kept n tickets lanes'
+          → (lanes' ≡ slice_set lanes c (Some (record lane { spared = lane.spared + 1 }))) ⊎ (lanes' ≡ lanes) → HasTasks n tickets lanes'
       spared_chunk c chunk lane lanes' asks is more =
           let done = k.0 in
           let d = tasks.spares c chunk in (
@@ -349,29 +349,29 @@ module _ (p : ProgramShape) (h : ℕ) where
           let lane = some_lane (lane_at lanes c) (reaches_sender c asks).1 in
           may_come c parcel lane.0 asks lane.1 (took lane.0 lane.1).1
 
-      pub kept_by_parcel : (m' : Handler) (c : ℕ) (parcel : Parcel) (lanes' : List (Option InView)) → act_of m ≡ acts.TakeParcel c → received n parcel ≡ Some m'
-          → Took c parcel lanes' → Kept m' tickets lanes'
+      pub kept_by_parcel : (m' : Handler) (c : ℕ) (parcel : Parcel) (lanes' : List (Option InView)) → act_of m ≡ acts.TakeParcel c → accept_parcel n parcel ≡ Some m'
+          → Took c parcel lanes' → HasTasks m' tickets lanes'
       kept_by_parcel m' c parcel lanes' asks receives took =
           let lane = some_lane (lane_at lanes c) (reaches_sender c asks).1 in
           let did = took lane.0 lane.1 in
           received_parcel m' c parcel lane.0 lanes' asks lane.1 receives did.1 did.0
 
       pub kept_by_object : (c : ℕ) (y : HeldState) (lanes' : List (Option InView)) → act_of m ≡ acts.Give c y
-          → ((lane : InView) → lane_at lanes c ≡ Some lane → lanes' ≡ slice_set lanes c (Some (record lane { given = lane.given ++ y ∷ [] }))) → Kept n tickets lanes'
+          → ((lane : InView) → lane_at lanes c ≡ Some lane → lanes' ≡ slice_set lanes c (Some (record lane { given = lane.given ++ y ∷ [] }))) → HasTasks n tickets lanes'
       kept_by_object c y lanes' asks did =
           let lane = some_lane (lane_at lanes c) (reaches_asker c y asks).1 in
           gave_object c y lane.0 lanes' asks lane.1 (did lane.0 lane.1)
 
       pub kept_by_chunk : (c : ℕ) (chunk : Batch Request) (lanes' : List (Option InView)) → act_of m ≡ acts.Spare c chunk
-          → ((lane : InView) → lane_at lanes c ≡ Some lane → (lanes' ≡ slice_set lanes c (Some (record lane { spared = lane.spared + 1 }))) ⊎ (lanes' ≡ lanes)) → Kept n tickets lanes'
+          → ((lane : InView) → lane_at lanes c ≡ Some lane → (lanes' ≡ slice_set lanes c (Some (record lane { spared = lane.spared + 1 }))) ⊎ (lanes' ≡ lanes)) → HasTasks n tickets lanes'
       kept_by_chunk c chunk lanes' asks did =
           let lane = some_lane (lane_at lanes c) (reaches_spared c chunk asks).1 in
           spared_chunk c chunk lane.0 lanes' asks lane.1 (did lane.0 lane.1)
 
     -- a handler that has ended
-    pub kept_to_end : (m n : Handler) (y : HeldState) (tickets : TicketsView) (lanes : List (Option InView)) → Kept m tickets lanes → n ≡ gave m → act_of m ≡ acts.Closed
-        → n ≡ closed y → Kept (closed y) tickets lanes
-    kept_to_end m n y tickets lanes k at asks is = subst (λ m. Kept m tickets lanes) (sym (stays m asks) ∙ (sym at ∙ is)) k
+    pub kept_to_end : (m n : Handler) (y : HeldState) (tickets : TicketsView) (lanes : List (Option InView)) → HasTasks m tickets lanes → n ≡ gave m → act_of m ≡ acts.Closed
+        → n ≡ closed y → HasTasks (closed y) tickets lanes
+    kept_to_end m n y tickets lanes k at asks is = subst (λ m. HasTasks m tickets lanes) (sym (stays m asks) ∙ (sym at ∙ is)) k
       where
         stays : (m : Handler) → act_of m ≡ acts.Closed → gave m ≡ m
         stays (free x) e = refl

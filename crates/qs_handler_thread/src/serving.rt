@@ -7,8 +7,8 @@ ghost use Rattle.qs_handler.specs.HandlerRuns.{Task};
 ghost use Rattle.qs_handler_thread.specs.HandlerThreads.{IsFresh, IsServing, lane_at};
 ghost use Rattle.qs_meaning.specs.Following.{reserves};
 
-use crate::ends::{Lanes, give, spare, take_parcel};
 use crate::gate::Gate;
+use crate::handler_lanes::{Lanes, give, spare, take_parcel};
 use qs_desk::{DeskName, Tickets};
 use qs_handler::{Act, Mind};
 use qs_objects::{Held, Next, Ticket};

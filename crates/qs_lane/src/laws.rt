@@ -1,3 +1,3 @@
 //! What the two ends of one lane know together.
 
-pub use crate::ends::agree;
+pub use crate::lane_ends::agree;

@@ -1,10 +1,10 @@
 //! The lane, a client's private queue at a handler: parcels go down, and objects and empty chunks come up.
 #![tactic(auto)]
 
-mod ends;
+mod lane_ends;
 pub mod laws;
 mod protocols;
 #[cfg(test)]
 mod tests;
 
-pub use ends::{LaneIn, LaneOut, lane};
+pub use lane_ends::{LaneIn, LaneOut, lane};

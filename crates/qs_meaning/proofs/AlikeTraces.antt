@@ -7,7 +7,7 @@ use Rattle.std.specs.List.{AllByRecursion, IsDistinct}
 use Rattle.std.specs.Cmp.Lexicographic.{other_text}
 use Rattle.std.proofs.Math.IntN.{ℤ_discrete}
 use Rattle.std.proofs.lemmas.List.{length-set, length-map, get_or-map}
-use Rattle.qs_objects.specs.Act.{State, act, Outcome}
+use Rattle.qs_objects.specs.Act.{State, act, ActResult}
 use Rattle.qs_objects.specs.Journals.{after, answer}
 use Rattle.qs_objects.specs.Operations.{is_query}
 use Rattle.qs_objects.specs.Parts.{IsFront, part}
@@ -27,9 +27,9 @@ use Rattle.qs_meaning.specs.Alike.{SameStatements, SameText, SameValues, SameObj
 use Rattle.qs_meaning.specs.Alike.{HasValues, BlocksAlike, PlacesAlike, ValuesByName, object_name, variable_name, value_at}
 use Rattle.qs_meaning.specs.Following.{AsksOnly, reserves}
 use Rattle.qs_meaning.specs.Interaction.{Interaction, Done, Call, Query, Next, turns, meaning, tree_of, run}
-use Rattle.qs_meaning.specs.Serial.{Place, serial, serial_from, declared, zeros}
+use Rattle.qs_meaning.specs.Serial.{SerialBlock, serial, serial_from, declared_states, zeros}
 use Rattle.qs_meaning.specs.Solo as alone
-use Rattle.qs_meaning.specs.Solo.{States, changed, event, put, solo, value_of}
+use Rattle.qs_meaning.specs.Solo.{States, states_after, event, put, solo, value_of}
 use Rattle.qs_meaning.proofs.Each.{each_map}
 use Rattle.qs_meaning.proofs.EqualTexts.{Below, Twin, all_below, both, tree_twin}
 use Rattle.qs_meaning.proofs.SoundTrees.{blocks_ask_only}
@@ -153,22 +153,22 @@ module _ (p q : ProgramShape) (sound : IsSound p) (right : IsSound q) (t u : Tic
   Alike _ _ = ⊥
 
   -- what started in the same state is in the same state
-  abbrev Kept : States → States → Type 0
-  Kept s z = (h g : ℕ) → Same h g → st h ≡ tu g → s h ≡ z g
+  abbrev AreEqualWhereBegunEqual : States → States → Type 0
+  AreEqualWhereBegunEqual s z = (h g : ℕ) → Same h g → st h ≡ tu g → s h ≡ z g
 
   act_same : (a b : State) (r s : Request) → a ≡ b → SameRequest p q r s → act a r.op r.args ≡ act b s.op s.args
   act_same a b r s is same = λ i. act (is i) (same.op i) (same.args i)
 
-  changed_kept : (s z : States) (r r' : Request) → Same r.object r'.object → SameRequest p q r r' → Kept s z → Kept (changed s r) (changed z r')
+  changed_kept : (s z : States) (r r' : Request) → Same r.object r'.object → SameRequest p q r r' → AreEqualWhereBegunEqual s z → AreEqualWhereBegunEqual (states_after s r) (states_after z r')
   changed_kept s z r r' mine same kept h g other began =
       ⊎_elim
       (λ (is : r.object ≡ h).
       let there : r'.object ≡ g = one_there r.object r'.object g mine (subst (λ h. Same h g) (sym is) other) in
       let start : st r.object ≡ tu r'.object = ap st is ∙ (began ∙ ap tu (sym there)) in
-      subst (λ h. changed s r h ≡ changed z r' g) is
-      (subst (λ g. changed s r r.object ≡ changed z r' g) there
+      subst (λ h. states_after s r h ≡ states_after z r' g) is
+      (subst (λ g. states_after s r r.object ≡ states_after z r' g) there
       (put_here s r.object (after (s r.object) r)
-      ∙ (ap (λ (o : Outcome). o.0) (act_same (s r.object) (z r'.object) r r' (kept r.object r'.object mine start) same)
+      ∙ (ap (λ (o : ActResult). o.0) (act_same (s r.object) (z r'.object) r r' (kept r.object r'.object mine start) same)
       ∙ sym (put_here z r'.object (after (z r'.object) r'))))))
       (λ (no : (r.object == h) ≡ false).
       let not_there : r'.object ≢ g = λ i. apart_eqb r.object h no (one_here r.object h g (subst (λ g. Same r.object g) i mine) other) in
@@ -179,13 +179,13 @@ module _ (p q : ProgramShape) (sound : IsSound p) (right : IsSound q) (t u : Tic
   matched : (r s : Request) → reserves p t r.object ≡ true → reserves q u s.object ≡ true → SameRequest p q r s → Same r.object s.object
   matched r s a b same = record { here = a; there = b; name = same.object }
 
-  twin_alike : (a b : Interaction) → AsksOnly (reserves p t) a → AsksOnly (reserves q u) b → Twin p q a b → (s z : States) → Kept s z
+  twin_alike : (a b : Interaction) → AsksOnly (reserves p t) a → AsksOnly (reserves q u) b → Twin p q a b → (s z : States) → AreEqualWhereBegunEqual s z
       → Alike (run a s).trace (run b z).trace
   twin_alike (Done l) (Done k) f g w s z kept = tt
   twin_alike (Call r next) (Call r' later) f g w s z kept =
       inl (
         record { request = w.0; reply = refl },
-        twin_alike next later f.2 g.2 w.1 (changed s r) (changed z r') (changed_kept s z r r' (matched r r' f.1 g.1 w.0) w.0 kept),
+        twin_alike next later f.2 g.2 w.1 (states_after s r) (states_after z r') (changed_kept s z r r' (matched r r' f.1 g.1 w.0) w.0 kept),
       )
   twin_alike (Query r next) (Query r' later) f g w s z kept =
       let v : Option ℤ = answer (s r.object) r in
@@ -195,8 +195,8 @@ module _ (p q : ProgramShape) (sound : IsSound p) (right : IsSound q) (t u : Tic
       (λ (is : v ≡ v').
       inl (
         record { request = w.0; reply = is },
-        subst (λ x. Alike (run (next (value_of v)) (changed s r)).trace (run (later (value_of x)) (changed z r')).trace) is
-            (twin_alike (next (value_of v)) (later (value_of v)) (f.2 (value_of v)) (g.2 (value_of v)) (w.1 (value_of v)) (changed s r) (changed z r')
+        subst (λ x. Alike (run (next (value_of v)) (states_after s r)).trace (run (later (value_of x)) (states_after z r')).trace) is
+            (twin_alike (next (value_of v)) (later (value_of v)) (f.2 (value_of v)) (g.2 (value_of v)) (w.1 (value_of v)) (states_after s r) (states_after z r')
             (changed_kept s z r r' mine w.0 kept)),
       ))
       (λ (no : v ≢ v').
@@ -204,7 +204,7 @@ module _ (p q : ProgramShape) (sound : IsSound p) (right : IsSound q) (t u : Tic
         same = mine;
         request = w.0;
         asks = f.0;
-        apart = λ began. no (ap (λ (o : Outcome). o.1) (act_same (s r.object) (z r'.object) r r' (kept r.object r'.object mine began) w.0));
+        apart = λ began. no (ap (λ (o : ActResult). o.1) (act_same (s r.object) (z r'.object) r r' (kept r.object r'.object mine began) w.0));
       }))
       (option_dec v v')
   twin_alike _ _ f g w s z kept = absurd w
@@ -272,8 +272,8 @@ module _ (p q : ProgramShape) (sound : IsSound p) (right : IsSound q) (t u : Tic
       b c whole l k (record { many = many; much = much; same = λ x y (a : Named l k x y). a.value }) in
       let k_trees : Alike (run (tree_of b l) st).trace (run (tree_of c k) tu).trace =
       twin_alike (tree_of b l) (tree_of c k) (blocks_ask_only p sound t l) (blocks_ask_only q right u k) twin st tu (λ h g same began. began) in
-      subst (λ es. Alike es (solo c k tu).trace) (sym (ap (λ (o : alone.Outcome). o.trace) (trees_agree b l st)))
-      (subst (λ ds. Alike (run (tree_of b l) st).trace ds) (sym (ap (λ (o : alone.Outcome). o.trace) (trees_agree c k tu))) k_trees)
+      subst (λ es. Alike es (solo c k tu).trace) (sym (ap (λ (o : alone.BlockResult). o.trace) (trees_agree b l st)))
+      (subst (λ ds. Alike (run (tree_of b l) st).trace ds) (sym (ap (λ (o : alone.BlockResult). o.trace) (trees_agree c k tu))) k_trees)
 
   solo_alike : SameText p q t u → (l k : Locals) → HasValues p t l → HasValues q u k → SameValues p q t u l k
       → AlikeFrom p q t u st tu (solo (text_of p t).body l st).trace (solo (text_of q u).body k tu).trace
@@ -326,19 +326,19 @@ meaning_long (leave rest) next leaves f g l e = g l e
 
 run_long : (t : Interaction) (st : States) → Long t → length (run t st).locals ≡ most_variables
 run_long (Done l) st e = e
-run_long (Call r next) st e = run_long next (changed st r) e
-run_long (Query r next) st e = run_long (next (value_of (answer (st r.object) r))) (changed st r) (e (value_of (answer (st r.object) r)))
+run_long (Call r next) st e = run_long next (states_after st r) e
+run_long (Query r next) st e = run_long (next (value_of (answer (st r.object) r))) (states_after st r) (e (value_of (answer (st r.object) r)))
 
 solo_long : (b : Statements) (l : Locals) (st : States) → length l ≡ most_variables → length (solo b l st).locals ≡ most_variables
 solo_long b l st e =
-    ap (λ (o : alone.Outcome). length o.locals) (trees_agree b l st) ∙ run_long (tree_of b l) st (meaning_long b Done Done (λ l e. e) (λ l e. e) l e)
+    ap (λ (o : alone.BlockResult). length o.locals) (trees_agree b l st) ∙ run_long (tree_of b l) st (meaning_long b Done Done (λ l e. e) (λ l e. e) l e)
 
 entries_long : (p : ProgramShape) (order : List Ticket) (ls : ℕ → Locals) (st : States) → ((c : ℕ) → length (ls c) ≡ most_variables)
     → AllByRecursion
-    (λ (s : Place). (length s.entry ≡ most_variables) × (s.trace ≡ (solo (text_of p s.ticket).body s.entry s.starts).trace)) (serial_from p ls st order).places
+    (λ (s : SerialBlock). (length s.entry ≡ most_variables) × (s.trace ≡ (solo (text_of p s.ticket).body s.entry s.starts).trace)) (serial_from p ls st order).places
 entries_long p [] ls st e = tt
 entries_long p (t ∷ ts) ls st e =
-    let o : alone.Outcome = solo (text_of p t).body (ls t.client) st in
+    let o : alone.BlockResult = solo (text_of p t).body (ls t.client) st in
     ((e t.client, refl), entries_long p ts (put ls t.client o.locals) o.states (λ c. by_case c (t.client == c)))
   where
     by_case : (c : ℕ) (b : Bool) → length (if b then (solo (text_of p t).body (ls t.client) st).locals else ls c) ≡ most_variables
@@ -350,22 +350,22 @@ few_variables p sound c =
     all_at (λ (c : ClientShape). length c.variables ≤ most_variables) p.clients c no_client
     (each_map (λ (c : ClientShape) (f : IsSoundClient p.objects c). f.variables) p.clients sound.each) (omega arith)
 
-abbrev pub IsPlaceOf : ProgramShape → Place → Type 0
+abbrev pub IsPlaceOf : ProgramShape → SerialBlock → Type 0
 IsPlaceOf p s = HasValues p s.ticket s.entry × (s.trace ≡ (solo (text_of p s.ticket).body s.entry s.starts).trace)
 
 pub places_of : (p : ProgramShape) → IsSound p → (order : List Ticket) → AllByRecursion (IsPlaceOf p) (serial p order).places
 places_of p sound order =
     each_map
-    (λ (s : Place) (e : (length s.entry ≡ most_variables) × (s.trace ≡ (solo (text_of p s.ticket).body s.entry s.starts).trace)).
+    (λ (s : SerialBlock) (e : (length s.entry ≡ most_variables) × (s.trace ≡ (solo (text_of p s.ticket).body s.entry s.starts).trace)).
     let few = few_variables p sound s.ticket.client in (omega (arith, few, e.0), e.1))
     (serial p order).places
-    (entries_long p order (λ _. zeros) (declared p) (λ c. refl))
+    (entries_long p order (λ _. zeros) (declared_states p) (λ c. refl))
 
-abbrev ArePlacesAlike : ProgramShape → ProgramShape → Place → Place → Type 0
+abbrev ArePlacesAlike : ProgramShape → ProgramShape → SerialBlock → SerialBlock → Type 0
 ArePlacesAlike p q a b =
     SameText p q a.ticket b.ticket → SameValues p q a.ticket b.ticket a.entry b.entry → AlikeFrom p q a.ticket b.ticket a.starts b.starts a.trace b.trace
 
-two_places : (p q : ProgramShape) → IsSound p → IsSound q → (a b : Place) → IsPlaceOf p a → IsPlaceOf q b → ArePlacesAlike p q a b
+two_places : (p q : ProgramShape) → IsSound p → IsSound q → (a b : SerialBlock) → IsPlaceOf p a → IsPlaceOf q b → ArePlacesAlike p q a b
 two_places p q sound right a b here there text values =
     subst (λ es. AlikeFrom p q a.ticket b.ticket a.starts b.starts es b.trace) (sym here.1)
     (subst (λ ds. AlikeFrom p q a.ticket b.ticket a.starts b.starts (solo (text_of p a.ticket).body a.entry a.starts).trace ds) (sym there.1)

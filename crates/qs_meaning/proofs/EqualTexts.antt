@@ -4,7 +4,7 @@ use Rattle.std.proofs.Common.{◌≡◌, ◌<◌, ◌≤◌, ℕ, zero, suc, ℤ
 use Rattle.std.proofs.Common.{ap₂, ◌∙◌, subst, ⊎_elim, arith}
 use Rattle.std.specs.List.{AllByRecursion, AllZip}
 use Rattle.std.proofs.lemmas.List.{length-set, get_or-set_same, get_or-set_other}
-use Rattle.qs_objects.specs.Act.{clamped}
+use Rattle.qs_objects.specs.Act.{clamp_to_word}
 use Rattle.qs_objects.proofs.Choices.{num_cases, apart_eqb}
 use Rattle.qs_program.specs.declared.code.Atom.{Atom}
 use Rattle.qs_program.specs.declared.code.Atom.TheVariants.{Variable, Number}
@@ -135,7 +135,7 @@ module _ (p q : ProgramShape) (V : ℕ → ℕ → Type 0) (n m : ℕ)
   expr_same l k e (Binary a op c) (Binary b other d) s =
       let first = atom_same l k e a b s.0 in
       let second = atom_same l k e c d s.2 in
-      λ i. clamped (exact (s.1 i) (first i) (second i))
+      λ i. clamp_to_word (exact (s.1 i) (first i) (second i))
   expr_same l k e (Plain a) (Binary b other d) s = absurd s
   expr_same l k e (Binary a op c) (Plain b) s = absurd s
 

@@ -3,16 +3,16 @@ use Rattle.std.proofs.Common.{◌≡◌, ◌≢◌, ℕ, zero, suc, Bool, true, 
 use Rattle.std.proofs.lemmas.List.Elements.{filter-append}
 use Rattle.std.specs.List.{AllByRecursion}
 use Rattle.qs_objects.specs.Act.{State}
-use Rattle.qs_objects.specs.Journals.{after, replay, unstamped, IsHonest}
+use Rattle.qs_objects.specs.Journals.{after, replay, without_tickets, IsHonest}
 use Rattle.qs_objects.specs.Operations.{is_query}
-use Rattle.qs_objects.specs.Parts.{logged, stamp, part, same, HasEntry, entries_of}
+use Rattle.qs_objects.specs.Parts.{command_event, stamp, part, same, HasEntry, entries_of}
 use Rattle.qs_objects.specs.declared.held.Entry.{Entry}
 use Rattle.qs_objects.specs.declared.held.Event.{Event}
 use Rattle.qs_objects.specs.declared.held.Ticket.{Ticket}
 use Rattle.qs_objects.specs.declared.Request.{Request}
 use Rattle.qs_objects.proofs.Choices.{same_self, not_same}
 use Rattle.qs_objects.proofs.ObjectLaws.{never_answers}
-use Rattle.qs_meaning.specs.BlockRecords.{Page, IsDone, IsPage}
+use Rattle.qs_meaning.specs.BlockRecords.{BlockRecord, IsDone, IsBlockRecord}
 use Rattle.qs_meaning.specs.Following.{Leads, block_tree}
 use Rattle.qs_meaning.specs.Interaction.{Interaction, Done, Call, Query}
 use Rattle.qs_program.specs.Program.{ProgramShape}
@@ -20,10 +20,10 @@ use Rattle.qs_meaning.specs.Serial.{zeros}
 use Rattle.qs_program.specs.Values.{Locals}
 use Rattle.qs_meaning.proofs.Each.{each_map, each_join, flat_map_same, flat_map_none}
 
-abbrev pub parts_of : (Ticket → Page) → ℕ → Ticket → List Event
+abbrev pub parts_of : (Ticket → BlockRecord) → ℕ → Ticket → List Event
 parts_of page h t = part h (page t).trace
 
-abbrev pub done_of : (Ticket → Page) → Ticket → Type 0
+abbrev pub done_of : (Ticket → BlockRecord) → Ticket → Type 0
 done_of page t = IsDone (page t).rest
 
 abbrev pub Among : Ticket → List Ticket → Type 0
@@ -40,19 +40,19 @@ NoQuery r = is_query r.op ≡ false
 
 -- commands alone, of which none was run
 abbrev pub OnlyCommands : List Event → List Request → Type 0
-OnlyCommands es ws = (es ≡ map logged ws) × AllByRecursion NoQuery ws
+OnlyCommands es ws = (es ≡ map command_event ws) × AllByRecursion NoQuery ws
 
 -- one ticket's part on an object: what was run, and commands that wait
 pub record Piece (s : State) (t : Ticket) (es : List Event) (ws : List Request) (journal : List Entry) : Type 0 where
   pub ran : List Event
   pub later : List Entry
   pub journal_is : journal ≡ map (stamp t) ran ++ later
-  pub part_is : es ≡ ran ++ map logged ws
+  pub part_is : es ≡ ran ++ map command_event ws
   pub honest : IsHonest s ran
   pub commands : AllByRecursion NoQuery ws
 
 -- An object seen along the order: which tickets reserve it, their parts, which are over, what waits; whether the order isn't through there, and its state.
-pub record Line : Type 1 where
+pub record ObjectCourse : Type 1 where
   pub may : Ticket → Bool
   pub parts : Ticket → List Event
   pub done : Ticket → Type 0
@@ -61,18 +61,18 @@ pub record Line : Type 1 where
   pub present : State
 
 -- from state s the rest of a journal is made up by these tickets, in order, up to the present state
-abbrev pub Flow : Line → State → List Entry → List Ticket → Type 0
+abbrev pub Flow : ObjectCourse → State → List Entry → List Ticket → Type 0
 Flow x s j [] = (j ≡ []) × (s ≡ x.present)
 Flow x s j (t ∷ ts) =
     (p : Piece s t (x.parts t) (x.waits t) j)
     × (((x.may t ≡ true → x.done t) × (x.waits t ≡ []) × Flow x (replay s p.ran) p.later ts)
     ⊎ (x.busy × (p.later ≡ []) × AllByRecursion (λ u. OnlyCommands (x.parts u) (x.waits u)) ts))
 
-pub unstamp_all : (t : Ticket) (es : List Event) → unstamped (map (stamp t) es) ≡ es
+pub unstamp_all : (t : Ticket) (es : List Event) → without_tickets (map (stamp t) es) ≡ es
 unstamp_all t [] = refl
 unstamp_all t (e ∷ es) = ap (λ es. e ∷ es) (unstamp_all t es)
 
-pub commands_honest : (s : State) (rs : List Request) → AllByRecursion NoQuery rs → IsHonest s (map logged rs)
+pub commands_honest : (s : State) (rs : List Request) → AllByRecursion NoQuery rs → IsHonest s (map command_event rs)
 commands_honest s [] h = tt
 commands_honest s (r ∷ rs) h = (sym (never_answers r.op h.0 s r.args), commands_honest (after s r) rs h.1)
 
@@ -93,7 +93,7 @@ among_stamped t [] ts a = tt
 among_stamped t (e ∷ es) ts a = (a, among_stamped t es ts a)
 
 -- the entries of a journal that goes on along these tickets are theirs
-pub flow_names : (x : Line) (s : State) (j : List Entry) (ts : List Ticket) → Flow x s j ts → AllByRecursion (λ (x : Entry). Among x.ticket ts) j
+pub flow_names : (x : ObjectCourse) (s : State) (j : List Entry) (ts : List Ticket) → Flow x s j ts → AllByRecursion (λ (x : Entry). Among x.ticket ts) j
 flow_names x s j [] f = subst (AllByRecursion (λ (x : Entry). Among x.ticket [])) (sym f.0) tt
 flow_names x s j (t ∷ ts) f =
     let p = f.0 in
@@ -105,7 +105,7 @@ flow_names x s j (t ∷ ts) f =
     ]))
 
 -- what comes later has no entry of a ticket that is none of these
-pub clear_later : (x : Line) (s : State) (t : Ticket) (ts : List Ticket) (j : List Entry) (p : Piece s t (x.parts t) (x.waits t) j)
+pub clear_later : (x : ObjectCourse) (s : State) (t : Ticket) (ts : List Ticket) (j : List Entry) (p : Piece s t (x.parts t) (x.waits t) j)
     → (((x.may t ≡ true → x.done t) × (x.waits t ≡ []) × Flow x (replay s p.ran) p.later ts) ⊎ (x.busy × (p.later ≡ []) × AllByRecursion (λ u. OnlyCommands (x.parts u) (x.waits u)) ts))
     → (u : Ticket) → AllByRecursion (λ v. u ≢ v) ts → ClearOf u p.later
 clear_later x s t ts j p (inl g) u apart =
@@ -142,25 +142,25 @@ has_append t [] j h = inr h
 has_append t (x ∷ k) j h = elim h [ inl is ↦ inl (inl is) | inr i ↦ elim (has_append t k j i) [ inl a ↦ inl (inr a) | inr b ↦ inr b ] ]
 
 -- each ticket's part is its entries, and then what waits
-abbrev pub PartIs : Line → List Entry → Ticket → Type 0
-PartIs x j t = x.parts t ≡ unstamped (entries_of t j) ++ map logged (x.waits t)
+abbrev pub PartIs : ObjectCourse → List Entry → Ticket → Type 0
+PartIs x j t = x.parts t ≡ without_tickets (entries_of t j) ++ map command_event (x.waits t)
 
 -- a ticket is through with the object
-abbrev pub Through : Line → Ticket → Type 0
+abbrev pub Through : ObjectCourse → Ticket → Type 0
 Through x t = (x.may t ≡ true → x.done t) × (x.waits t ≡ [])
 
 -- where one has an entry, all before it are through
-abbrev pub InTurn : Line → List Entry → List Ticket → Type 0
+abbrev pub InTurn : ObjectCourse → List Entry → List Ticket → Type 0
 InTurn x j [] = Unit {0}
 InTurn x j (t ∷ ts) = ((u : Ticket) → Among u ts → HasEntry u j → Through x t) × InTurn x j ts
 
 -- the journal, ticket by ticket
-pub record Told (x : Line) (j : List Entry) (ts : List Ticket) : Type 0 where
+pub record IsTicketByTicket (x : ObjectCourse) (j : List Entry) (ts : List Ticket) : Type 0 where
   pub order : j ≡ flat_map (λ t. entries_of t j) ts
   pub parts : AllByRecursion (PartIs x j) ts
   pub turns : InTurn x j ts
 
-module _ (x : Line) (s : State) (t : Ticket) (ts : List Ticket) (j : List Entry) (p : Piece s t (x.parts t) (x.waits t) j) (apart : AllByRecursion (λ u. t ≢ u) ts) where
+module _ (x : ObjectCourse) (s : State) (t : Ticket) (ts : List Ticket) (j : List Entry) (p : Piece s t (x.parts t) (x.waits t) j) (apart : AllByRecursion (λ u. t ≢ u) ts) where
   -- of later tickets the piece in front says nothing
   later_same : AllByRecursion (λ u. entries_of u p.later ≡ entries_of u j) ts
   later_same = each_map (λ u (n : t ≢ u). sym (ap (entries_of u) p.journal_is ∙ entries_other t u p.ran p.later (not_same u t (λ is. n (sym is))))) ts apart
@@ -169,7 +169,7 @@ module _ (x : Line) (s : State) (t : Ticket) (ts : List Ticket) (j : List Entry)
   front_is c = ap (entries_of t) p.journal_is ∙ entries_first t p.ran p.later c
 
   first_part : ClearOf t p.later → PartIs x j t
-  first_part c = p.part_is ∙ ap (λ es. es ++ map logged (x.waits t)) (sym (ap unstamped (front_is c) ∙ unstamp_all t p.ran))
+  first_part c = p.part_is ∙ ap (λ es. es ++ map command_event (x.waits t)) (sym (ap without_tickets (front_is c) ∙ unstamp_all t p.ran))
 
   joined_is : ClearOf t p.later → p.later ≡ flat_map (λ u. entries_of u j) ts → j ≡ entries_of t j ++ flat_map (λ u. entries_of u j) ts
   joined_is c e = p.journal_is ∙ ap₂ (λ a b. a ++ b) (sym (front_is c)) e
@@ -186,16 +186,16 @@ among_apart t u [] n a = absurd a
 among_apart t u (v ∷ vs) n a = elim a [ inl is ↦ subst (λ w. t ≢ w) (sym is) n.0 | inr b ↦ among_apart t u vs n.1 b ]
 
 -- turns seen in a longer journal that has no other entries of these tickets
-turns_more : (x : Line) (j k : List Entry) (ts : List Ticket) → ((u : Ticket) → Among u ts → HasEntry u j → HasEntry u k) → InTurn x k ts → InTurn x j ts
+turns_more : (x : ObjectCourse) (j k : List Entry) (ts : List Ticket) → ((u : Ticket) → Among u ts → HasEntry u j → HasEntry u k) → InTurn x k ts → InTurn x j ts
 turns_more x j k [] f i = tt
 turns_more x j k (t ∷ ts) f i = ((λ u a h. i.0 u a (f u (inr a) h)), turns_more x j k ts (λ u a h. f u (inr a) h) i.1)
 
 -- where no entry is
-no_turns : (x : Line) (j : List Entry) (ts : List Ticket) → ((u : Ticket) → Among u ts → HasEntry u j → ⊥) → InTurn x j ts
+no_turns : (x : ObjectCourse) (j : List Entry) (ts : List Ticket) → ((u : Ticket) → Among u ts → HasEntry u j → ⊥) → InTurn x j ts
 no_turns x j [] f = tt
 no_turns x j (t ∷ ts) f = ((λ u a h. absurd (f u (inr a) h)), no_turns x j ts (λ u a h. f u (inr a) h))
 
-pub told : (x : Line) (s : State) (j : List Entry) (ts : List Ticket) → Apart ts → Flow x s j ts → Told x j ts
+pub told : (x : ObjectCourse) (s : State) (j : List Entry) (ts : List Ticket) → Apart ts → Flow x s j ts → IsTicketByTicket x j ts
 told x s j [] apart f = record { order = f.0; parts = tt; turns = tt }
 told x s j (t ∷ ts) apart (p, inl g) =
     let ih = told x (replay s p.ran) p.later ts apart.1 g.2 in
@@ -212,7 +212,7 @@ told x s j (t ∷ ts) apart (p, inl g) =
       where
         go : (us : List Ticket) → AllByRecursion (λ u. entries_of u p.later ≡ entries_of u j) us → AllByRecursion (PartIs x p.later) us → AllByRecursion (PartIs x j) us
         go [] e k = tt
-        go (u ∷ us) e k = (k.0 ∙ ap (λ (xs : List Entry). unstamped xs ++ map logged (x.waits u)) e.0, go us e.1 k.1)
+        go (u ∷ us) e k = (k.0 ∙ ap (λ (xs : List Entry). without_tickets xs ++ map command_event (x.waits u)) e.0, go us e.1 k.1)
 told x s j (t ∷ ts) apart (p, inr g) =
     let clear = clear_later x s t ts j p (inr g) t apart.0 in
     let same_entries = later_same x s t ts j p apart.0 in
@@ -231,8 +231,8 @@ told x s j (t ∷ ts) apart (p, inr g) =
 
     waiting_parts : (us : List Ticket) → AllByRecursion (λ u. entries_of u j ≡ []) us → AllByRecursion (λ u. OnlyCommands (x.parts u) (x.waits u)) us → AllByRecursion (PartIs x j) us
     waiting_parts [] e k = tt
-    waiting_parts (u ∷ us) e k = (k.0.0 ∙ ap (λ (xs : List Entry). unstamped xs ++ map logged (x.waits u)) (sym e.0), waiting_parts us e.1 k.1)
+    waiting_parts (u ∷ us) e k = (k.0.0 ∙ ap (λ (xs : List Entry). without_tickets xs ++ map command_event (x.waits u)) (sym e.0), waiting_parts us e.1 k.1)
 
 -- a page with one event more, and what is left then
-abbrev pub advance : Page → Event → Interaction → Page
+abbrev pub advance : BlockRecord → Event → Interaction → BlockRecord
 advance pg e next = record { entry = pg.entry; trace = pg.trace ++ e ∷ []; rest = next }

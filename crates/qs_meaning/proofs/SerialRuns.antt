@@ -3,8 +3,8 @@ use Rattle.std.proofs.Common.{◌≡◌, ◌≢◌, ℕ, zero, suc, ◌≤◌, a
 use Rattle.std.proofs.lemmas.List.{map-append}
 use Rattle.std.specs.List.{AllByRecursion, AllZip}
 use Rattle.qs_objects.specs.Act.{State}
-use Rattle.qs_objects.specs.Journals.{replay, unstamped, IsHonest}
-use Rattle.qs_objects.specs.Parts.{IsFront, logged, stamp, part, same, HasEntry, before}
+use Rattle.qs_objects.specs.Journals.{replay, without_tickets, IsHonest}
+use Rattle.qs_objects.specs.Parts.{IsFront, command_event, stamp, part, same, HasEntry, before}
 use Rattle.qs_objects.specs.declared.held.Entry.{Entry}
 use Rattle.qs_objects.specs.declared.held.Event.{Event}
 use Rattle.qs_objects.specs.declared.held.Ticket.{Ticket}
@@ -14,13 +14,13 @@ use Rattle.qs_objects.proofs.Replays.{replay-append, IsHonest-append}
 use Rattle.qs_meaning.specs.Following.{AsksOnly, reserves, block_tree, changed_all, noted_all}
 use Rattle.qs_meaning.specs.Interaction.{Interaction, Done, Call, Query, run}
 use Rattle.qs_program.specs.Program.{ProgramShape, text_of}
-use Rattle.qs_meaning.specs.Serial.{LegalFrom, Place, serial_from, declared, zeros}
-use Rattle.qs_meaning.specs.Solo.{States, Outcome, put, solo}
+use Rattle.qs_meaning.specs.Serial.{LegalFrom, SerialBlock, serial_from, declared_states, zeros}
+use Rattle.qs_meaning.specs.Solo.{States, BlockResult, put, solo}
 use Rattle.qs_program.specs.Sound.{IsSound}
 use Rattle.qs_program.specs.Values.{Locals}
 use Rattle.qs_meaning.proofs.Each.{each_map, each_both, each_join}
-use Rattle.qs_meaning.proofs.Histories.{parts_of, done_of, Apart, OnlyCommands, Piece, Line, Flow, ClearOf, clear_stamped, clear_later, commands_honest, has_append, has_clear, unstamp_all}
-use Rattle.qs_meaning.specs.BlockRecords.{Page, IsPage, IsDone, Begins}
+use Rattle.qs_meaning.proofs.Histories.{parts_of, done_of, Apart, OnlyCommands, Piece, ObjectCourse, Flow, ClearOf, clear_stamped, clear_later, commands_honest, has_append, has_clear, unstamp_all}
+use Rattle.qs_meaning.specs.BlockRecords.{BlockRecord, IsBlockRecord, IsDone, Begins}
 use Rattle.qs_meaning.proofs.SoundTrees.{blocks_ask_only}
 use Rattle.qs_meaning.proofs.TreeWalks.{put_here, put_there, changed_all_at, honest_traces_run, run_leads, unnamed, untouched}
 use Rattle.qs_meaning.proofs.Trees.{trees_agree}
@@ -74,17 +74,17 @@ before_clear t [] j c = refl
 before_clear t (x ∷ k) j c = rw c.0 (ap (λ xs. x ∷ xs) (before_clear t k j c.1))
 
 -- a ticket's page and its place in the serial run
-pub record Agrees (p : ProgramShape) (journal : ℕ → List Entry) (page : Ticket → Page) (t : Ticket) (q : Place) : Type 0 where
+pub record Agrees (p : ProgramShape) (journal : ℕ → List Entry) (page : Ticket → BlockRecord) (t : Ticket) (q : SerialBlock) : Type 0 where
   pub ticket : q.ticket ≡ t
   pub entry : (page t).entry ≡ q.entry
-  pub starts : (h : ℕ) → HasEntry t (journal h) → replay (declared p h) (unstamped (before t (journal h))) ≡ q.starts h
+  pub starts : (h : ℕ) → HasEntry t (journal h) → replay (declared_states p h) (without_tickets (before t (journal h))) ≡ q.starts h
   pub front : IsFront (page t).trace q.trace
   pub whole : IsDone (page t).rest → (page t).trace ≡ q.trace
   pub through : (h : ℕ) → (reserves p t h ≡ true → IsDone (page t).rest) → part h q.trace ≡ part h (page t).trace
 
-module _ (p : ProgramShape) (sound : IsSound p) (page : Ticket → Page) (waits : ℕ → Ticket → List Request) (present : ℕ → State) (busy : ℕ → Type 0) (journal : ℕ → List Entry) where
+module _ (p : ProgramShape) (sound : IsSound p) (page : Ticket → BlockRecord) (waits : ℕ → Ticket → List Request) (present : ℕ → State) (busy : ℕ → Type 0) (journal : ℕ → List Entry) where
   -- an object along the order
-  abbrev pub line : ℕ → Line
+  abbrev pub line : ℕ → ObjectCourse
   line h = record { may = λ t. reserves p t h; parts = parts_of page h; done = done_of page; waits = waits h; busy = busy h; present = present h }
 
   -- what the serial run knows of a client between blocks
@@ -99,21 +99,21 @@ module _ (p : ProgramShape) (sound : IsSound p) (page : Ticket → Page) (waits 
   -- at h: the journal goes on along the tickets, or a ticket before them isn't through
   abbrev Ahead : ℕ → State → List Ticket → Type 0
   Ahead h s ts =
-      ((j : List Entry) × (k : List Entry) × (journal h ≡ k ++ j) × (replay (declared p h) (unstamped k) ≡ s) × Clear k ts × Flow (line h) s j ts)
+      ((j : List Entry) × (k : List Entry) × (journal h ≡ k ++ j) × (replay (declared_states p h) (without_tickets k) ≡ s) × Clear k ts × Flow (line h) s j ts)
       ⊎ (busy h × AllByRecursion (λ u. OnlyCommands (parts_of page h u) (waits h u)) ts × Clear (journal h) ts)
 
   part_honest : (h : ℕ) (s : State) (t : Ticket) (ts : List Ticket) → Ahead h s (t ∷ ts) → IsHonest s (parts_of page h t)
   part_honest h s t ts (inl f) =
       let q = f.5.0 in
-      subst (IsHonest s) (sym q.part_is) (IsHonest-append s q.ran (map logged (waits h t)) q.honest (commands_honest (replay s q.ran) (waits h t) q.commands))
+      subst (IsHonest s) (sym q.part_is) (IsHonest-append s q.ran (map command_event (waits h t)) q.honest (commands_honest (replay s q.ran) (waits h t) q.commands))
   part_honest h s t ts (inr f) = subst (IsHonest s) (sym f.1.0.0) (commands_honest s (waits h t) f.1.0.1)
 
   -- one ticket
-  module _ (t : Ticket) (ts : List Ticket) (ls : ℕ → Locals) (st : States) (ok : IsPage p t (page t)) (entry : (page t).entry ≡ ls t.client) (apart : AllByRecursion (λ u. t ≢ u) ts) (ahead : (h : ℕ) → Ahead h (st h) (t ∷ ts)) where
-    abbrev pg : Page
+  module _ (t : Ticket) (ts : List Ticket) (ls : ℕ → Locals) (st : States) (ok : IsBlockRecord p t (page t)) (entry : (page t).entry ≡ ls t.client) (apart : AllByRecursion (λ u. t ≢ u) ts) (ahead : (h : ℕ) → Ahead h (st h) (t ∷ ts)) where
+    abbrev pg : BlockRecord
     pg = page t
 
-    abbrev o : Outcome
+    abbrev o : BlockResult
     o = solo (text_of p t).body (ls t.client) st
 
     as_tree : o ≡ run (block_tree p t (ls t.client)) st
@@ -132,7 +132,7 @@ module _ (p : ProgramShape) (sound : IsSound p) (page : Ticket → Page) (waits 
     asks l = blocks_ask_only p sound t l
 
     -- what stands before its first entry leaves the state that the serial run has there
-    starts_case : (h : ℕ) → Ahead h (st h) (t ∷ ts) → HasEntry t (journal h) → replay (declared p h) (unstamped (before t (journal h))) ≡ st h
+    starts_case : (h : ℕ) → Ahead h (st h) (t ∷ ts) → HasEntry t (journal h) → replay (declared_states p h) (without_tickets (before t (journal h))) ≡ st h
     starts_case h (inr f) i = absurd (has_clear t (journal h) f.2.0 i)
     starts_case h (inl f) i = by_ran q.ran (is ∙ ap (λ j. f.1 ++ j) q.journal_is)
       where
@@ -142,7 +142,7 @@ module _ (p : ProgramShape) (sound : IsSound p) (page : Ticket → Page) (waits 
         is : journal h ≡ f.1 ++ f.0
         is = f.2
 
-        by_ran : (ran : List Event) → journal h ≡ f.1 ++ (map (stamp t) ran ++ (f.5.0).later) → replay (declared p h) (unstamped (before t (journal h))) ≡ st h
+        by_ran : (ran : List Event) → journal h ≡ f.1 ++ (map (stamp t) ran ++ (f.5.0).later) → replay (declared_states p h) (without_tickets (before t (journal h))) ≡ st h
         by_ran [] e = absurd (elim (has_append t f.1 (f.5.0).later (subst (HasEntry t) e i)) [
           | inl a ↦ has_clear t f.1 f.4.0 a
           | inr a ↦ has_clear t (f.5.0).later (clear_later (line h) (st h) t ts f.0 f.5.0 f.5.1 t apart) a
@@ -151,12 +151,12 @@ module _ (p : ProgramShape) (sound : IsSound p) (page : Ticket → Page) (waits 
             let first : before t (stamp t x ∷ (map (stamp t) ran ++ (f.5.0).later)) ≡ [] = rw (same_self t) in
             let b : before t (journal h) ≡ f.1 =
             ap (before t) e ∙ (before_clear t f.1 (stamp t x ∷ (map (stamp t) ran ++ (f.5.0).later)) f.4.0 ∙ (ap (λ j. f.1 ++ j) first ∙ append-nil f.1)) in
-            ap (λ j. replay (declared p h) (unstamped j)) b ∙ f.3
+            ap (λ j. replay (declared_states p h) (without_tickets j)) b ∙ f.3
 
     through_case : (h : ℕ) (b : Bool) → reserves p t h ≡ b → (reserves p t h ≡ true → IsDone pg.rest) → part h o.trace ≡ part h pg.trace
-    through_case h true e d = let l = done_is pg.rest (d e) in ap (λ (o : Outcome). part h o.trace) (at_end l.0 l.1) ∙ ap (part h) (append-nil pg.trace)
+    through_case h true e d = let l = done_is pg.rest (d e) in ap (λ (o : BlockResult). part h o.trace) (at_end l.0 l.1) ∙ ap (part h) (append-nil pg.trace)
     through_case h false e d =
-        ap (λ (o : Outcome). part h o.trace) as_tree
+        ap (λ (o : BlockResult). part h o.trace) as_tree
         ∙ (unnamed (reserves p t) (block_tree p t (ls t.client)) (run (block_tree p t (ls t.client)) st).trace _ h (asks (ls t.client)) (run_leads (block_tree p t (ls t.client)) st) e
         ∙ sym (unnamed (reserves p t) (block_tree p t pg.entry) pg.trace pg.rest h (asks pg.entry) ok e))
 
@@ -193,17 +193,17 @@ module _ (p : ProgramShape) (sound : IsSound p) (page : Ticket → Page) (waits 
         by_case (inr f) = inr (f.0, f.1.1, f.2.1)
         by_case (inl f) = next f.5.0 f.5.1
           where
-            replayed : (q : Piece (st h) t (parts_of page h t) (waits h t) f.0) → replay (declared p h) (unstamped (f.1 ++ map (stamp t) q.ran)) ≡ replay (st h) q.ran
+            replayed : (q : Piece (st h) t (parts_of page h t) (waits h t) f.0) → replay (declared_states p h) (without_tickets (f.1 ++ map (stamp t) q.ran)) ≡ replay (st h) q.ran
             replayed q =
-                ap (replay (declared p h)) (map-append _ f.1 (map (stamp t) q.ran) ∙ ap (λ es. unstamped f.1 ++ es) (unstamp_all t q.ran))
-                ∙ (replay-append (declared p h) (unstamped f.1) q.ran ∙ ap (λ s. replay s q.ran) f.3)
+                ap (replay (declared_states p h)) (map-append _ f.1 (map (stamp t) q.ran) ∙ ap (λ es. without_tickets f.1 ++ es) (unstamp_all t q.ran))
+                ∙ (replay-append (declared_states p h) (without_tickets f.1) q.ran ∙ ap (λ s. replay s q.ran) f.3)
 
             next : (q : Piece (st h) t (parts_of page h t) (waits h t) f.0)
                 → (((reserves p t h ≡ true → done_of page t) × (waits h t ≡ []) × Flow (line h) (replay (st h) q.ran) q.later ts)
                 ⊎ (busy h × (q.later ≡ []) × AllByRecursion (λ u. OnlyCommands (parts_of page h u) (waits h u)) ts))
                 → Ahead h ((solo (text_of p t).body (ls t.client) st).states h) ts
             next q (inl g) =
-                let is = state_after h q.ran (q.part_is ∙ (ap (λ rs. q.ran ++ map logged rs) g.1 ∙ append-nil q.ran)) g.0 in
+                let is = state_after h q.ran (q.part_is ∙ (ap (λ rs. q.ran ++ map command_event rs) g.1 ∙ append-nil q.ran)) g.0 in
                 inl (
                   q.later,
                   f.1 ++ map (stamp t) q.ran,
@@ -230,7 +230,7 @@ module _ (p : ProgramShape) (sound : IsSound p) (page : Ticket → Page) (waits 
       subst (λ k. Known c k (put ls t.client l c)) (sym (put_there n t.client (suc t.index) c other)) (subst (λ a. Known c (n c) a) (sym (put_there ls t.client l c other)) (k c)))
       (num_cases t.client c)
 
-  pub along : (ts : List Ticket) (n : ℕ → ℕ) (ls : ℕ → Locals) (st : States) → LegalFrom p n ts → AllByRecursion (λ t. IsPage p t (page t)) ts → AllByRecursion (λ t. Begins page t.client t.index (page t).entry) ts
+  pub along : (ts : List Ticket) (n : ℕ → ℕ) (ls : ℕ → Locals) (st : States) → LegalFrom p n ts → AllByRecursion (λ t. IsBlockRecord p t (page t)) ts → AllByRecursion (λ t. Begins page t.client t.index (page t).entry) ts
       → ((c : ℕ) → Known c (n c) (ls c)) → ((h : ℕ) → Ahead h (st h) ts)
       → AllZip (Agrees p journal page) ts (serial_from p ls st ts).places × ((h : ℕ) → (busy h → ⊥) → (serial_from p ls st ts).states h ≡ present h)
   along [] n ls st legal pages begins known ahead = (tt, λ h b. elim (ahead h) [ inl f ↦ f.5.1 | inr f ↦ absurd (b f.0) ])
@@ -243,9 +243,9 @@ module _ (p : ProgramShape) (sound : IsSound p) (page : Ticket → Page) (waits 
       ((agrees t ts ls st pages.0 entry apart ahead, rest.0), rest.1)
 
   -- pages of a legal order, and journals that flow along it
-  pub runs_serially : (order : List Ticket) → LegalFrom p (λ _. 0) order → AllByRecursion (λ t. IsPage p t (page t)) order → AllByRecursion (λ t. Begins page t.client t.index (page t).entry) order
-      → ((h : ℕ) → Flow (line h) (declared p h) (journal h) order)
-      → AllZip (Agrees p journal page) order (serial_from p (λ _. zeros) (declared p) order).places
-      × ((h : ℕ) → (busy h → ⊥) → (serial_from p (λ _. zeros) (declared p) order).states h ≡ present h)
+  pub runs_serially : (order : List Ticket) → LegalFrom p (λ _. 0) order → AllByRecursion (λ t. IsBlockRecord p t (page t)) order → AllByRecursion (λ t. Begins page t.client t.index (page t).entry) order
+      → ((h : ℕ) → Flow (line h) (declared_states p h) (journal h) order)
+      → AllZip (Agrees p journal page) order (serial_from p (λ _. zeros) (declared_states p) order).places
+      × ((h : ℕ) → (busy h → ⊥) → (serial_from p (λ _. zeros) (declared_states p) order).states h ≡ present h)
   runs_serially order legal pages begins flows =
-      along order (λ _. 0) (λ _. zeros) (declared p) legal pages begins (λ c. refl) (λ h. inl (journal h, [], refl, refl, clear_nil order, flows h))
+      along order (λ _. 0) (λ _. zeros) (declared_states p) legal pages begins (λ c. refl) (λ h. inl (journal h, [], refl, refl, clear_nil order, flows h))

@@ -22,9 +22,9 @@ use Rattle.qs_program.specs.Sound.{IsSound}
 use Rattle.qs_program.specs.Statements.{Statements}
 use Rattle.qs_program.specs.Values.{Locals}
 use Rattle.qs_meaning.specs.Interaction.{Interaction, Done, Call, Query, run, tree_of}
-use Rattle.qs_meaning.specs.Serial.{Place, serial_from, declared, state_or_none, zeros}
+use Rattle.qs_meaning.specs.Serial.{SerialBlock, serial_from, declared_states, state_or_none, zeros}
 use Rattle.qs_meaning.specs.Solo as alone
-use Rattle.qs_meaning.specs.Solo.{States, changed, put, solo, value_of}
+use Rattle.qs_meaning.specs.Solo.{States, states_after, put, solo, value_of}
 use Rattle.qs_meaning.specs.StateKinds.{IsOfKind, AreOfKind, SerialKeepsKinds}
 use Rattle.qs_meaning.proofs.AlikeTraces.{all_at}
 use Rattle.qs_meaning.proofs.Trees.{trees_agree}
@@ -39,11 +39,11 @@ shape_fits _ _ same op = absurd same
 after_kind : (kind : Kind) (s : State) (r : Request) → IsOfKind kind s → IsOfKind kind (after s r)
 after_kind kind s r is op = shape_fits s.content (after s r).content (same_shape s r.op r.args) op ∙ is op
 
-changed_kinds : (p : ProgramShape) (st : States) (r : Request) → AreOfKind p st → AreOfKind p (changed st r)
+changed_kinds : (p : ProgramShape) (st : States) (r : Request) → AreOfKind p st → AreOfKind p (states_after st r)
 changed_kinds p st r are h =
     ⊎_elim
     (λ (is : r.object ≡ h).
-    subst (λ h. IsOfKind (object_at p h).kind (changed st r h)) is
+    subst (λ h. IsOfKind (object_at p h).kind (states_after st r h)) is
     (subst (IsOfKind (object_at p r.object).kind) (sym (put_here st r.object (after (st r.object) r)))
     (after_kind (object_at p r.object).kind (st r.object) r (are r.object))))
     (λ (no : (r.object == h) ≡ false).
@@ -52,17 +52,17 @@ changed_kinds p st r are h =
 
 run_kinds : (p : ProgramShape) (t : Interaction) (st : States) → AreOfKind p st → AreOfKind p (run t st).states
 run_kinds p (Done l) st are = are
-run_kinds p (Call r next) st are = run_kinds p next (changed st r) (changed_kinds p st r are)
-run_kinds p (Query r next) st are = run_kinds p (next (value_of (answer (st r.object) r))) (changed st r) (changed_kinds p st r are)
+run_kinds p (Call r next) st are = run_kinds p next (states_after st r) (changed_kinds p st r are)
+run_kinds p (Query r next) st are = run_kinds p (next (value_of (answer (st r.object) r))) (states_after st r) (changed_kinds p st r are)
 
 solo_kinds : (p : ProgramShape) (b : Statements) (l : Locals) (st : States) → AreOfKind p st → AreOfKind p (solo b l st).states
-solo_kinds p b l st are = subst (λ (o : alone.Outcome). AreOfKind p o.states) (sym (trees_agree b l st)) (run_kinds p (tree_of b l) st are)
+solo_kinds p b l st are = subst (λ (o : alone.BlockResult). AreOfKind p o.states) (sym (trees_agree b l st)) (run_kinds p (tree_of b l) st are)
 
 places_kinds : (p : ProgramShape) (order : List Ticket) (ls : ℕ → Locals) (st : States) → AreOfKind p st
-    → AllByRecursion (λ (a : Place). AreOfKind p a.starts) (serial_from p ls st order).places × AreOfKind p (serial_from p ls st order).states
+    → AllByRecursion (λ (a : SerialBlock). AreOfKind p a.starts) (serial_from p ls st order).places × AreOfKind p (serial_from p ls st order).states
 places_kinds p [] ls st are = (tt, are)
 places_kinds p (t ∷ ts) ls st are =
-    let o : alone.Outcome = solo (text_of p t).body (ls t.client) st in
+    let o : alone.BlockResult = solo (text_of p t).body (ls t.client) st in
     let rest = places_kinds p ts (put ls t.client o.locals) o.states (solo_kinds p (text_of p t).body (ls t.client) st are) in
     ((are, rest.0), rest.1)
 
@@ -90,9 +90,9 @@ start_kind (kinds.Grid n k) is op = by_case (between 1 n most_lines && between 1
     by_case true some = refl
     by_case false some = absurd (true≢false (sym some))
 
-declared_kinds : (p : ProgramShape) → IsSound p → AreOfKind p (declared p)
+declared_kinds : (p : ProgramShape) → IsSound p → AreOfKind p (declared_states p)
 declared_kinds p sound h =
     start_kind (object_at p h).kind (all_at (λ (o : Declared). IsSome (starts o.kind)) p.objects h no_object sound.kinds refl)
 
 pub serial_keeps_kinds : SerialKeepsKinds
-serial_keeps_kinds p sound order = places_kinds p order (λ _. zeros) (declared p) (declared_kinds p sound)
+serial_keeps_kinds p sound order = places_kinds p order (λ _. zeros) (declared_states p) (declared_kinds p sound)

@@ -2,13 +2,13 @@
 use Rattle.std.proofs.Common.{◌≡◌, ℕ, Bool, false, true≢false, ◌==◌, List, [], ◌∷◌, ◌++◌, refl, ⊎_elim, sym, ap, ◌∙◌, subst, Option, ℤ, append-nil, if◌then◌else◌}
 use Rattle.std.proofs.lemmas.List.Elements.{filter-append}
 use Rattle.qs_objects.specs.Journals.{after, answer, replay, IsHonest}
-use Rattle.qs_objects.specs.Parts.{logged, part}
+use Rattle.qs_objects.specs.Parts.{command_event, part}
 use Rattle.qs_objects.specs.declared.held.Event.{Event}
 use Rattle.qs_objects.specs.declared.Request.{Request}
 use Rattle.qs_objects.proofs.Choices.{eqb_self, num_cases}
-use Rattle.qs_meaning.specs.Interaction.{Interaction, Done, Call, Query, run, noted}
+use Rattle.qs_meaning.specs.Interaction.{Interaction, Done, Call, Query, run, after_event}
 use Rattle.qs_meaning.specs.Following.{Leads, changed_all, noted_all, HonestTracesRun, AsksOnly}
-use Rattle.qs_meaning.specs.Solo.{States, changed, put, event, value_of}
+use Rattle.qs_meaning.specs.Solo.{States, states_after, put, event, value_of}
 
 pub put_here : {A : Type 0} (f : ℕ → A) (n : ℕ) (a : A) → put f n a n ≡ a
 put_here f n a = rw (eqb_self n)
@@ -24,19 +24,19 @@ changed_all_at st (e ∷ es) h =
     (λ (is : e.request.object ≡ h).
     subst (λ n. changed_all st (e ∷ es) n ≡ replay (st n) (part n (e ∷ es))) is
     (rw (eqb_self e.request.object)
-    (changed_all_at (changed st e.request) es e.request.object
+    (changed_all_at (states_after st e.request) es e.request.object
     ∙ ap (λ s. replay s (part e.request.object es)) (put_here st e.request.object (after (st e.request.object) e.request)))))
     (λ (no : (e.request.object == h) ≡ false).
-    rw no (changed_all_at (changed st e.request) es h ∙ ap (λ s. replay s (part h es)) (put_there st e.request.object (after (st e.request.object) e.request) h no)))
+    rw no (changed_all_at (states_after st e.request) es h ∙ ap (λ s. replay s (part h es)) (put_there st e.request.object (after (st e.request.object) e.request) h no)))
     (num_cases e.request.object h)
 
 -- the rest of a trace whose replies are honest is honest after the first request
-honest_rest : (st : States) (e : Event) (es : List Event) → ((h : ℕ) → IsHonest (st h) (part h (e ∷ es))) → (h : ℕ) → IsHonest (changed st e.request h) (part h es)
+honest_rest : (st : States) (e : Event) (es : List Event) → ((h : ℕ) → IsHonest (st h) (part h (e ∷ es))) → (h : ℕ) → IsHonest (states_after st e.request h) (part h es)
 honest_rest st e es ok h =
     ⊎_elim
     (λ (is : e.request.object ≡ h).
     let here : IsHonest (st e.request.object) (e ∷ part e.request.object es) = rw (eqb_self e.request.object) at (ok e.request.object) in
-    subst (λ n. IsHonest (changed st e.request n) (part n es)) is
+    subst (λ n. IsHonest (states_after st e.request n) (part n es)) is
     (subst (λ s. IsHonest s (part e.request.object es)) (sym (put_here st e.request.object (after (st e.request.object) e.request))) here.1))
     (λ (no : (e.request.object == h) ≡ false).
     let there : IsHonest (st h) (part h es) = rw no at (ok h) in
@@ -52,14 +52,14 @@ pub honest_traces_run : HonestTracesRun
 honest_traces_run t [] rest st path ok = ap (λ t. run t st) path
 honest_traces_run (Done l) (e ∷ es) rest st path ok = absurd path
 honest_traces_run (Call r next) (e ∷ es) rest st path ok =
-    let ih = honest_traces_run next es rest (changed st e.request) path.1 (honest_rest st e es ok) in
+    let ih = honest_traces_run next es rest (states_after st e.request) path.1 (honest_rest st e es ok) in
     let is : e.request ≡ r = ap (λ e. e.request) path.0 in
-    subst (λ d. noted d (run next (changed st r)) ≡ noted_all (e ∷ es) (run rest (changed_all (changed st e.request) es))) path.0 (rw (← is) (ap (noted e) ih))
+    subst (λ d. after_event d (run next (states_after st r)) ≡ noted_all (e ∷ es) (run rest (changed_all (states_after st e.request) es))) path.0 (rw (← is) (ap (after_event e) ih))
 honest_traces_run (Query r next) (e ∷ es) rest st path ok =
-    let ih = honest_traces_run (next (value_of e.reply)) es rest (changed st e.request) path.1 (honest_rest st e es ok) in
+    let ih = honest_traces_run (next (value_of e.reply)) es rest (states_after st e.request) path.1 (honest_rest st e es ok) in
     let first = honest_first st e es ok in
-    let P : Request → Option ℤ → Type 0 = λ r v. noted (event r v) (run (next (value_of v)) (changed st r)) ≡ noted_all (e ∷ es) (run rest (changed_all (changed st e.request) es)) in
-    subst (λ r. P r (answer (st r.object) r)) path.0 (subst (P e.request) first (ap (noted e) ih))
+    let P : Request → Option ℤ → Type 0 = λ r v. after_event (event r v) (run (next (value_of v)) (states_after st r)) ≡ noted_all (e ∷ es) (run rest (changed_all (states_after st e.request) es)) in
+    subst (λ r. P r (answer (st r.object) r)) path.0 (subst (P e.request) first (ap (after_event e) ih))
 
 -- a block does not touch what it may not reach
 pub untouched : (may : ℕ → Bool) (t : Interaction) (st : States) (h : ℕ) → AsksOnly may t → may h ≡ false → (run t st).states h ≡ st h
@@ -67,12 +67,12 @@ untouched may (Done l) st h f e = refl
 untouched may (Call r next) st h f e =
     ⊎_elim
     (λ (is : r.object ≡ h). absurd (true≢false (sym f.1 ∙ (ap may is ∙ e))))
-    (λ (other : (r.object == h) ≡ false). untouched may next (changed st r) h f.2 e ∙ put_there st r.object (after (st r.object) r) h other)
+    (λ (other : (r.object == h) ≡ false). untouched may next (states_after st r) h f.2 e ∙ put_there st r.object (after (st r.object) r) h other)
     (num_cases r.object h)
 untouched may (Query r next) st h f e =
     ⊎_elim
     (λ (is : r.object ≡ h). absurd (true≢false (sym f.1 ∙ (ap may is ∙ e))))
-    (λ (other : (r.object == h) ≡ false). untouched may (next (value_of (answer (st r.object) r))) (changed st r) h (f.2 _) e ∙ put_there st r.object (after (st r.object) r) h other)
+    (λ (other : (r.object == h) ≡ false). untouched may (next (value_of (answer (st r.object) r))) (states_after st r) h (f.2 _) e ∙ put_there st r.object (after (st r.object) r) h other)
     (num_cases r.object h)
 
 -- nor does its trace name it
@@ -95,8 +95,8 @@ unnamed may (Query r next) (d ∷ es) rest h f p e =
 -- the trace of a whole run leads to its end
 pub run_leads : (t : Interaction) (st : States) → Leads t (run t st).trace (Done (run t st).locals)
 run_leads (Done l) st = refl
-run_leads (Call r next) st = (refl, run_leads next (changed st r))
-run_leads (Query r next) st = (refl, run_leads (next (value_of (answer (st r.object) r))) (changed st r))
+run_leads (Call r next) st = (refl, run_leads next (states_after st r))
+run_leads (Query r next) st = (refl, run_leads (next (value_of (answer (st r.object) r))) (states_after st r))
 
 -- what is left makes requests on the same objects alone
 pub asks_rest : (may : ℕ → Bool) (t : Interaction) (es : List Event) (rest : Interaction) → AsksOnly may t → Leads t es rest → AsksOnly may rest
@@ -105,8 +105,8 @@ asks_rest may (Done l) (d ∷ es) rest f p = absurd p
 asks_rest may (Call r next) (d ∷ es) rest f p = asks_rest may next es rest f.2 p.1
 asks_rest may (Query r next) (d ∷ es) rest f p = asks_rest may (next (value_of d.reply)) es rest (f.2 _) p.1
 
-pub leads_call : (t : Interaction) (es : List Event) (r : Request) (next : Interaction) → Leads t es (Call r next) → Leads t (es ++ logged r ∷ []) next
-leads_call t [] r next p = subst (λ t. Leads t (logged r ∷ []) next) (sym p) (refl, refl)
+pub leads_call : (t : Interaction) (es : List Event) (r : Request) (next : Interaction) → Leads t es (Call r next) → Leads t (es ++ command_event r ∷ []) next
+leads_call t [] r next p = subst (λ t. Leads t (command_event r ∷ []) next) (sym p) (refl, refl)
 leads_call (Done l) (e ∷ es) r next p = absurd p
 leads_call (Call q then_on) (e ∷ es) r next p = (p.0, leads_call then_on es r next p.1)
 leads_call (Query q then_on) (e ∷ es) r next p = (p.0, leads_call (then_on (value_of e.reply)) es r next p.1)

@@ -5,21 +5,21 @@ use Rattle.qs_objects.specs.declared.held.Event.{Event}
 use Rattle.qs_objects.specs.Journals.{answer}
 use Rattle.qs_program.specs.Statements.{Statements, end, command, query, assign, choose, again, leave}
 use Rattle.qs_program.specs.Values.{Locals, test_value, request_of}
-use Rattle.qs_meaning.specs.Solo.{States, Outcome, Ending, Runs, changed, event, with_trace, then_run, left_none, turns_run, exec}
-use Rattle.qs_meaning.specs.Interaction.{Next, Done, turns, meaning, noted, run, TreesAgree}
+use Rattle.qs_meaning.specs.Solo.{States, BlockResult, Ending, Runs, states_after, event, with_trace, then_run, left_none, turns_run, exec}
+use Rattle.qs_meaning.specs.Interaction.{Next, Done, turns, meaning, after_event, run, TreesAgree}
 
-noted_all : List Event → Outcome → Outcome
+noted_all : List Event → BlockResult → BlockResult
 noted_all es o = record { trace = es ++ o.trace; locals = o.locals; states = o.states }
 
 -- what follows an ending
-finish : Ending → Next → Next → Outcome
+finish : Ending → Next → Next → BlockResult
 unfolding noted_all
 finish o next leaves = noted_all o.trace (run (if o.left then leaves o.locals else next o.locals) o.states)
 
 abbrev Means : Next → Runs → Next → Next → Type 0
 Means tree runs next leaves = (l : Locals) (st : States) → run (tree l) st ≡ finish (runs l st) next leaves
 
-noted_twice : (xs ys : List Event) (o : Outcome) → noted_all (xs ++ ys) o ≡ noted_all xs (noted_all ys o)
+noted_twice : (xs ys : List Event) (o : BlockResult) → noted_all (xs ++ ys) o ≡ noted_all xs (noted_all ys o)
 unfolding noted_all
 noted_twice xs ys o = λ i. record { trace = append_assoc xs ys o.trace i; locals = o.locals; states = o.states }
 
@@ -79,12 +79,12 @@ unfolding finish noted_all
 means end next leaves l st = refl
 means (command c rest) next leaves l st =
     let r = request_of l c in
-    ap (noted (event r None)) (means rest next leaves l (changed st r))
-    ∙ sym (finish_more (event r None ∷ []) (exec rest l (changed st r)) next leaves)
+    ap (after_event (event r None)) (means rest next leaves l (states_after st r))
+    ∙ sym (finish_more (event r None ∷ []) (exec rest l (states_after st r)) next leaves)
 means (query x c rest) next leaves l st =
     let r = request_of l c in let v = answer (st r.object) r in
-    ap (noted (event r v)) (means rest next leaves _ (changed st r))
-    ∙ sym (finish_more (event r v ∷ []) (exec rest _ (changed st r)) next leaves)
+    ap (after_event (event r v)) (means rest next leaves _ (states_after st r))
+    ∙ sym (finish_more (event r v ∷ []) (exec rest _ (states_after st r)) next leaves)
 means (assign x e rest) next leaves l st = means rest next leaves _ st
 means (choose t has_else first other rest) next leaves l st =
     let later = meaning rest next leaves in

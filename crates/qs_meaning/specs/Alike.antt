@@ -19,7 +19,7 @@ use Rattle.qs_program.specs.Sound.{IsSound}
 use Rattle.qs_program.specs.Statements.{Statements, end, command, query, assign, choose, again, leave}
 use Rattle.qs_program.specs.Values.{Locals}
 use Rattle.qs_meaning.specs.Following.{reserves}
-use Rattle.qs_meaning.specs.Serial.{Place, serial}
+use Rattle.qs_meaning.specs.Serial.{SerialBlock, serial}
 use Rattle.qs_meaning.specs.Solo.{States, solo}
 
 -- the same statements but for their numbers: at each place the two objects, and the two variables, stand in these relations
@@ -128,9 +128,9 @@ PlacesAlike =
     (p q : ProgramShape) → IsSound p → IsSound q
     → (order other : List Ticket)
     → AllByRecursion
-    (λ (a : Place).
+    (λ (a : SerialBlock).
     AllByRecursion
-    (λ (b : Place).
+    (λ (b : SerialBlock).
     SameText p q a.ticket b.ticket → SameValues p q a.ticket b.ticket a.entry b.entry
     → AlikeFrom p q a.ticket b.ticket a.starts b.starts a.trace b.trace)
     (serial q other).places)

@@ -13,7 +13,7 @@ use Rattle.qs_program.specs.Sound.{IsSound}
 use Rattle.qs_program.specs.Statements.{end, command, query}
 use Rattle.qs_meaning.specs.Alike.{SameText, SameValues, SameTrace, StartAlike, AskAlike}
 use Rattle.qs_meaning.specs.MeaningExamples.{n, call, balance, block, left_with, replies, some, ticket}
-use Rattle.qs_meaning.specs.Serial.{Place, serial, no_state, zeros}
+use Rattle.qs_meaning.specs.Serial.{SerialBlock, serial, no_state, zeros}
 
 abbrev pub account_of : Name → ℕ → Declared
 account_of name b = record { name = name; kind = kinds.Account (pos b) }
@@ -41,27 +41,27 @@ second = record {
   clients = depositor (codes "bob") (codes "z" ∷ codes "x" ∷ []) 2 0 1 ∷ depositor (codes "carol") (codes "x" ∷ []) 2 0 0 ∷ [];
 }
 
-abbrev pub no_place : Place
+abbrev pub no_place : SerialBlock
 no_place = record { ticket = ticket 0 0; entry = zeros; starts = λ _. no_state; trace = [] }
 
-abbrev pub ann : Place
+abbrev pub ann : SerialBlock
 ann = slice_index_or (serial first (ticket 0 0 ∷ [])).places 0 no_place
 
 -- bob's block, and then carol's
-abbrev pub after_bob : List Place
+abbrev pub after_bob : List SerialBlock
 after_bob = (serial second (ticket 0 0 ∷ ticket 1 0 ∷ [])).places
 
-abbrev pub bob : Place
+abbrev pub bob : SerialBlock
 bob = slice_index_or after_bob 0 no_place
 
-abbrev pub carol : Place
+abbrev pub carol : SerialBlock
 carol = slice_index_or after_bob 1 no_place
 
 abbrev pub deposit_of_five : (a : ℕ) → Event
 deposit_of_five a = record { request = record { object = a; op = Deposit; args = pos 5 ∷ [] }; reply = None }
 
 -- the premises of the law on such places
-pub record Match (a b : Place) : Type 0 where
+pub record Match (a b : SerialBlock) : Type 0 where
   pub text : SameText first second a.ticket b.ticket
   pub values : SameValues first second a.ticket b.ticket a.entry b.entry
 

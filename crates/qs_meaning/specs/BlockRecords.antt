@@ -9,7 +9,7 @@ use Rattle.qs_meaning.specs.Interaction.{Interaction, Done, Call, Query}
 use Rattle.qs_meaning.specs.Serial.{zeros}
 
 -- what is known of a reservation: the variables at entry, the trace so far, and what is left of the block
-pub record Page : Type 0 where
+pub record BlockRecord : Type 0 where
   pub entry : Locals
   pub trace : List Event
   pub rest : Interaction
@@ -19,10 +19,10 @@ IsDone (Done l) = Unit {0}
 IsDone (Call r next) = ⊥
 IsDone (Query r next) = ⊥
 
-abbrev pub IsPage : ProgramShape → Ticket → Page → Type 0
-IsPage p t pg = Leads (block_tree p t pg.entry) pg.trace pg.rest
+abbrev pub IsBlockRecord : ProgramShape → Ticket → BlockRecord → Type 0
+IsBlockRecord p t pg = Leads (block_tree p t pg.entry) pg.trace pg.rest
 
 -- a block begins with what the client's block before it left
-abbrev pub Begins : (Ticket → Page) → ℕ → ℕ → Locals → Type 0
+abbrev pub Begins : (Ticket → BlockRecord) → ℕ → ℕ → Locals → Type 0
 Begins page c zero l = l ≡ zeros
 Begins page c (suc k) l = (page (record { client = c; index = k })).rest ≡ Done l

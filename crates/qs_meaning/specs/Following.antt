@@ -2,12 +2,12 @@
 use Rattle.std.specs.Prelude.{◌≡◌, ℕ, ℤ, Bool, true, false, List, [], ◌∷◌, ◌++◌}
 use Rattle.qs_objects.specs.Journals.{IsHonest}
 use Rattle.qs_objects.specs.Operations.{is_query}
-use Rattle.qs_objects.specs.Parts.{logged, part}
+use Rattle.qs_objects.specs.Parts.{command_event, part}
 use Rattle.qs_objects.specs.declared.held.Event.{Event}
 use Rattle.qs_objects.specs.declared.held.Ticket.{Ticket}
 use Rattle.qs_meaning.specs.Interaction.{Interaction, Done, Call, Query, tree_of, run}
 use Rattle.qs_program.specs.Program.{ProgramShape, text_of}
-use Rattle.qs_meaning.specs.Solo.{States, Outcome, changed, value_of}
+use Rattle.qs_meaning.specs.Solo.{States, BlockResult, states_after, value_of}
 use Rattle.qs_program.specs.Sound.{IsSound, is_in}
 use Rattle.qs_program.specs.Values.{Locals}
 
@@ -15,16 +15,16 @@ use Rattle.qs_program.specs.Values.{Locals}
 abbrev pub Leads : Interaction → List Event → Interaction → Type 0
 Leads tree [] rest = tree ≡ rest
 Leads (Done l) (e ∷ es) rest = ⊥
-Leads (Call r next) (e ∷ es) rest = (e ≡ logged r) × Leads next es rest
+Leads (Call r next) (e ∷ es) rest = (e ≡ command_event r) × Leads next es rest
 Leads (Query r next) (e ∷ es) rest = (e.request ≡ r) × Leads (next (value_of e.reply)) es rest
 
 -- the states after a trace
 abbrev pub changed_all : States → List Event → States
 changed_all st [] = st
-changed_all st (e ∷ es) = changed_all (changed st e.request) es
+changed_all st (e ∷ es) = changed_all (states_after st e.request) es
 
 -- an outcome with these events before it
-abbrev pub noted_all : List Event → Outcome → Outcome
+abbrev pub noted_all : List Event → BlockResult → BlockResult
 noted_all es o = record { trace = es ++ o.trace; locals = o.locals; states = o.states }
 
 -- A trace along a tree, whose replies on each object are the object's own, is what the tree does if each request is done at once.

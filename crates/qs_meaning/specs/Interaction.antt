@@ -4,7 +4,7 @@ use Rattle.qs_objects.specs.declared.Request.{Request}
 use Rattle.qs_objects.specs.declared.held.Event.{Event}
 use Rattle.qs_program.specs.Statements.{Statements, end, command, query, assign, choose, again, leave}
 use Rattle.qs_program.specs.Values.{Locals, expr_value, test_value, request_of}
-use Rattle.qs_meaning.specs.Solo.{States, Outcome, changed, value_of, event, solo}
+use Rattle.qs_meaning.specs.Solo.{States, BlockResult, states_after, value_of, event, solo}
 use Rattle.qs_objects.specs.Journals.{answer}
 
 -- n turns of a repeat's body, and then what comes after the repeat, in any kind of tree
@@ -48,14 +48,14 @@ meaning body next leaves l = meaning_in Call Query body next leaves l
 abbrev pub tree_of : Statements → Locals → Interaction
 tree_of body l = meaning body Done Done l
 
-abbrev pub noted : Event → Outcome → Outcome
-noted e o = record { trace = e ∷ o.trace; locals = o.locals; states = o.states }
+abbrev pub after_event : Event → BlockResult → BlockResult
+after_event e o = record { trace = e ∷ o.trace; locals = o.locals; states = o.states }
 
 -- each request of a tree done at once
-abbrev pub run : Interaction → States → Outcome
+abbrev pub run : Interaction → States → BlockResult
 run (Done l) st = record { trace = []; locals = l; states = st }
-run (Call r next) st = noted (event r None) (run next (changed st r))
-run (Query r next) st = let v = answer (st r.object) r in noted (event r v) (run (next (value_of v)) (changed st r))
+run (Call r next) st = after_event (event r None) (run next (states_after st r))
+run (Query r next) st = let v = answer (st r.object) r in after_event (event r v) (run (next (value_of v)) (states_after st r))
 
 -- a block alone does what its interaction tree does
 abbrev pub TreesAgree : Type 0

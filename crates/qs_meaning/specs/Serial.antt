@@ -27,35 +27,35 @@ state_or_none None = no_state
 state_or_none (Some s) = s
 
 -- the objects as declared
-abbrev pub declared : ProgramShape → States
-declared p h = state_or_none (starts (object_at p h).kind)
+abbrev pub declared_states : ProgramShape → States
+declared_states p h = state_or_none (starts (object_at p h).kind)
 
 -- all variables begin at 0
 abbrev pub zeros : Locals
 zeros = replicate most_variables (pos 0)
 
 -- a place of the order: the ticket, its client's variables and the states that it found, and what its block did
-pub record Place : Type 0 where
+pub record SerialBlock : Type 0 where
   pub ticket : Ticket
   pub entry : Locals
   pub starts : States
   pub trace : List Event
 
 pub record Serial : Type 0 where
-  pub places : List Place
+  pub places : List SerialBlock
   pub locals : ℕ → Locals
   pub states : States
 
-abbrev pub placed : Place → Serial → Serial
-placed p s = record { places = p ∷ s.places; locals = s.locals; states = s.states }
+abbrev pub with_block : SerialBlock → Serial → Serial
+with_block p s = record { places = p ∷ s.places; locals = s.locals; states = s.states }
 
 -- the blocks of an order, each whole, one after another, from these variables and states
 abbrev pub serial_from : ProgramShape → (ℕ → Locals) → States → List Ticket → Serial
 serial_from p ls st [] = record { places = []; locals = ls; states = st }
 serial_from p ls st (t ∷ ts) =
     let o = solo (text_of p t).body (ls t.client) st in
-    placed (record { ticket = t; entry = ls t.client; starts = st; trace = o.trace })
+    with_block (record { ticket = t; entry = ls t.client; starts = st; trace = o.trace })
     (serial_from p (put ls t.client o.locals) o.states ts)
 
 abbrev pub serial : ProgramShape → List Ticket → Serial
-serial p order = serial_from p (λ _. zeros) (declared p) order
+serial p order = serial_from p (λ _. zeros) (declared_states p) order

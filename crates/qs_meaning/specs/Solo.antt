@@ -24,8 +24,8 @@ abbrev pub event : Request → Option ℤ → Event
 event r v = record { request = r; reply = v }
 
 -- the states after a request
-abbrev pub changed : States → Request → States
-changed st r = put st r.object (after (st r.object) r)
+abbrev pub states_after : States → Request → States
+states_after st r = put st r.object (after (st r.object) r)
 
 -- what statements did: their requests with the replies, whether a `leave` looks for its repeat, the variables and the states
 pub record Ending : Type 0 where
@@ -59,21 +59,21 @@ turns_run (suc n) body l st =
 abbrev pub exec : Statements → Runs
 exec end l st = ends false l st
 exec (command c rest) l st =
-    let r = request_of l c in with_trace (event r None ∷ []) (exec rest l (changed st r))
+    let r = request_of l c in with_trace (event r None ∷ []) (exec rest l (states_after st r))
 exec (query x c rest) l st =
     let r = request_of l c in let v = answer (st r.object) r in
-    with_trace (event r v ∷ []) (exec rest (slice_set l x (value_of v)) (changed st r))
+    with_trace (event r v ∷ []) (exec rest (slice_set l x (value_of v)) (states_after st r))
 exec (assign x e rest) l st = exec rest (slice_set l x (expr_value l e)) st
 exec (choose t has_else first other rest) l st =
     then_run (if test_value l t then exec first l st else exec other l st) (exec rest)
 exec (again n body rest) l st = then_run (turns_run n (exec body) l st) (exec rest)
 exec (leave rest) l st = ends true l st
 
-pub record Outcome : Type 0 where
+pub record BlockResult : Type 0 where
   pub trace : List Event
   pub locals : Locals
   pub states : States
 
 -- a block from these variables and states
-abbrev pub solo : Statements → Locals → States → Outcome
+abbrev pub solo : Statements → Locals → States → BlockResult
 solo body l st = let o = exec body l st in record { trace = o.trace; locals = o.locals; states = o.states }

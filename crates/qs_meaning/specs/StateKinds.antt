@@ -9,7 +9,7 @@ use Rattle.qs_objects.specs.declared.held.Ticket.{Ticket}
 use Rattle.qs_objects.specs.declared.object.Kind.{Kind}
 use Rattle.qs_program.specs.Program.{ProgramShape, object_at}
 use Rattle.qs_program.specs.Sound.{IsSound}
-use Rattle.qs_meaning.specs.Serial.{Place, serial}
+use Rattle.qs_meaning.specs.Serial.{SerialBlock, serial}
 use Rattle.qs_meaning.specs.Solo.{States}
 
 -- a state that has the operations of this kind, and no others
@@ -23,4 +23,4 @@ AreOfKind p st = (h : ℕ) → IsOfKind (object_at p h).kind (st h)
 abbrev pub SerialKeepsKinds : Type 0
 SerialKeepsKinds =
     (p : ProgramShape) → IsSound p → (order : List Ticket)
-    → AllByRecursion (λ (a : Place). AreOfKind p a.starts) (serial p order).places × AreOfKind p (serial p order).states
+    → AllByRecursion (λ (a : SerialBlock). AreOfKind p a.starts) (serial p order).places × AreOfKind p (serial p order).states

@@ -2,7 +2,7 @@
 use Rattle.std.proofs.Common.{◌≡◌, ◌<◌, ◌≤◌, ℕ, zero, suc, ◌+◌, ◌-◌, ◌==◌, false, List, [], ◌∷◌, ◌++◌, length, get_or, set, take, drop, replicate, refl, sym, ap, ◌∙◌, subst, ⊎_elim, arith, take-append-drop}
 use Rattle.std.proofs.lemmas.List.{take_all, take-append-le, drop-append-le, drop-drop, length-drop, length-set, length-take-le, length-append, get_or-set_same, get_or-set_other, take-set-le, drop-set-lt, drop-set-add}
 use Rattle.std.proofs.Math.Seq.{take-set-lt}
-use Rattle.qs_objects.specs.Rows.{AreStarts, FillList, IsLast, IsStart, cut, joined}
+use Rattle.qs_objects.specs.Rows.{AreStarts, FillList, IsLast, IsStart, rows_of_lengths, join_rows}
 use Rattle.qs_objects.specs.Sums.{total}
 use Rattle.qs_objects.proofs.Choices.{apart_eqb, num_cases}
 
@@ -36,38 +36,38 @@ total_set zero (n ∷ ns) m inside = omega arith
 total_set (suc k) (n ∷ ns) m inside = let rest = total_set k ns m (omega (arith, inside)) in omega (arith, rest)
 
 module _ {X : Type 0} where
-  pub length_cut : (ns : List ℕ) (xs : List X) → length (cut ns xs) ≡ length ns
+  pub length_cut : (ns : List ℕ) (xs : List X) → length (rows_of_lengths ns xs) ≡ length ns
   length_cut [] xs = refl
   length_cut (n ∷ ns) xs = ap suc (length_cut ns (drop n xs))
 
-  pub row_of_cut : (ns : List ℕ) (xs : List X) (k : ℕ) → get_or (cut ns xs) k [] ≡ take (get_or ns k 0) (drop (total (take k ns)) xs)
+  pub row_of_cut : (ns : List ℕ) (xs : List X) (k : ℕ) → get_or (rows_of_lengths ns xs) k [] ≡ take (get_or ns k 0) (drop (total (take k ns)) xs)
   row_of_cut [] xs k = refl
   row_of_cut (n ∷ ns) xs zero = refl
   row_of_cut (n ∷ ns) xs (suc k) =
       row_of_cut ns (drop n xs) k ∙ ap (take (get_or ns k 0)) (drop-drop (total (take k ns)) n xs)
 
-  pub length_row : (ns : List ℕ) (xs : List X) (k : ℕ) → total ns ≤ length xs → length (get_or (cut ns xs) k []) ≡ get_or ns k 0
+  pub length_row : (ns : List ℕ) (xs : List X) (k : ℕ) → total ns ≤ length xs → length (get_or (rows_of_lengths ns xs) k []) ≡ get_or ns k 0
   length_row ns xs k fits =
       let front = total_front k ns in
       let left = length-drop (total (take k ns)) xs in
       ap length (row_of_cut ns xs k) ∙ length-take-le (get_or ns k 0) (drop (total (take k ns)) xs) (omega (arith, front, left, fits))
 
   -- rows that have no values have the length 0
-  pub zero_after : (ns : List ℕ) (xs : List X) (k : ℕ) → total ns ≤ length xs → IsLast (cut ns xs) k → AreZeroAfter ns k
+  pub zero_after : (ns : List ℕ) (xs : List X) (k : ℕ) → total ns ≤ length xs → IsLast (rows_of_lengths ns xs) k → AreZeroAfter ns k
   zero_after ns xs k fits last j after = sym (length_row ns xs j fits) ∙ ap length (last j after)
 
   -- rows of length 0 are empty, whatever they are cut from
-  cut_zeros : (ns : List ℕ) (xs ys : List X) → ((j : ℕ) → get_or ns j 0 ≡ 0) → cut ns xs ≡ cut ns ys
+  cut_zeros : (ns : List ℕ) (xs ys : List X) → ((j : ℕ) → get_or ns j 0 ≡ 0) → rows_of_lengths ns xs ≡ rows_of_lengths ns ys
   cut_zeros [] xs ys none = refl
   cut_zeros (n ∷ ns) xs ys none =
       let here : n ≡ 0 = none 0 in
-      ap (λ m. take m xs ∷ cut ns (drop n xs)) here
+      ap (λ m. take m xs ∷ rows_of_lengths ns (drop n xs)) here
       ∙ (ap (λ rest. [] ∷ rest) (cut_zeros ns (drop n xs) (drop n ys) (λ j. none (suc j)))
-      ∙ sym (ap (λ m. take m ys ∷ cut ns (drop n ys)) here))
+      ∙ sym (ap (λ m. take m ys ∷ rows_of_lengths ns (drop n ys)) here))
 
   -- a value more, at the end of the last row that has any
   pub cut_push : (ns : List ℕ) (xs : List X) (x : X) (k : ℕ) → k < length ns → total ns ≡ length xs → AreZeroAfter ns k
-      → cut (set ns k (get_or ns k 0 + 1)) (xs ++ x ∷ []) ≡ set (cut ns xs) k (get_or (cut ns xs) k [] ++ x ∷ [])
+      → rows_of_lengths (set ns k (get_or ns k 0 + 1)) (xs ++ x ∷ []) ≡ set (rows_of_lengths ns xs) k (get_or (rows_of_lengths ns xs) k [] ++ x ∷ [])
   cut_push [] xs x k inside all none = absurd (omega (arith, inside))
   cut_push (n ∷ ns) xs x zero inside all none =
       let zeros : (j : ℕ) → get_or ns j 0 ≡ 0 = λ j. none (suc j) (omega arith) in
@@ -75,35 +75,35 @@ module _ {X : Type 0} where
       let long = length-append xs (x ∷ []) in
       let whole : take (n + 1) (xs ++ x ∷ []) ≡ xs ++ x ∷ [] = take_all (n + 1) (xs ++ x ∷ []) (omega (arith, all, rest, long)) in
       let old : take n xs ≡ xs = take_all n xs (omega (arith, all, rest)) in
-      ap (λ row. row ∷ cut ns (drop (n + 1) (xs ++ x ∷ []))) (whole ∙ sym (ap (λ row. row ++ x ∷ []) old))
+      ap (λ row. row ∷ rows_of_lengths ns (drop (n + 1) (xs ++ x ∷ []))) (whole ∙ sym (ap (λ row. row ++ x ∷ []) old))
       ∙ ap (λ rows. (take n xs ++ x ∷ []) ∷ rows) (cut_zeros ns (drop (n + 1) (xs ++ x ∷ [])) (drop n xs) zeros)
   cut_push (n ∷ ns) xs x (suc k) inside all none =
       let low : n ≤ length xs = omega (arith, all) in
       let left = length-drop n xs in
-      ap (λ row. row ∷ cut (set ns k (get_or ns k 0 + 1)) (drop n (xs ++ x ∷ []))) (take-append-le n xs (x ∷ []) low)
-      ∙ (ap (λ ys. take n xs ∷ cut (set ns k (get_or ns k 0 + 1)) ys) (drop-append-le n xs (x ∷ []) low)
+      ap (λ row. row ∷ rows_of_lengths (set ns k (get_or ns k 0 + 1)) (drop n (xs ++ x ∷ []))) (take-append-le n xs (x ∷ []) low)
+      ∙ (ap (λ ys. take n xs ∷ rows_of_lengths (set ns k (get_or ns k 0 + 1)) ys) (drop-append-le n xs (x ∷ []) low)
       ∙ ap (λ rows. take n xs ∷ rows)
       (cut_push ns (drop n xs) x k (omega (arith, inside)) (omega (arith, all, left)) (λ j after. none (suc j) (omega (arith, after)))))
 
   -- a value in the place of another
   pub cut_set : (ns : List ℕ) (xs : List X) (y : X) (k i : ℕ) → i < get_or ns k 0
-      → cut ns (set xs (total (take k ns) + i) y) ≡ set (cut ns xs) k (set (get_or (cut ns xs) k []) i y)
+      → rows_of_lengths ns (set xs (total (take k ns) + i) y) ≡ set (rows_of_lengths ns xs) k (set (get_or (rows_of_lengths ns xs) k []) i y)
   cut_set [] xs y k i inside = absurd (omega (arith, inside))
   cut_set (n ∷ ns) xs y zero i inside =
       let at : total [] + i ≡ i = omega arith in
-      ap (λ j. take n (set xs j y) ∷ cut ns (drop n (set xs j y))) at
-      ∙ (ap (λ row. row ∷ cut ns (drop n (set xs i y))) (take-set-lt n xs i y inside)
-      ∙ ap (λ ys. set (take n xs) i y ∷ cut ns ys) (drop-set-lt n xs i y inside))
+      ap (λ j. take n (set xs j y) ∷ rows_of_lengths ns (drop n (set xs j y))) at
+      ∙ (ap (λ row. row ∷ rows_of_lengths ns (drop n (set xs i y))) (take-set-lt n xs i y inside)
+      ∙ ap (λ ys. set (take n xs) i y ∷ rows_of_lengths ns ys) (drop-set-lt n xs i y inside))
   cut_set (n ∷ ns) xs y (suc k) i inside =
       let on : total (n ∷ take k ns) + i ≡ n + (total (take k ns) + i) = omega arith in
-      ap (λ j. take n (set xs j y) ∷ cut ns (drop n (set xs j y))) on
-      ∙ (ap (λ row. row ∷ cut ns (drop n (set xs (n + (total (take k ns) + i)) y)))
+      ap (λ j. take n (set xs j y) ∷ rows_of_lengths ns (drop n (set xs j y))) on
+      ∙ (ap (λ row. row ∷ rows_of_lengths ns (drop n (set xs (n + (total (take k ns) + i)) y)))
       (take-set-le n xs (n + (total (take k ns) + i)) y (omega arith))
-      ∙ (ap (λ ys. take n xs ∷ cut ns ys) (drop-set-add n xs (total (take k ns) + i) y)
+      ∙ (ap (λ ys. take n xs ∷ rows_of_lengths ns ys) (drop-set-add n xs (total (take k ns) + i) y)
       ∙ ap (λ rows. take n xs ∷ rows) (cut_set ns (drop n xs) y k i inside)))
 
   -- one row after another they are the whole list
-  pub joined_cut : (ns : List ℕ) (xs : List X) → total ns ≡ length xs → joined (cut ns xs) ≡ xs
+  pub joined_cut : (ns : List ℕ) (xs : List X) → total ns ≡ length xs → join_rows (rows_of_lengths ns xs) ≡ xs
   joined_cut [] [] all = refl
   joined_cut [] (x ∷ xs) all = absurd (omega (arith, all))
   joined_cut (n ∷ ns) xs all =
@@ -111,7 +111,7 @@ module _ {X : Type 0} where
       ap (λ rows. take n xs ++ rows) (joined_cut ns (drop n xs) (omega (arith, all, left))) ∙ take-append-drop n xs
 
   -- empty rows
-  pub cut_empty : (rows : ℕ) → cut {X = X} (replicate rows 0) [] ≡ replicate rows []
+  pub cut_empty : (rows : ℕ) → rows_of_lengths {X = X} (replicate rows 0) [] ≡ replicate rows []
   cut_empty zero = refl
   cut_empty (suc rows) = ap (λ rest. [] ∷ rest) (cut_empty rows)
 
@@ -166,27 +166,27 @@ starts_push starts ns k inside same is none j within =
 -- what a list of rows keeps
 module _ {X : Type 0} (starts ns : List ℕ) (xs : List X) (room capacity : ℕ) (is : FillList starts ns (length xs) room capacity) where
   -- a row's number
-  pub row_inside : (k : ℕ) → k < length (cut ns xs) → k < length ns
+  pub row_inside : (k : ℕ) → k < length (rows_of_lengths ns xs) → k < length ns
   row_inside k inside = let same = length_cut ns xs in omega (arith, inside, same)
 
-  pub start_inside : (k : ℕ) → k < length (cut ns xs) → k < length starts
+  pub start_inside : (k : ℕ) → k < length (rows_of_lengths ns xs) → k < length starts
   start_inside k inside = let own = row_inside k inside in let many = is.many in omega (arith, own, many)
 
   -- a row lies in the list
-  pub row_within : (k s n : ℕ) → k < length (cut ns xs) → s ≡ get_or starts k 0 → n ≡ get_or ns k 0 → s + n ≤ length xs
+  pub row_within : (k s n : ℕ) → k < length (rows_of_lengths ns xs) → s ≡ get_or starts k 0 → n ≡ get_or ns k 0 → s + n ≤ length xs
   row_within k s n inside start long =
       let here = (is.begin k (row_inside k inside)).within in
       let whole = is.whole in
       omega (arith, start, long, here, whole)
 
   -- and is this part of it
-  pub row_is : (k s n : ℕ) → k < length (cut ns xs) → s ≡ get_or starts k 0 → n ≡ get_or ns k 0 → take n (drop s xs) ≡ get_or (cut ns xs) k []
+  pub row_is : (k s n : ℕ) → k < length (rows_of_lengths ns xs) → s ≡ get_or starts k 0 → n ≡ get_or ns k 0 → take n (drop s xs) ≡ get_or (rows_of_lengths ns xs) k []
   row_is k s n inside start long = by_length n refl
     where
       here : IsStart starts ns k
       here = is.begin k (row_inside k inside)
 
-      by_length : (m : ℕ) → n ≡ m → take n (drop s xs) ≡ get_or (cut ns xs) k []
+      by_length : (m : ℕ) → n ≡ m → take n (drop s xs) ≡ get_or (rows_of_lengths ns xs) k []
       by_length zero none =
           let zeros : get_or ns k 0 ≡ 0 = omega (arith, long, none) in
           ap (λ m. take m (drop s xs)) none
@@ -197,7 +197,7 @@ module _ {X : Type 0} (starts ns : List ℕ) (xs : List X) (room capacity : ℕ)
           ap (λ m. take m (drop s xs)) long ∙ (ap (λ s. take (get_or ns k 0) (drop s xs)) at ∙ sym (row_of_cut ns xs k))
 
   -- a value more at the end of the last row that has any
-  module _ (k : ℕ) (x : X) (inside : k < length (cut ns xs)) (last : IsLast (cut ns xs) k) (more : 0 < room) where
+  module _ (k : ℕ) (x : X) (inside : k < length (rows_of_lengths ns xs)) (last : IsLast (rows_of_lengths ns xs) k) (more : 0 < room) where
     none_after : AreZeroAfter ns k
     none_after = let whole = is.whole in zero_after ns xs k (omega (arith, whole)) last
 
@@ -220,12 +220,12 @@ module _ {X : Type 0} (starts ns : List ℕ) (xs : List X) (room capacity : ℕ)
           begin = starts_push starts ns k own is.many is.begin none_after;
         }))
 
-    pub rows_push : (n : ℕ) → n ≡ get_or ns k 0 → cut (set ns k (n + 1)) (xs ++ x ∷ []) ≡ set (cut ns xs) k (get_or (cut ns xs) k [] ++ x ∷ [])
+    pub rows_push : (n : ℕ) → n ≡ get_or ns k 0 → rows_of_lengths (set ns k (n + 1)) (xs ++ x ∷ []) ≡ set (rows_of_lengths ns xs) k (get_or (rows_of_lengths ns xs) k [] ++ x ∷ [])
     rows_push n long =
-        ap (λ m. cut (set ns k (m + 1)) (xs ++ x ∷ [])) long ∙ cut_push ns xs x k (row_inside k inside) is.whole none_after
+        ap (λ m. rows_of_lengths (set ns k (m + 1)) (xs ++ x ∷ [])) long ∙ cut_push ns xs x k (row_inside k inside) is.whole none_after
 
   -- a value in the place of another
-  module _ (k i s : ℕ) (y : X) (inside : k < length (cut ns xs)) (place : i < length (get_or (cut ns xs) k [])) (start : s ≡ get_or starts k 0) where
+  module _ (k i s : ℕ) (y : X) (inside : k < length (rows_of_lengths ns xs)) (place : i < length (get_or (rows_of_lengths ns xs) k [])) (start : s ≡ get_or starts k 0) where
     in_row : i < get_or ns k 0
     in_row = let whole = is.whole in let long = length_row ns xs k (omega (arith, whole)) in omega (arith, place, long)
 
@@ -236,9 +236,9 @@ module _ {X : Type 0} (starts ns : List ℕ) (xs : List X) (room capacity : ℕ)
         let own = in_row in
         omega (arith, start, here, whole, own)
 
-    pub rows_set : cut ns (set xs (s + i) y) ≡ set (cut ns xs) k (set (get_or (cut ns xs) k []) i y)
+    pub rows_set : rows_of_lengths ns (set xs (s + i) y) ≡ set (rows_of_lengths ns xs) k (set (get_or (rows_of_lengths ns xs) k []) i y)
     rows_set =
         let own = in_row in
         let exact = (is.begin k (row_inside k inside)).exact (omega (arith, own)) in
         let at : s ≡ total (take k ns) = omega (arith, start, exact) in
-        ap (λ s. cut ns (set xs (s + i) y)) at ∙ cut_set ns xs y k i own
+        ap (λ s. rows_of_lengths ns (set xs (s + i) y)) at ∙ cut_set ns xs y k i own

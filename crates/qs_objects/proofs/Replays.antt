@@ -2,7 +2,7 @@
 use Rattle.std.proofs.Common.{◌≡◌, Bool, Option, None, ℤ, if◌then◌else◌, true, false, List, [], ◌∷◌, ◌++◌, refl, sym, ap, ◌∙◌, subst}
 use Rattle.std.proofs.lemmas.List.{map-append}
 use Rattle.qs_objects.specs.Act.{State, act}
-use Rattle.qs_objects.specs.Journals.{HeldState, has_room, noted, after, answer, unstamp, unstamped, replay, IsHonest, ran, IsFaithful}
+use Rattle.qs_objects.specs.Journals.{HeldState, has_room, with_entry, after, answer, unstamp, without_tickets, replay, IsHonest, run_one, IsFaithful}
 use Rattle.qs_objects.specs.declared.held.Entry.{Entry}
 use Rattle.qs_objects.specs.declared.held.Event.{Event}
 use Rattle.qs_objects.specs.declared.held.Ticket.{Ticket}
@@ -25,31 +25,31 @@ IsHonest-back s [] ys all = all
 IsHonest-back s (x ∷ xs) ys all = IsHonest-back (after s x.request) xs ys all.1
 
 -- the entry of a request that an object served
-abbrev pub served : State → Ticket → Request → Entry
-served s t r = record { ticket = t; request = r; reply = answer s r }
+abbrev pub entry_served : State → Ticket → Request → Entry
+entry_served s t r = record { ticket = t; request = r; reply = answer s r }
 
 IsHonest-served : (start : State) (j : List Entry) (s : State) (t : Ticket) (r : Request)
-    → IsHonest start (unstamped j) → replay start (unstamped j) ≡ s → IsHonest start (unstamped (j ++ served s t r ∷ []))
+    → IsHonest start (without_tickets j) → replay start (without_tickets j) ≡ s → IsHonest start (without_tickets (j ++ entry_served s t r ∷ []))
 IsHonest-served start j s t r honest left =
-    subst (λ es. IsHonest start es) (sym (map-append unstamp j (served s t r ∷ [])))
-    (IsHonest-append start (unstamped j) (unstamp (served s t r) ∷ []) honest (ap (λ s. answer s r) (sym left), tt))
+    subst (λ es. IsHonest start es) (sym (map-append unstamp j (entry_served s t r ∷ [])))
+    (IsHonest-append start (without_tickets j) (unstamp (entry_served s t r) ∷ []) honest (ap (λ s. answer s r) (sym left), tt))
 
 replay-served : (start : State) (j : List Entry) (s : State) (t : Ticket) (r : Request)
-    → replay start (unstamped j) ≡ s → replay start (unstamped (j ++ served s t r ∷ [])) ≡ after s r
+    → replay start (without_tickets j) ≡ s → replay start (without_tickets (j ++ entry_served s t r ∷ [])) ≡ after s r
 replay-served start j s t r left =
-    ap (λ es. replay start es) (map-append unstamp j (served s t r ∷ []))
-    ∙ (replay-append start (unstamped j) (unstamp (served s t r) ∷ []) ∙ ap (λ s. after s r) left)
+    ap (λ es. replay start es) (map-append unstamp j (entry_served s t r ∷ []))
+    ∙ (replay-append start (without_tickets j) (unstamp (entry_served s t r) ∷ []) ∙ ap (λ s. after s r) left)
 
 noted_is_faithful : (start : State) (h : HeldState) (t : Ticket) (r : Request)
-    → IsFaithful start h → IsFaithful start (noted h t r (act h.object r.op r.args)).0
+    → IsFaithful start h → IsFaithful start (with_entry h t r (act h.object r.op r.args)).0
 noted_is_faithful start h t r faithful = record {
   honest = IsHonest-served start h.journal h.object t r faithful.honest faithful.object;
   object = replay-served start h.journal h.object t r faithful.object;
 }
 
 pub ran_is_faithful : (start : State) (h : HeldState) (t : Ticket) (r : Request)
-    → IsFaithful start h → IsFaithful start (ran h t r).0
+    → IsFaithful start h → IsFaithful start (run_one h t r).0
 ran_is_faithful start h t r faithful =
-    let either : Bool → HeldState × Option ℤ = λ b. if b then noted h t r (act h.object r.op r.args) else (h, None) in
+    let either : Bool → HeldState × Option ℤ = λ b. if b then with_entry h t r (act h.object r.op r.args) else (h, None) in
     elim (has_room h) as (λ b. IsFaithful start (either b).0)
     [ true ↦ noted_is_faithful start h t r faithful | false ↦ faithful ]

@@ -3,7 +3,7 @@ use Rattle.std.proofs.Common.{◌≡◌, ◌<◌, ◌≤◌, ℕ, zero, suc, ◌
 use Rattle.std.proofs.lemmas.List.{get_or-set_other, length-set}
 use Rattle.qs_objects.specs.Rows.{IsLast}
 use Rattle.qs_objects.specs.Sums.{total}
-use Rattle.qs_objects.specs.Traces.{AreEmptyAfter, HaveRoom, TraceState, empty_trace, events_of, noted, noted_at, trace_at, trace_state, with_rooms}
+use Rattle.qs_objects.specs.Traces.{AreEmptyAfter, HaveRoom, TraceState, empty_trace, events_of, with_last_event, noted_at, trace_at, trace_state, with_rooms}
 use Rattle.qs_objects.specs.declared.held.Event.{Event}
 use Rattle.qs_objects.proofs.Cuts.{total_front, total_set}
 
@@ -70,4 +70,4 @@ note_room rows rooms room k n e have inside is some =
 -- with an event more in a block's trace, later blocks have none still
 pub empty_after_note : (ts : List TraceState) (k : ℕ) (e : Event) → AreEmptyAfter ts k → AreEmptyAfter (noted_at ts k e) k
 empty_after_note ts k e none j after =
-    ap (λ (t : TraceState). t.events) (get_or-set_other ts k j (noted (trace_at ts k) e) (trace_state [] 0) (λ same. omega (arith, same, after))) ∙ none j after
+    ap (λ (t : TraceState). t.events) (get_or-set_other ts k j (with_last_event (trace_at ts k) e) (trace_state [] 0) (λ same. omega (arith, same, after))) ∙ none j after

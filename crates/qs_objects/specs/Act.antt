@@ -17,57 +17,57 @@ pub record State : Type 0 where
   pub refused : ℤ
 
 -- the state after a request, and the reply of a query
-abbrev pub Outcome : Type 0
-Outcome = State × Option ℤ
+abbrev pub ActResult : Type 0
+ActResult = State × Option ℤ
 
 -- an exact number, clamped to the range of 64 bits
-abbrev pub clamped : ℤ → ℤ
-clamped z = saturate_signed w64 z
+abbrev pub clamp_to_word : ℤ → ℤ
+clamp_to_word z = saturate_signed w64 z
 
 abbrev pub greatest_balance : ℤ
 greatest_balance = pos 1000000000000000
 
 -- nothing happens
-abbrev pub ignored : State → Outcome
-ignored s = (s, None)
+abbrev pub ignoring : State → ActResult
+ignoring s = (s, None)
 
 -- a command that can't be done: it is counted
-abbrev pub refusing : State → Outcome
-refusing s = (record { content = s.content; refused = clamped (s.refused +ℤ pos 1) }, None)
+abbrev pub refusing : State → ActResult
+refusing s = (record { content = s.content; refused = clamp_to_word (s.refused +ℤ pos 1) }, None)
 
 -- a command that is done
-abbrev pub becoming : State → Content → Outcome
+abbrev pub becoming : State → Content → ActResult
 becoming s c = (record { content = c; refused = s.refused }, None)
 
 -- a query that changes nothing
-abbrev pub replying : State → ℤ → Outcome
+abbrev pub replying : State → ℤ → ActResult
 replying s z = (s, Some z)
 
 -- a command that is done unless the test holds
-abbrev pub unless : Bool → State → Content → Outcome
+abbrev pub unless : Bool → State → Content → ActResult
 unless impossible s c = if impossible then refusing s else becoming s c
 
 -- what an account with balance b does
-abbrev pub account_act : State → ℤ → Op → List ℤ → Outcome
+abbrev pub account_act : State → ℤ → Op → List ℤ → ActResult
 account_act s b Deposit (n ∷ []) = unless (int_lt n (pos 0) || int_lt greatest_balance (b +ℤ n)) s (account (b +ℤ n))
 account_act s b Withdraw (n ∷ []) = unless (int_lt n (pos 0) || int_lt b n) s (account (b -ℤ n))
 account_act s b Balance [] = replying s b
 account_act s b Refused [] = replying s s.refused
-account_act s b _ _ = ignored s
+account_act s b _ _ = ignoring s
 
 abbrev pub first_or_zero : List ℤ → ℤ
 first_or_zero [] = pos 0
 first_or_zero (x ∷ xs) = x
 
 -- what a buffer of capacity k with values xs does
-abbrev pub buffer_act : State → ℕ → List ℤ → Op → List ℤ → Outcome
+abbrev pub buffer_act : State → ℕ → List ℤ → Op → List ℤ → ActResult
 buffer_act s k xs Put (n ∷ []) = unless (nat_le k (length xs)) s (buffer k (xs ++ n ∷ []))
 buffer_act s k xs DropFirst [] = unless (nat_eq (length xs) 0) s (buffer k (drop 1 xs))
 buffer_act s k xs TakeFirst [] = (record { content = buffer k (drop 1 xs); refused = s.refused }, Some (first_or_zero xs))
 buffer_act s k xs First [] = replying s (first_or_zero xs)
 buffer_act s k xs Size [] = replying s (pos (length xs))
 buffer_act s k xs Refused [] = replying s s.refused
-buffer_act s k xs _ _ = ignored s
+buffer_act s k xs _ _ = ignoring s
 
 -- a number from 0 up to n
 abbrev pub below : ℤ → ℕ → Bool
@@ -93,24 +93,24 @@ abbrev pub outside : ℕ → ℕ → ℤ → ℤ → Bool
 outside n k r c = not (below r n && below c k)
 
 -- what a grid of n rows with k cells each does
-abbrev pub grid_act : State → ℕ → ℕ → List ℤ → Op → List ℤ → Outcome
+abbrev pub grid_act : State → ℕ → ℕ → List ℤ → Op → List ℤ → ActResult
 grid_act s n k cells SetCell (r ∷ c ∷ v ∷ []) =
     unless (outside n k r c) s (grid n k (slice_set cells (place k r c) v))
 grid_act s n k cells AddCell (r ∷ c ∷ v ∷ []) =
-    unless (outside n k r c) s (grid n k (slice_set cells (place k r c) (clamped (cell_at cells (place k r c) +ℤ v))))
+    unless (outside n k r c) s (grid n k (slice_set cells (place k r c) (clamp_to_word (cell_at cells (place k r c) +ℤ v))))
 grid_act s n k cells Fill (v ∷ []) = becoming s (grid n k (replicate (n * k) v))
 grid_act s n k cells GetCell (r ∷ c ∷ []) =
     replying s (if outside n k r c then pos 0 else cell_at cells (place k r c))
 grid_act s n k cells RowSum (r ∷ []) =
-    replying s (if below r n then clamped (exact_sum (take k (drop (size_of r * k) cells))) else pos 0)
+    replying s (if below r n then clamp_to_word (exact_sum (take k (drop (size_of r * k) cells))) else pos 0)
 grid_act s n k cells Refused [] = replying s s.refused
-grid_act s n k cells _ _ = ignored s
+grid_act s n k cells _ _ = ignoring s
 
-abbrev pub act_by : Content → State → Op → List ℤ → Outcome
+abbrev pub act_by : Content → State → Op → List ℤ → ActResult
 act_by (account b) s op args = account_act s b op args
 act_by (buffer k xs) s op args = buffer_act s k xs op args
 act_by (grid n k cells) s op args = grid_act s n k cells op args
 
 -- the state after a request, and its reply
-abbrev pub act : State → Op → List ℤ → Outcome
+abbrev pub act : State → Op → List ℤ → ActResult
 act s op args = act_by s.content s op args

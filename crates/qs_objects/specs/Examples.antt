@@ -2,7 +2,7 @@
 use Rattle.std.specs.Prelude.{◌≡◌, List, [], ◌∷◌, ◌++◌, map, replicate, Option, Some, None, ℕ, ℤ, pos, negsuc}
 use Rattle.qs_objects.specs.Act.{State, Content, account, buffer, grid, act}
 use Rattle.qs_objects.specs.Objects.{starts, fresh}
-use Rattle.qs_objects.specs.Journals.{HeldState, ran, replay, IsHonest}
+use Rattle.qs_objects.specs.Journals.{HeldState, run_one, replay, IsHonest}
 use Rattle.qs_objects.specs.declared.Op.{Op}
 use Rattle.qs_objects.specs.declared.Op.TheVariants.{Deposit, Withdraw, Balance, Refused, Put, DropFirst, TakeFirst, First, Size, SetCell, AddCell, Fill, GetCell, RowSum}
 use Rattle.qs_objects.specs.declared.object.Kind.TheVariants as kinds
@@ -12,27 +12,27 @@ use Rattle.qs_objects.specs.declared.held.Entry.{Entry}
 use Rattle.qs_objects.specs.declared.held.Event.{Event}
 
 -- an operation, its arguments, and the reply that it must have
-pub record Line : Type 0 where
+pub record ExpectedAct : Type 0 where
   pub op : Op
   pub args : List ℤ
   pub reply : Option ℤ
 
 -- an operation that must have no reply
-abbrev pub does : Op → List ℤ → Line
+abbrev pub does : Op → List ℤ → ExpectedAct
 does op args = record { op = op; args = args; reply = None }
 
 -- an operation that must have this reply
-abbrev pub asks : Op → List ℤ → ℤ → Line
+abbrev pub asks : Op → List ℤ → ℤ → ExpectedAct
 asks op args z = record { op = op; args = args; reply = Some z }
 
 -- the state after all operations, and their replies
-abbrev pub served : State → List Line → State × List (Option ℤ)
-served s [] = (s, [])
-served s (l ∷ ls) = let o = act s l.op l.args in let rest = served o.0 ls in (rest.0, o.1 ∷ rest.1)
+abbrev pub results_of : State → List ExpectedAct → State × List (Option ℤ)
+results_of s [] = (s, [])
+results_of s (l ∷ ls) = let o = act s l.op l.args in let rest = results_of o.0 ls in (rest.0, o.1 ∷ rest.1)
 
 -- from these contents the lines leave those, and this many refused commands
-abbrev pub Leads : Content → List Line → Content → ℕ → Type 0
-Leads c ls end refused = served (fresh c) ls ≡ (record { content = end; refused = pos refused }, map (λ l. l.reply) ls)
+abbrev pub Leads : Content → List ExpectedAct → Content → ℕ → Type 0
+Leads c ls end refused = results_of (fresh c) ls ≡ (record { content = end; refused = pos refused }, map (λ l. l.reply) ls)
 
 abbrev pub greatest : ℤ
 greatest = pos 9223372036854775807
@@ -188,11 +188,11 @@ abbrev pub entry : Request → Option ℤ → Entry
 entry r reply = record { ticket = ticket; request = r; reply = reply }
 
 -- an account with its journal
-abbrev pub held : ℕ → ℤ → List Entry → HeldState
-held room b j = record { object = fresh (account b); journal = j; room = room }
+abbrev pub account_held : ℕ → ℤ → List Entry → HeldState
+account_held room b j = record { object = fresh (account b); journal = j; room = room }
 
-abbrev pub asked : Entry
-asked = entry (request Balance []) (Some (pos 1))
+abbrev pub balance_entry : Entry
+balance_entry = entry (request Balance []) (Some (pos 1))
 
 -- a value is put, and a value is taken
 abbrev pub put_take : ℤ → ℤ → List Event
@@ -201,11 +201,11 @@ put_take y z =
     ∷ record { request = request TakeFirst []; reply = Some z } ∷ []
 
 pub record JournalExamples : Type 0 where
-  pub answered : ran (held 1 (pos 1) []) ticket (request Balance []) ≡ (held 1 (pos 1) (asked ∷ []), Some (pos 1))
+  pub answered : run_one (account_held 1 (pos 1) []) ticket (request Balance []) ≡ (account_held 1 (pos 1) (balance_entry ∷ []), Some (pos 1))
   pub noted :
-      ran (held 2 (pos 1) (asked ∷ [])) ticket (request Deposit (one (pos 5)))
-      ≡ (held 2 (pos 6) (asked ∷ entry (request Deposit (one (pos 5))) None ∷ []), None)
-  pub no_room : ran (held 1 (pos 1) (asked ∷ [])) ticket (request Balance []) ≡ (held 1 (pos 1) (asked ∷ []), None)
+      run_one (account_held 2 (pos 1) (balance_entry ∷ [])) ticket (request Deposit (one (pos 5)))
+      ≡ (account_held 2 (pos 6) (balance_entry ∷ entry (request Deposit (one (pos 5))) None ∷ []), None)
+  pub no_room : run_one (account_held 1 (pos 1) (balance_entry ∷ [])) ticket (request Balance []) ≡ (account_held 1 (pos 1) (balance_entry ∷ []), None)
   pub replayed : replay (fresh (buffer 1 (one (pos 4)))) (put_take (pos 5) (pos 4)) ≡ counting (pos 1)
   pub honest : IsHonest (fresh (buffer 1 [])) (put_take (pos 5) (pos 5))
   pub dishonest : ¬ IsHonest (fresh (buffer 1 [])) (put_take (pos 5) (pos 4))

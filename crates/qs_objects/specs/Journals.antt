@@ -1,6 +1,6 @@
 -- Objects with their journals.
 use Rattle.std.specs.Prelude.{◌≡◌, ℕ, Bool, nat_lt, List, [], ◌∷◌, ◌++◌, length, map, Option, None, ℤ, if◌then◌else◌}
-use Rattle.qs_objects.specs.Act.{State, act, Outcome}
+use Rattle.qs_objects.specs.Act.{State, act, ActResult}
 use Rattle.qs_objects.specs.declared.held.Entry.{Entry}
 use Rattle.qs_objects.specs.declared.held.Event.{Event}
 use Rattle.qs_objects.specs.declared.held.Ticket.{Ticket}
@@ -19,8 +19,8 @@ abbrev pub unstamp : Entry → Event
 unstamp e = record { request = e.request; reply = e.reply }
 
 -- a journal as a list of events
-abbrev pub unstamped : List Entry → List Event
-unstamped j = map unstamp j
+abbrev pub without_tickets : List Entry → List Event
+without_tickets j = map unstamp j
 
 -- the state that events leave from a start
 abbrev pub replay : State → List Event → State
@@ -43,16 +43,16 @@ abbrev pub has_room : HeldState → Bool
 has_room h = nat_lt (length h.journal) h.room
 
 -- what serving a request gives, with its entry at the journal's end
-abbrev pub noted : HeldState → Ticket → Request → Outcome → HeldState × Option ℤ
-noted h t r o =
+abbrev pub with_entry : HeldState → Ticket → Request → ActResult → HeldState × Option ℤ
+with_entry h t r o =
     let entry : Entry = record { ticket = t; request = r; reply = o.1 } in
     (record { object = o.0; journal = h.journal ++ entry ∷ []; room = h.room }, o.1)
 
 -- the request served and noted; nothing where there is no room
-abbrev pub ran : HeldState → Ticket → Request → HeldState × Option ℤ
-ran h t r = if has_room h then noted h t r (act h.object r.op r.args) else (h, None)
+abbrev pub run_one : HeldState → Ticket → Request → HeldState × Option ℤ
+run_one h t r = if has_room h then with_entry h t r (act h.object r.op r.args) else (h, None)
 
 -- the journal is honest from this start, and its replay is the object
 pub record IsFaithful (start : State) (h : HeldState) : Type 0 where
-  pub honest : IsHonest start (unstamped h.journal)
-  pub object : replay start (unstamped h.journal) ≡ h.object
+  pub honest : IsHonest start (without_tickets h.journal)
+  pub object : replay start (without_tickets h.journal) ≡ h.object

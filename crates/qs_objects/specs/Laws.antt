@@ -1,9 +1,9 @@
 -- What holds of every object, whatever it holds.
 use Rattle.std.specs.Prelude.{◌≡◌, ◌≢◌, ◌⊎◌, true, false, List, length, IsSome, Some, None, ℤ}
-use Rattle.qs_objects.specs.Act.{State, Content, account, buffer, grid, act, ignored}
+use Rattle.qs_objects.specs.Act.{State, Content, account, buffer, grid, act, ignoring}
 use Rattle.qs_objects.specs.Objects.{kind_of, starts, IsInRange}
 use Rattle.qs_objects.specs.Operations.{is_query, arity, fits}
-use Rattle.qs_objects.specs.Journals.{HeldState, ran, IsFaithful}
+use Rattle.qs_objects.specs.Journals.{HeldState, run_one, IsFaithful}
 use Rattle.qs_objects.specs.declared.Op.{Op}
 use Rattle.qs_objects.specs.declared.object.Kind.{Kind}
 use Rattle.qs_objects.specs.declared.held.Ticket.{Ticket}
@@ -28,7 +28,7 @@ abbrev pub MisfitsDoNothing : Type 0
 MisfitsDoNothing =
     (s : State) (op : Op) (args : List ℤ)
     → (fits op (kind_of s.content) ≡ false) ⊎ (length args ≢ arity op)
-    → act s op args ≡ ignored s
+    → act s op args ≡ ignoring s
 
 -- of one kind and size; balances, values and cells may differ
 abbrev pub SameShape : Content → Content → Type 0
@@ -53,4 +53,4 @@ RangesStay =
 abbrev pub JournalsStayHonest : Type 0
 JournalsStayHonest =
     (start : State) (h : HeldState) (ticket : Ticket) (request : Request)
-    → IsFaithful start h → IsFaithful start (ran h ticket request).0
+    → IsFaithful start h → IsFaithful start (run_one h ticket request).0

@@ -13,8 +13,8 @@ abbrev pub same : Ticket → Ticket → Bool
 same t u = (t.client == u.client) && (t.index == u.index)
 
 -- a command as it enters a trace
-abbrev pub logged : Request → Event
-logged r = record { request = r; reply = None }
+abbrev pub command_event : Request → Event
+command_event r = record { request = r; reply = None }
 
 -- an event as an entry of a ticket
 abbrev pub stamp : Ticket → Event → Entry

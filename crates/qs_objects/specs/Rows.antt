@@ -31,14 +31,14 @@ module _ {X : Type 0} where
   rows_code c = code_by (List (List X) × ℕ) (coded× (coded_list (coded_list c)) coded_ℕ) (λ s. (s.rows, s.room)) (λ p. rows_state p.0 p.1) (λ _. refl)
 
   -- a list cut into rows of these lengths
-  abbrev pub cut : List ℕ → List X → List (List X)
-  cut [] xs = []
-  cut (n ∷ ns) xs = take n xs ∷ cut ns (drop n xs)
+  abbrev pub rows_of_lengths : List ℕ → List X → List (List X)
+  rows_of_lengths [] xs = []
+  rows_of_lengths (n ∷ ns) xs = take n xs ∷ rows_of_lengths ns (drop n xs)
 
   -- one row after another
-  abbrev pub joined : List (List X) → List X
-  joined [] = []
-  joined (row ∷ rows) = row ++ joined rows
+  abbrev pub join_rows : List (List X) → List X
+  join_rows [] = []
+  join_rows (row ∷ rows) = row ++ join_rows rows
 
   -- no row after this has values
   abbrev pub IsLast : List (List X) → ℕ → Type 0

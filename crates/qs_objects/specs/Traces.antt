@@ -20,12 +20,12 @@ trace_at ts k = slice_index_or ts k (trace_state [] 0)
 abbrev pub events_of : List TraceState → List (List Event)
 events_of ts = map (λ (t : TraceState). t.events) ts
 
-abbrev pub noted : TraceState → Event → TraceState
-noted t e = trace_state (t.events ++ e ∷ []) (t.room - 1)
+abbrev pub with_last_event : TraceState → Event → TraceState
+with_last_event t e = trace_state (t.events ++ e ∷ []) (t.room - 1)
 
 -- with an event at the end of a block's trace
 abbrev pub noted_at : List TraceState → ℕ → Event → List TraceState
-noted_at ts k e = slice_set ts k (noted (trace_at ts k) e)
+noted_at ts k e = slice_set ts k (with_last_event (trace_at ts k) e)
 
 -- no later block has events
 abbrev pub AreEmptyAfter : List TraceState → ℕ → Type 0

@@ -2,7 +2,7 @@
 
 ghost use Rattle.std.specs.Prelude.{◌≡◌, ℕ, ◌+◌, ◌*◌, ◌<◌, ◌≤◌, length, take, drop, IfSome, Some, None, if◌then◌else◌, pos, ◌+ℤ◌};
 ghost use Rattle.qs_objects.specs.Objects.{IsFull, grid_state};
-ghost use Rattle.qs_objects.specs.Act.{grid_act, outside, below, place as cell_place, size_of, exact_sum, clamped};
+ghost use Rattle.qs_objects.specs.Act.{grid_act, outside, below, place as cell_place, size_of, exact_sum, clamp_to_word};
 ghost use Rattle.qs_objects.specs.Limits.{most_lines};
 
 use crate::Op;
@@ -70,7 +70,7 @@ fn row_sum(rows: usize, columns: usize, cells: &[i64], row: i64) -> i64
     requires small { (rows ≤ most_lines) × (columns ≤ most_lines) }
     requires full { length cells.now ≡ rows * columns }
     ensures sum { result
-        ≡ (if below row rows then clamped (exact_sum (take columns (drop (size_of row * columns) cells.now)))
+        ≡ (if below row rows then clamp_to_word (exact_sum (take columns (drop (size_of row * columns) cells.now)))
         else pos 0) }
 {
     if row < 0 || row as usize >= rows {
@@ -84,7 +84,7 @@ fn row_sum(rows: usize, columns: usize, cells: &[i64], row: i64) -> i64
 #[tactic(auto, using(crate::proofs::Sums::exact_sum_drop))]
 fn clamped_sum(values: &[i64]) -> i64
     requires few { length values.now ≤ most_lines }
-    ensures sum { result ≡ clamped (exact_sum values.now) }
+    ensures sum { result ≡ clamp_to_word (exact_sum values.now) }
 {
     let mut sum: i128 = 0;
     for value in values {
@@ -95,7 +95,7 @@ fn clamped_sum(values: &[i64]) -> i64
 
 // Adds, and clamps the exact sum.
 fn add(cell: &mut i64, n: i64)
-    ensures sum { cell.new ≡ clamped (cell.old +ℤ n) }
+    ensures sum { cell.new ≡ clamp_to_word (cell.old +ℤ n) }
 {
     *cell = cell.saturating_add(n);
 }

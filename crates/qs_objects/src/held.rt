@@ -2,7 +2,7 @@
 
 ghost use Rattle.std.specs.Prelude.{◌≡◌, ◌<◌, ◌+◌, ◌⊎◌, [], length, IfOk, IsErr, IsTrue};
 ghost use Rattle.qs_objects.specs.Objects.{has_memory};
-ghost use Rattle.qs_objects.specs.Journals.{ran, has_room as room_is_left};
+ghost use Rattle.qs_objects.specs.Journals.{run_one, has_room as room_is_left};
 
 use crate::Request;
 use crate::object::Object;
@@ -194,7 +194,7 @@ impl Held {
     /// Serves a request and notes it at the journal's end; answers what the object answers. With no
     /// room left it changes nothing and answers None.
     pub fn run(&mut self, ticket: Ticket, request: Request) -> Option<i64>
-        ensures ran { (self.new, result) ≡ ran self.old ticket request }
+        ensures ran { (self.new, result) ≡ run_one self.old ticket request }
     {
         if !self.has_room() {
             return None;

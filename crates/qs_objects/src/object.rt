@@ -2,7 +2,7 @@
 
 ghost use Rattle.std.specs.Prelude.{◌≡◌, ◌↔◌, ◌≤◌, length, Some, None, IfOk, IsErr, IsErrOf, IsSome, IsTrue, slice_get, pos, ◌+ℤ◌, ℤ, vec_capacity};
 ghost use Rattle.qs_objects.specs.Objects.{IsKept, starts, has_memory, needs_memory, kind_of, state_of, values_of};
-ghost use Rattle.qs_objects.specs.Act.{act, clamped};
+ghost use Rattle.qs_objects.specs.Act.{act, clamp_to_word};
 ghost use Rattle.qs_objects.specs.Limits.{most_values};
 
 use crate::{Request, account, buffer, grid};
@@ -246,7 +246,7 @@ impl Object {
 
 // One more refused command, up to the greatest count.
 pub(crate) fn count_refusal(refused: &mut i64)
-    ensures counts { refused.new ≡ clamped (refused.old +ℤ pos 1) }
+    ensures counts { refused.new ≡ clamp_to_word (refused.old +ℤ pos 1) }
 {
     *refused = refused.saturating_add(1);
 }

@@ -1,7 +1,7 @@
 //! Rows of values in one list.
 
 ghost use Rattle.std.specs.Prelude.{◌≡◌, ◌<◌, ◌≤◌, ◌+◌, ◌-◌, ℕ, [], ◌∷◌, ◌++◌, IfOk, IsErr, drop, length, replicate, slice_index_or, slice_set, take};
-ghost use Rattle.qs_objects.specs.Rows.{IsLast, joined, rows_state};
+ghost use Rattle.qs_objects.specs.Rows.{IsLast, join_rows, rows_state};
 
 use std::alloc::{AllocError, Global};
 use std::marker::Model;
@@ -27,19 +27,19 @@ impl<T: Drop> Drop for Rows<T> {
 
 impl<T> Model for Rows<T> {
     ghost use Rattle.std.specs.Prelude.{length, vec_capacity};
-    ghost use Rattle.qs_objects.specs.Rows.{FillList, RowsState, cut, rows_code, rows_state};
+    ghost use Rattle.qs_objects.specs.Rows.{FillList, RowsState, rows_of_lengths, rows_code, rows_state};
 
     ghost Value = { RowsState T };
 
     ghost coded = { rows_code T.code };
 
-    ghost view = { λ r. rows_state (cut r.lengths.items r.items.items) r.room };
+    ghost view = { λ r. rows_state (rows_of_lengths r.lengths.items r.items.items) r.room };
 
     ghost invariant = { λ r. FillList r.starts.items r.lengths.items (length r.items.items) r.room (vec_capacity r.items) };
 }
 
 // So many values of a list, from a place on.
-fn part<T>(items: &[T], start: usize, count: usize) -> &[T]
+fn row_slice<T>(items: &[T], start: usize, count: usize) -> &[T]
     requires within { start + count ≤ length items.now }
     ensures value { result.now ≡ take count (drop start items.now) }
 {
@@ -86,12 +86,12 @@ impl<T> Rows<T> {
         requires row { row < length self.now.rows }
         ensures value { result.now ≡ slice_index_or self.now.rows row [] }
     {
-        part(&self.items, self.starts[row], self.lengths[row])
+        row_slice(&self.items, self.starts[row], self.lengths[row])
     }
 
     /// All rows, one after another.
     pub fn joined(&self) -> &[T]
-        ensures value { result.now ≡ joined self.now.rows }
+        ensures value { result.now ≡ join_rows self.now.rows }
     {
         &self.items
     }

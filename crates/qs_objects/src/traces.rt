@@ -1,7 +1,7 @@
 //! The traces of a client's blocks.
 
 ghost use Rattle.std.specs.Prelude.{◌≡◌, ◌<◌, IfOk, IsErr, length, map};
-ghost use Rattle.qs_objects.specs.Rows.{joined};
+ghost use Rattle.qs_objects.specs.Rows.{join_rows};
 ghost use Rattle.qs_objects.specs.Sums.{total};
 ghost use Rattle.qs_objects.specs.Traces.{AreEmptyAfter, empty_trace, events_of, noted_at, trace_at};
 
@@ -63,7 +63,7 @@ impl Traces {
 
     /// The events of all blocks, block after block.
     pub fn joined(&self) -> &[Event]
-        ensures events { result.now ≡ joined (events_of self.now) }
+        ensures events { result.now ≡ join_rows (events_of self.now) }
     {
         self.rows.joined()
     }

@@ -5,7 +5,7 @@ use Rattle.std.specs.Prelude.{Result, IfOk}
 use Rattle.std.specs.Bool.{OnTrue}
 use Rattle.std.specs.List.{range_with_len}
 use Rattle.qs_program.specs.Program.{ProgramShape}
-use Rattle.qs_played.specs.Schedule.{actors_of, repeated, schedule}
+use Rattle.qs_played.specs.Schedule.{actors_of, rounds_of, schedule}
 use Rattle.qs_played.specs.Played.{Played}
 use Rattle.qs_played.specs.declared.schedule.actor.Actor.{Actor}
 use Rattle.qs_played.proofs.Playing.{plays_by-append, round_more, row_more}
@@ -28,12 +28,12 @@ plays-round p picks n s = ap (λ xs. plays p xs s) (round_more p picks n) ∙ pl
 
 -- all picks, and then the rounds
 pub plays-schedule : (p : ProgramShape) (picks : List Actor) (i rounds : ℕ) (old new : RulesState) (s : Plain) → length picks ≤ i → old.program ≡ p → plays p (drop i picks) (plain_of old) ≡ plays p picks s
-    → plain_of new ≡ plays old.program (repeated rounds (actors_of old.program)) (plain_of old) → plain_of new ≡ plays p (schedule p picks rounds) s
+    → plain_of new ≡ plays old.program (rounds_of rounds (actors_of old.program)) (plain_of old) → plain_of new ≡ plays p (schedule p picks rounds) s
 plays-schedule p picks i rounds old new s end same before after =
     let picked : plain_of old ≡ plays p picks s = sym (ap (λ xs. plays p xs (plain_of old)) (drop_all i picks end)) ∙ before in
     after
-    ∙ (λ k. plays (same k) (repeated rounds (actors_of (same k))) (picked k))
-    ∙ sym (plays-append p picks (repeated rounds (actors_of p)) s)
+    ∙ (λ k. plays (same k) (rounds_of rounds (actors_of (same k))) (picked k))
+    ∙ sym (plays-append p picks (rounds_of rounds (actors_of p)) s)
 
 -- what is shown of it
 pub shown-as : {E : Type 0} (result : Result Played E) (p : ProgramShape) (t : Plain) (s : RulesState) → s.program ≡ p → plain_of s ≡ t → IfOk result (λ played. played ≡ played_of s.program (plain_of s))
@@ -49,14 +49,14 @@ stepped old a false new steps none unchanged =
     (ap plain_of (unchanged refl) ∙ sym (ap (or_stay (plain_of old)) (none refl)), ap (λ (r : RulesState). r.program) (unchanged refl))
 
 -- where a round changes nothing, no further one does
-pub plays-still : (p : ProgramShape) (n k : ℕ) (s : Plain) → plays p (actors_of p) (plays p (repeated n (actors_of p)) s) ≡ plays p (repeated n (actors_of p)) s
-    → plays p (repeated (n + k) (actors_of p)) s ≡ plays p (repeated n (actors_of p)) s
+pub plays-still : (p : ProgramShape) (n k : ℕ) (s : Plain) → plays p (actors_of p) (plays p (rounds_of n (actors_of p)) s) ≡ plays p (rounds_of n (actors_of p)) s
+    → plays p (rounds_of (n + k) (actors_of p)) s ≡ plays p (rounds_of n (actors_of p)) s
 plays-still p n zero s same =
     let none : n + 0 ≡ n = omega (arith) in
-    ap (λ m. plays p (repeated m (actors_of p)) s) none
+    ap (λ m. plays p (rounds_of m (actors_of p)) s) none
 plays-still p n (suc k) s same =
     let more : n + suc k ≡ (n + k) + 1 = omega (arith) in
-    ap (λ m. plays p (repeated m (actors_of p)) s) more
+    ap (λ m. plays p (rounds_of m (actors_of p)) s) more
     ∙ plays-round p [] (n + k) s
     ∙ ap (plays p (actors_of p)) (plays-still p n k s same)
     ∙ same

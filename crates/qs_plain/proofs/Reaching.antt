@@ -9,7 +9,7 @@ use Rattle.qs_plain_laws.specs.PlainSchedule.{played_of, plays}
 use Rattle.qs_played.specs.Schedule.{or_stay}
 use Rattle.qs_plain_laws.specs.PlainSyncSums.{AreQueriesCounted}
 use Rattle.qs_plain_laws.proofs.PlainSyncs.{plain_syncs_counted}
-use Rattle.qs_plain_laws.specs.PlainIsolation.{queued}
+use Rattle.qs_plain_laws.specs.PlainIsolation.{commands_in_queue}
 use Rattle.qs_plain_laws.specs.Plain.{Plain, begin, step}
 use Rattle.qs_plain_laws.proofs.Isolating.{runs_isolated}
 use Rattle.qs_plain.specs.Rules.{IsReached, RulesState, AreRulesCounted, AreIsolated, Steps, plain_of}
@@ -37,4 +37,4 @@ reached_next old new a false reached steps same = subst IsReached (sym (same ref
 
 pub reached_isolated : (r : RulesState) → IsSound r.program → IsReached r → AreIsolated r
 reached_isolated r sound (actors, is) =
-    subst (λ s. IsIsolated r.program (played_of r.program s) (queued s)) (sym is) (runs_isolated r.program sound actors)
+    subst (λ s. IsIsolated r.program (played_of r.program s) (commands_in_queue s)) (sym is) (runs_isolated r.program sound actors)

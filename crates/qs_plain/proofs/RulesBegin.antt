@@ -23,7 +23,7 @@ use Rattle.qs_plain_client.specs.Queues.{QueueState}
 use Rattle.qs_plain_client.specs.PreparedBlock.{IsReadyQueue}
 use Rattle.qs_plain_client.proofs.FrameMoves.{AllByRecursion-push}
 use Rattle.qs_plain_client.specs.declared.stage.Stage.TheVariants as stage
-use Rattle.qs_plain.specs.Handlers.{handler_at, entered, entered_all, CanEnter, CanEnterAll}
+use Rattle.qs_plain.specs.Handlers.{handler_at, with_queue, entered_all, CanEnter, CanEnterAll}
 use Rattle.qs_plain.specs.Rules.{RulesState, IsRules, IsOpen, to_come, is_in_block, plain_of}
 use Rattle.qs_plain.specs.Served.{handler_of}
 use Rattle.qs_plain.proofs.HandlersPreserved.{entered_each, length-entered_all}
@@ -145,13 +145,13 @@ module _ (r : RulesState) (kept : IsRules r) (sound : IsSound r.program) (c : �
   }
     where
       rooms_after : (h : ℕ) → h < length r.handlers
-          → (handler_at (entered_all r.handlers queues) h ≡ handler_at r.handlers h) ⊎ ((q : QueueState) × IsReadyQueue c here block (h, q) × (handler_at (entered_all r.handlers queues) h ≡ entered q (handler_at r.handlers h)))
+          → (handler_at (entered_all r.handlers queues) h ≡ handler_at r.handlers h) ⊎ ((q : QueueState) × IsReadyQueue c here block (h, q) × (handler_at (entered_all r.handlers queues) h ≡ with_queue q (handler_at r.handlers h)))
           → to_come (set r.clients c new) ≤ (handler_at (entered_all r.handlers queues) h).room
       rooms_after h less (inl as_it_was) = rw as_it_was (omega (arith, fewer, kept.rooms h less))
       rooms_after h less (inr (q, fresh, came)) = rw came (omega (arith, fewer, kept.rooms h less))
 
       queues_after : (h : ℕ) → h < length r.handlers
-          → (handler_at (entered_all r.handlers queues) h ≡ handler_at r.handlers h) ⊎ ((q : QueueState) × IsReadyQueue c here block (h, q) × (handler_at (entered_all r.handlers queues) h ≡ entered q (handler_at r.handlers h)))
+          → (handler_at (entered_all r.handlers queues) h ≡ handler_at r.handlers h) ⊎ ((q : QueueState) × IsReadyQueue c here block (h, q) × (handler_at (entered_all r.handlers queues) h ≡ with_queue q (handler_at r.handlers h)))
           → AllByRecursion (IsOpen (set r.clients c new) h) (handler_at (entered_all r.handlers queues) h).queues
       queues_after h less (inl as_it_was) = rw as_it_was (each_implies (IsOpen r.clients h) (IsOpen (set r.clients c new) h) (handler_at r.handlers h).queues (open_still h) (kept.queues h less))
       queues_after h less (inr (q, fresh, came)) =

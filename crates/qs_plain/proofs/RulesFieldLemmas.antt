@@ -22,17 +22,17 @@ stage_of r s c st same is = rw same is
 pub here_of : (cs : List ClientState) (c n : ℕ) (d : ClientState) → n ≡ c → c < length cs → d ≡ get_or cs n d → d ≡ client_at cs c
 here_of cs c n d is less e = e ∙ ap (λ m. get_or cs m d) is ∙ get_or-any cs c d absent less
 
-abbrev pub made : RulesState → List Ticket → ℕ → ClientState → List HandlerState → RulesState
-made r order c new hs = record { program = r.program; order = order; clients = set r.clients c new; handlers = hs }
+abbrev pub new_rules : RulesState → List Ticket → ℕ → ClientState → List HandlerState → RulesState
+new_rules r order c new hs = record { program = r.program; order = order; clients = set r.clients c new; handlers = hs }
 
-pub made_kept : (r : RulesState) (order : List Ticket) (c n : ℕ) (new : ClientState) (hs others : List HandlerState) → n ≡ c → others ≡ hs → IsRules (made r order c new hs) → IsRules (made r order n new others)
-made_kept r order c n new hs others is same kept = subst (λ m. IsRules (made r order m new others)) (sym is) (subst (λ xs. IsRules (made r order c new xs)) (sym same) kept)
+pub made_kept : (r : RulesState) (order : List Ticket) (c n : ℕ) (new : ClientState) (hs others : List HandlerState) → n ≡ c → others ≡ hs → IsRules (new_rules r order c new hs) → IsRules (new_rules r order n new others)
+made_kept r order c n new hs others is same kept = subst (λ m. IsRules (new_rules r order m new others)) (sym is) (subst (λ xs. IsRules (new_rules r order c new xs)) (sym same) kept)
 
 pub made_steps : (r s : RulesState) (a : Actor) (order later : List Ticket) (c n : ℕ) (new : ClientState) (hs others : List HandlerState) → r ≡ s → n ≡ c → others ≡ hs → order ≡ later
-    → step r.program (plain_of r) a ≡ Some (plain_of (made r order c new hs)) → step s.program (plain_of s) a ≡ Some (plain_of (made r later n new others))
+    → step r.program (plain_of r) a ≡ Some (plain_of (new_rules r order c new hs)) → step s.program (plain_of s) a ≡ Some (plain_of (new_rules r later n new others))
 made_steps r s a order later c n new hs others same is others_are longer e =
-    subst (λ x. step x.program (plain_of x) a ≡ Some (plain_of (made r later n new others))) same
-    (e ∙ (λ k. Some (plain_of (made r (longer k) (sym is k) new (sym others_are k)))))
+    subst (λ x. step x.program (plain_of x) a ≡ Some (plain_of (new_rules r later n new others))) same
+    (e ∙ (λ k. Some (plain_of (new_rules r (longer k) (sym is k) new (sym others_are k)))))
 
 pub longer_order : (order later : List Ticket) (c k n m : ℕ) → later ≡ order ++ record { client = c; index = n } ∷ [] → n ≡ m → m ≡ k → order ++ ticket c k ∷ [] ≡ later
 longer_order order later c k n m e is same = sym (e ∙ ap (λ j. order ++ ticket c j ∷ []) (is ∙ same))
@@ -49,13 +49,13 @@ handler_here hs h n x is less e = e ∙ ap (λ m. get_or hs m x) is ∙ get_or-a
 pub handlers_within : (r s : RulesState) (h : ℕ) → r ≡ s → h < length s.handlers → h < length r.handlers
 handlers_within r s h same less = rw same less
 
-abbrev pub served : RulesState → List ClientState → ℕ → HandlerState → RulesState
-served r cs h new = record { program = r.program; order = r.order; clients = cs; handlers = set r.handlers h new }
+abbrev pub rules_after_serving : RulesState → List ClientState → ℕ → HandlerState → RulesState
+rules_after_serving r cs h new = record { program = r.program; order = r.order; clients = cs; handlers = set r.handlers h new }
 
-pub served_at : (r : RulesState) (cs : List ClientState) (h n : ℕ) (new : HandlerState) → n ≡ h → IsRules (served r cs h new) → IsRules (served r cs n new)
-served_at r cs h n new is kept = subst (λ m. IsRules (served r cs m new)) (sym is) kept
+pub served_at : (r : RulesState) (cs : List ClientState) (h n : ℕ) (new : HandlerState) → n ≡ h → IsRules (rules_after_serving r cs h new) → IsRules (rules_after_serving r cs n new)
+served_at r cs h n new is kept = subst (λ m. IsRules (rules_after_serving r cs m new)) (sym is) kept
 
-pub served_steps : (r s : RulesState) (a : Actor) (cs : List ClientState) (h n : ℕ) (new : HandlerState) → r ≡ s → n ≡ h → step r.program (plain_of r) a ≡ Some (plain_of (served r cs h new))
-    → step s.program (plain_of s) a ≡ Some (plain_of (served r cs n new))
+pub served_steps : (r s : RulesState) (a : Actor) (cs : List ClientState) (h n : ℕ) (new : HandlerState) → r ≡ s → n ≡ h → step r.program (plain_of r) a ≡ Some (plain_of (rules_after_serving r cs h new))
+    → step s.program (plain_of s) a ≡ Some (plain_of (rules_after_serving r cs n new))
 served_steps r s a cs h n new same is e =
-    subst (λ x. step x.program (plain_of x) a ≡ Some (plain_of (served r cs n new))) same (e ∙ (λ k. Some (plain_of (served r cs (sym is k) new))))
+    subst (λ x. step x.program (plain_of x) a ≡ Some (plain_of (rules_after_serving r cs n new))) same (e ∙ (λ k. Some (plain_of (rules_after_serving r cs (sym is k) new))))

@@ -18,7 +18,7 @@ use Rattle.qs_plain_laws.specs.Plain.{Client, step, client_step, goes_on}
 use Rattle.qs_plain_laws.specs.declared.item.QueueItem.{QueueItem}
 use Rattle.qs_plain_laws.specs.Plain as plain
 use Rattle.qs_plain_laws.specs.declared.item.QueueItem.TheVariants as item
-use Rattle.qs_plain_client.specs.ClientMoves.{moved}
+use Rattle.qs_plain_client.specs.ClientMoves.{after_moves}
 use Rattle.qs_plain_client.specs.Clients.{ClientState, IsClient, IsWithin, current_block, client_of, stage_of, absent, client_at}
 use Rattle.qs_plain_client.specs.Frames.{Frame, next_of, load_left}
 use Rattle.qs_plain_client.specs.TraceMoves.{counted_in, noted_in, last_of, no_trace}
@@ -29,7 +29,7 @@ use Rattle.qs_objects.proofs.Elements.{AllByRecursion-get_or}
 use Rattle.qs_plain_client.specs.declared.stage.Stage.{Stage}
 use Rattle.qs_plain_client.proofs.ClientPreserved.{within_of}
 use Rattle.qs_plain_client.specs.declared.stage.Stage.TheVariants as stage
-use Rattle.qs_plain.specs.Handlers.{handler_at, nobody, logged, logged_at, logged_all, CanLog, CanLogAll}
+use Rattle.qs_plain.specs.Handlers.{handler_at, nobody, with_logged_item, logged_at, logged_all, CanLog, CanLogAll}
 use Rattle.qs_plain.specs.Rules.{RulesState, IsRules, IsOpen, to_come, is_in_block, plain_of}
 use Rattle.qs_plain.proofs.HandlersPreserved.{equal_or_not, logged_each, length-logged_all}
 use Rattle.qs_plain.proofs.RulesBegin.{each_implies}
@@ -81,8 +81,8 @@ module _ (r : RulesState) (kept : IsRules r) (sound : IsSound r.program) (c : �
   pub same_block : current_block old ≡ block
   same_block = let owned = kept.own c inside in λ i. block_at (owned.0 i) (owned.1 i) here
 
-  in_hall : AllByRecursion (λ h. h < length r.handlers) block.reserved
-  in_hall = subst (λ n. AllByRecursion (λ h. h < n) block.reserved) (sym kept.handlers) block_sound.reserved
+  handlers_exist : AllByRecursion (λ h. h < length r.handlers) block.reserved
+  handlers_exist = subst (λ n. AllByRecursion (λ h. h < n) block.reserved) (sym kept.handlers) block_sound.reserved
 
   can_log_at : (h : ℕ) → h < length r.handlers → CanLog now r.handlers h
   can_log_at h less = (
@@ -94,12 +94,12 @@ module _ (r : RulesState) (kept : IsRules r) (sound : IsSound r.program) (c : �
   )
 
   pub can_log : (h : ℕ) → is_in (current_block old).reserved h ≡ true → CanLog now r.handlers h
-  can_log h member = can_log_at h (member_all (λ k. k < length r.handlers) block.reserved h (subst (λ (b : BlockShape). is_in b.reserved h ≡ true) same_block member) in_hall)
+  can_log h member = can_log_at h (member_all (λ k. k < length r.handlers) block.reserved h (subst (λ (b : BlockShape). is_in b.reserved h ≡ true) same_block member) handlers_exist)
 
   pub can_log_all : CanLogAll now r.handlers block.reserved
-  can_log_all = (each_implies (λ h. h < length r.handlers) (CanLog now r.handlers) block.reserved can_log_at in_hall, block_sound.distinct)
+  can_log_all = (each_implies (λ h. h < length r.handlers) (CanLog now r.handlers) block.reserved can_log_at handlers_exist, block_sound.distinct)
 
-  module _ (s : Stage) (l : List ℤ) (fs : List Frame) (ts : List TraceState) (xs : List (List SyncCount)) (new : ClientState) (new_is : new ≡ moved old s l fs ts xs) (load : (h : ℕ) → load_left fs h ≤ load_left old.frames h) where
+  module _ (s : Stage) (l : List ℤ) (fs : List Frame) (ts : List TraceState) (xs : List (List SyncCount)) (new : ClientState) (new_is : new ≡ after_moves old s l fs ts xs) (load : (h : ℕ) → load_left fs h ≤ load_left old.frames h) where
     pub continues : Continues old new
     continues = record {
       program = ap (λ (d : ClientState). d.program) new_is;
@@ -110,39 +110,39 @@ module _ (r : RulesState) (kept : IsRules r) (sound : IsSound r.program) (c : �
       load = λ h. subst (λ (d : ClientState). load_left d.frames h ≤ load_left old.frames h) (sym new_is) (load h);
     }
 
-  pub moved_to_come : (s : Stage) (l : List ℤ) (fs : List Frame) (ts : List TraceState) (xs : List (List SyncCount)) (new : ClientState) → new ≡ moved old s l fs ts xs → to_come (set r.clients c new) ≡ to_come r.clients
+  pub moved_to_come : (s : Stage) (l : List ℤ) (fs : List Frame) (ts : List TraceState) (xs : List (List SyncCount)) (new : ClientState) → new ≡ after_moves old s l fs ts xs → to_come (set r.clients c new) ≡ to_come r.clients
   moved_to_come s l fs ts xs new new_is =
       let counted = sum_by-set (λ (d : ClientState). length d.prepared) r.clients c new absent inside in
       omega (arith, counted, ap (λ (d : ClientState). length d.prepared) new_is)
 
   -- a request was logged
-  pub asked_kept : (s : Stage) (l : List ℤ) (fs : List Frame) (ts : List TraceState) (xs : List (List SyncCount)) (new : ClientState) → new ≡ moved old s l fs ts xs → (h : ℕ) → is_in (current_block old).reserved h ≡ true → (i : QueueItem)
+  pub asked_kept : (s : Stage) (l : List ℤ) (fs : List Frame) (ts : List TraceState) (xs : List (List SyncCount)) (new : ClientState) → new ≡ after_moves old s l fs ts xs → (h : ℕ) → is_in (current_block old).reserved h ≡ true → (i : QueueItem)
       → ((k : ℕ) → (if h == k then 1 else 0) + load_left fs k ≤ load_left old.frames k)
       → IsRules (record { program = r.program; order = r.order; clients = set r.clients c new; handlers = logged_at now i r.handlers h })
   asked_kept s l fs ts xs new new_is h member i load =
-      logged_kept r kept c new now i (logged_at now i r.handlers h) inside (continues s l fs ts xs new new_is (λ k. omega (arith, load k))) refl (length-set r.handlers h (logged now i (handler_at r.handlers h)))
+      logged_kept r kept c new now i (logged_at now i r.handlers h) inside (continues s l fs ts xs new new_is (λ k. omega (arith, load k))) refl (length-set r.handlers h (with_logged_item now i (handler_at r.handlers h)))
       (λ k. at_place k (equal_or_not k h)) (λ k e. asked k (equal_or_not k h))
     where
       less : h < length r.handlers
       less = (can_log h member).0
 
-      at_place : (k : ℕ) → (k ≡ h) ⊎ (k ≢ h) → (handler_at (logged_at now i r.handlers h) k ≡ handler_at r.handlers k) ⊎ (handler_at (logged_at now i r.handlers h) k ≡ logged now i (handler_at r.handlers k))
-      at_place k (inl is) = inr (subst (λ n. handler_at (logged_at now i r.handlers h) n ≡ logged now i (handler_at r.handlers n)) (sym is) (get_or-set_same r.handlers h (logged now i (handler_at r.handlers h)) nobody less))
-      at_place k (inr other) = inl (get_or-set_other r.handlers h k (logged now i (handler_at r.handlers h)) nobody other)
+      at_place : (k : ℕ) → (k ≡ h) ⊎ (k ≢ h) → (handler_at (logged_at now i r.handlers h) k ≡ handler_at r.handlers k) ⊎ (handler_at (logged_at now i r.handlers h) k ≡ with_logged_item now i (handler_at r.handlers k))
+      at_place k (inl is) = inr (subst (λ n. handler_at (logged_at now i r.handlers h) n ≡ with_logged_item now i (handler_at r.handlers n)) (sym is) (get_or-set_same r.handlers h (with_logged_item now i (handler_at r.handlers h)) nobody less))
+      at_place k (inr other) = inl (get_or-set_other r.handlers h k (with_logged_item now i (handler_at r.handlers h)) nobody other)
 
       strict : load_left fs h + 1 ≤ load_left old.frames h
       strict = let self : (h == h) ≡ true = grind arith in let here' : 1 + load_left fs h ≤ load_left old.frames h = rw self at (load h) in omega (arith, here')
 
       asked : (k : ℕ) → (k ≡ h) ⊎ (k ≢ h) → (handler_at (logged_at now i r.handlers h) k ≡ handler_at r.handlers k) ⊎ (load_left new.frames k + 1 ≤ load_left old.frames k)
       asked k (inl is) = inr (subst (λ (d : ClientState). load_left d.frames k + 1 ≤ load_left old.frames k) (sym new_is) (subst (λ n. load_left fs n + 1 ≤ load_left old.frames n) (sym is) strict))
-      asked k (inr other) = inl (get_or-set_other r.handlers h k (logged now i (handler_at r.handlers h)) nobody other)
+      asked k (inr other) = inl (get_or-set_other r.handlers h k (with_logged_item now i (handler_at r.handlers h)) nobody other)
 
   -- the block has ended
-  pub ended_kept : (l : List ℤ) (new : ClientState) → new ≡ moved old stage.Out l [] old.traces old.counts
+  pub ended_kept : (l : List ℤ) (new : ClientState) → new ≡ after_moves old stage.Out l [] old.traces old.counts
       → IsRules (record { program = r.program; order = r.order; clients = set r.clients c new; handlers = logged_all now item.EndMark r.handlers block.reserved })
   ended_kept l new new_is =
       logged_kept r kept c new now item.EndMark (logged_all now item.EndMark r.handlers block.reserved) inside (continues stage.Out l [] old.traces old.counts new new_is (λ k. omega arith)) refl
-      (length-logged_all now item.EndMark r.handlers block.reserved) (logged_each now item.EndMark r.handlers block.reserved block_sound.distinct in_hall)
+      (length-logged_all now item.EndMark r.handlers block.reserved) (logged_each now item.EndMark r.handlers block.reserved block_sound.distinct handlers_exist)
       (λ h e. absurd (out_of e))
     where
       out_of : is_in_block new.stage ≡ true → ⊥
@@ -164,7 +164,7 @@ module _ (r : RulesState) (kept : IsRules r) (sound : IsSound r.program) (c : �
       ∙ ap (λ n. set (map (λ (t : TraceState). t.events) old.traces) (n - 1) ((last_of old.traces).events ++ e ∷ [])) isc.traces
       ∙ ap (λ es. set (map (λ (t : TraceState). t.events) old.traces) here (es ++ e ∷ [])) (ap (λ (t : TraceState). t.events) last ∙ sym (get_or-map (λ (t : TraceState). t.events) old.traces here no_trace))
 
-  pub command_steps : (q : Request) (l : List ℤ) (fs : List Frame) (new : ClientState) → next_of old.frames old.locals ≡ Call q (next_of fs l) → new ≡ moved old stage.Within l fs (noted_in old.traces (event q None)) old.counts
+  pub command_steps : (q : Request) (l : List ℤ) (fs : List Frame) (new : ClientState) → next_of old.frames old.locals ≡ Call q (next_of fs l) → new ≡ after_moves old stage.Within l fs (noted_in old.traces (event q None)) old.counts
       → step r.program (plain_of r) (actor.Client c) ≡ Some (plain_of (record { program = r.program; order = r.order; clients = set r.clients c new; handlers = logged_at now (item.Command q) r.handlers q.object }))
   command_steps q l fs new is new_is = goes_within (record { program = r.program; order = r.order; clients = set r.clients c new; handlers = logged_at now (item.Command q) r.handlers q.object }) _ is (λ k. record {
     order = r.order;
@@ -172,10 +172,10 @@ module _ (r : RulesState) (kept : IsRules r) (sound : IsSound r.program) (c : �
     handlers = sym (plain-logged_at now (item.Command q) r.handlers q.object) k;
   })
     where
-      client : client_of new ≡ plain.stands (plain.traced (client_of old) here (event q None)) (plain.within (next_of fs l))
+      client : client_of new ≡ plain.stands (plain.with_trace_event (client_of old) here (event q None)) (plain.within (next_of fs l))
       client = ap client_of new_is ∙ (λ k. record { stage = plain.within (next_of fs l); entries = old.entries; traces = events-noted (event q None) k; counts = old.counts })
 
-  pub query_steps : (q : Request) (x : ℕ) (l : List ℤ) (fs : List Frame) (new : ClientState) → next_of old.frames old.locals ≡ Query q (λ v. next_of fs (set l x v)) → new ≡ moved old (stage.Waiting x) l fs old.traces (counted_in old.counts q.object)
+  pub query_steps : (q : Request) (x : ℕ) (l : List ℤ) (fs : List Frame) (new : ClientState) → next_of old.frames old.locals ≡ Query q (λ v. next_of fs (set l x v)) → new ≡ after_moves old (stage.Waiting x) l fs old.traces (counted_in old.counts q.object)
       → step r.program (plain_of r) (actor.Client c) ≡ Some (plain_of (record { program = r.program; order = r.order; clients = set r.clients c new; handlers = logged_at now (item.Query q) r.handlers q.object }))
   query_steps q x l fs new is new_is = goes_within (record { program = r.program; order = r.order; clients = set r.clients c new; handlers = logged_at now (item.Query q) r.handlers q.object }) _ is (λ k. record {
     order = r.order;
@@ -186,11 +186,11 @@ module _ (r : RulesState) (kept : IsRules r) (sound : IsSound r.program) (c : �
       counts : counted_in old.counts q.object ≡ set old.counts here (with_sync q.object (get_or old.counts here []))
       counts = ap (λ n. set old.counts (n - 1) (with_sync q.object (get_or old.counts (n - 1) []))) isc.counts
 
-      client : client_of new ≡ plain.stands (plain.counted (client_of old) here q.object) (plain.waiting (λ v. next_of fs (set l x v)))
+      client : client_of new ≡ plain.stands (plain.with_query_counted (client_of old) here q.object) (plain.waiting (λ v. next_of fs (set l x v)))
       client = ap client_of new_is
           ∙ (λ k. record { stage = plain.waiting (λ v. next_of fs (set l x v)); entries = old.entries; traces = map (λ (t : TraceState). t.events) old.traces; counts = counts k })
 
-  pub end_steps : (l : List ℤ) (new : ClientState) → next_of old.frames old.locals ≡ Done l → new ≡ moved old stage.Out l [] old.traces old.counts
+  pub end_steps : (l : List ℤ) (new : ClientState) → next_of old.frames old.locals ≡ Done l → new ≡ after_moves old stage.Out l [] old.traces old.counts
       → step r.program (plain_of r) (actor.Client c) ≡ Some (plain_of (record { program = r.program; order = r.order; clients = set r.clients c new; handlers = logged_all now item.EndMark r.handlers block.reserved }))
   end_steps l new is new_is = goes_within (record { program = r.program; order = r.order; clients = set r.clients c new; handlers = logged_all now item.EndMark r.handlers block.reserved }) _ is (λ k. record {
     order = r.order;

@@ -10,7 +10,7 @@ use Rattle.qs_plain_laws.specs.declared.item.QueueItem.{QueueItem}
 use Rattle.qs_plain_client.specs.Clients.{ClientState, absent, client_at}
 use Rattle.qs_plain_client.specs.Frames.{load_left}
 use Rattle.qs_plain_client.specs.Queues.{QueueState}
-use Rattle.qs_plain.specs.Handlers.{handler_at, nobody, logged}
+use Rattle.qs_plain.specs.Handlers.{handler_at, nobody, with_logged_item}
 use Rattle.qs_plain.specs.Rules.{RulesState, IsRules, IsOpen, to_come, is_in_block}
 use Rattle.qs_plain.specs.Served.{HandlerState, after_put}
 use Rattle.qs_plain.proofs.HandlersPreserved.{equal_or_not}
@@ -113,7 +113,7 @@ module _ (r : RulesState) (kept : IsRules r) where
   -- an item was logged at some handlers
   pub logged_kept : (c : ℕ) (new : ClientState) (t : Ticket) (i : QueueItem) (hs : List HandlerState) → c < length r.clients → Continues (client_at r.clients c) new
       → t ≡ ticket c (length (client_at r.clients c).entries - 1) → length hs ≡ length r.handlers
-      → ((h : ℕ) → (handler_at hs h ≡ handler_at r.handlers h) ⊎ (handler_at hs h ≡ logged t i (handler_at r.handlers h)))
+      → ((h : ℕ) → (handler_at hs h ≡ handler_at r.handlers h) ⊎ (handler_at hs h ≡ with_logged_item t i (handler_at r.handlers h)))
       → ((h : ℕ) → is_in_block new.stage ≡ true → (handler_at hs h ≡ handler_at r.handlers h) ⊎ (load_left new.frames h + 1 ≤ load_left (client_at r.clients c).frames h))
       → IsRules (record { program = r.program; order = r.order; clients = set r.clients c new; handlers = hs })
   logged_kept c new t i hs within continues is_t long each asked = record {
@@ -124,12 +124,12 @@ module _ (r : RulesState) (kept : IsRules r) where
     queues = λ h less. queues_after h (rw long at less) (each h);
   }
     where
-      rooms_after : (h : ℕ) → h < length r.handlers → (handler_at hs h ≡ handler_at r.handlers h) ⊎ (handler_at hs h ≡ logged t i (handler_at r.handlers h))
+      rooms_after : (h : ℕ) → h < length r.handlers → (handler_at hs h ≡ handler_at r.handlers h) ⊎ (handler_at hs h ≡ with_logged_item t i (handler_at r.handlers h))
           → to_come (set r.clients c new) ≤ (handler_at hs h).room
       rooms_after h less (inl as_it_was) = rw (as_it_was, same_to_come r.clients c within new continues) (kept.rooms h less)
       rooms_after h less (inr with_item) = rw (with_item, same_to_come r.clients c within new continues) (kept.rooms h less)
 
-      queues_after : (h : ℕ) → h < length r.handlers → (handler_at hs h ≡ handler_at r.handlers h) ⊎ (handler_at hs h ≡ logged t i (handler_at r.handlers h))
+      queues_after : (h : ℕ) → h < length r.handlers → (handler_at hs h ≡ handler_at r.handlers h) ⊎ (handler_at hs h ≡ with_logged_item t i (handler_at r.handlers h))
           → AllByRecursion (IsOpen (set r.clients c new) h) (handler_at hs h).queues
       queues_after h less (inl as_it_was) = rw as_it_was (all_same r.clients c within new continues h (handler_at r.handlers h).queues (kept.queues h less))
       queues_after h less (inr with_item) = by_stage (is_in_block new.stage) refl

@@ -3,14 +3,14 @@ use Rattle.std.proofs.Common.{◌≡◌, ◌<◌, ◌≤◌, ℕ, ◌+◌, ◌-�
 use Rattle.std.specs.List.{AllByRecursion}
 use Rattle.std.proofs.Math.ListN.{set, get_or-map}
 use Rattle.std.proofs.lemmas.List.{length-map, map-set, set_past}
-use Rattle.qs_objects.specs.Journals.{ran}
+use Rattle.qs_objects.specs.Journals.{run_one}
 use Rattle.qs_objects.specs.declared.held.Event.{Event}
 use Rattle.qs_objects.specs.declared.held.Ticket.{Ticket}
 use Rattle.qs_objects.specs.declared.Request.{Request}
 use Rattle.qs_program.specs.Program.{blocks_of}
 use Rattle.qs_meaning.specs.Solo.{event, value_of}
 use Rattle.qs_played.specs.declared.schedule.actor.Actor.TheVariants as actor
-use Rattle.qs_plain_laws.specs.Plain.{Plain, Client, step, client_step, handler_step, queue_step, item_step, replied, reply_to}
+use Rattle.qs_plain_laws.specs.Plain.{Plain, Client, step, client_step, handler_step, queue_step, item_step, after_reply, reply_to}
 use Rattle.qs_plain_laws.specs.declared.item.QueueItem.{QueueItem}
 use Rattle.qs_plain_laws.specs.Plain as plain
 use Rattle.qs_plain_laws.specs.declared.item.QueueItem.TheVariants as item
@@ -34,13 +34,13 @@ use Rattle.qs_plain.proofs.RulesSteps.{plain_client, plain_handler}
 abbrev queues_of : List QueueState → List plain.Private
 queues_of qs = map (λ (q : QueueState). q.queue) qs
 
-abbrev handled : Plain → ℕ → HandlerState → Plain
-handled s h new = record { order = s.order; clients = s.clients; handlers = set s.handlers h (handler_of new) }
+abbrev plain_after_serving : Plain → ℕ → HandlerState → Plain
+plain_after_serving s h new = record { order = s.order; clients = s.clients; handlers = set s.handlers h (handler_of new) }
 
 abbrev handled_and_replied : Plain → ℕ → HandlerState → Ticket → Request → Option ℤ → Plain
 handled_and_replied s h new t q v = record {
   order = s.order;
-  clients = set s.clients t.client (replied (plain.client_at s t.client) q v);
+  clients = set s.clients t.client (after_reply (plain.client_at s t.client) q v);
   handlers = set s.handlers h (handler_of new);
 }
 
@@ -48,24 +48,24 @@ module _ (s : Plain) (h : ℕ) (x : HandlerState) (q : QueueState) (qs : List Qu
   item_nothing : (items : List QueueItem) (new : HandlerState) → ServesItem x q qs items Nothing new → item_step s h (handler_of x) q.queue (queues_of qs) items ≡ None
   item_nothing [] new sv = refl
   item_nothing (item.Command r ∷ items) new sv = let e : Nothing ≡ Done = sv.0 in cc
-  item_nothing (item.Query r ∷ items) new sv = let e : Nothing ≡ Replied q.queue.ticket r (ran x.held q.queue.ticket r).1 = sv.0 in cc
+  item_nothing (item.Query r ∷ items) new sv = let e : Nothing ≡ Replied q.queue.ticket r (run_one x.held q.queue.ticket r).1 = sv.0 in cc
   item_nothing (item.EndMark ∷ items) new sv = let e : Nothing ≡ Done = sv.0 in cc
 
-  item_done : (items : List QueueItem) (new : HandlerState) → ServesItem x q qs items Done new → item_step s h (handler_of x) q.queue (queues_of qs) items ≡ Some (handled s h new)
+  item_done : (items : List QueueItem) (new : HandlerState) → ServesItem x q qs items Done new → item_step s h (handler_of x) q.queue (queues_of qs) items ≡ Some (plain_after_serving s h new)
   item_done [] new sv = let e : Done ≡ Nothing = sv.0 in cc
-  item_done (item.Command r ∷ items) new sv = ap (λ y. Some (handled s h y)) (sym sv.1)
-  item_done (item.Query r ∷ items) new sv = let e : Done ≡ Replied q.queue.ticket r (ran x.held q.queue.ticket r).1 = sv.0 in cc
-  item_done (item.EndMark ∷ items) new sv = ap (λ y. Some (handled s h y)) (sym sv.1)
+  item_done (item.Command r ∷ items) new sv = ap (λ y. Some (plain_after_serving s h y)) (sym sv.1)
+  item_done (item.Query r ∷ items) new sv = let e : Done ≡ Replied q.queue.ticket r (run_one x.held q.queue.ticket r).1 = sv.0 in cc
+  item_done (item.EndMark ∷ items) new sv = ap (λ y. Some (plain_after_serving s h y)) (sym sv.1)
 
   item_replied : (items : List QueueItem) (new : HandlerState) (t : Ticket) (r : Request) (v : Option ℤ) → ServesItem x q qs items (Replied t r v) new
       → item_step s h (handler_of x) q.queue (queues_of qs) items ≡ Some (handled_and_replied s h new t r v)
   item_replied [] new t r v sv = let e : Replied t r v ≡ Nothing = sv.0 in cc
   item_replied (item.Command p ∷ items) new t r v sv = let e : Replied t r v ≡ Done = sv.0 in cc
   item_replied (item.Query p ∷ items) new t r v sv =
-      let e : Replied t r v ≡ Replied q.queue.ticket p (ran x.held q.queue.ticket p).1 = sv.0 in
+      let e : Replied t r v ≡ Replied q.queue.ticket p (run_one x.held q.queue.ticket p).1 = sv.0 in
       let tickets : q.queue.ticket ≡ t = cc in
       let requests : p ≡ r = cc in
-      let replies : (ran x.held q.queue.ticket p).1 ≡ v = cc in
+      let replies : (run_one x.held q.queue.ticket p).1 ≡ v = cc in
       λ k. Some (handled_and_replied s h (sym sv.1 k) (tickets k) (requests k) (replies k))
   item_replied (item.EndMark ∷ items) new t r v sv = let e : Replied t r v ≡ Done = sv.0 in cc
 
@@ -73,7 +73,7 @@ first_nothing : (s : Plain) (h : ℕ) (x new : HandlerState) (qs : List QueueSta
 first_nothing s h x new [] sv = refl
 first_nothing s h x new (q ∷ qs) sv = item_nothing s h x q qs q.queue.items new sv
 
-first_done : (s : Plain) (h : ℕ) (x new : HandlerState) (qs : List QueueState) → ServesFirst x qs Done new → queue_step s h (handler_of x) (queues_of qs) ≡ Some (handled s h new)
+first_done : (s : Plain) (h : ℕ) (x new : HandlerState) (qs : List QueueState) → ServesFirst x qs Done new → queue_step s h (handler_of x) (queues_of qs) ≡ Some (plain_after_serving s h new)
 first_done s h x new [] sv = let e : Done ≡ Nothing = sv.0 in cc
 first_done s h x new (q ∷ qs) sv = item_done s h x q qs q.queue.items new sv
 
@@ -108,7 +108,7 @@ module _ (r : RulesState) (h : ℕ) where
   pub done_steps : (new : HandlerState) → ServesFirst old old.queues Done new
       → step r.program (plain_of r) (actor.Handler h) ≡ Some (plain_of (record { program = r.program; order = r.order; clients = r.clients; handlers = set r.handlers h new }))
   done_steps new sv =
-      handler_now (Some (handled (plain_of r) h new)) (first_done (plain_of r) h old new old.queues sv)
+      handler_now (Some (plain_after_serving (plain_of r) h new)) (first_done (plain_of r) h old new old.queues sv)
       ∙ (λ k. Some (record { order = r.order; clients = map client_of r.clients; handlers = sym (map-set handler_of r.handlers h new) k }))
 
   -- nobody is there to take the reply
@@ -117,15 +117,15 @@ module _ (r : RulesState) (h : ℕ) where
   unheard_steps new t q v past sv =
       let far : length (map client_of r.clients) ≤ t.client = rw length-map past in
       handler_now (Some (handled_and_replied (plain_of r) h new t q v)) (first_replied (plain_of r) h old new old.queues t q v sv)
-      ∙ (λ k. Some (record { order = r.order; clients = set_past (map client_of r.clients) t.client (replied (plain.client_at (plain_of r) t.client) q v) far k; handlers = sym (map-set handler_of r.handlers h new) k }))
+      ∙ (λ k. Some (record { order = r.order; clients = set_past (map client_of r.clients) t.client (after_reply (plain.client_at (plain_of r) t.client) q v) far k; handlers = sym (map-set handler_of r.handlers h new) k }))
 
-  pub replied_steps : (new : HandlerState) (t : Ticket) (q : Request) (v : Option ℤ) (client : ClientState) → replied (client_of (client_at r.clients t.client)) q v ≡ client_of client → ServesFirst old old.queues (Replied t q v) new
+  pub replied_steps : (new : HandlerState) (t : Ticket) (q : Request) (v : Option ℤ) (client : ClientState) → after_reply (client_of (client_at r.clients t.client)) q v ≡ client_of client → ServesFirst old old.queues (Replied t q v) new
       → step r.program (plain_of r) (actor.Handler h) ≡ Some (plain_of (record { program = r.program; order = r.order; clients = set r.clients t.client client; handlers = set r.handlers h new }))
   replied_steps new t q v client is sv =
       handler_now (Some (handled_and_replied (plain_of r) h new t q v)) (first_replied (plain_of r) h old new old.queues t q v sv)
       ∙ (λ k. Some (record {
         order = r.order;
-        clients = (ap (λ it. set (map client_of r.clients) t.client (replied it q v)) (plain_client r.clients t.client) ∙ ap (set (map client_of r.clients) t.client) is ∙ sym (map-set client_of r.clients t.client client)) k;
+        clients = (ap (λ it. set (map client_of r.clients) t.client (after_reply it q v)) (plain_client r.clients t.client) ∙ ap (set (map client_of r.clients) t.client) is ∙ sym (map-set client_of r.clients t.client client)) k;
         handlers = sym (map-set handler_of r.handlers h new) k;
       }))
 
@@ -146,7 +146,7 @@ module _ (d new : ClientState) (q : Request) (v : Option ℤ) (isc : IsClient d)
   replied_at (stage.Waiting x) sv =
       (λ k. record { stage = plain.within (next_of d.frames (set d.locals x (value_of v))); entries = d.entries; traces = sym (events-noted d isc (event q v)) k; counts = d.counts }) ∙ ap client_of (sym sv)
 
-  pub replied_is : Replies d q v new → replied (client_of d) q v ≡ client_of new
+  pub replied_is : Replies d q v new → after_reply (client_of d) q v ≡ client_of new
   replied_is sv = replied_at d.stage sv
 
   same_continues : new ≡ d → Continues d new

@@ -9,7 +9,7 @@ use Rattle.qs_plain_laws.specs.Plain.{log_in, enter, at_each, at_handler, put_it
 use Rattle.qs_plain_laws.specs.Plain as plain
 use Rattle.qs_plain_client.specs.Clients.{ClientState, client_of, absent, client_at}
 use Rattle.qs_plain_client.specs.Queues.{QueueState}
-use Rattle.qs_plain.specs.Handlers.{handler_at, nobody, logged, logged_at, logged_all, entered, entered_at, entered_all}
+use Rattle.qs_plain.specs.Handlers.{handler_at, nobody, with_logged_item, logged_at, logged_all, with_queue, entered_at, entered_all}
 use Rattle.qs_plain.specs.Served.{HandlerState, handler_of, after_put}
 
 pub plain_client : (cs : List ClientState) (c : ℕ) → get_or (map client_of cs) c plain.no_client ≡ client_of (client_at cs c)
@@ -22,12 +22,12 @@ queues-logged : (t : Ticket) (i : QueueItem) (qs : List QueueState) → map (λ 
 queues-logged t i [] = refl
 queues-logged t i (q ∷ qs) = ap (λ xs. put_item t i q.queue ∷ xs) (queues-logged t i qs)
 
-handler-logged : (t : Ticket) (i : QueueItem) (x : HandlerState) → handler_of (logged t i x) ≡ log_in t i (handler_of x)
+handler-logged : (t : Ticket) (i : QueueItem) (x : HandlerState) → handler_of (with_logged_item t i x) ≡ log_in t i (handler_of x)
 handler-logged t i x = λ k. record { queues = queues-logged t i x.queues k; held = x.held }
 
 pub plain-logged_at : (t : Ticket) (i : QueueItem) (hs : List HandlerState) (h : ℕ) → map handler_of (logged_at t i hs h) ≡ at_handler (log_in t i) (map handler_of hs) h
 plain-logged_at t i hs h =
-    map-set handler_of hs h (logged t i (handler_at hs h))
+    map-set handler_of hs h (with_logged_item t i (handler_at hs h))
     ∙ ap (set (map handler_of hs) h) (handler-logged t i (handler_at hs h) ∙ sym (ap (log_in t i) (plain_handler hs h)))
 
 pub plain-logged_all : (t : Ticket) (i : QueueItem) (hs : List HandlerState) (rs : List ℕ) → map handler_of (logged_all t i hs rs) ≡ at_each (log_in t i) (map handler_of hs) rs
@@ -38,7 +38,7 @@ plain-logged_all t i hs (h ∷ rest) = plain-logged_all t i (logged_at t i hs h)
 abbrev pub IsEmptyOf : Ticket → ℕ × QueueState → Type 0
 IsEmptyOf t q = q.1.queue ≡ record { ticket = t; items = [] }
 
-handler-entered : (t : Ticket) (q : QueueState) (x : HandlerState) → q.queue ≡ record { ticket = t; items = [] } → handler_of (entered q x) ≡ enter t (handler_of x)
+handler-entered : (t : Ticket) (q : QueueState) (x : HandlerState) → q.queue ≡ record { ticket = t; items = [] } → handler_of (with_queue q x) ≡ enter t (handler_of x)
 handler-entered t q x fresh = λ k. record {
   queues = (map-append (λ (y : QueueState). y.queue) x.queues (q ∷ []) ∙ ap (λ y. map (λ (z : QueueState). z.queue) x.queues ++ y ∷ []) fresh) k;
   held = x.held;
@@ -46,7 +46,7 @@ handler-entered t q x fresh = λ k. record {
 
 pub plain-entered_at : (t : Ticket) (hs : List HandlerState) (q : ℕ × QueueState) → IsEmptyOf t q → map handler_of (entered_at hs q) ≡ at_handler (enter t) (map handler_of hs) q.0
 plain-entered_at t hs q fresh =
-    map-set handler_of hs q.0 (entered q.1 (handler_at hs q.0))
+    map-set handler_of hs q.0 (with_queue q.1 (handler_at hs q.0))
     ∙ ap (set (map handler_of hs) q.0) (handler-entered t q.1 (handler_at hs q.0) fresh ∙ sym (ap (enter t) (plain_handler hs q.0)))
 
 pub plain-entered_all : (t : Ticket) (hs : List HandlerState) (qs : List (ℕ × QueueState)) → AllByRecursion (IsEmptyOf t) qs → map handler_of (entered_all hs qs) ≡ at_each (enter t) (map handler_of hs) (map (λ (q : ℕ × QueueState). q.0) qs)

@@ -14,11 +14,11 @@ abbrev pub handler_at : List HandlerState → ℕ → HandlerState
 handler_at hs h = slice_index_or hs h nobody
 
 -- one handler with an item logged for the ticket
-abbrev pub logged : Ticket → QueueItem → HandlerState → HandlerState
-logged t i h = record { queues = map (after_put t i) h.queues; room = h.room; held = h.held }
+abbrev pub with_logged_item : Ticket → QueueItem → HandlerState → HandlerState
+with_logged_item t i h = record { queues = map (after_put t i) h.queues; room = h.room; held = h.held }
 
 abbrev pub logged_at : Ticket → QueueItem → List HandlerState → ℕ → List HandlerState
-logged_at t i hs h = slice_set hs h (logged t i (handler_at hs h))
+logged_at t i hs h = slice_set hs h (with_logged_item t i (handler_at hs h))
 
 -- each handler of a list with an item logged
 abbrev pub logged_all : Ticket → QueueItem → List HandlerState → List ℕ → List HandlerState
@@ -26,11 +26,11 @@ logged_all t i hs [] = hs
 logged_all t i hs (h ∷ rest) = logged_all t i (logged_at t i hs h) rest
 
 -- one handler with a private queue more
-abbrev pub entered : QueueState → HandlerState → HandlerState
-entered q h = record { queues = h.queues ++ q ∷ []; room = h.room - 1; held = h.held }
+abbrev pub with_queue : QueueState → HandlerState → HandlerState
+with_queue q h = record { queues = h.queues ++ q ∷ []; room = h.room - 1; held = h.held }
 
 abbrev pub entered_at : List HandlerState → ℕ × QueueState → List HandlerState
-entered_at hs q = slice_set hs q.0 (entered q.1 (handler_at hs q.0))
+entered_at hs q = slice_set hs q.0 (with_queue q.1 (handler_at hs q.0))
 
 -- each handler of a list with its private queue more
 abbrev pub entered_all : List HandlerState → List (ℕ × QueueState) → List HandlerState

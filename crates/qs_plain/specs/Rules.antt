@@ -9,7 +9,7 @@ use Rattle.qs_program.specs.Shapes.{program_code}
 use Rattle.qs_played.specs.Isolation.{IsIsolated}
 use Rattle.qs_played.specs.Played.{ticket}
 use Rattle.qs_played.specs.declared.schedule.actor.Actor.{Actor}
-use Rattle.qs_plain_laws.specs.PlainIsolation.{queued}
+use Rattle.qs_plain_laws.specs.PlainIsolation.{commands_in_queue}
 use Rattle.qs_plain_laws.specs.Plain.{Plain, begin, step}
 use Rattle.qs_plain_laws.specs.PlainSchedule.{played_of, plays}
 use Rattle.qs_plain_laws.specs.PlainSyncSums.{AreQueriesCounted}
@@ -41,7 +41,7 @@ IsReached r = (actors : List Actor) × (plain_of r ≡ plays r.program actors (b
 
 -- what it has shown is isolated, with the commands that lie in private queues on their way
 abbrev pub AreIsolated : RulesState → Type 0
-AreIsolated r = IsIsolated r.program (played_of r.program (plain_of r)) (queued (plain_of r))
+AreIsolated r = IsIsolated r.program (played_of r.program (plain_of r)) (commands_in_queue (plain_of r))
 
 -- how many blocks are to come
 abbrev pub to_come : List ClientState → ℕ

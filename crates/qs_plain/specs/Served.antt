@@ -1,6 +1,6 @@
 -- A handler of the code, and what its step does.
 use Rattle.std.specs.Prelude.{◌≡◌, ◌<◌, ℕ, ◌-◌, true, if◌then◌else◌, List, [], ◌∷◌, map, length, slice_index_or}
-use Rattle.qs_objects.specs.Journals.{HeldState, ran}
+use Rattle.qs_objects.specs.Journals.{HeldState, run_one}
 use Rattle.qs_objects.specs.declared.held.Ticket.{Ticket}
 use Rattle.qs_objects.specs.Parts.{same}
 use Rattle.qs_plain_laws.specs.declared.item.QueueItem.{QueueItem}
@@ -34,9 +34,9 @@ shorter q items = queue_state q.queue.ticket items q.room
 abbrev pub ServesItem : HandlerState → QueueState → List QueueState → List QueueItem → Served → HandlerState → Type 0
 ServesItem h q qs [] served new = (served ≡ Nothing) × (new ≡ h)
 ServesItem h q qs (item.Command r ∷ items) served new =
-    (served ≡ Done) × (new ≡ with_queues h (shorter q items ∷ qs) (ran h.held q.queue.ticket r).0)
+    (served ≡ Done) × (new ≡ with_queues h (shorter q items ∷ qs) (run_one h.held q.queue.ticket r).0)
 ServesItem h q qs (item.Query r ∷ items) served new =
-    (served ≡ Replied q.queue.ticket r (ran h.held q.queue.ticket r).1) × (new ≡ with_queues h (shorter q items ∷ qs) (ran h.held q.queue.ticket r).0)
+    (served ≡ Replied q.queue.ticket r (run_one h.held q.queue.ticket r).1) × (new ≡ with_queues h (shorter q items ∷ qs) (run_one h.held q.queue.ticket r).0)
 ServesItem h q qs (item.EndMark ∷ items) served new = (served ≡ Done) × (new ≡ with_queues h qs h.held)
 
 abbrev pub ServesFirst : HandlerState → List QueueState → Served → HandlerState → Type 0

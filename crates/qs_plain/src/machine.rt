@@ -46,7 +46,7 @@ impl<'p> Model for Machine<'p> {
 impl<'p> Machine<'p> {
     ghost use Rattle.qs_plain_client.specs.Clients.{client_at};
     ghost use Rattle.qs_plain.specs.Rules.{Steps, plain_of};
-    ghost use Rattle.qs_played.specs.Schedule.{actors_of, repeated};
+    ghost use Rattle.qs_played.specs.Schedule.{actors_of, rounds_of};
     ghost use Rattle.qs_plain_laws.specs.PlainSchedule.{played_of, plays};
     ghost use Rattle.qs_plain.specs.BegunBlocks.{AreBegun};
 
@@ -212,7 +212,7 @@ impl<'p> Machine<'p> {
 
     /// So many rounds. It ends at the first one that steps nobody, as the further ones would change nothing either.
     pub(crate) fn play_rounds(&mut self, rounds: u32)
-        ensures rounds { plain_of self.new ≡ plays self.old.program (repeated rounds (actors_of self.old.program)) (plain_of self.old) }
+        ensures rounds { plain_of self.new ≡ plays self.old.program (rounds_of rounds (actors_of self.old.program)) (plain_of self.old) }
         ensures program { self.new.program ≡ self.old.program }
     {
         for _round in 0..rounds {

@@ -3,9 +3,9 @@
 ghost use Rattle.std.specs.Prelude.{◌≡◌, IfOk};
 ghost use Rattle.qs_meaning.specs.Serial.{IsLegal};
 ghost use Rattle.qs_played.specs.Isolation.{IsIsolated};
-ghost use Rattle.qs_plain_laws.specs.PlainIsolation.{queued};
+ghost use Rattle.qs_plain_laws.specs.PlainIsolation.{commands_in_queue};
 ghost use Rattle.qs_plain_laws.specs.PlainSyncSums.{AreQueriesCounted};
-ghost use Rattle.qs_played.specs.Schedule.{actors_of, all_named, names_actor, repeated};
+ghost use Rattle.qs_played.specs.Schedule.{actors_of, all_named, names_actor, rounds_of};
 ghost use Rattle.qs_plain_laws.specs.PlainSchedule.{IsPlayed, played_of, plays, scheduled};
 
 use crate::machine::Machine;
@@ -27,7 +27,7 @@ pub fn play_plain(
 ) -> Result<Played, PlayFault>
     ensures played { IsPlayed program.now picks.now rounds result }
     ensures legal { IfOk result (λ played. IsLegal program.now played.order) }
-    ensures isolated { IfOk result (λ played. IsIsolated program.now played (queued (scheduled program.now picks.now rounds))) }
+    ensures isolated { IfOk result (λ played. IsIsolated program.now played (commands_in_queue (scheduled program.now picks.now rounds))) }
     ensures counted { IfOk result (AreQueriesCounted program.now (scheduled program.now picks.now rounds)) }
 {
     if rounds > MOST_ROUNDS {
@@ -50,7 +50,7 @@ fn play(
 ) -> Result<Played, AllocError>
     ensures played { IfOk result (λ played. played ≡ played_of program.now (scheduled program.now picks.now rounds)) }
     ensures legal { IfOk result (λ played. IsLegal program.now played.order) }
-    ensures isolated { IfOk result (λ played. IsIsolated program.now played (queued (scheduled program.now picks.now rounds))) }
+    ensures isolated { IfOk result (λ played. IsIsolated program.now played (commands_in_queue (scheduled program.now picks.now rounds))) }
     ensures counted { IfOk result (AreQueriesCounted program.now (scheduled program.now picks.now rounds)) }
 {
     program.is_sound();

@@ -5,7 +5,7 @@ use Rattle.std.proofs.Math.Seq.{take-set-lt}
 use Rattle.std.proofs.lemmas.Bool.{cases_lt}
 use Rattle.std.proofs.Math.ListN.{get_or-eq_default}
 use Rattle.std.proofs.lemmas.List.{drop-set-lt, get_or-map, length-append, length-drop, length-map, take_more}
-use Rattle.qs_objects.specs.Traces.{AreEmptyAfter, TraceState, empty_trace, events_of, noted, noted_at, trace_at}
+use Rattle.qs_objects.specs.Traces.{AreEmptyAfter, TraceState, empty_trace, events_of, with_last_event, noted_at, trace_at}
 use Rattle.qs_objects.specs.declared.held.Event.{Event}
 use Rattle.qs_objects.proofs.Choices.{apart_eqb, num_cases}
 use Rattle.qs_sync_counts.specs.SyncRows.{fresh_rows, no_syncs, with_sync}
@@ -15,7 +15,7 @@ use Rattle.qs_program.specs.Sound.{IsSound}
 use Rattle.qs_program.proofs.Bounds.{block_load-whole}
 use Rattle.qs_program.specs.Limits.{most_requests}
 use Rattle.qs_plain_client.specs.Clients.{AreRowsOf, AreStored, IsClient, IsReady, client_from, client_of}
-use Rattle.qs_plain_client.specs.ClientMoves.{begun_with, moved}
+use Rattle.qs_plain_client.specs.ClientMoves.{begun_with, after_moves}
 use Rattle.qs_plain_client.specs.Frames.{Frame, places_of, rest}
 use Rattle.qs_plain_client.specs.declared.stage.Stage.{Stage}
 use Rattle.qs_plain_client.specs.declared.stage.Stage.TheVariants as stage
@@ -57,12 +57,12 @@ module _ (n : ℕ) (ts : List TraceState) (some : 0 < n) (long : n ≤ length ts
 
   pub noted_begun : (e : Event) → take n (noted_at ts (n - 1) e) ≡ noted_in (take n ts) e
   noted_begun e =
-      take-set-lt n ts (n - 1) (noted (trace_at ts (n - 1)) e) (omega (arith, some))
-      ∙ (ap (λ t. set (take n ts) (n - 1) (noted t e)) (sym last_begun)
-      ∙ ap (λ m. set (take n ts) (m - 1) (noted (last_of (take n ts)) e)) (sym short))
+      take-set-lt n ts (n - 1) (with_last_event (trace_at ts (n - 1)) e) (omega (arith, some))
+      ∙ (ap (λ t. set (take n ts) (n - 1) (with_last_event t e)) (sym last_begun)
+      ∙ ap (λ m. set (take n ts) (m - 1) (with_last_event (last_of (take n ts)) e)) (sym short))
 
   pub noted_later : (e : Event) → drop n (noted_at ts (n - 1) e) ≡ drop n ts
-  noted_later e = drop-set-lt n ts (n - 1) (noted (trace_at ts (n - 1)) e) (omega (arith, some))
+  noted_later e = drop-set-lt n ts (n - 1) (with_last_event (trace_at ts (n - 1)) e) (omega (arith, some))
 
 module _ (n : ℕ) (cs : List (List SyncCount)) (some : 0 < n) (long : n ≤ length cs) (h : ℕ) where
   more : List SyncCount
@@ -82,12 +82,12 @@ module _ (n : ℕ) (cs : List (List SyncCount)) (some : 0 < n) (long : n ≤ len
 pub stored_noted : (n : ℕ) (ts : List TraceState) (cs : List (List SyncCount)) (later : ℕ) (e : Event) → AreStored n ts cs later → 0 < n
     → 0 < (trace_at ts (n - 1)).room → AreStored n (noted_at ts (n - 1) e) cs later
 stored_noted n ts cs later e is some room = record {
-  all_traces = length-set ts (n - 1) (noted (trace_at ts (n - 1)) e) ∙ is.all_traces;
+  all_traces = length-set ts (n - 1) (with_last_event (trace_at ts (n - 1)) e) ∙ is.all_traces;
   all_counts = is.all_counts;
   sizes = λ k. ⊎_elim
       (λ (here : n - 1 ≡ k).
       let long = is.all_traces in
-      let t : TraceState = noted (trace_at ts (n - 1)) e in
+      let t : TraceState = with_last_event (trace_at ts (n - 1)) e in
       let same : trace_at (noted_at ts (n - 1) e) (n - 1) ≡ t = get_or-set_same ts (n - 1) t no_trace (omega (arith, some, long)) in
       let old = is.sizes (n - 1) in
       let events = length-append (trace_at ts (n - 1)).events (e ∷ []) in
@@ -95,7 +95,7 @@ stored_noted n ts cs later e is some room = record {
       (subst (λ (t : TraceState). length t.events + t.room ≤ most_requests) (sym same) (omega (arith, old, events, room))))
       (λ (other : (n - 1 == k) ≡ false).
       subst (λ (t : TraceState). length t.events + t.room ≤ most_requests)
-      (sym (get_or-set_other ts (n - 1) k (noted (trace_at ts (n - 1)) e) no_trace (λ e. apart_eqb (n - 1) k other (sym e)))) (is.sizes k))
+      (sym (get_or-set_other ts (n - 1) k (with_last_event (trace_at ts (n - 1)) e) no_trace (λ e. apart_eqb (n - 1) k other (sym e)))) (is.sizes k))
       (num_cases (n - 1) k);
 }
 
@@ -156,12 +156,12 @@ module _ (p : ProgramShape) (c : ℕ) (s : Stage) (l : List ℤ) (fs : List Fram
   pub moved_noted : (qs : List Queues) → AreStored (length es) ts cs (length qs) → 0 < length es → (now : Stage) (l' : List ℤ) (fs' : List Frame) (depth' : ℕ) (ts' : List TraceState) (e : Event)
       → depth' ≡ depth → ts' ≡ noted_at ts (length es - 1) e
       → client_from p c now l' fs' depth' es ts' cs qs
-      ≡ moved (client_from p c s l fs depth es ts cs qs) now l' fs' (noted_in (take (length es) ts) e) (take (length es) cs)
-  moved_noted qs is some now l' fs' depth' ts' e same noted =
+      ≡ after_moves (client_from p c s l fs depth es ts cs qs) now l' fs' (noted_in (take (length es) ts) e) (take (length es) cs)
+  moved_noted qs is some now l' fs' depth' ts' e same with_last_event =
       let all = is.all_traces in
       let long : length es ≤ length ts = omega (arith, all) in
-      let begun : take (length es) ts' ≡ noted_in (take (length es) ts) e = ap (take (length es)) noted ∙ noted_begun (length es) ts some long e in
-      let later : drop (length es) ts' ≡ drop (length es) ts = ap (drop (length es)) noted ∙ noted_later (length es) ts some long e in
+      let begun : take (length es) ts' ≡ noted_in (take (length es) ts) e = ap (take (length es)) with_last_event ∙ noted_begun (length es) ts some long e in
+      let later : drop (length es) ts' ≡ drop (length es) ts = ap (drop (length es)) with_last_event ∙ noted_later (length es) ts some long e in
       λ i. record {
         program = p;
         number = c;
@@ -178,7 +178,7 @@ module _ (p : ProgramShape) (c : ℕ) (s : Stage) (l : List ℤ) (fs : List Fram
   pub moved_counted : (qs : List Queues) → AreStored (length es) ts cs (length qs) → 0 < length es → (now : Stage) (l' : List ℤ) (fs' : List Frame) (depth' : ℕ) (cs' : List (List SyncCount)) (h : ℕ)
       → depth' ≡ depth → cs' ≡ set cs (length es - 1) (with_sync h (get_or cs (length es - 1) []))
       → client_from p c now l' fs' depth' es ts cs' qs
-      ≡ moved (client_from p c s l fs depth es ts cs qs) now l' fs' (take (length es) ts) (counted_in (take (length es) cs) h)
+      ≡ after_moves (client_from p c s l fs depth es ts cs qs) now l' fs' (take (length es) ts) (counted_in (take (length es) cs) h)
   moved_counted qs is some now l' fs' depth' cs' h same counted =
       let all = is.all_counts in
       let long : length es ≤ length cs = omega (arith, all) in

@@ -16,8 +16,8 @@ use Rattle.qs_plain_client.specs.declared.stage.Stage.{Stage}
 use Rattle.qs_plain_client.specs.declared.client.Asked.TheVariants as asked
 use Rattle.qs_plain_client.specs.declared.stage.Stage.TheVariants as stage
 
-abbrev pub moved : ClientState → Stage → List ℤ → List Frame → List TraceState → List (List SyncCount) → ClientState
-moved d s l fs ts cs = record {
+abbrev pub after_moves : ClientState → Stage → List ℤ → List Frame → List TraceState → List (List SyncCount) → ClientState
+after_moves d s l fs ts cs = record {
   program = d.program;
   number = d.number;
   stage = s;
@@ -52,15 +52,15 @@ pub record Begins (old : ClientState) (queues : List (ℕ × QueueState)) (new :
   pub client : new ≡ begun_with old first new.prepared
 
 -- what a client in a block asks, after its quiet moves
-abbrev pub Goes : Asked → ClientState → ClientState → Type 0
-Goes (asked.Command r) old new =
+abbrev pub AsksNext : Asked → ClientState → ClientState → Type 0
+AsksNext (asked.Command r) old new =
     (next_of old.frames old.locals ≡ Call r (next_of new.frames new.locals))
-    × (new ≡ moved old stage.Within new.locals new.frames (noted_in old.traces (event r None)) old.counts)
-Goes (asked.Query r) old new =
+    × (new ≡ after_moves old stage.Within new.locals new.frames (noted_in old.traces (event r None)) old.counts)
+AsksNext (asked.Query r) old new =
     (x : ℕ) × (next_of old.frames old.locals ≡ Query r (λ v. next_of new.frames (slice_set new.locals x v)))
-    × (new ≡ moved old (stage.Waiting x) new.locals new.frames old.traces (counted_in old.counts r.object))
-Goes asked.End old new =
-    (next_of old.frames old.locals ≡ Done new.locals) × (new ≡ moved old stage.Out new.locals [] old.traces old.counts)
+    × (new ≡ after_moves old (stage.Waiting x) new.locals new.frames old.traces (counted_in old.counts r.object))
+AsksNext asked.End old new =
+    (next_of old.frames old.locals ≡ Done new.locals) × (new ≡ after_moves old stage.Out new.locals [] old.traces old.counts)
 
 -- how many requests on an object it makes
 abbrev pub requested_of : Asked → ℕ → ℕ
@@ -79,7 +79,7 @@ abbrev pub RepliesAt : Stage → ClientState → Request → Option ℤ → Clie
 RepliesAt stage.Out old r v new = new ≡ old
 RepliesAt stage.Within old r v new = new ≡ old
 RepliesAt (stage.Waiting x) old r v new =
-    new ≡ moved old stage.Within (slice_set old.locals x (value_of v)) old.frames (noted_in old.traces (event r v)) old.counts
+    new ≡ after_moves old stage.Within (slice_set old.locals x (value_of v)) old.frames (noted_in old.traces (event r v)) old.counts
 
 abbrev pub Replies : ClientState → Request → Option ℤ → ClientState → Type 0
 Replies old r v new = RepliesAt old.stage old r v new

@@ -98,7 +98,7 @@ impl<'p> Model for ClientState<'p> {
 impl<'p> ClientState<'p> {
     ghost use Rattle.qs_plain_client.specs.Clients.{AreRowsOf, IsClient, IsFresh, client_of, current_block};
     ghost use Rattle.qs_plain_laws.specs.PlainSchedule.{has_ended, is_done, syncs_of, waits};
-    ghost use Rattle.qs_plain_client.specs.ClientMoves.{Begins, Goes, Replies, requested_of, IsReserved};
+    ghost use Rattle.qs_plain_client.specs.ClientMoves.{Begins, AsksNext, Replies, requested_of, IsReserved};
 
     /// A client of the program before its first block, with all the memory that it will need. An error says that this memory was refused: it
     /// comes only where the client has a block.
@@ -238,7 +238,7 @@ impl<'p> ClientState<'p> {
     /// All quiet moves, and then what is asked; a command enters the trace.
     pub fn ask(&mut self, alloc: Global) -> Asked
         requires { self.old.stage ≡ stages.Within }
-        ensures goes { Goes result self.old self.new }
+        ensures goes { AsksNext result self.old self.new }
         ensures load { (h : ℕ) → requested_of result h + load_left self.new.frames h ≤ load_left self.old.frames h }
         ensures reserves { IsReserved (current_block self.old).reserved result }
     {

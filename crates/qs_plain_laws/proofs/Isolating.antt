@@ -3,19 +3,19 @@ use Rattle.std.proofs.Common.{◌≡◌, ◌<◌, ℕ, zero, suc, ◌+◌, ◌&&
 use Rattle.std.proofs.Math.ListN.{get_or-map as get_or-map-any}
 use Rattle.std.proofs.lemmas.List.{get_or-map, length-map}
 use Rattle.std.specs.List.{AllByRecursion}
-use Rattle.qs_objects.specs.Parts.{logged, same}
+use Rattle.qs_objects.specs.Parts.{command_event, same}
 use Rattle.qs_objects.specs.declared.held.Ticket.{Ticket}
 use Rattle.qs_objects.specs.declared.Request.{Request}
 use Rattle.qs_objects.proofs.Choices.{and_cases, not_same}
 use Rattle.qs_meaning.specs.Following.{reserves, block_tree}
 use Rattle.qs_meaning.specs.Interaction.{Done}
 use Rattle.qs_program.specs.Program.{ProgramShape, blocks_of}
-use Rattle.qs_meaning.specs.Serial.{IsLegal, LegalFrom, declared}
+use Rattle.qs_meaning.specs.Serial.{IsLegal, LegalFrom, declared_states}
 use Rattle.qs_meaning.specs.Solo.{put}
 use Rattle.qs_program.specs.Sound.{IsSound}
 use Rattle.qs_meaning.proofs.Each.{each_map, each_both, each_join}
-use Rattle.qs_meaning.proofs.Histories.{Among, Apart, Flow, Line, NoQuery, done_of, parts_of}
-use Rattle.qs_meaning.specs.BlockRecords.{Begins, IsDone, IsPage}
+use Rattle.qs_meaning.proofs.Histories.{Among, Apart, Flow, ObjectCourse, NoQuery, done_of, parts_of}
+use Rattle.qs_meaning.specs.BlockRecords.{Begins, IsDone, IsBlockRecord}
 use Rattle.qs_meaning.proofs.SerialRuns.{legal_apart, line}
 use Rattle.qs_meaning.proofs.SoundTrees.{blocks_ask_only}
 use Rattle.qs_meaning.proofs.TreeWalks.{unnamed}
@@ -25,13 +25,13 @@ use Rattle.qs_played.specs.Played.{Played}
 use Rattle.qs_played.proofs.Orders.{counts_after, legal_among, apart_kept, apart_both}
 use Rattle.qs_played.proofs.JournalRooms.{no_block_beyond}
 use Rattle.qs_played.proofs.AbstractRun.{IsRun, run_isolated}
-use Rattle.qs_plain_laws.specs.PlainIsolation.{PlainRunsAreIsolated, commands_of, commands_in, queued}
-use Rattle.qs_plain_laws.specs.Plain.{Plain, Client, Handler, begun, client_at, handler_at, begin, no_client, no_handler}
+use Rattle.qs_plain_laws.specs.PlainIsolation.{PlainRunsAreIsolated, commands_of, commands_in, commands_in_queue}
+use Rattle.qs_plain_laws.specs.Plain.{Plain, Client, Handler, begun_blocks, client_at, handler_at, begin, no_client, no_handler}
 use Rattle.qs_plain_laws.specs.PlainSchedule.{all_done, all_idle, counts_of, ended_at, entry_at, has_ended, is_done, is_finished, is_out, played_of, plays, trace_at}
 use Rattle.qs_plain_laws.proofs.ServedRuns.{ServedRun, Front, IsServedRun}
 use Rattle.qs_plain_laws.proofs.PlainPreserved.{RunInvariant, handlers_long, run_kept, sight_of}
-use Rattle.qs_plain_laws.proofs.ServiceFlows.{commands_private, flow, found, found_each, found_none}
-use Rattle.qs_plain_laws.proofs.RunViews.{RunView, Stance, Stands, Runs, Awaits, stage_of}
+use Rattle.qs_plain_laws.proofs.ServiceFlows.{commands_private, flow, commands_found, found_each, found_none}
+use Rattle.qs_plain_laws.proofs.RunViews.{RunView, PlainStage, Stands, Runs, Awaits, stage_of}
 use Rattle.qs_plain_laws.proofs.Simulation.{Simulates, StandsAt, private, queue_may}
 
 done_at : (p : ProgramShape) (n : ℕ) (cs : List Client) (i : ℕ) → all_done p n cs ≡ true → i < length cs → is_done p (n + i) (get_or cs i no_client) ≡ true
@@ -69,27 +69,27 @@ module _ (p : ProgramShape) (sound : IsSound p) (s : Plain) (k : RunInvariant p 
   r = played_of p s
 
   abbrev waits : ℕ → Ticket → List Request
-  waits h = found v.client h (w.service h).wait (w.service h).queue
+  waits h = commands_found v.client h (w.service h).wait (w.service h).queue
 
-  waits_are : (h : ℕ) (t : Ticket) → queued s h t ≡ waits h t
+  waits_are : (h : ℕ) (t : Ticket) → commands_in_queue s h t ≡ waits h t
   waits_are h t = ap (flat_map (commands_of t)) (sim.queues h)
 
-  abbrev x : ℕ → Line
+  abbrev x : ℕ → ObjectCourse
   x = line p sound w.page waits (λ h. (w.service h).state) (λ h. (w.service h).queue ≡ [] → ⊥) (λ h. (w.service h).journal)
 
-  found_commands : (h : ℕ) (q : List Ticket) (t : Ticket) → AllByRecursion NoQuery (found v.client h (w.service h).wait q t)
+  found_commands : (h : ℕ) (q : List Ticket) (t : Ticket) → AllByRecursion NoQuery (commands_found v.client h (w.service h).wait q t)
   found_commands h [] t = tt
-  found_commands h (u ∷ q) t = each_join NoQuery (commands_of t (private v.client h (w.service h).wait u)) (found v.client h (w.service h).wait q t) (own (same t u)) (found_commands h q t)
+  found_commands h (u ∷ q) t = each_join NoQuery (commands_of t (private v.client h (w.service h).wait u)) (commands_found v.client h (w.service h).wait q t) (own (same t u)) (found_commands h q t)
     where
       own : (b : Bool) → AllByRecursion NoQuery (if b then commands_in (private v.client h (w.service h).wait u).items else [])
       own true = subst (AllByRecursion NoQuery) (sym (commands_private v.client h (w.service h).wait u)) ((good.services h).commands u)
       own false = tt
 
-  flows : (h : ℕ) → Flow (x h) (declared p h) (w.service h).journal w.order
+  flows : (h : ℕ) → Flow (x h) (declared_states p h) (w.service h).journal w.order
   flows h =
       let l = good.services h in
       let each = found_each v.client h (w.service h).wait (w.service h).queue l.apart in
-      flow p h (parts_of w.page h) (done_of w.page) (w.service h) (waits h) w.order (w.service h).past (w.service h).queue (declared p h) (w.service h).journal refl l.mine l.over
+      flow p h (parts_of w.page h) (done_of w.page) (w.service h) (waits h) w.order (w.service h).past (w.service h).queue (declared_states p h) (w.service h).journal refl l.mine l.over
       (each_map (λ t far. found_none v.client h (w.service h).wait (w.service h).queue t far) (w.service h).past
       (apart_both (w.service h).past (w.service h).queue (subst Apart l.mine (apart_kept (λ t. reserves p t h) w.order (legal_apart p (λ _. 0) w.order good.legal)))))
       (front (w.service h).queue each l.front)
@@ -100,14 +100,14 @@ module _ (p : ProgramShape) (sound : IsSound p) (s : Plain) (k : RunInvariant p 
       front : (q : List Ticket) → AllByRecursion (λ u. waits h u ≡ (w.service h).wait u) q → Front (parts_of w.page h) (w.service h).now (w.service h).wait q → Front (parts_of w.page h) (w.service h).now (waits h) q
       front [] e f = f
       front (t ∷ ts) e f = (
-        f.0 ∙ ap (λ ws. (w.service h).now ++ map logged ws) (sym e.0),
-        each_both (λ u e f. f ∙ ap (map logged) (sym e)) ts e.1 f.1,
+        f.0 ∙ ap (λ ws. (w.service h).now ++ map command_event ws) (sym e.0),
+        each_both (λ u e f. f ∙ ap (map command_event) (sym e)) ts e.1 f.1,
       )
 
       own_queue : AllByRecursion (λ u. reserves p u h ≡ true) (w.service h).queue
       own_queue = queue_may p sound w h good
 
-      idle : (u : Ticket) → IsPage p u (w.page u) → reserves p u h ≡ false → (parts_of w.page h u ≡ []) × (waits h u ≡ [])
+      idle : (u : Ticket) → IsBlockRecord p u (w.page u) → reserves p u h ≡ false → (parts_of w.page h u ≡ []) × (waits h u ≡ [])
       idle u path e = (
         unnamed (reserves p u) (block_tree p u (w.page u).entry) (w.page u).trace (w.page u).rest h (blocks_ask_only p sound u (w.page u).entry) path e,
         found_none v.client h (w.service h).wait (w.service h).queue u
@@ -128,19 +128,19 @@ module _ (p : ProgramShape) (sound : IsSound p) (s : Plain) (k : RunInvariant p 
 
   -- an ended block has nothing left
   ended_done : (t : Ticket) → t.client < length p.clients → has_ended (client_at s t.client) t.index ≡ true → IsDone (w.page t).rest
-  ended_done t inside e = by_test (nat_lt (suc t.index) (begun (client_at s t.client))) refl e
+  ended_done t inside e = by_test (nat_lt (suc t.index) (begun_blocks (client_at s t.client))) refl e
     where
-      by_test : (b : Bool) → nat_lt (suc t.index) (begun (client_at s t.client)) ≡ b
-          → (b || (nat_eq (suc t.index) (begun (client_at s t.client)) && is_out (client_at s t.client).stage)) ≡ true → IsDone (w.page t).rest
+      by_test : (b : Bool) → nat_lt (suc t.index) (begun_blocks (client_at s t.client)) ≡ b
+          → (b || (nat_eq (suc t.index) (begun_blocks (client_at s t.client)) && is_out (client_at s t.client).stage)) ≡ true → IsDone (w.page t).rest
       by_test true less e = sim.older t.client t.index (grind (arith, less))
       by_test false less e =
-          let both = and_cases (nat_eq (suc t.index) (begun (client_at s t.client))) (is_out (client_at s t.client).stage) e in
-          let last : suc t.index ≡ begun (client_at s t.client) = let b = both.0 in grind (arith, b) in
+          let both = and_cases (nat_eq (suc t.index) (begun_blocks (client_at s t.client))) (is_out (client_at s t.client).stage) e in
+          let last : suc t.index ≡ begun_blocks (client_at s t.client) = let b = both.0 in grind (arith, b) in
           standing (k.stance t.client) refl (subst (λ g. is_out g ≡ true) (k.stages t.client inside) both.1) last
         where
-          standing : (g : Stance) → k.stance t.client ≡ g → is_out (stage_of (k.stance t.client)) ≡ true → suc t.index ≡ begun (client_at s t.client) → IsDone (w.page t).rest
+          standing : (g : PlainStage) → k.stance t.client ≡ g → is_out (stage_of (k.stance t.client)) ≡ true → suc t.index ≡ begun_blocks (client_at s t.client) → IsDone (w.page t).rest
           standing (Stands l) g o last =
-              let b : (w.page t).rest ≡ Done l = subst (λ n. StandsAt w.page t.client (Stands l) n) (sym last) (subst (λ x. StandsAt w.page t.client x (begun (client_at s t.client))) g (sim.stands t.client)) in
+              let b : (w.page t).rest ≡ Done l = subst (λ n. StandsAt w.page t.client (Stands l) n) (sym last) (subst (λ x. StandsAt w.page t.client x (begun_blocks (client_at s t.client))) g (sim.stands t.client)) in
               subst IsDone (sym b) tt
           standing (Runs rest) g o last = absurd (let f : is_out (stage_of (Runs rest)) ≡ true = subst (λ g. is_out (stage_of g) ≡ true) g o in cc)
           standing (Awaits q next) g o last = absurd (let f : is_out (stage_of (Awaits q next)) ≡ true = subst (λ g. is_out (stage_of g) ≡ true) g o in cc)
@@ -163,9 +163,9 @@ module _ (p : ProgramShape) (sound : IsSound p) (s : Plain) (k : RunInvariant p 
       let done : is_done p (0 + u.client) (client_at s u.client) ≡ true = done_at p 0 s.clients u.client both.0 (omega (arith, inside, long)) in
       let z : 0 + u.client ≡ u.client = omega arith in
       let same_done : is_done p u.client (client_at s u.client) ≡ true = subst (λ c. is_done p c (client_at s u.client) ≡ true) z done in
-      let b = (and_cases (is_out (client_at s u.client).stage) (nat_eq (begun (client_at s u.client)) (blocks_of p u.client)) same_done).1 in
-      let all_begun : begun (client_at s u.client) ≡ blocks_of p u.client = grind (arith, b) in
-      let counted : counts_after (λ _. 0) s.order u.client ≡ begun (client_at s u.client) = ap (λ ts. counts_after (λ _. 0) ts u.client) (sym sim.order) ∙ (good.counts u.client ∙ sim.booked u.client) in
+      let b = (and_cases (is_out (client_at s u.client).stage) (nat_eq (begun_blocks (client_at s u.client)) (blocks_of p u.client)) same_done).1 in
+      let all_begun : begun_blocks (client_at s u.client) ≡ blocks_of p u.client = grind (arith, b) in
+      let counted : counts_after (λ _. 0) s.order u.client ≡ begun_blocks (client_at s u.client) = ap (λ ts. counts_after (λ _. 0) ts u.client) (sym sim.order) ∙ (good.counts u.client ∙ sim.booked u.client) in
       legal_among p (λ _. 0) s.order u.client u.index legal (omega arith) (omega (arith, counted, all_begun, some))
 
   -- and then no handler has a reservation before it
@@ -189,9 +189,9 @@ module _ (p : ProgramShape) (sound : IsSound p) (s : Plain) (k : RunInvariant p 
       states = length-map s.handlers (λ (h : Handler). h.held.object) ∙ handlers_long p sound s k;
     };
     legal = legal;
-    pages = subst (AllByRecursion (λ t. IsPage p t (w.page t))) sim.order good.pages;
+    pages = subst (AllByRecursion (λ t. IsBlockRecord p t (w.page t))) sim.order good.pages;
     begins = subst (AllByRecursion (λ t. Begins w.page t.client t.index (w.page t).entry)) sim.order good.begins;
-    flows = λ h. subst (Flow (x h) (declared p h) (w.service h).journal) sim.order (flows h);
+    flows = λ h. subst (Flow (x h) (declared_states p h) (w.service h).journal) sim.order (flows h);
     honest = λ h own. (good.services h).honest;
     replayed = λ h own. (good.services h).state;
     entry = λ i inside. get_or-map (entry_at s) s.order i (ticket 0 0) [] inside ∙ sym (sim.entry (ticket_at r i));
@@ -204,7 +204,7 @@ module _ (p : ProgramShape) (sound : IsSound p) (s : Plain) (k : RunInvariant p 
     idle = λ e h own busy. busy (none_left e h);
   }
 
-  pub isolated : IsIsolated p r (queued s)
+  pub isolated : IsIsolated p r (commands_in_queue s)
   isolated = subst (IsIsolated p r) (λ i h t. sym (waits_are h t) i) (run_isolated p sound r w.page waits (λ h. (w.service h).state) (λ h. (w.service h).queue ≡ [] → ⊥) (λ h. (w.service h).journal) run)
 
 -- after every list of actors

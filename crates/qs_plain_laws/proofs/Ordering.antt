@@ -6,7 +6,7 @@ use Rattle.std.proofs.lemmas.List.{length-append, length-map, map-set}
 use Rattle.std.specs.List.{range_with_len}
 use Rattle.std.specs.Prelude.{Option, ℤ}
 use Rattle.qs_objects.specs.declared.held.Ticket.{Ticket}
-use Rattle.qs_objects.specs.Journals.{ran}
+use Rattle.qs_objects.specs.Journals.{run_one}
 use Rattle.qs_objects.specs.declared.Request.{Request}
 use Rattle.qs_meaning.specs.Interaction.{Interaction, Done, Call, Query}
 use Rattle.qs_program.specs.Program.{ProgramShape, blocks_of}
@@ -17,7 +17,7 @@ use Rattle.qs_played.proofs.Lists.{apart}
 use Rattle.qs_played.specs.declared.schedule.actor.Actor.{Actor}
 use Rattle.qs_played.proofs.Orders.{counts_after, legal-more, counts-more, counts_grow}
 use Rattle.qs_played.specs.declared.schedule.actor.Actor.TheVariants as actor
-use Rattle.qs_plain_laws.specs.Plain.{Plain, Client, Handler, Private, Stage, out, within, waiting, begin, begun, client_at, handler_at, client_step, goes_on, separate, item_step, queue_step, replied, reply_to, step, fresh_client, no_client}
+use Rattle.qs_plain_laws.specs.Plain.{Plain, Client, Handler, Private, Stage, out, within, waiting, begin, begun_blocks, client_at, handler_at, client_step, goes_on, separate, item_step, queue_step, after_reply, reply_to, step, fresh_client, no_client}
 use Rattle.qs_plain_laws.specs.PlainSchedule.{plays}
 use Rattle.qs_played.specs.Schedule.{or_stay}
 use Rattle.qs_plain_laws.specs.declared.item.QueueItem.{QueueItem}
@@ -25,7 +25,7 @@ use Rattle.qs_plain_laws.specs.declared.item.QueueItem.TheVariants as item
 
 pub record IsOrdered (p : ProgramShape) (s : Plain) : Type 0 where
   pub legal : IsLegal p s.order
-  pub counts : (c : ℕ) → counts_after (λ _. 0) s.order c ≡ get_or (map begun s.clients) c 0
+  pub counts : (c : ℕ) → counts_after (λ _. 0) s.order c ≡ get_or (map begun_blocks s.clients) c 0
 
 get_or-put : (xs : List ℕ) (c y k : ℕ) → c < length xs → get_or (set xs c y) k 0 ≡ put (λ m. get_or xs m 0) c y k
 get_or-put xs c y k less = by_test (c == k) refl
@@ -34,29 +34,29 @@ get_or-put xs c y k less = by_test (c == k) refl
     by_test true e = let same : k ≡ c = grind (arith, e) in ap (λ n. get_or (set xs c y) n 0) same ∙ get_or-set_same xs c y 0 less
     by_test false e = get_or-set_other xs c k y 0 (apart c k e)
 
-get_or-begun : (cs : List Client) (c : ℕ) → get_or (map begun cs) c 0 ≡ begun (get_or cs c no_client)
+get_or-begun : (cs : List Client) (c : ℕ) → get_or (map begun_blocks cs) c 0 ≡ begun_blocks (get_or cs c no_client)
 get_or-begun [] c = refl
 get_or-begun (it ∷ cs) zero = refl
 get_or-begun (it ∷ cs) (suc c) = get_or-begun cs c
 
-heard : (r : Request) (v : Option ℤ) (it : Client) → begun (replied it r v) ≡ begun it
+heard : (r : Request) (v : Option ℤ) (it : Client) → begun_blocks (after_reply it r v) ≡ begun_blocks it
 heard r v it = by_stage it.stage
   where
-    by_stage : (g : Stage) → begun (reply_to it r v g) ≡ begun it
+    by_stage : (g : Stage) → begun_blocks (reply_to it r v g) ≡ begun_blocks it
     by_stage (out l) = refl
     by_stage (within rest) = refl
     by_stage (waiting next) = refl
 
 module _ (p : ProgramShape) (s : Plain) (o : IsOrdered p s) where
   -- the order is as it was, and so is how many blocks were begun
-  same_order : (t : Plain) → t.order ≡ s.order → map begun t.clients ≡ map begun s.clients → IsOrdered p t
+  same_order : (t : Plain) → t.order ≡ s.order → map begun_blocks t.clients ≡ map begun_blocks s.clients → IsOrdered p t
   same_order t order begins = record {
     legal = subst (IsLegal p) (sym order) o.legal;
     counts = λ c. ap (λ ts. counts_after (λ _. 0) ts c) order ∙ o.counts c ∙ sym (ap (λ (xs : List ℕ). get_or xs c 0) begins);
   }
 
-  one_set : (c : ℕ) (it : Client) → begun it ≡ begun (get_or s.clients c no_client) → map begun (set s.clients c it) ≡ map begun s.clients
-  one_set c it same = map-set_same begun s.clients c it no_client same
+  one_set : (c : ℕ) (it : Client) → begun_blocks it ≡ begun_blocks (get_or s.clients c no_client) → map begun_blocks (set s.clients c it) ≡ map begun_blocks s.clients
+  one_set c it same = map-set_same begun_blocks s.clients c it no_client same
 
   module _ (c : ℕ) (less : c < length s.clients) where
     abbrev it : Client
@@ -67,22 +67,22 @@ module _ (p : ProgramShape) (s : Plain) (o : IsOrdered p s) where
     going (Call r next) = same_order (goes_on p s c it (Call r next)) refl (one_set c _ refl)
     going (Query r next) = same_order (goes_on p s c it (Query r next)) refl (one_set c _ refl)
 
-    longer : (l : List ℤ) → suc (begun it) ≡ length (it.entries ++ l ∷ [])
-    longer l = sym (length-append it.entries (l ∷ []) ∙ add-one (begun it))
+    longer : (l : List ℤ) → suc (begun_blocks it) ≡ length (it.entries ++ l ∷ [])
+    longer l = sym (length-append it.entries (l ∷ []) ∙ add-one (begun_blocks it))
 
-    starting : (l : List ℤ) (b : Bool) → nat_lt (begun it) (blocks_of p c) ≡ b → IsOrdered p (or_stay s (if b then Some (separate p s c it l) else None))
+    starting : (l : List ℤ) (b : Bool) → nat_lt (begun_blocks it) (blocks_of p c) ≡ b → IsOrdered p (or_stay s (if b then Some (separate p s c it l) else None))
     starting l false e = o
     starting l true e = record {
-      legal = legal-more p (λ _. 0) s.order (ticket c (begun it)) o.legal (sym (o.counts c ∙ get_or-begun s.clients c)) (grind (arith, e));
+      legal = legal-more p (λ _. 0) s.order (ticket c (begun_blocks it)) o.legal (sym (o.counts c ∙ get_or-begun s.clients c)) (grind (arith, e));
       counts = λ k.
-          ap (λ (f : ℕ → ℕ). f k) (counts-more (λ _. 0) s.order (ticket c (begun it)))
-          ∙ ap (λ (f : ℕ → ℕ). put f c (suc (begun it)) k) (λ i m. o.counts m i)
-          ∙ sym (get_or-put (map begun s.clients) c (suc (begun it)) k (rw length-map less))
-          ∙ ap (λ xs. get_or xs k 0) (ap (set (map begun s.clients) c) (longer l) ∙ sym (map-set begun s.clients c _));
+          ap (λ (f : ℕ → ℕ). f k) (counts-more (λ _. 0) s.order (ticket c (begun_blocks it)))
+          ∙ ap (λ (f : ℕ → ℕ). put f c (suc (begun_blocks it)) k) (λ i m. o.counts m i)
+          ∙ sym (get_or-put (map begun_blocks s.clients) c (suc (begun_blocks it)) k (rw length-map less))
+          ∙ ap (λ xs. get_or xs k 0) (ap (set (map begun_blocks s.clients) c) (longer l) ∙ sym (map-set begun_blocks s.clients c _));
     }
 
     staged : (g : Stage) → IsOrdered p (or_stay s (client_step p s c it g))
-    staged (out l) = starting l (nat_lt (begun it) (blocks_of p c)) refl
+    staged (out l) = starting l (nat_lt (begun_blocks it) (blocks_of p c)) refl
     staged (within rest) = going rest
     staged (waiting next) = o
 
@@ -95,7 +95,7 @@ module _ (p : ProgramShape) (s : Plain) (o : IsOrdered p s) where
     served q qs (item.Command r ∷ items) = same_order (or_stay s (item_step s h handler q qs (item.Command r ∷ items))) refl refl
     served q qs (item.Query r ∷ items) =
         same_order (or_stay s (item_step s h handler q qs (item.Query r ∷ items))) refl
-        (one_set q.ticket.client _ (heard r (ran handler.held q.ticket r).1 (client_at s q.ticket.client)))
+        (one_set q.ticket.client _ (heard r (run_one handler.held q.ticket r).1 (client_at s q.ticket.client)))
     served q qs (item.EndMark ∷ items) = same_order (or_stay s (item_step s h handler q qs (item.EndMark ∷ items))) refl refl
 
     from_queues : (qs : List Private) → IsOrdered p (or_stay s (queue_step s h handler qs))
@@ -114,7 +114,7 @@ pub ordered_plays : (p : ProgramShape) (s : Plain) (actors : List Actor) → IsO
 ordered_plays p s [] o = o
 ordered_plays p s (a ∷ rest) o = ordered_plays p (or_stay s (step p s a)) rest (ordered_next p s o a)
 
-none_begun : (cs : List ℕ) (c : ℕ) → get_or (map begun (map fresh_client cs)) c 0 ≡ 0
+none_begun : (cs : List ℕ) (c : ℕ) → get_or (map begun_blocks (map fresh_client cs)) c 0 ≡ 0
 none_begun [] c = refl
 none_begun (n ∷ cs) zero = refl
 none_begun (n ∷ cs) (suc c) = none_begun cs c
@@ -139,11 +139,11 @@ some_within (x ∷ xs) (suc c) some = omega (arith, some_within xs c some)
 
 -- each ticket of the order names a block that was begun
 pub tickets_begun : (p : ProgramShape) (s : Plain) → IsOrdered p s → (i : ℕ) (d : Ticket) → i < length s.order
-    → ((get_or s.order i d).client < length s.clients) × ((get_or s.order i d).index < begun (client_at s (get_or s.order i d).client))
+    → ((get_or s.order i d).client < length s.clients) × ((get_or s.order i d).index < begun_blocks (client_at s (get_or s.order i d).client))
 tickets_begun p s o i d less =
     let t = get_or s.order i d in
     let many = counted p (λ _. 0) s.order i d o.legal less in
     let begins = o.counts t.client in (
-      omega (arith, length-map s.clients begun, some_within (map begun s.clients) t.client (omega (arith, many, begins))),
+      omega (arith, length-map s.clients begun_blocks, some_within (map begun_blocks s.clients) t.client (omega (arith, many, begins))),
       omega (arith, many, begins, get_or-begun s.clients t.client),
     )

@@ -8,7 +8,7 @@ use Rattle.std.proofs.lemmas.List.FromFn.{get_or-map-range_with_len, length-rang
 use Rattle.std.proofs.lemmas.Simd.{map-map}
 use Rattle.std.proofs.lemmas.Map.Keys.{IsDistinct-head, IsDistinct-tail}
 use Rattle.std.specs.List.{AllByRecursion, IsDistinct, range_with_len, list_any}
-use Rattle.qs_objects.specs.Journals.{HeldState, has_room, noted, ran, answer}
+use Rattle.qs_objects.specs.Journals.{HeldState, has_room, with_entry, run_one, answer}
 use Rattle.qs_objects.specs.Act.{act}
 use Rattle.qs_objects.specs.Objects.{starts}
 use Rattle.qs_objects.specs.Parts.{same}
@@ -20,7 +20,7 @@ use Rattle.qs_meaning.specs.Following.{reserves, block_tree}
 use Rattle.qs_meaning.specs.Interaction.{Interaction, Done, Call, Query}
 use Rattle.qs_program.specs.Program.{ProgramShape, BlockShape, text_of, blocks_of, client_at as shape_at, no_block, no_client as no_shape, no_object}
 use Rattle.qs_program.specs.declared.program.Declared.{Declared}
-use Rattle.qs_meaning.specs.Serial.{zeros, declared, state_or_none}
+use Rattle.qs_meaning.specs.Serial.{zeros, declared_states, state_or_none}
 use Rattle.qs_meaning.specs.Solo.{put, event, value_of}
 use Rattle.qs_program.specs.Sound.{IsSound, is_in}
 use Rattle.qs_program.specs.Values.{Locals}
@@ -33,14 +33,14 @@ use Rattle.qs_played.specs.declared.schedule.actor.Actor.{Actor}
 use Rattle.qs_played.proofs.Lists.{apart}
 use Rattle.qs_played.proofs.FunctionUpdate.{put_at, put_at_here, put_at_there}
 use Rattle.qs_played.specs.declared.schedule.actor.Actor.TheVariants as actor
-use Rattle.qs_plain_laws.specs.Plain.{Plain, Client, counted, Handler, Private, Stage, out, within, waiting, begin, begun, client_at, handler_at, client_step, goes_on, item_step, queue_step, at_handler, at_each, log_in, enter, serves, stands, traced, begins, replied, reply_to, step, fresh_client, fresh_handler, no_client, no_handler, calls, asks, ends, runs_command, runs_query, leaves_queue}
+use Rattle.qs_plain_laws.specs.Plain.{Plain, Client, with_query_counted, Handler, Private, Stage, out, within, waiting, begin, begun_blocks, client_at, handler_at, client_step, goes_on, item_step, queue_step, at_handler, at_each, log_in, enter, serves, stands, with_trace_event, begins, after_reply, reply_to, step, fresh_client, fresh_handler, no_client, no_handler, calls, asks, ends, runs_command, runs_query, leaves_queue}
 use Rattle.qs_plain_laws.specs.PlainSchedule.{plays, entry_at, trace_at}
 use Rattle.qs_played.specs.Schedule.{or_stay}
 use Rattle.qs_plain_laws.specs.declared.item.QueueItem.{QueueItem}
 use Rattle.qs_plain_laws.proofs.PlainTallies.{Tallied, asked_of, tallied_ask, tallied_begin, tallied_call, tallied_reply, tallied_stand}
 use Rattle.qs_plain_laws.proofs.ServedRuns.{ServedRun}
-use Rattle.qs_plain_laws.proofs.RunViews.{Stance, Stands, Runs, Awaits, stage_of, Standing, RunView, answered, noted_held, reserved_by}
-use Rattle.qs_plain_laws.proofs.Simulation.{Kept, call_kept, query_kept, end_kept, separate_kept, call_commands, waits_for_query, do_kept, ask_kept, end_step_kept, Asking, asking, call_within, query_within, begun_some, do_room}
+use Rattle.qs_plain_laws.proofs.RunViews.{PlainStage, Stands, Runs, Awaits, stage_of, ClientView, RunView, after_answer, noted_held, reserved_by}
+use Rattle.qs_plain_laws.proofs.Simulation.{IsSimulated, call_kept, query_kept, end_kept, separate_kept, call_commands, waits_for_query, do_kept, ask_kept, end_step_kept, Asking, asking, call_within, query_within, begun_some, do_room}
 use Rattle.qs_plain_laws.specs.Plain as plain
 use Rattle.qs_plain_laws.specs.declared.item.QueueItem.TheVariants as item
 
@@ -67,10 +67,10 @@ snoc_there (y ∷ xs) x d (suc i) e = snoc_there xs x d i (let n : length xs ≢
     apart_sucs m n f is = let t : (suc m == suc n) ≡ true = rw is (grind arith) in cc
 
 -- the run with what each client waits for
-abbrev pub sight_of : Plain → (ℕ → Stance) → RunView
+abbrev pub sight_of : Plain → (ℕ → PlainStage) → RunView
 sight_of s stance = record {
   order = s.order;
-  client = λ c. record { begun = begun (client_at s c); stage = stance c };
+  client = λ c. record { begun = begun_blocks (client_at s c); stage = stance c };
   handler = λ h. handler_at s.handlers h;
   entry = λ t. entry_at s t;
   trace = λ t. trace_at s t;
@@ -86,13 +86,13 @@ abbrev pub rooms : ProgramShape → List ℕ
 rooms p = map (room_of p) (range_with_len 0 (length p.objects))
 
 pub record RunInvariant (p : ProgramShape) (sound : IsSound p) (s : Plain) : Type 0 where
-  pub stance : ℕ → Stance
+  pub stance : ℕ → PlainStage
   pub stages : (c : ℕ) → c < length p.clients → (client_at s c).stage ≡ stage_of (stance c)
-  pub traces : (c : ℕ) → length (client_at s c).traces ≡ begun (client_at s c)
+  pub traces : (c : ℕ) → length (client_at s c).traces ≡ begun_blocks (client_at s c)
   pub tallies : (c : ℕ) → Tallied p c (client_at s c) (asked_of (stance c))
   pub clients : length s.clients ≡ length p.clients
   pub rooms : map room_at s.handlers ≡ rooms p
-  pub kept : Kept p sound (sight_of s stance)
+  pub kept : IsSimulated p sound (sight_of s stance)
 
 -- the lists that sound blocks reserve
 record IsList (p : ProgramShape) (hs : List ℕ) : Type 0 where
@@ -164,10 +164,10 @@ same_rooms : (f : Handler → Handler) (hs : List Handler) (ks : List ℕ) → (
 same_rooms f hs [] keeps = refl
 same_rooms f hs (k ∷ ks) keeps = same_rooms f (at_handler f hs k) ks keeps ∙ map-set_same room_at hs k (f (handler_at hs k)) no_handler (keeps (handler_at hs k))
 
-room_stays : (x : HeldState) (t : Ticket) (r : Request) → (ran x t r).0.room ≡ x.room
+room_stays : (x : HeldState) (t : Ticket) (r : Request) → (run_one x t r).0.room ≡ x.room
 room_stays x t r = by_case (has_room x)
   where
-    by_case : (b : Bool) → (if b then noted x t r (act x.object r.op r.args) else (x, None)).0.room ≡ x.room
+    by_case : (b : Bool) → (if b then with_entry x t r (act x.object r.op r.args) else (x, None)).0.room ≡ x.room
     by_case true = refl
     by_case false = refl
 
@@ -176,11 +176,11 @@ module _ (p : ProgramShape) (sound : IsSound p) (s : Plain) (k : RunInvariant p 
   handlers_long = sym (length-map s.handlers room_at) ∙ (ap length k.rooms ∙ (length-map (range_with_len 0 (length p.objects)) (room_of p) ∙ length-range_with_len 0 (length p.objects)))
 
   -- one client changed
-  module _ (c : ℕ) (less : c < length s.clients) (it : Client) (stance : Stance) where
+  module _ (c : ℕ) (less : c < length s.clients) (it : Client) (stance : PlainStage) where
     abbrev clients' : List Client
     clients' = set s.clients c it
 
-    abbrev stance' : ℕ → Stance
+    abbrev stance' : ℕ → PlainStage
     stance' = put k.stance c stance
 
     abbrev one : ℕ → Client
@@ -195,14 +195,14 @@ module _ (p : ProgramShape) (sound : IsSound p) (s : Plain) (k : RunInvariant p 
     there : (d : ℕ) → (c == d) ≡ false → one d ≡ client_at s d
     there d other = seen d ∙ put_there (λ c. client_at s c) c it d other
 
-    clients_is : ◌≡◌ {A = ℕ → Standing} (λ d. record { begun = begun (one d); stage = stance' d }) (put (λ d. record { begun = begun (client_at s d); stage = k.stance d }) c (record { begun = begun it; stage = stance }))
-    clients_is = fun_ext (λ d. ap (λ (x : Client). standing (begun x) (stance' d)) (seen d) ∙ by_test d (c == d))
+    clients_is : ◌≡◌ {A = ℕ → ClientView} (λ d. record { begun = begun_blocks (one d); stage = stance' d }) (put (λ d. record { begun = begun_blocks (client_at s d); stage = k.stance d }) c (record { begun = begun_blocks it; stage = stance }))
+    clients_is = fun_ext (λ d. ap (λ (x : Client). standing (begun_blocks x) (stance' d)) (seen d) ∙ by_test d (c == d))
       where
-        standing : ℕ → Stance → Standing
+        standing : ℕ → PlainStage → ClientView
         standing n x = record { begun = n; stage = x }
 
-        by_test : (d : ℕ) (b : Bool) → ◌≡◌ {A = Standing} (standing (begun (if b then it else client_at s d)) (if b then stance else k.stance d))
-            (if b then standing (begun it) stance else standing (begun (client_at s d)) (k.stance d))
+        by_test : (d : ℕ) (b : Bool) → ◌≡◌ {A = ClientView} (standing (begun_blocks (if b then it else client_at s d)) (if b then stance else k.stance d))
+            (if b then standing (begun_blocks it) stance else standing (begun_blocks (client_at s d)) (k.stance d))
         by_test d true = refl
         by_test d false = refl
 
@@ -213,10 +213,10 @@ module _ (p : ProgramShape) (sound : IsSound p) (s : Plain) (k : RunInvariant p 
         by_test true = e
         by_test false = k.stages d inside
 
-    traces_are : length it.traces ≡ begun it → (d : ℕ) → length (one d).traces ≡ begun (one d)
-    traces_are e d = subst (λ (x : Client). length x.traces ≡ begun x) (sym (seen d)) (by_test (c == d))
+    traces_are : length it.traces ≡ begun_blocks it → (d : ℕ) → length (one d).traces ≡ begun_blocks (one d)
+    traces_are e d = subst (λ (x : Client). length x.traces ≡ begun_blocks x) (sym (seen d)) (by_test (c == d))
       where
-        by_test : (b : Bool) → length (if b then it else client_at s d).traces ≡ begun (if b then it else client_at s d)
+        by_test : (b : Bool) → length (if b then it else client_at s d).traces ≡ begun_blocks (if b then it else client_at s d)
         by_test true = e
         by_test false = k.traces d
 
@@ -298,21 +298,21 @@ module _ (p : ProgramShape) (sound : IsSound p) (s : Plain) (k : RunInvariant p 
     long it = length-set s.clients c it ∙ k.clients
 
     -- the client's stance where its stage is known
-    stance_runs : (rest : Interaction) → me.stage ≡ within rest → (x : Stance) → me.stage ≡ stage_of x → x ≡ Runs rest
+    stance_runs : (rest : Interaction) → me.stage ≡ within rest → (x : PlainStage) → me.stage ≡ stage_of x → x ≡ Runs rest
     stance_runs rest e (Stands l) f = absurd (let g : within rest ≡ out l = sym e ∙ f in cc)
     stance_runs rest e (Runs other) f = let g : within rest ≡ within other = sym e ∙ f in ap Runs (let h : other ≡ rest = cc in h)
     stance_runs rest e (Awaits r next) f = absurd (let g : within rest ≡ waiting next = sym e ∙ f in cc)
 
-    stance_stands : (l : Locals) → me.stage ≡ out l → (x : Stance) → me.stage ≡ stage_of x → x ≡ Stands l
+    stance_stands : (l : Locals) → me.stage ≡ out l → (x : PlainStage) → me.stage ≡ stage_of x → x ≡ Stands l
     stance_stands l e (Stands m) f = let g : out l ≡ out m = sym e ∙ f in ap Stands (let h : m ≡ l = cc in h)
     stance_stands l e (Runs other) f = absurd (let g : out l ≡ within other = sym e ∙ f in cc)
     stance_stands l e (Awaits r next) f = absurd (let g : out l ≡ waiting next = sym e ∙ f in cc)
 
     called : (r : Request) (next : Interaction) → me.stage ≡ within (Call r next) → RunInvariant p sound (calls p s c me r next)
     called r next e =
-        let it = stands (traced me (begun me - 1) (event r None)) (within next) in
+        let it = stands (with_trace_event me (begun_blocks me - 1) (event r None)) (within next) in
         let runs = stance_runs (Call r next) e (k.stance c) (k.stages c inside) in
-        let n = begun me - 1 in
+        let n = begun_blocks me - 1 in
         let some = call_within p sound v c r next runs k.kept in
         let start = begun_some p sound v c (Call r next) runs k.kept in
         let traces_long = k.traces c in
@@ -324,7 +324,7 @@ module _ (p : ProgramShape) (sound : IsSound p) (s : Plain) (k : RunInvariant p 
               (λ h. ap (λ g. asked_of g h) runs) (k.traces c) start (call_commands p sound v c r next runs k.kept));
           clients = long it;
           rooms = one_room r.object _ refl;
-          kept = subst (Kept p sound) (sym (sight_path refl (clients_is c less it (Runs next)) (handler_put r.object _ (reserved_within (ticket c n) r.object some))
+          kept = subst (IsSimulated p sound) (sym (sight_path refl (clients_is c less it (Runs next)) (handler_put r.object _ (reserved_within (ticket c n) r.object some))
               (fun_ext (entries_keep c less it (Runs next) refl))
               (fun_ext (at_ticket c less it (Runs next) (λ x. x.traces) [] n _ (get_or-set_same me.traces n _ [] (omega (arith, start, traces_long))) (λ i other. get_or-set_other me.traces n i _ [] (apart n i other))))))
               (call_kept p sound v c r next runs k.kept);
@@ -332,7 +332,7 @@ module _ (p : ProgramShape) (sound : IsSound p) (s : Plain) (k : RunInvariant p 
 
     asked : (r : Request) (next : ℤ → Interaction) → me.stage ≡ within (Query r next) → RunInvariant p sound (asks p s c me r next)
     asked r next e =
-        let it = stands (counted me (begun me - 1) r.object) (waiting next) in
+        let it = stands (with_query_counted me (begun_blocks me - 1) r.object) (waiting next) in
         let runs = stance_runs (Query r next) e (k.stance c) (k.stages c inside) in
         let some = query_within p sound v c r next runs k.kept in
         record {
@@ -341,10 +341,10 @@ module _ (p : ProgramShape) (sound : IsSound p) (s : Plain) (k : RunInvariant p 
           traces = traces_are c less it (Awaits r next) (k.traces c);
           tallies = tallies_are c less it (Awaits r next) (tallied_ask p c me (asked_of (k.stance c)) (k.tallies c) r next
               (λ h. ap (λ g. asked_of g h) runs) (begun_some p sound v c (Query r next) runs k.kept) some
-              (reserved_list p sound (ticket c (begun me - 1))).distinct);
+              (reserved_list p sound (ticket c (begun_blocks me - 1))).distinct);
           clients = long it;
           rooms = one_room r.object _ refl;
-          kept = subst (Kept p sound) (sym (sight_path refl (clients_is c less it (Awaits r next)) (handler_put r.object _ (reserved_within (ticket c (begun me - 1)) r.object some))
+          kept = subst (IsSimulated p sound) (sym (sight_path refl (clients_is c less it (Awaits r next)) (handler_put r.object _ (reserved_within (ticket c (begun_blocks me - 1)) r.object some))
               (fun_ext (entries_keep c less it (Awaits r next) refl))
               (fun_ext (traces_keep c less it (Awaits r next) refl))))
               (query_kept p sound v c r next runs k.kept);
@@ -353,7 +353,7 @@ module _ (p : ProgramShape) (sound : IsSound p) (s : Plain) (k : RunInvariant p 
     ended : (l : Locals) → me.stage ≡ within (Done l) → RunInvariant p sound (ends p s c me l)
     ended l e =
         let it = stands me (out l) in
-        let t = ticket c (begun me - 1) in
+        let t = ticket c (begun_blocks me - 1) in
         let runs = stance_runs (Done l) e (k.stance c) (k.stages c inside) in
         record {
           stance = put k.stance c (Stands l);
@@ -362,15 +362,15 @@ module _ (p : ProgramShape) (sound : IsSound p) (s : Plain) (k : RunInvariant p 
           tallies = tallies_are c less it (Stands l) (tallied_stand p c me (asked_of (k.stance c)) (k.tallies c) (out l) (λ h. ap (λ g. asked_of g h) runs));
           clients = long it;
           rooms = each_room t (log_in t item.EndMark) (λ h. refl);
-          kept = subst (Kept p sound) (sym (sight_path refl (clients_is c less it (Stands l)) (each_put t (log_in t item.EndMark))
+          kept = subst (IsSimulated p sound) (sym (sight_path refl (clients_is c less it (Stands l)) (each_put t (log_in t item.EndMark))
               (fun_ext (entries_keep c less it (Stands l) refl))
               (fun_ext (traces_keep c less it (Stands l) refl))))
               (end_kept p sound v c l runs k.kept);
         }
 
-    began : (l : Locals) → begun me < blocks_of p c → me.stage ≡ out l → RunInvariant p sound (plain.separate p s c me l)
+    began : (l : Locals) → begun_blocks me < blocks_of p c → me.stage ≡ out l → RunInvariant p sound (plain.separate p s c me l)
     began l more e =
-        let n = begun me in
+        let n = begun_blocks me in
         let t = ticket c n in
         let rest = block_tree p t l in
         let it = begins me l rest (text_of p t).reserved in
@@ -383,8 +383,8 @@ module _ (p : ProgramShape) (sound : IsSound p) (s : Plain) (k : RunInvariant p 
           tallies = tallies_are c less it (Runs rest) (tallied_begin p c me (asked_of (k.stance c)) (k.tallies c) l rest (λ h. ap (λ g. asked_of g h) at) (k.traces c));
           clients = long it;
           rooms = each_room t (enter t) (λ h. refl);
-          kept = subst (Kept p sound) (sym (sight_path refl
-              (clients_is c less it (Runs rest) ∙ ap (λ m. put (λ d. standing (begun (client_at s d)) (k.stance d)) c (standing m (Runs rest))) (length-append me.entries (l ∷ []) ∙ (let one : n + 1 ≡ suc n = omega arith in one)))
+          kept = subst (IsSimulated p sound) (sym (sight_path refl
+              (clients_is c less it (Runs rest) ∙ ap (λ m. put (λ d. standing (begun_blocks (client_at s d)) (k.stance d)) c (standing m (Runs rest))) (length-append me.entries (l ∷ []) ∙ (let one : n + 1 ≡ suc n = omega arith in one)))
               (each_put t (enter t))
               (fun_ext (at_ticket c less it (Runs rest) (λ x. x.entries) [] n l (snoc_here me.entries l []) (λ i other. snoc_there me.entries l [] i other)))
               (fun_ext (at_ticket c less it (Runs rest) (λ x. x.traces) [] n []
@@ -393,7 +393,7 @@ module _ (p : ProgramShape) (sound : IsSound p) (s : Plain) (k : RunInvariant p 
               (separate_kept p sound v c l more at k.kept);
         }
       where
-        standing : ℕ → Stance → Standing
+        standing : ℕ → PlainStage → ClientView
         standing n x = record { begun = n; stage = x }
 
     goes : (rest : Interaction) → me.stage ≡ within rest → RunInvariant p sound (goes_on p s c me rest)
@@ -402,9 +402,9 @@ module _ (p : ProgramShape) (sound : IsSound p) (s : Plain) (k : RunInvariant p 
     goes (Query r next) e = asked r next e
 
     client_kept : (g : Stage) → me.stage ≡ g → RunInvariant p sound (or_stay s (client_step p s c me g))
-    client_kept (out l) e = by_test (nat_lt (begun me) (blocks_of p c)) refl
+    client_kept (out l) e = by_test (nat_lt (begun_blocks me) (blocks_of p c)) refl
       where
-        by_test : (b : Bool) → nat_lt (begun me) (blocks_of p c) ≡ b → RunInvariant p sound (or_stay s (if b then Some (plain.separate p s c me l) else None))
+        by_test : (b : Bool) → nat_lt (begun_blocks me) (blocks_of p c) ≡ b → RunInvariant p sound (or_stay s (if b then Some (plain.separate p s c me l) else None))
         by_test true more = began l (grind (arith, more)) e
         by_test false more = k
     client_kept (within rest) e = goes rest e
@@ -428,10 +428,10 @@ module _ (p : ProgramShape) (sound : IsSound p) (s : Plain) (k : RunInvariant p 
         sym (get_or-map room_at s.handlers h no_handler 0 (omega (arith, inside, handlers_long)))
         ∙ (ap (λ xs. get_or xs h 0) k.rooms ∙ get_or-map-range_with_len (room_of p) 0 (length p.objects) h h 0 inside (omega arith))
 
-    runs_it : (t : Ticket) (r : Request) → length us.held.journal < us.held.room → ran us.held t r ≡ (noted_held us.held t r, answer us.held.object r)
+    runs_it : (t : Ticket) (r : Request) → length us.held.journal < us.held.room → run_one us.held t r ≡ (noted_held us.held t r, answer us.held.object r)
     runs_it t r fits = by_test (has_room us.held) (grind (arith, fits))
       where
-        by_test : (b : Bool) → b ≡ true → (if b then noted us.held t r (act us.held.object r.op r.args) else (us.held, None)) ≡ (noted_held us.held t r, answer us.held.object r)
+        by_test : (b : Bool) → b ≡ true → (if b then with_entry us.held t r (act us.held.object r.op r.args) else (us.held, None)) ≡ (noted_held us.held t r, answer us.held.object r)
         by_test true e = refl
         by_test false e = absurd (cc)
 
@@ -447,7 +447,7 @@ module _ (p : ProgramShape) (sound : IsSound p) (s : Plain) (k : RunInvariant p 
           tallies = k.tallies;
           clients = k.clients;
           rooms = one_room h _ (room_stays us.held q.ticket r);
-          kept = subst (Kept p sound) (sym (sight_path refl refl
+          kept = subst (IsSimulated p sound) (sym (sight_path refl refl
               (handler_put h _ inside ∙ ap (λ (o : HeldState × Option ℤ). put (λ g. handler_at s.handlers g) h (serves us q qs items o.0)) is)
               refl refl))
               (do_kept p sound v h q qs r items e i k.kept);
@@ -461,7 +461,7 @@ module _ (p : ProgramShape) (sound : IsSound p) (s : Plain) (k : RunInvariant p 
       tallies = k.tallies;
       clients = k.clients;
       rooms = one_room h _ refl;
-      kept = subst (Kept p sound) (sym (sight_path refl refl (handler_put h _ (served_by q qs e)) refl refl)) (end_step_kept p sound v h q qs items e i k.kept);
+      kept = subst (IsSimulated p sound) (sym (sight_path refl refl (handler_put h _ (served_by q qs e)) refl refl)) (end_step_kept p sound v h q qs items e i k.kept);
     }
 
     -- a query is answered, and its client goes on
@@ -488,12 +488,12 @@ module _ (p : ProgramShape) (sound : IsSound p) (s : Plain) (k : RunInvariant p 
           by_test true f = grind (arith, f)
           by_test false f =
               let none : you ≡ no_client = get_or_past s.clients c no_client (grind (arith, f)) in
-              let zero_begun : begun you ≡ 0 = ap begun none in
+              let zero_begun : begun_blocks you ≡ 0 = ap begun_blocks none in
               let last = asks_it.last in
               absurd (omega (arith, last, zero_begun))
 
       abbrev replied_to : Client
-      replied_to = stands (traced you q.ticket.index (event r v0)) (within rest)
+      replied_to = stands (with_trace_event you q.ticket.index (event r v0)) (within rest)
 
       abbrev new : Plain
       new = record { order = s.order; clients = set s.clients c replied_to; handlers = set s.handlers h (serves us q qs items (noted_held us.held q.ticket r)) }
@@ -506,10 +506,10 @@ module _ (p : ProgramShape) (sound : IsSound p) (s : Plain) (k : RunInvariant p 
           let inside = served_by q qs e in
           let fits : length us.held.journal < us.held.room = subst (λ n. length us.held.journal < n) (sym (room_is inside)) asks_it.room in
           let ran_is = runs_it q.ticket r fits in
-          let n : begun you - 1 ≡ q.ticket.index = let last = asks_it.last in omega (arith, last) in
-          let heard : replied you r (ran us.held q.ticket r).1 ≡ replied_to =
-          ap (λ (o : HeldState × Option ℤ). replied you r o.1) ran_is
-          ∙ (ap (reply_to you r v0) you_wait ∙ ap (λ n. stands (traced you n (event r v0)) (within rest)) n) in
+          let n : begun_blocks you - 1 ≡ q.ticket.index = let last = asks_it.last in omega (arith, last) in
+          let heard : after_reply you r (run_one us.held q.ticket r).1 ≡ replied_to =
+          ap (λ (o : HeldState × Option ℤ). after_reply you r o.1) ran_is
+          ∙ (ap (reply_to you r v0) you_wait ∙ ap (λ n. stands (with_trace_event you n (event r v0)) (within rest)) n) in
           λ j. record {
             order = s.order;
             clients = set s.clients c (heard j);
@@ -521,25 +521,25 @@ module _ (p : ProgramShape) (sound : IsSound p) (s : Plain) (k : RunInvariant p 
           let inside = served_by q qs e in
           let last = asks_it.last in
           let traces_long = k.traces c in
-          let stance_is : Runs rest ≡ answered (value_of v0) (k.stance c) = sym (ap (answered (value_of v0)) asks_it.stage) in
+          let stance_is : Runs rest ≡ after_answer (value_of v0) (k.stance c) = sym (ap (after_answer (value_of v0)) asks_it.stage) in
           record {
             stance = put k.stance c (Runs rest);
             stages = stages_are c is_client replied_to (Runs rest) refl;
             traces = traces_are c is_client replied_to (Runs rest) (length-set you.traces q.ticket.index (get_or you.traces q.ticket.index [] ++ event r v0 ∷ []) ∙ k.traces c);
             tallies = tallies_are c is_client replied_to (Runs rest) (tallied_reply p c you r v0 q.ticket.index rest
                 (subst (λ g. Tallied p c you (asked_of g)) asks_it.stage (k.tallies c)) last (k.traces c)
-                (waits_for_query p sound v c r asks_it.next (begun you) asks_it.stage refl k.kept));
+                (waits_for_query p sound v c r asks_it.next (begun_blocks you) asks_it.stage refl k.kept));
             clients = long c is_client replied_to;
             rooms = one_room h _ refl;
-            kept = subst (Kept p sound) (sym (sight_path refl
-                (clients_is c is_client replied_to (Runs rest) ∙ ap (λ x. put (λ d. standing (begun (client_at s d)) (k.stance d)) c (standing (begun you) x)) stance_is)
+            kept = subst (IsSimulated p sound) (sym (sight_path refl
+                (clients_is c is_client replied_to (Runs rest) ∙ ap (λ x. put (λ d. standing (begun_blocks (client_at s d)) (k.stance d)) c (standing (begun_blocks you) x)) stance_is)
                 (handler_put h _ inside)
                 (fun_ext (entries_keep c is_client replied_to (Runs rest) refl))
                 (fun_ext (at_ticket c is_client replied_to (Runs rest) (λ x. x.traces) [] q.ticket.index _ (get_or-set_same you.traces q.ticket.index _ [] (omega (arith, last, traces_long))) (λ i other. get_or-set_other you.traces q.ticket.index i _ [] (apart q.ticket.index i other))))))
                 (ask_kept p sound v h q qs r items e i k.kept);
           }
         where
-          standing : ℕ → Stance → Standing
+          standing : ℕ → PlainStage → ClientView
           standing n x = record { begun = n; stage = x }
 
       asked_it : RunInvariant p sound (runs_query s h us q qs items r)
@@ -581,13 +581,13 @@ module _ (p : ProgramShape) (sound : IsSound p) where
   idle_at : (P : Handler → Type 0) → ((n : ℕ) → P (fresh_handler p n)) → P no_handler → (h : ℕ) → P (handler_at (begin p).handlers h)
   idle_at P each none = every_at P (fresh_handler p) (range_with_len 0 (length p.objects)) no_handler each none
 
-  none_begun : (c : ℕ) → begun (client_at (begin p) c) ≡ 0
-  none_begun = fresh_at (λ x. begun x ≡ 0) (λ n. refl) refl
+  none_begun : (c : ℕ) → begun_blocks (client_at (begin p) c) ≡ 0
+  none_begun = fresh_at (λ x. begun_blocks x ≡ 0) (λ n. refl) refl
 
-  object_is : (h : ℕ) → declared p h ≡ (handler_at (begin p).handlers h).held.object
+  object_is : (h : ℕ) → declared_states p h ≡ (handler_at (begin p).handlers h).held.object
   object_is h = by_test (nat_lt h (length p.objects)) refl
     where
-      by_test : (b : Bool) → nat_lt h (length p.objects) ≡ b → declared p h ≡ (handler_at (begin p).handlers h).held.object
+      by_test : (b : Bool) → nat_lt h (length p.objects) ≡ b → declared_states p h ≡ (handler_at (begin p).handlers h).held.object
       by_test true e =
           let inside : h < length p.objects = grind (arith, e) in
           sym (ap (λ (x : Handler). x.held.object) (get_or-map-range_with_len (fresh_handler p) 0 (length p.objects) h h no_handler inside (omega arith)))
@@ -603,14 +603,14 @@ module _ (p : ProgramShape) (sound : IsSound p) where
     order = [];
     booked = λ c. 0;
     page = λ t. record { entry = []; trace = []; rest = Done [] };
-    service = λ h. record { past = []; queue = []; now = []; wait = λ t. []; journal = []; state = declared p h };
+    service = λ h. record { past = []; queue = []; now = []; wait = λ t. []; journal = []; state = declared_states p h };
   }
 
   pub begin_kept : RunInvariant p sound (begin p)
   begin_kept = record {
     stance = λ c. Stands zeros;
     stages = λ c inside. staged c inside;
-    traces = λ c. fresh_at (λ x. length x.traces ≡ begun x) (λ n. refl) refl c;
+    traces = λ c. fresh_at (λ x. length x.traces ≡ begun_blocks x) (λ n. refl) refl c;
     tallies = λ c. fresh_at (λ x. Tallied p c x (λ h. 0)) (λ n. none_tallied c (fresh_client n) refl refl) (none_tallied c no_client refl refl) c;
     clients = length-map (range_with_len 0 (length p.clients)) fresh_client ∙ length-range_with_len 0 (length p.clients);
     rooms = map-map room_at (fresh_handler p) (range_with_len 0 (length p.objects));
@@ -638,7 +638,7 @@ module _ (p : ProgramShape) (sound : IsSound p) where
     );
   }
     where
-      none_tallied : (c : ℕ) (it : Client) → begun it ≡ 0 → length it.counts ≡ 0 → Tallied p c it (λ h. 0)
+      none_tallied : (c : ℕ) (it : Client) → begun_blocks it ≡ 0 → length it.counts ≡ 0 → Tallied p c it (λ h. 0)
       none_tallied c it none counts = record {
         long = omega (arith, none, counts);
         objects = λ i inside. absurd (omega (arith, none, inside));

@@ -16,7 +16,7 @@ use Rattle.qs_meaning.specs.Serial.{IsLegal}
 use Rattle.qs_meaning.specs.Solo.{value_of}
 use Rattle.qs_program.specs.Sound.{IsSound}
 use Rattle.qs_meaning.proofs.Histories.{Among}
-use Rattle.qs_meaning.specs.BlockRecords.{IsPage}
+use Rattle.qs_meaning.specs.BlockRecords.{IsBlockRecord}
 use Rattle.qs_meaning.proofs.Each.{each_map}
 use Rattle.qs_meaning.proofs.SoundTrees.{blocks_ask_only}
 use Rattle.qs_syncset.specs.SyncCounts.{asks, queries}
@@ -32,14 +32,14 @@ use Rattle.qs_played.proofs.SyncTallies.{sent_of, total_for}
 use Rattle.qs_played.proofs.SyncLists.{sum_of, total_of, legal_blocks, sum_add, sum_at, sum_inside, sum_legal, sum_of_client, sum_one, sum_zero}
 use Rattle.qs_played.proofs.Orders.{each_among, counts_after, legal_among}
 use Rattle.qs_played.proofs.JournalRooms.{no_block_beyond}
-use Rattle.qs_plain_laws.specs.Plain.{Plain, Client, begin, begun, client_at, no_client}
+use Rattle.qs_plain_laws.specs.Plain.{Plain, Client, begin, begun_blocks, client_at, no_client}
 use Rattle.qs_plain_laws.specs.PlainSchedule.{counts_of, ended_at, has_ended, is_out, played_of, plays, syncs_of, trace_at, waits}
 use Rattle.qs_plain_laws.specs.PlainSyncSums.{AreQueriesCounted, PlainSyncsAreCounted, waiting}
 use Rattle.qs_plain_laws.proofs.ServedRunMoves.{asks_left}
 use Rattle.qs_plain_laws.proofs.ServedRuns.{ServedRun, IsServedRun}
 use Rattle.qs_plain_laws.proofs.PlainPreserved.{RunInvariant, run_kept, sight_of}
 use Rattle.qs_plain_laws.proofs.PlainTallies.{asked_of}
-use Rattle.qs_plain_laws.proofs.RunViews.{RunView, Stance, Stands, Runs, Awaits, stage_of}
+use Rattle.qs_plain_laws.proofs.RunViews.{RunView, PlainStage, Stands, Runs, Awaits, stage_of}
 use Rattle.qs_plain_laws.proofs.Simulation.{Simulates, StandsAt}
 use Rattle.qs_plain_laws.specs.Plain as plain
 
@@ -102,27 +102,27 @@ module _ (p : ProgramShape) (sound : IsSound p) (s : Plain) (k : RunInvariant p 
   legal : IsLegal p s.order
   legal = subst (IsLegal p) sim.order good.legal
 
-  counts : (c : ℕ) → counts_after (λ _. 0) s.order c ≡ begun (client_at s c)
+  counts : (c : ℕ) → counts_after (λ _. 0) s.order c ≡ begun_blocks (client_at s c)
   counts c = ap (λ ts. counts_after (λ _. 0) ts c) (sym sim.order) ∙ (good.counts c ∙ sim.booked c)
 
   -- in the block that its client is in, the query that it waits for
   abbrev waits_for : Ticket → ℕ → ℕ
-  waits_for t h = if suc t.index == begun (client_at s t.client) then asked_of (k.stance t.client) h else 0
+  waits_for t h = if suc t.index == begun_blocks (client_at s t.client) then asked_of (k.stance t.client) h else 0
 
-  abbrev sent : Ticket → ℕ → ℕ
-  sent t h = waits_for t h + queries h (trace_at s t)
+  abbrev sent_so_far : Ticket → ℕ → ℕ
+  sent_so_far t h = waits_for t h + queries h (trace_at s t)
 
   -- each block that was begun stands in the order
-  in_order : (c i : ℕ) → i < begun (client_at s c) → Among (ticket c i) w.order
+  in_order : (c i : ℕ) → i < begun_blocks (client_at s c) → Among (ticket c i) w.order
   in_order c i less =
       legal_among p (λ _. 0) w.order c i good.legal (omega arith)
-      (let many : counts_after (λ _. 0) w.order c ≡ begun (client_at s c) = good.counts c ∙ sim.booked c in omega (arith, less, many))
+      (let many : counts_after (λ _. 0) w.order c ≡ begun_blocks (client_at s c) = good.counts c ∙ sim.booked c in omega (arith, less, many))
 
-  page_ok : (c i : ℕ) → i < begun (client_at s c) → IsPage p (ticket c i) (w.page (ticket c i))
-  page_ok c i less = each_among (λ t. IsPage p t (w.page t)) (ticket c i) w.order good.pages (in_order c i less)
+  page_ok : (c i : ℕ) → i < begun_blocks (client_at s c) → IsBlockRecord p (ticket c i) (w.page (ticket c i))
+  page_ok c i less = each_among (λ t. IsBlockRecord p t (w.page t)) (ticket c i) w.order good.pages (in_order c i less)
 
   -- what a block asks is of objects of the program
-  objects_inside : (c i : ℕ) → i < begun (client_at s c) → AllByRecursion (λ (e : Event). e.request.object < length p.objects) (trace_at s (ticket c i))
+  objects_inside : (c i : ℕ) → i < begun_blocks (client_at s c) → AllByRecursion (λ (e : Event). e.request.object < length p.objects) (trace_at s (ticket c i))
   objects_inside c i less =
       let t = ticket c i in
       subst (λ es. AllByRecursion (λ (e : Event). e.request.object < length p.objects) es) (sim.trace t)
@@ -131,37 +131,37 @@ module _ (p : ProgramShape) (sound : IsSound p) (s : Plain) (k : RunInvariant p 
       (page_ok c i less)))
 
   -- and so is what its client waits for
-  asked_inside : (c n : ℕ) → begun (client_at s c) ≡ n → (g : Stance) → k.stance c ≡ g → sum_of p (asked_of g) ≡ waits (stage_of g)
+  asked_inside : (c n : ℕ) → begun_blocks (client_at s c) ≡ n → (g : PlainStage) → k.stance c ≡ g → sum_of p (asked_of g) ≡ waits (stage_of g)
   asked_inside c n b (Stands l) at = sum_zero (λ h. 0) (λ h. refl) (range_with_len 0 (length p.objects))
   asked_inside c n b (Runs rest) at = sum_zero (λ h. 0) (λ h. refl) (range_with_len 0 (length p.objects))
   asked_inside c zero b (Awaits q next) at =
-      absurd (subst (λ n. StandsAt w.page c (Awaits q next) n) b (subst (λ g. StandsAt w.page c g (begun (client_at s c))) at (sim.stands c)))
+      absurd (subst (λ n. StandsAt w.page c (Awaits q next) n) b (subst (λ g. StandsAt w.page c g (begun_blocks (client_at s c))) at (sim.stands c)))
   asked_inside c (suc i) b (Awaits q next) at =
       let t = ticket c i in
       let rest : (w.page t).rest ≡ Query q next =
-      subst (λ n. StandsAt w.page c (Awaits q next) n) b (subst (λ g. StandsAt w.page c g (begun (client_at s c))) at (sim.stands c)) in
+      subst (λ n. StandsAt w.page c (Awaits q next) n) b (subst (λ g. StandsAt w.page c g (begun_blocks (client_at s c))) at (sim.stands c)) in
       let asking : AsksOnly (reserves p t) (Query q next) = subst (AsksOnly (reserves p t)) rest (asks_left p sound w t (page_ok c i (omega (arith, b)))) in
       one_of_range q.object (length p.objects) (reserved_inside p sound t q.object asking.1)
 
   -- a client between blocks waits for nothing
-  none_before : (c : ℕ) → begun (client_at s c) ≡ 0 → (g : Stance) → k.stance c ≡ g → waits (stage_of g) ≡ 0
+  none_before : (c : ℕ) → begun_blocks (client_at s c) ≡ 0 → (g : PlainStage) → k.stance c ≡ g → waits (stage_of g) ≡ 0
   none_before c b (Stands l) at = refl
   none_before c b (Runs rest) at = refl
   none_before c b (Awaits q next) at =
-      absurd (subst (λ n. StandsAt w.page c (Awaits q next) n) b (subst (λ g. StandsAt w.page c g (begun (client_at s c))) at (sim.stands c)))
+      absurd (subst (λ n. StandsAt w.page c (Awaits q next) n) b (subst (λ g. StandsAt w.page c g (begun_blocks (client_at s c))) at (sim.stands c)))
 
   -- what a block has asked
-  block_sent : (c i : ℕ) → i < begun (client_at s c)
-      → sum_of p (sent (ticket c i)) ≡ (if suc i == begun (client_at s c) then waits (stage_of (k.stance c)) else 0) + queries_in (trace_at s (ticket c i))
+  block_sent : (c i : ℕ) → i < begun_blocks (client_at s c)
+      → sum_of p (sent_so_far (ticket c i)) ≡ (if suc i == begun_blocks (client_at s c) then waits (stage_of (k.stance c)) else 0) + queries_in (trace_at s (ticket c i))
   block_sent c i less =
       let t = ticket c i in
       let both = sum_add (waits_for t) (λ h. queries h (trace_at s t)) (range_with_len 0 (length p.objects)) in
-      let asked = by_case (suc i == begun (client_at s c)) in
+      let asked = by_case (suc i == begun_blocks (client_at s c)) in
       let past = queries_by_object (length p.objects) (trace_at s t) (objects_inside c i less) in
       omega (arith, both, asked, past)
     where
       by_case : (b : Bool) → sum_of p (λ h. if b then asked_of (k.stance c) h else 0) ≡ (if b then waits (stage_of (k.stance c)) else 0)
-      by_case true = asked_inside c (begun (client_at s c)) refl (k.stance c) refl
+      by_case true = asked_inside c (begun_blocks (client_at s c)) refl (k.stance c) refl
       by_case false = sum_zero (λ h. 0) (λ h. refl) (range_with_len 0 (length p.objects))
 
   -- one more at the last number of a range
@@ -174,55 +174,55 @@ module _ (p : ProgramShape) (sound : IsSound p) (s : Plain) (k : RunInvariant p 
       apart : (i : ℕ) → (n == i) ≡ false → (suc i == suc n) ≡ false
       apart i out = eqb_apart (suc i) (suc n) (λ same. apart_eqb n i out (let back : i ≡ n = omega (arith, same) in sym back))
 
-  client_sent : (c : ℕ) → c < length p.clients → sum_of_client (λ t. sum_of p (sent t)) c 0 (begun (client_at s c)) ≡ syncs_of (client_at s c)
+  client_sent : (c : ℕ) → c < length p.clients → sum_of_client (λ t. sum_of p (sent_so_far t)) c 0 (begun_blocks (client_at s c)) ≡ syncs_of (client_at s c)
   client_sent c inside =
       let it = client_at s c in
-      let n = begun it in
+      let n = begun_blocks it in
       let whole : n - 0 ≡ n = omega arith in
-      let each = sum_inside (λ i. sum_of p (sent (ticket c i)))
+      let each = sum_inside (λ i. sum_of p (sent_so_far (ticket c i)))
       (λ i. (if suc i == n then waits (stage_of (k.stance c)) else 0) + queries_in (get_or it.traces i [])) 0 n
       (λ i low high. block_sent c i (omega (arith, high))) in
       let last = at_last n (waits (stage_of (k.stance c))) (λ i. queries_in (get_or it.traces i [])) (λ z. none_before c z (k.stance c) refl) in
       let listed : sum_by queries_in it.traces ≡ sum_by (λ i. queries_in (get_or it.traces i [])) (range_with_len 0 n) =
       sum_at queries_in [] it.traces ∙ ap (λ m. sum_by (λ i. queries_in (get_or it.traces i [])) (range_with_len 0 m)) (k.traces c) in
       let stage : waits it.stage ≡ waits (stage_of (k.stance c)) = ap waits (k.stages c inside) in
-      ap (λ m. sum_by (λ i. sum_of p (sent (ticket c i))) (range_with_len 0 m)) whole ∙ omega (arith, each, last, listed, stage)
+      ap (λ m. sum_by (λ i. sum_of p (sent_so_far (ticket c i))) (range_with_len 0 m)) whole ∙ omega (arith, each, last, listed, stage)
 
-  all_sent : r.syncs ≡ total_of p sent s.order
+  all_sent : r.syncs ≡ total_of p sent_so_far s.order
   all_sent =
       let listed = sum_at syncs_of no_client s.clients in
-      let each = sum_inside (λ c. sum_of_client (λ t. sum_of p (sent t)) c 0 (counts_after (λ _. 0) s.order c)) (λ c. syncs_of (client_at s c)) 0
+      let each = sum_inside (λ c. sum_of_client (λ t. sum_of p (sent_so_far t)) c 0 (counts_after (λ _. 0) s.order c)) (λ c. syncs_of (client_at s c)) 0
       (length p.clients)
-      (λ c low high. ap (sum_of_client (λ t. sum_of p (sent t)) c 0) (counts c) ∙ client_sent c (omega (arith, high))) in
-      let ordered = sum_legal p (λ t. sum_of p (sent t)) (λ _. 0) s.order legal in
+      (λ c low high. ap (sum_of_client (λ t. sum_of p (sent_so_far t)) c 0) (counts c) ∙ client_sent c (omega (arith, high))) in
+      let ordered = sum_legal p (λ t. sum_of p (sent_so_far t)) (λ _. 0) s.order legal in
       let long : sum_by (λ c. syncs_of (client_at s c)) (range_with_len 0 (length s.clients)) ≡ sum_by (λ c. syncs_of (client_at s c))
       (range_with_len 0 (length p.clients)) =
       ap (λ m. sum_by (λ c. syncs_of (client_at s c)) (range_with_len 0 m)) k.clients in
       omega (arith, listed, each, ordered, long)
 
   -- a reservation: one more where its client waits in it
-  ticket_sent : (t : Ticket) → t.client < length p.clients → AreSent (ended_at s t) (sent t) (λ h. queries h (trace_at s t))
-  ticket_sent t inside = by_case (suc t.index == begun (client_at s t.client)) refl
+  ticket_sent : (t : Ticket) → t.client < length p.clients → AreSent (ended_at s t) (sent_so_far t) (λ h. queries h (trace_at s t))
+  ticket_sent t inside = by_case (suc t.index == begun_blocks (client_at s t.client)) refl
     where
       it : Client
       it = client_at s t.client
 
-      by_stance : suc t.index ≡ begun it → (g : Stance) → k.stance t.client ≡ g
+      by_stance : suc t.index ≡ begun_blocks it → (g : PlainStage) → k.stance t.client ≡ g
           → AreSent (ended_at s t) (λ h. asked_of g h + queries h (trace_at s t)) (λ h. queries h (trace_at s t))
       by_stance last (Stands l) at = inl (λ h. omega arith)
       by_stance last (Runs rest) at = inl (λ h. omega arith)
       by_stance last (Awaits q next) at =
-          let less : nat_lt (suc t.index) (begun it) ≡ false = grind (arith, last) in
+          let less : nat_lt (suc t.index) (begun_blocks it) ≡ false = grind (arith, last) in
           let waiting_now : it.stage ≡ plain.waiting next = k.stages t.client inside ∙ ap stage_of at in
           let open_yet : has_ended it t.index ≡ false = rw less
-          (ap (λ g. nat_eq (suc t.index) (begun it) && is_out g) waiting_now ∙ both (nat_eq (suc t.index) (begun it))) in
+          (ap (λ g. nat_eq (suc t.index) (begun_blocks it) && is_out g) waiting_now ∙ both (nat_eq (suc t.index) (begun_blocks it))) in
           inr (open_yet, q.object, λ h. refl)
         where
           both : (x : Bool) → (x && false) ≡ false
           both true = refl
           both false = refl
 
-      by_case : (b : Bool) → (suc t.index == begun it) ≡ b → AreSent (ended_at s t) (sent t) (λ h. queries h (trace_at s t))
+      by_case : (b : Bool) → (suc t.index == begun_blocks it) ≡ b → AreSent (ended_at s t) (sent_so_far t) (λ h. queries h (trace_at s t))
       by_case true is =
           subst (λ b. AreSent (ended_at s t) (λ h. (if b then asked_of (k.stance t.client) h else 0) + queries h (trace_at s t))
           (λ h. queries h (trace_at s t))) (sym is)
@@ -237,7 +237,7 @@ module _ (p : ProgramShape) (sound : IsSound p) (s : Plain) (k : RunInvariant p 
     own : t.index < blocks_of p t.client
     own = AllByRecursion-get_or (λ (t : Ticket). t.index < blocks_of p t.client) s.order i (ticket 0 0) (legal_blocks p (λ _. 0) s.order legal) inside
 
-    less : t.index < begun (client_at s t.client)
+    less : t.index < begun_blocks (client_at s t.client)
     less =
         let booked = AllByRecursion-get_or (λ (t : Ticket). suc t.index ≤ w.booked t.client) s.order i (ticket 0 0)
         (subst (AllByRecursion (λ (t : Ticket). suc t.index ≤ w.booked t.client)) sim.order good.below) inside in
@@ -247,7 +247,7 @@ module _ (p : ProgramShape) (sound : IsSound p) (s : Plain) (k : RunInvariant p 
     counts_are : counts_at r i ≡ counts_of s t
     counts_are = get_or-map (counts_of s) s.order i (ticket 0 0) [] inside
 
-    numbers : (h : ℕ) → sent t h ≡ syncs_at r i h
+    numbers : (h : ℕ) → sent_so_far t h ≡ syncs_at r i h
     numbers h = sym (ap (λ xs. syncs_for xs h) counts_are ∙ (k.tallies t.client).numbers t.index less h)
 
     place_listed : map object_of (counts_at r i) ≡ (text_of p t).reserved
@@ -255,9 +255,9 @@ module _ (p : ProgramShape) (sound : IsSound p) (s : Plain) (k : RunInvariant p 
 
     place_sent : AreSent (ended_of r i) (syncs_at r i) (λ h. queries h (trace_of r i))
     place_sent =
-        sent_of (ended_of r i) (sent t) (syncs_at r i) (λ h. queries h (trace_of r i)) numbers
-        (subst (λ es. AreSent (ended_of r i) (sent t) (λ h. queries h es)) (sym (get_or-map (trace_at s) s.order i (ticket 0 0) [] inside))
-        (subst (λ b. AreSent b (sent t) (λ h. queries h (trace_at s t))) (sym (get_or-map (ended_at s) s.order i (ticket 0 0) false inside))
+        sent_of (ended_of r i) (sent_so_far t) (syncs_at r i) (λ h. queries h (trace_of r i)) numbers
+        (subst (λ es. AreSent (ended_of r i) (sent_so_far t) (λ h. queries h es)) (sym (get_or-map (trace_at s) s.order i (ticket 0 0) [] inside))
+        (subst (λ b. AreSent b (sent_so_far t) (λ h. queries h (trace_at s t))) (sym (get_or-map (ended_at s) s.order i (ticket 0 0) false inside))
         (ticket_sent t (no_block_beyond p t.client (let some = own in omega (arith, some))))))
 
     -- over all objects, one more exactly where its client waits in it
@@ -265,21 +265,21 @@ module _ (p : ProgramShape) (sound : IsSound p) (s : Plain) (k : RunInvariant p 
     place_more =
         let stage = k.stages t.client (no_block_beyond p t.client (let some = own in omega (arith, some))) in
         total_for (length p.objects) (counts_at r i) (subst (AllByRecursion (λ h. h < length p.objects)) (sym place_listed) (listed_inside p sound t))
-        ∙ (sum_inside (syncs_at r i) (sent t) 0 (length p.objects) (λ h low high. sym (numbers h))
+        ∙ (sum_inside (syncs_at r i) (sent_so_far t) 0 (length p.objects) (λ h low high. sym (numbers h))
         ∙ (block_sent t.client t.index less
-        ∙ (ap (λ g. (if suc t.index == begun (client_at s t.client) then waits g else 0) + queries_in (trace_at s t)) (sym stage)
+        ∙ (ap (λ g. (if suc t.index == begun_blocks (client_at s t.client) then waits g else 0) + queries_in (trace_at s t)) (sym stage)
         ∙ ap (λ es. waiting s t + queries_in es) (sym (get_or-map (trace_at s) s.order i (ticket 0 0) [] inside)))))
 
   -- all counts together
-  all_counts : sum_by syncs_of_row r.sync_counts ≡ total_of p sent s.order
+  all_counts : sum_by syncs_of_row r.sync_counts ≡ total_of p sent_so_far s.order
   all_counts =
       let listed = sum_at syncs_of_row [] r.sync_counts in
       let many = length-map s.order (counts_of s) in
-      let tickets = sum_at (λ t. sum_of p (sent t)) (ticket 0 0) s.order in
-      let each = sum_inside (λ i. syncs_of_row (counts_at r i)) (λ i. sum_of p (sent (ticket_at r i))) 0 (length s.order) (λ i low high.
+      let tickets = sum_at (λ t. sum_of p (sent_so_far t)) (ticket 0 0) s.order in
+      let each = sum_inside (λ i. syncs_of_row (counts_at r i)) (λ i. sum_of p (sent_so_far (ticket_at r i))) 0 (length s.order) (λ i low high.
       let inside : i < length s.order = omega (arith, high) in
       total_for (length p.objects) (counts_at r i) (subst (AllByRecursion (λ h. h < length p.objects)) (sym (place_listed i inside)) (listed_inside p sound (ticket_at r i)))
-      ∙ sum_inside (syncs_at r i) (sent (ticket_at r i)) 0 (length p.objects) (λ h low high. sym (numbers i inside h))) in
+      ∙ sum_inside (syncs_at r i) (sent_so_far (ticket_at r i)) 0 (length p.objects) (λ h low high. sym (numbers i inside h))) in
       listed ∙ (ap (λ m. sum_by (λ i. syncs_of_row (counts_at r i)) (range_with_len 0 m)) many ∙ (each ∙ sym tickets))
 
 -- after every list of actors

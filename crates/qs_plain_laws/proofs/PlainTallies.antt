@@ -21,11 +21,11 @@ use Rattle.qs_sync_counts.specs.declared.sync_counts.SyncCount.{SyncCount}
 use Rattle.qs_syncset.proofs.SyncTrees.{command_asks_none, query_counts}
 use Rattle.qs_played.specs.Played.{ticket}
 use Rattle.qs_played.proofs.SyncTallies.{none_for, objects_none, objects_stay, one_more_for}
-use Rattle.qs_plain_laws.specs.Plain.{Client, Stage, begins, begun, counted, stands, traced, waiting, within}
-use Rattle.qs_plain_laws.proofs.RunViews.{Stance, Stands, Runs, Awaits}
+use Rattle.qs_plain_laws.specs.Plain.{Client, Stage, begins, begun_blocks, with_query_counted, stands, with_trace_event, waiting, within}
+use Rattle.qs_plain_laws.proofs.RunViews.{PlainStage, Stands, Runs, Awaits}
 
 -- the query that a client waits for, by its object
-abbrev pub asked_of : Stance → ℕ → ℕ
+abbrev pub asked_of : PlainStage → ℕ → ℕ
 asked_of (Stands l) h = 0
 asked_of (Runs rest) h = 0
 asked_of (Awaits r next) h = if r.object == h then 1 else 0
@@ -61,27 +61,27 @@ row_there (y ∷ xs) x d zero inside = refl
 row_there (y ∷ xs) x d (suc i) inside = row_there xs x d i (omega (arith, inside))
 
 -- in the block that a client of n begun blocks is in, what it waits for; in those before, nothing
-abbrev waited : ℕ → (ℕ → ℕ) → ℕ → ℕ → ℕ
-waited n extra i h = if suc i == n then extra h else 0
+abbrev waiting_extra : ℕ → (ℕ → ℕ) → ℕ → ℕ → ℕ
+waiting_extra n extra i h = if suc i == n then extra h else 0
 
-none_waited : (n : ℕ) (extra : ℕ → ℕ) (i h : ℕ) → extra h ≡ 0 → waited n extra i h ≡ 0
+none_waited : (n : ℕ) (extra : ℕ → ℕ) (i h : ℕ) → extra h ≡ 0 → waiting_extra n extra i h ≡ 0
 none_waited n extra i h none = by_case (suc i == n)
   where
     by_case : (b : Bool) → (if b then extra h else 0) ≡ 0
     by_case true = none
     by_case false = refl
 
-waited_here : (n : ℕ) (extra : ℕ → ℕ) (i h : ℕ) → suc i ≡ n → waited n extra i h ≡ extra h
-waited_here n extra i h is = subst (λ n. waited n extra i h ≡ extra h) is (rw (eqb_self (suc i)) refl)
+waited_here : (n : ℕ) (extra : ℕ → ℕ) (i h : ℕ) → suc i ≡ n → waiting_extra n extra i h ≡ extra h
+waited_here n extra i h is = subst (λ n. waiting_extra n extra i h ≡ extra h) is (rw (eqb_self (suc i)) refl)
 
-waited_there : (n : ℕ) (extra : ℕ → ℕ) (i h : ℕ) → suc i ≢ n → waited n extra i h ≡ 0
+waited_there : (n : ℕ) (extra : ℕ → ℕ) (i h : ℕ) → suc i ≢ n → waiting_extra n extra i h ≡ 0
 waited_there n extra i h apart = let no = eqb_apart (suc i) n apart in rw no refl
 
 -- a client's counts, where it waits for this
 pub record Tallied (p : ProgramShape) (c : ℕ) (it : Client) (extra : ℕ → ℕ) : Type 0 where
-  pub long : length it.counts ≡ begun it
-  pub objects : (i : ℕ) → i < begun it → map object_of (get_or it.counts i []) ≡ (text_of p (ticket c i)).reserved
-  pub numbers : (i : ℕ) → i < begun it → (h : ℕ) → syncs_for (get_or it.counts i []) h ≡ waited (begun it) extra i h + queries h (get_or it.traces i [])
+  pub long : length it.counts ≡ begun_blocks it
+  pub objects : (i : ℕ) → i < begun_blocks it → map object_of (get_or it.counts i []) ≡ (text_of p (ticket c i)).reserved
+  pub numbers : (i : ℕ) → i < begun_blocks it → (h : ℕ) → syncs_for (get_or it.counts i []) h ≡ waiting_extra (begun_blocks it) extra i h + queries h (get_or it.traces i [])
 
 abbrev nothing : ℕ → ℕ
 nothing h = 0
@@ -94,23 +94,23 @@ module _ (p : ProgramShape) (c : ℕ) (it : Client) (extra : ℕ → ℕ) (is : 
     objects = is.objects;
     numbers = λ i inside h.
         let old = is.numbers i inside h in
-        let before = none_waited (begun it) extra i h (none h) in
-        let after = none_waited (begun it) nothing i h refl in
+        let before = none_waited (begun_blocks it) extra i h (none h) in
+        let after = none_waited (begun_blocks it) nothing i h refl in
         omega (arith, old, before, after);
   }
 
   -- a command comes to the trace of the block that it is in
-  pub tallied_call : (r : Request) (next : Interaction) → ((h : ℕ) → extra h ≡ 0) → length it.traces ≡ begun it → 0 < begun it → is_query r.op ≡ false
-      → Tallied p c (stands (traced it (begun it - 1) (event r None)) (within next)) nothing
+  pub tallied_call : (r : Request) (next : Interaction) → ((h : ℕ) → extra h ≡ 0) → length it.traces ≡ begun_blocks it → 0 < begun_blocks it → is_query r.op ≡ false
+      → Tallied p c (stands (with_trace_event it (begun_blocks it - 1) (event r None)) (within next)) nothing
   tallied_call r next none traces some op = record {
     long = is.long;
     objects = is.objects;
     numbers = λ i inside h.
-        let n = begun it - 1 in
+        let n = begun_blocks it - 1 in
         let e : Event = event r None in
         let old = is.numbers i inside h in
-        let before = none_waited (begun it) extra i h (none h) in
-        let after = none_waited (begun it) nothing i h refl in
+        let before = none_waited (begun_blocks it) extra i h (none h) in
+        let after = none_waited (begun_blocks it) nothing i h refl in
         ⊎_elim
         (λ (here : n ≡ i).
         let row : get_or (set it.traces n (get_or it.traces n [] ++ e ∷ [])) i [] ≡ get_or it.traces i [] ++ e ∷ [] =
@@ -125,9 +125,9 @@ module _ (p : ProgramShape) (c : ℕ) (it : Client) (extra : ℕ → ℕ) (is : 
   }
 
   -- a query is asked, and its client waits
-  pub tallied_ask : (r : Request) (next : ℤ → Interaction) → ((h : ℕ) → extra h ≡ 0) → 0 < begun it
-      → is_in (text_of p (ticket c (begun it - 1))).reserved r.object ≡ true → IsDistinct ◌==◌ (text_of p (ticket c (begun it - 1))).reserved
-      → Tallied p c (stands (counted it (begun it - 1) r.object) (waiting next)) (λ h. if r.object == h then 1 else 0)
+  pub tallied_ask : (r : Request) (next : ℤ → Interaction) → ((h : ℕ) → extra h ≡ 0) → 0 < begun_blocks it
+      → is_in (text_of p (ticket c (begun_blocks it - 1))).reserved r.object ≡ true → IsDistinct ◌==◌ (text_of p (ticket c (begun_blocks it - 1))).reserved
+      → Tallied p c (stands (with_query_counted it (begun_blocks it - 1) r.object) (waiting next)) (λ h. if r.object == h then 1 else 0)
   tallied_ask r next none some listed distinct = record {
     long = length-set it.counts n more ∙ is.long;
     objects = λ i inside.
@@ -139,7 +139,7 @@ module _ (p : ProgramShape) (c : ℕ) (it : Client) (extra : ℕ → ℕ) (is : 
         (num_cases n i);
     numbers = λ i inside h.
         let old = is.numbers i inside h in
-        let before = none_waited (begun it) extra i h (none h) in
+        let before = none_waited (begun_blocks it) extra i h (none h) in
         ⊎_elim
         (λ (here : n ≡ i).
         let at : get_or (set it.counts n more) i [] ≡ with_sync r.object (get_or it.counts i []) =
@@ -148,18 +148,18 @@ module _ (p : ProgramShape) (c : ℕ) (it : Client) (extra : ℕ → ℕ) (is : 
         let one = one_more_for r.object (get_or it.counts i []) (subst (λ hs. is_in hs r.object ≡ true) (sym objects) listed)
         (subst (IsDistinct ◌==◌) (sym objects) distinct) h in
         let new = ap (λ xs. syncs_for xs h) at in
-        let now = waited_here (begun it) (λ h. if r.object == h then 1 else 0) i h (omega (arith, here, some)) in
+        let now = waited_here (begun_blocks it) (λ h. if r.object == h then 1 else 0) i h (omega (arith, here, some)) in
         omega (arith, old, before, one, new, now))
         (λ (other : (n == i) ≡ false).
         let apart = apart_eqb n i other in
         let same = ap (λ xs. syncs_for xs h) (get_or-set_other it.counts n i more [] (λ e. apart (sym e))) in
-        let now = waited_there (begun it) (λ h. if r.object == h then 1 else 0) i h (λ e. apart (omega (arith, e))) in
+        let now = waited_there (begun_blocks it) (λ h. if r.object == h then 1 else 0) i h (λ e. apart (omega (arith, e))) in
         omega (arith, old, before, same, now))
         (num_cases n i);
   }
     where
       n : ℕ
-      n = begun it - 1
+      n = begun_blocks it - 1
 
       more : List SyncCount
       more = with_sync r.object (get_or it.counts n [])
@@ -171,10 +171,10 @@ module _ (p : ProgramShape) (c : ℕ) (it : Client) (extra : ℕ → ℕ) (is : 
       own = is.objects n (omega (arith, some))
 
   -- its next block begins
-  pub tallied_begin : (l : Locals) (rest : Interaction) → ((h : ℕ) → extra h ≡ 0) → length it.traces ≡ begun it
-      → Tallied p c (begins it l rest (text_of p (ticket c (begun it))).reserved) nothing
+  pub tallied_begin : (l : Locals) (rest : Interaction) → ((h : ℕ) → extra h ≡ 0) → length it.traces ≡ begun_blocks it
+      → Tallied p c (begins it l rest (text_of p (ticket c (begun_blocks it))).reserved) nothing
   tallied_begin l rest none traces =
-      let n = begun it in
+      let n = begun_blocks it in
       let hs = (text_of p (ticket c n)).reserved in
       let many : length (it.entries ++ l ∷ []) ≡ n + 1 = length-append it.entries (l ∷ []) in
       let counts = length-append it.counts (no_syncs hs ∷ []) in
@@ -216,27 +216,27 @@ module _ (p : ProgramShape) (c : ℕ) (it : Client) (extra : ℕ → ℕ) (is : 
 
 -- the query that a client waits for is answered
 pub tallied_reply : (p : ProgramShape) (c : ℕ) (it : Client) (r : Request) (v : Option ℤ) (k : ℕ) (rest : Interaction)
-    → Tallied p c it (λ h. if r.object == h then 1 else 0) → suc k ≡ begun it → length it.traces ≡ begun it → is_query r.op ≡ true
-    → Tallied p c (stands (traced it k (event r v)) (within rest)) nothing
+    → Tallied p c it (λ h. if r.object == h then 1 else 0) → suc k ≡ begun_blocks it → length it.traces ≡ begun_blocks it → is_query r.op ≡ true
+    → Tallied p c (stands (with_trace_event it k (event r v)) (within rest)) nothing
 tallied_reply p c it r v k rest is last traces op = record {
   long = is.long;
   objects = is.objects;
   numbers = λ i inside h.
       let e : Event = event r v in
       let old = is.numbers i inside h in
-      let after = none_waited (begun it) nothing i h refl in
+      let after = none_waited (begun_blocks it) nothing i h refl in
       ⊎_elim
       (λ (here : k ≡ i).
       let row : get_or (set it.traces k (get_or it.traces k [] ++ e ∷ [])) i [] ≡ get_or it.traces i [] ++ e ∷ [] =
       subst (λ i. get_or (set it.traces k (get_or it.traces k [] ++ e ∷ [])) i [] ≡ get_or it.traces i [] ++ e ∷ []) here
       (get_or-set_same it.traces k (get_or it.traces k [] ++ e ∷ []) [] (omega (arith, traces, last))) in
       let same = ap (queries h) row ∙ last_query h (get_or it.traces i []) e op in
-      let before = waited_here (begun it) (λ h. if r.object == h then 1 else 0) i h (omega (arith, here, last)) in
+      let before = waited_here (begun_blocks it) (λ h. if r.object == h then 1 else 0) i h (omega (arith, here, last)) in
       omega (arith, old, before, after, same))
       (λ (other : (k == i) ≡ false).
       let apart = apart_eqb k i other in
       let same = ap (queries h) (get_or-set_other it.traces k i (get_or it.traces k [] ++ e ∷ []) [] (λ e. apart (sym e))) in
-      let before = waited_there (begun it) (λ h. if r.object == h then 1 else 0) i h (λ e. apart (omega (arith, e, last))) in
+      let before = waited_there (begun_blocks it) (λ h. if r.object == h then 1 else 0) i h (λ e. apart (omega (arith, e, last))) in
       omega (arith, old, before, after, same))
       (num_cases k i);
 }

@@ -2,7 +2,7 @@
 use Rattle.std.proofs.Common.{◌≡◌, ◌<◌, ◌≤◌, ◌+◌, arith, ℕ, suc, List, [], ◌∷◌, ◌++◌, length, map, flat_map, refl, ap, ap₂, ◌∙◌, subst, ℤ, None}
 use Rattle.std.specs.List.{AllByRecursion}
 use Rattle.std.proofs.lemmas.List.{length-append, length-map}
-use Rattle.qs_objects.specs.Parts.{logged, stamp, part}
+use Rattle.qs_objects.specs.Parts.{command_event, stamp, part}
 use Rattle.qs_objects.specs.declared.held.Event.{Event}
 use Rattle.qs_objects.specs.declared.held.Ticket.{Ticket}
 use Rattle.qs_objects.specs.declared.Request.{Request}
@@ -12,12 +12,12 @@ use Rattle.qs_program.specs.Program.{ProgramShape, text_of}
 use Rattle.qs_meaning.specs.Solo.{event, value_of}
 use Rattle.qs_meaning.proofs.Each.{each_map, each_front, each_back, each_kept}
 use Rattle.qs_meaning.proofs.Histories.{parts_of}
-use Rattle.qs_meaning.specs.BlockRecords.{IsPage}
+use Rattle.qs_meaning.specs.BlockRecords.{IsBlockRecord}
 use Rattle.qs_meaning.proofs.RequestPaths.{requests_within}
 use Rattle.qs_meaning.proofs.TreeWalks.{leads_query, part_snoc_here}
 use Rattle.qs_played.specs.JournalRooms.{room_of}
 use Rattle.qs_played.proofs.JournalRooms.{total, total_less, total_append, total_filter, leads_within, cost, order_fits, all_left}
-use Rattle.qs_plain_laws.proofs.ServedRuns.{Service, ServedRun, Front, shown, IsServedRun}
+use Rattle.qs_plain_laws.proofs.ServedRuns.{Service, ServedRun, Front, entries_shown, IsServedRun}
 
 module _ (p : ProgramShape) (h : ℕ) (w : ServedRun) (ok : IsServedRun p w) where
   abbrev l : Service
@@ -26,7 +26,7 @@ module _ (p : ProgramShape) (h : ℕ) (w : ServedRun) (ok : IsServedRun p w) whe
   abbrev parts : Ticket → List Event
   parts = parts_of w.page h
 
-  within_load : (t : Ticket) → IsPage p t (w.page t) → length (parts t) ≤ cost p h t
+  within_load : (t : Ticket) → IsBlockRecord p t (w.page t) → length (parts t) ≤ cost p h t
   within_load t path = leads_within h (block_tree p t (w.page t).entry) (w.page t).trace (w.page t).rest (cost p h t) path (requests_within (text_of p t).body (w.page t).entry h)
 
   all_within : AllByRecursion (λ t. length (parts t) ≤ cost p h t) (l.past ++ l.queue)
@@ -44,7 +44,7 @@ module _ (p : ProgramShape) (h : ℕ) (w : ServedRun) (ok : IsServedRun p w) whe
   room_for t ts q more =
       let svc = ok.services h in
       let journal : length l.journal ≡ total (λ t. length (parts t)) l.past + length l.now =
-      ap length (svc.entries ∙ ap (λ q. flat_map (λ t. map (stamp t) (parts t)) l.past ++ shown q l.now) q)
+      ap length (svc.entries ∙ ap (λ q. flat_map (λ t. map (stamp t) (parts t)) l.past ++ entries_shown q l.now) q)
       ∙ (length-append (flat_map (λ t. map (stamp t) (parts t)) l.past) (map (stamp t) l.now)
       ∙ ap₂ (λ a b. a + b) (stamped_length l.past) (length-map l.now (stamp t))) in
       let past = total_less (λ t. length (parts t)) (cost p h) l.past (each_front (λ t. length (parts t) ≤ cost p h t) l.past l.queue all_within) in
@@ -54,7 +54,7 @@ module _ (p : ProgramShape) (h : ℕ) (w : ServedRun) (ok : IsServedRun p w) whe
       let room = all_left p h in
       omega (arith, journal, past, both, mine, whole, room, more)
 
-  first_part : (t : Ticket) (ts : List Ticket) → l.queue ≡ t ∷ ts → parts t ≡ l.now ++ map logged (l.wait t)
+  first_part : (t : Ticket) (ts : List Ticket) → l.queue ≡ t ∷ ts → parts t ≡ l.now ++ map command_event (l.wait t)
   first_part t ts q = (subst (Front parts l.now l.wait) q (ok.services h).front).0
 
   first_within : (t : Ticket) (ts : List Ticket) → l.queue ≡ t ∷ ts → length (parts t) ≤ cost p h t
@@ -63,18 +63,18 @@ module _ (p : ProgramShape) (h : ℕ) (w : ServedRun) (ok : IsServedRun p w) whe
   -- for a command that waits
   pub room_to_run : (t : Ticket) (ts : List Ticket) (r : Request) (rs : List Request) → l.queue ≡ t ∷ ts → l.wait t ≡ r ∷ rs → length l.journal < room_of p h
   room_to_run t ts r rs q some =
-      let long : length (parts t) ≡ length l.now + suc (length (map logged rs)) =
-      ap length (first_part t ts q ∙ ap (λ ws. l.now ++ map logged ws) some) ∙ length-append l.now (map logged (r ∷ rs)) in
+      let long : length (parts t) ≡ length l.now + suc (length (map command_event rs)) =
+      ap length (first_part t ts q ∙ ap (λ ws. l.now ++ map command_event ws) some) ∙ length-append l.now (map command_event (r ∷ rs)) in
       let le = first_within t ts q in
       room_for t ts q (omega (arith, long, le))
 
   -- for a query whose client waits
-  pub room_to_ask : (t : Ticket) (ts : List Ticket) (r : Request) (next : ℤ → Interaction) → l.queue ≡ t ∷ ts → l.wait t ≡ [] → IsPage p t (w.page t) → (w.page t).rest ≡ Query r next → r.object ≡ h
+  pub room_to_ask : (t : Ticket) (ts : List Ticket) (r : Request) (next : ℤ → Interaction) → l.queue ≡ t ∷ ts → l.wait t ≡ [] → IsBlockRecord p t (w.page t) → (w.page t).rest ≡ Query r next → r.object ≡ h
       → length l.journal < room_of p h
   room_to_ask t ts r next q none path is at =
       let e = event r None in
       let longer = leads_query (block_tree p t (w.page t).entry) (w.page t).trace e next (subst (Leads (block_tree p t (w.page t).entry) (w.page t).trace) is path) in
       let le = leads_within h (block_tree p t (w.page t).entry) ((w.page t).trace ++ e ∷ []) (next (value_of e.reply)) (cost p h t) longer (requests_within (text_of p t).body (w.page t).entry h) in
       let one : length (part h ((w.page t).trace ++ e ∷ [])) ≡ length (parts t) + 1 = ap length (part_snoc_here h (w.page t).trace e at) ∙ length-append (parts t) (e ∷ []) in
-      let now : length (parts t) ≡ length l.now + 0 = ap length (first_part t ts q ∙ ap (λ ws. l.now ++ map logged ws) none) ∙ length-append l.now [] in
+      let now : length (parts t) ≡ length l.now + 0 = ap length (first_part t ts q ∙ ap (λ ws. l.now ++ map command_event ws) none) ∙ length-append l.now [] in
       room_for t ts q (omega (arith, le, one, now))

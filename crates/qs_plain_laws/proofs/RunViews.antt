@@ -1,7 +1,7 @@
 -- A run by the plain rules as functions: each client and each handler by its number, each reservation by its ticket.
 use Rattle.std.proofs.Common.{ℕ, suc, ◌-◌, ℤ, List, [], ◌∷◌, ◌++◌, if◌then◌else◌}
 use Rattle.qs_objects.specs.Journals.{HeldState, after, answer}
-use Rattle.qs_objects.specs.Parts.{logged, stamp}
+use Rattle.qs_objects.specs.Parts.{command_event, stamp}
 use Rattle.qs_objects.specs.declared.held.Event.{Event}
 use Rattle.qs_objects.specs.declared.held.Ticket.{Ticket}
 use Rattle.qs_objects.specs.declared.Request.{Request}
@@ -17,23 +17,23 @@ use Rattle.qs_plain_laws.specs.declared.item.QueueItem.{QueueItem}
 use Rattle.qs_plain_laws.specs.declared.item.QueueItem.TheVariants as item
 
 -- as a stage of the plain rules, with the query that a client waits for
-pub data Stance : Type 0 where
-  Stands : (locals : Locals) → Stance
-  Runs : (rest : Interaction) → Stance
-  Awaits : (request : Request) → (next : ℤ → Interaction) → Stance
+pub data PlainStage : Type 0 where
+  Stands : (locals : Locals) → PlainStage
+  Runs : (rest : Interaction) → PlainStage
+  Awaits : (request : Request) → (next : ℤ → Interaction) → PlainStage
 
-abbrev pub stage_of : Stance → Stage
+abbrev pub stage_of : PlainStage → Stage
 stage_of (Stands l) = out l
 stage_of (Runs rest) = within rest
 stage_of (Awaits r next) = waiting next
 
-pub record Standing : Type 0 where
+pub record ClientView : Type 0 where
   pub begun : ℕ
-  pub stage : Stance
+  pub stage : PlainStage
 
 pub record RunView : Type 0 where
   pub order : List Ticket
-  pub client : ℕ → Standing
+  pub client : ℕ → ClientView
   pub handler : ℕ → Handler
   pub entry : Ticket → Locals
   pub trace : Ticket → List Event
@@ -42,17 +42,17 @@ pub record RunView : Type 0 where
 abbrev pub current : RunView → ℕ → Ticket
 current s c = ticket c ((s.client c).begun - 1)
 
-abbrev pub stand : RunView → ℕ → Stance → ℕ → Standing
+abbrev pub stand : RunView → ℕ → PlainStage → ℕ → ClientView
 stand s c stage = put s.client c (record { begun = (s.client c).begun; stage = stage })
 
 -- an object with one more request run
 abbrev pub noted_held : HeldState → Ticket → Request → HeldState
 noted_held x t r = record { object = after x.object r; journal = x.journal ++ stamp t (event r (answer x.object r)) ∷ []; room = x.room }
 
-abbrev pub answered : ℤ → Stance → Stance
-answered v (Stands l) = Stands l
-answered v (Runs t) = Runs t
-answered v (Awaits r next) = Runs (next v)
+abbrev pub after_answer : ℤ → PlainStage → PlainStage
+after_answer v (Stands l) = Stands l
+after_answer v (Runs t) = Runs t
+after_answer v (Awaits r next) = Runs (next v)
 
 abbrev pub reserved_by : ProgramShape → Ticket → (Handler → Handler) → (ℕ → Handler) → ℕ → Handler
 reserved_by p t f hs h = if reserves p t h then f (hs h) else hs h
@@ -76,7 +76,7 @@ call s c r next =
       client = stand s c (Runs next);
       handler = put s.handler r.object (log_in t (item.Command r) (s.handler r.object));
       entry = s.entry;
-      trace = put_at s.trace t (s.trace t ++ logged r ∷ []);
+      trace = put_at s.trace t (s.trace t ++ command_event r ∷ []);
     }
 
 abbrev pub query : RunView → ℕ → Request → (ℤ → Interaction) → RunView
@@ -111,7 +111,7 @@ ask_step s h q qs r items =
     let v = answer (s.handler h).held.object r in let t = q.ticket in
     record {
       order = s.order;
-      client = stand s t.client (answered (value_of v) (s.client t.client).stage);
+      client = stand s t.client (after_answer (value_of v) (s.client t.client).stage);
       handler = put s.handler h (serves (s.handler h) q qs items (noted_held (s.handler h).held q.ticket r));
       entry = s.entry;
       trace = put_at s.trace t (s.trace t ++ event r v ∷ []);

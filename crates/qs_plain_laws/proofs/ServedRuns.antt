@@ -2,8 +2,8 @@
 use Rattle.std.proofs.Common.{◌≡◌, ℕ, suc, ◌≤◌, ℤ, if◌then◌else◌, List, [], ◌∷◌, ◌++◌, map, filter, flat_map}
 use Rattle.std.specs.List.{AllByRecursion}
 use Rattle.qs_objects.specs.Act.{State}
-use Rattle.qs_objects.specs.Journals.{after, answer, replay, unstamped, IsHonest}
-use Rattle.qs_objects.specs.Parts.{logged, stamp}
+use Rattle.qs_objects.specs.Journals.{after, answer, replay, without_tickets, IsHonest}
+use Rattle.qs_objects.specs.Parts.{command_event, stamp}
 use Rattle.qs_objects.specs.declared.held.Entry.{Entry}
 use Rattle.qs_objects.specs.declared.held.Event.{Event}
 use Rattle.qs_objects.specs.declared.held.Ticket.{Ticket}
@@ -11,11 +11,11 @@ use Rattle.qs_objects.specs.declared.Request.{Request}
 use Rattle.qs_meaning.specs.Following.{reserves, block_tree}
 use Rattle.qs_meaning.specs.Interaction.{Interaction}
 use Rattle.qs_program.specs.Program.{ProgramShape}
-use Rattle.qs_meaning.specs.Serial.{IsLegal, declared}
+use Rattle.qs_meaning.specs.Serial.{IsLegal, declared_states}
 use Rattle.qs_meaning.specs.Solo.{put, event, value_of}
 use Rattle.qs_program.specs.Values.{Locals}
 use Rattle.qs_meaning.proofs.Histories.{Apart, NoQuery, parts_of, done_of, advance}
-use Rattle.qs_meaning.specs.BlockRecords.{Page, IsPage, Begins}
+use Rattle.qs_meaning.specs.BlockRecords.{BlockRecord, IsBlockRecord, Begins}
 use Rattle.qs_played.proofs.Orders.{counts_after}
 use Rattle.qs_played.proofs.FunctionUpdate.{put_at}
 
@@ -32,7 +32,7 @@ pub record Service : Type 0 where
 pub record ServedRun : Type 0 where
   pub order : List Ticket
   pub booked : ℕ → ℕ
-  pub page : Ticket → Page
+  pub page : Ticket → BlockRecord
   pub service : ℕ → Service
 
 -- a command is logged
@@ -43,7 +43,7 @@ abbrev pub log : ServedRun → Ticket → Request → Interaction → ServedRun
 log w t r next = record {
   order = w.order;
   booked = w.booked;
-  page = put_at w.page t (advance (w.page t) (logged r) next);
+  page = put_at w.page t (advance (w.page t) (command_event r) next);
   service = put w.service r.object (service_log (w.service r.object) t r);
 }
 
@@ -74,7 +74,7 @@ service_run l t r rs = record {
   past = l.past;
   queue = l.queue;
   wait = put_at l.wait t rs;
-  now = l.now ++ logged r ∷ [];
+  now = l.now ++ command_event r ∷ [];
   journal = l.journal ++ stamp t (event r (answer l.state r)) ∷ [];
   state = after l.state r;
 }
@@ -86,8 +86,8 @@ run_first w h t r rs = record { order = w.order; booked = w.booked; page = w.pag
 abbrev pub service_leave : Service → Ticket → List Ticket → Service
 service_leave l t ts = record { past = l.past ++ t ∷ []; queue = ts; now = []; wait = l.wait; journal = l.journal; state = l.state }
 
-abbrev pub leave : ServedRun → ℕ → Ticket → List Ticket → ServedRun
-leave w h t ts = record { order = w.order; booked = w.booked; page = w.page; service = put w.service h (service_leave (w.service h) t ts) }
+abbrev pub end_block : ServedRun → ℕ → Ticket → List Ticket → ServedRun
+end_block w h t ts = record { order = w.order; booked = w.booked; page = w.page; service = put w.service h (service_leave (w.service h) t ts) }
 
 -- a ticket comes
 abbrev pub service_reserve : Service → Ticket → Service
@@ -104,26 +104,26 @@ reserve p w t l = record {
 -- of each ticket what was run and what waits is its part of the trace, and only of the first something was run
 abbrev pub Front : (Ticket → List Event) → List Event → (Ticket → List Request) → List Ticket → Type 0
 Front parts now wait [] = now ≡ []
-Front parts now wait (t ∷ ts) = (parts t ≡ now ++ map logged (wait t)) × AllByRecursion (λ u. parts u ≡ map logged (wait u)) ts
+Front parts now wait (t ∷ ts) = (parts t ≡ now ++ map command_event (wait t)) × AllByRecursion (λ u. parts u ≡ map command_event (wait u)) ts
 
-abbrev pub shown : List Ticket → List Event → List Entry
-shown [] now = []
-shown (t ∷ ts) now = map (stamp t) now
+abbrev pub entries_shown : List Ticket → List Event → List Entry
+entries_shown [] now = []
+entries_shown (t ∷ ts) now = map (stamp t) now
 
 pub record IsService (p : ProgramShape) (start : State) (order : List Ticket) (h : ℕ) (parts : Ticket → List Event) (done : Ticket → Type 0) (l : Service) : Type 0 where
   pub mine : filter (λ t. reserves p t h) order ≡ l.past ++ l.queue
   pub apart : Apart l.queue
   pub over : AllByRecursion done l.past
   pub front : Front parts l.now l.wait l.queue
-  pub entries : l.journal ≡ flat_map (λ t. map (stamp t) (parts t)) l.past ++ shown l.queue l.now
+  pub entries : l.journal ≡ flat_map (λ t. map (stamp t) (parts t)) l.past ++ entries_shown l.queue l.now
   pub commands : (t : Ticket) → AllByRecursion NoQuery (l.wait t)
-  pub honest : IsHonest start (unstamped l.journal)
-  pub state : replay start (unstamped l.journal) ≡ l.state
+  pub honest : IsHonest start (without_tickets l.journal)
+  pub state : replay start (without_tickets l.journal) ≡ l.state
 
 pub record IsServedRun (p : ProgramShape) (w : ServedRun) : Type 0 where
   pub legal : IsLegal p w.order
   pub counts : (c : ℕ) → counts_after (λ _. 0) w.order c ≡ w.booked c
   pub below : AllByRecursion (λ t. suc t.index ≤ w.booked t.client) w.order
-  pub pages : AllByRecursion (λ t. IsPage p t (w.page t)) w.order
+  pub pages : AllByRecursion (λ t. IsBlockRecord p t (w.page t)) w.order
   pub begins : AllByRecursion (λ t. Begins w.page t.client t.index (w.page t).entry) w.order
-  pub services : (h : ℕ) → IsService p (declared p h) w.order h (parts_of w.page h) (done_of w.page) (w.service h)
+  pub services : (h : ℕ) → IsService p (declared_states p h) w.order h (parts_of w.page h) (done_of w.page) (w.service h)

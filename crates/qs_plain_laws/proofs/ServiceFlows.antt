@@ -3,8 +3,8 @@ use Rattle.std.proofs.Common.{◌≡◌, ◌≢◌, ℕ, suc, ◌==◌, Bool, tr
 use Rattle.std.specs.List.{AllByRecursion}
 use Rattle.std.proofs.lemmas.List.{map-append}
 use Rattle.qs_objects.specs.Act.{State}
-use Rattle.qs_objects.specs.Journals.{replay, unstamp, unstamped, IsHonest}
-use Rattle.qs_objects.specs.Parts.{logged, stamp, same}
+use Rattle.qs_objects.specs.Journals.{replay, unstamp, without_tickets, IsHonest}
+use Rattle.qs_objects.specs.Parts.{command_event, stamp, same}
 use Rattle.qs_objects.specs.declared.held.Entry.{Entry}
 use Rattle.qs_objects.specs.declared.held.Event.{Event}
 use Rattle.qs_objects.specs.declared.held.Ticket.{Ticket}
@@ -14,20 +14,20 @@ use Rattle.qs_objects.proofs.Replays.{replay-append, IsHonest-front, IsHonest-ba
 use Rattle.qs_meaning.specs.Following.{reserves}
 use Rattle.qs_program.specs.Program.{ProgramShape}
 use Rattle.qs_meaning.proofs.Each.{each_map, each_both, each_unfiltered}
-use Rattle.qs_meaning.proofs.Histories.{Line, Flow, OnlyCommands, NoQuery, Apart, unstamp_all}
+use Rattle.qs_meaning.proofs.Histories.{ObjectCourse, Flow, OnlyCommands, NoQuery, Apart, unstamp_all}
 use Rattle.qs_plain_laws.specs.PlainIsolation.{commands_in, commands_of}
 use Rattle.qs_plain_laws.specs.declared.item.QueueItem.{QueueItem}
-use Rattle.qs_plain_laws.proofs.ServedRuns.{Service, Front, shown}
-use Rattle.qs_plain_laws.proofs.RunViews.{Stance, Stands, Runs, Awaits, Standing}
+use Rattle.qs_plain_laws.proofs.ServedRuns.{Service, Front, entries_shown}
+use Rattle.qs_plain_laws.proofs.RunViews.{PlainStage, Stands, Runs, Awaits, ClientView}
 use Rattle.qs_plain_laws.proofs.Simulation.{private, tail, tail_now}
 use Rattle.qs_plain_laws.specs.declared.item.QueueItem.TheVariants as item
 
 -- the line of an object whose commands on the way are these
-abbrev pub line_of : ProgramShape → ℕ → (Ticket → List Event) → (Ticket → Type 0) → Service → (Ticket → List Request) → Line
+abbrev pub line_of : ProgramShape → ℕ → (Ticket → List Event) → (Ticket → Type 0) → Service → (Ticket → List Request) → ObjectCourse
 line_of p h parts done l waits = record { may = λ t. reserves p t h; parts = parts; done = done; waits = waits; busy = (l.queue ≡ [] → ⊥); present = l.state }
 
 module _ (p : ProgramShape) (h : ℕ) (parts : Ticket → List Event) (done : Ticket → Type 0) (l : Service) (waits : Ticket → List Request) where
-  abbrev x : Line
+  abbrev x : ObjectCourse
   x = line_of p h parts done l waits
 
   abbrev blocks : List Ticket → List Entry
@@ -35,36 +35,36 @@ module _ (p : ProgramShape) (h : ℕ) (parts : Ticket → List Event) (done : Ti
 
   -- one that is over
   flow_over : (t : Ticket) (ts : List Ticket) (s : State) (j later : List Entry) → done t → waits t ≡ [] → j ≡ map (stamp t) (parts t) ++ later
-      → IsHonest s (unstamped j) → replay s (unstamped j) ≡ l.state
-      → ((s : State) → IsHonest s (unstamped later) → replay s (unstamped later) ≡ l.state → Flow x s later ts)
+      → IsHonest s (without_tickets j) → replay s (without_tickets j) ≡ l.state
+      → ((s : State) → IsHonest s (without_tickets later) → replay s (without_tickets later) ≡ l.state → Flow x s later ts)
       → Flow x s j (t ∷ ts)
   flow_over t ts s j later d none e honest state next =
-      let is : unstamped j ≡ parts t ++ unstamped later =
-      ap unstamped e ∙ (map-append unstamp (map (stamp t) (parts t)) later ∙ ap (λ es. es ++ unstamped later) (unstamp_all t (parts t))) in
+      let is : without_tickets j ≡ parts t ++ without_tickets later =
+      ap without_tickets e ∙ (map-append unstamp (map (stamp t) (parts t)) later ∙ ap (λ es. es ++ without_tickets later) (unstamp_all t (parts t))) in
       let honest' = subst (IsHonest s) is honest in
-      let state' : replay (replay s (parts t)) (unstamped later) ≡ l.state = sym (replay-append s (parts t) (unstamped later)) ∙ (sym (ap (replay s) is) ∙ state) in (
+      let state' : replay (replay s (parts t)) (without_tickets later) ≡ l.state = sym (replay-append s (parts t) (without_tickets later)) ∙ (sym (ap (replay s) is) ∙ state) in (
         record {
           ran = parts t;
           later = later;
           journal_is = e;
-          part_is = sym (ap (λ ws. parts t ++ map logged ws) none ∙ append-nil (parts t));
-          honest = IsHonest-front s (parts t) (unstamped later) honest';
+          part_is = sym (ap (λ ws. parts t ++ map command_event ws) none ∙ append-nil (parts t));
+          honest = IsHonest-front s (parts t) (without_tickets later) honest';
           commands = subst (AllByRecursion NoQuery) (sym none) tt;
         },
-        inl ((λ _. d), none, next (replay s (parts t)) (IsHonest-back s (parts t) (unstamped later) honest') state'),
+        inl ((λ _. d), none, next (replay s (parts t)) (IsHonest-back s (parts t) (without_tickets later) honest') state'),
       )
 
   -- the one that is served
-  flow_first : (t : Ticket) (ts : List Ticket) (s : State) (j : List Entry) → (l.queue ≡ [] → ⊥) → j ≡ map (stamp t) l.now → parts t ≡ l.now ++ map logged (waits t) → AllByRecursion NoQuery (waits t)
+  flow_first : (t : Ticket) (ts : List Ticket) (s : State) (j : List Entry) → (l.queue ≡ [] → ⊥) → j ≡ map (stamp t) l.now → parts t ≡ l.now ++ map command_event (waits t) → AllByRecursion NoQuery (waits t)
       → AllByRecursion (λ u. OnlyCommands (parts u) (waits u)) (filter (λ u. reserves p u h) ts) → AllByRecursion (λ u. reserves p u h ≡ false → (parts u ≡ []) × (waits u ≡ [])) ts
-      → IsHonest s (unstamped j) → Flow x s j (t ∷ ts)
+      → IsHonest s (without_tickets j) → Flow x s j (t ∷ ts)
   flow_first t ts s j busy e f c g idle honest = (
     record {
       ran = l.now;
       later = [];
       journal_is = e ∙ sym (append-nil (map (stamp t) l.now));
       part_is = f;
-      honest = subst (IsHonest s) (ap unstamped e ∙ unstamp_all t l.now) honest;
+      honest = subst (IsHonest s) (ap without_tickets e ∙ unstamp_all t l.now) honest;
       commands = c;
     },
     inr (
@@ -72,7 +72,7 @@ module _ (p : ProgramShape) (h : ℕ) (parts : Ticket → List Event) (done : Ti
       refl,
       each_unfiltered (λ u. OnlyCommands (parts u) (waits u)) (λ u. reserves p u h) ts g
           (each_map (λ u (i : reserves p u h ≡ false → (parts u ≡ []) × (waits u ≡ [])).
-          λ k. ((i k).0 ∙ sym (ap (map logged) (i k).1), subst (AllByRecursion NoQuery) (sym (i k).1) tt)) ts idle),
+          λ k. ((i k).0 ∙ sym (ap (map command_event) (i k).1), subst (AllByRecursion NoQuery) (sym (i k).1) tt)) ts idle),
     ),
   )
 
@@ -83,7 +83,7 @@ module _ (p : ProgramShape) (h : ℕ) (parts : Ticket → List Event) (done : Ti
       ran = [];
       later = j;
       journal_is = refl;
-      part_is = e.0 ∙ sym (ap (map logged) e.1);
+      part_is = e.0 ∙ sym (ap (map command_event) e.1);
       honest = tt;
       commands = subst (AllByRecursion NoQuery) (sym e.1) tt;
     },
@@ -92,19 +92,19 @@ module _ (p : ProgramShape) (h : ℕ) (parts : Ticket → List Event) (done : Ti
 
   pub flow : (ts past q : List Ticket) (s : State) (j : List Entry) → q ≡ l.queue → filter (λ t. reserves p t h) ts ≡ past ++ q → AllByRecursion done past → AllByRecursion (λ t. waits t ≡ []) past
       → Front parts l.now waits q → AllByRecursion (λ u. AllByRecursion NoQuery (waits u)) q
-      → j ≡ blocks past ++ shown q l.now → IsHonest s (unstamped j) → replay s (unstamped j) ≡ l.state
+      → j ≡ blocks past ++ entries_shown q l.now → IsHonest s (without_tickets j) → replay s (without_tickets j) ≡ l.state
       → AllByRecursion (λ u. reserves p u h ≡ false → (parts u ≡ []) × (waits u ≡ [])) ts → Flow x s j ts
-  flow [] [] [] s j iq e d n f c k honest state idle = (k, subst (λ j. replay s (unstamped j) ≡ l.state) k state)
+  flow [] [] [] s j iq e d n f c k honest state idle = (k, subst (λ j. replay s (without_tickets j) ≡ l.state) k state)
   flow [] [] (u ∷ q) s j iq e d n f c k honest state idle = absurd (cc)
   flow [] (u ∷ past) q s j iq e d n f c k honest state idle = absurd (cc)
   flow (t ∷ ts) past q s j iq e d n f c k honest state idle = by_case (reserves p t h) refl past q iq e d n f c k (flow ts)
     where
       by_case : (b : Bool) → reserves p t h ≡ b → (past q : List Ticket) → q ≡ l.queue → (if b then t ∷ filter (λ t. reserves p t h) ts else filter (λ t. reserves p t h) ts) ≡ past ++ q
           → AllByRecursion done past → AllByRecursion (λ t. waits t ≡ []) past → Front parts l.now waits q → AllByRecursion (λ u. AllByRecursion NoQuery (waits u)) q
-          → j ≡ blocks past ++ shown q l.now
+          → j ≡ blocks past ++ entries_shown q l.now
           → ((past q : List Ticket) (s : State) (j : List Entry) → q ≡ l.queue → filter (λ t. reserves p t h) ts ≡ past ++ q → AllByRecursion done past → AllByRecursion (λ t. waits t ≡ []) past
           → Front parts l.now waits q → AllByRecursion (λ u. AllByRecursion NoQuery (waits u)) q
-          → j ≡ blocks past ++ shown q l.now → IsHonest s (unstamped j) → replay s (unstamped j) ≡ l.state
+          → j ≡ blocks past ++ entries_shown q l.now → IsHonest s (without_tickets j) → replay s (without_tickets j) ≡ l.state
           → AllByRecursion (λ u. reserves p u h ≡ false → (parts u ≡ []) × (waits u ≡ [])) ts → Flow x s j ts)
           → Flow x s j (t ∷ ts)
       by_case false b past q iq e d n f c k ih = flow_pass t ts s j b (idle.0 b) (ih past q s j iq e d n f c k honest state idle.1)
@@ -113,18 +113,18 @@ module _ (p : ProgramShape) (h : ℕ) (parts : Ticket → List Event) (done : Ti
           let is : t ≡ u = cc in
           let more : filter (λ t. reserves p t h) ts ≡ us = cc in
           flow_first t ts s j (λ none. absurd (let bad : u ∷ us ≡ [] = iq ∙ none in cc)) (k ∙ ap (λ u. map (stamp u) l.now) (sym is))
-          (subst (λ u. parts u ≡ l.now ++ map logged (waits u)) (sym is) f.0) (subst (λ u. AllByRecursion NoQuery (waits u)) (sym is) c.0)
+          (subst (λ u. parts u ≡ l.now ++ map command_event (waits u)) (sym is) f.0) (subst (λ u. AllByRecursion NoQuery (waits u)) (sym is) c.0)
           (subst (AllByRecursion (λ u. OnlyCommands (parts u) (waits u))) (sym more) (each_both (λ u a b. (a, b)) us f.1 c.1)) idle.1 honest
       by_case true b (u ∷ us) q iq e d n f c k ih =
           let is : t ≡ u = cc in
           let more : filter (λ t. reserves p t h) ts ≡ us ++ q = cc in
-          flow_over t ts s j (blocks us ++ shown q l.now) (subst done (sym is) d.0) (subst (λ u. waits u ≡ []) (sym is) n.0)
-          (k ∙ (append_assoc (map (stamp u) (parts u)) (blocks us) (shown q l.now) ∙ ap (λ u. map (stamp u) (parts u) ++ (blocks us ++ shown q l.now)) (sym is)))
-          honest state (λ s honest' state'. ih us q s (blocks us ++ shown q l.now) iq more d.1 n.1 f c refl honest' state' idle.1)
+          flow_over t ts s j (blocks us ++ entries_shown q l.now) (subst done (sym is) d.0) (subst (λ u. waits u ≡ []) (sym is) n.0)
+          (k ∙ (append_assoc (map (stamp u) (parts u)) (blocks us) (entries_shown q l.now) ∙ ap (λ u. map (stamp u) (parts u) ++ (blocks us ++ entries_shown q l.now)) (sym is)))
+          honest state (λ s honest' state'. ih us q s (blocks us ++ entries_shown q l.now) iq more d.1 n.1 f c refl honest' state' idle.1)
 
 -- the commands in private queues
 
-commands_tail : (client : ℕ → Standing) (h : ℕ) (u : Ticket) → commands_in (tail client h u) ≡ []
+commands_tail : (client : ℕ → ClientView) (h : ℕ) (u : Ticket) → commands_in (tail client h u) ≡ []
 commands_tail client h u = by_test (suc_is u) (client u.client).stage
   where
     suc_is : Ticket → Bool
@@ -134,7 +134,7 @@ commands_tail client h u = by_test (suc_is u) (client u.client).stage
     asked true r = refl
     asked false r = refl
 
-    by_test : (b : Bool) (g : Stance) → commands_in (if b then tail_now g h else item.EndMark ∷ []) ≡ []
+    by_test : (b : Bool) (g : PlainStage) → commands_in (if b then tail_now g h else item.EndMark ∷ []) ≡ []
     by_test false g = refl
     by_test true (Stands l) = refl
     by_test true (Runs rest) = refl
@@ -144,27 +144,27 @@ commands_first : (rs : List Request) (items : List QueueItem) → commands_in it
 commands_first [] items e = e
 commands_first (r ∷ rs) items e = ap (λ rs. r ∷ rs) (commands_first rs items e)
 
-pub commands_private : (client : ℕ → Standing) (h : ℕ) (wait : Ticket → List Request) (u : Ticket) → commands_in (private client h wait u).items ≡ wait u
+pub commands_private : (client : ℕ → ClientView) (h : ℕ) (wait : Ticket → List Request) (u : Ticket) → commands_in (private client h wait u).items ≡ wait u
 commands_private client h wait u = commands_first (wait u) (tail client h u) (commands_tail client h u)
 
-module _ (client : ℕ → Standing) (h : ℕ) (wait : Ticket → List Request) where
-  abbrev pub found : List Ticket → Ticket → List Request
-  found q t = flat_map (commands_of t) (map (private client h wait) q)
+module _ (client : ℕ → ClientView) (h : ℕ) (wait : Ticket → List Request) where
+  abbrev pub commands_found : List Ticket → Ticket → List Request
+  commands_found q t = flat_map (commands_of t) (map (private client h wait) q)
 
   -- of a ticket that has no private queue
-  pub found_none : (q : List Ticket) (t : Ticket) → AllByRecursion (λ u. same t u ≡ false) q → found q t ≡ []
+  pub found_none : (q : List Ticket) (t : Ticket) → AllByRecursion (λ u. same t u ≡ false) q → commands_found q t ≡ []
   found_none [] t other = refl
   found_none (u ∷ q) t other = rw other.0 (found_none q t other.1)
 
-  found_skip : (q : List Ticket) (t u : Ticket) → same u t ≡ false → found (t ∷ q) u ≡ found q u
+  found_skip : (q : List Ticket) (t u : Ticket) → same u t ≡ false → commands_found (t ∷ q) u ≡ commands_found q u
   found_skip q t u other = rw other refl
 
   -- of each that has one
-  pub found_each : (q : List Ticket) → Apart q → AllByRecursion (λ u. found q u ≡ wait u) q
+  pub found_each : (q : List Ticket) → Apart q → AllByRecursion (λ u. commands_found q u ≡ wait u) q
   found_each [] apart = tt
   found_each (t ∷ q) apart = (
     ap₂ (λ a b. a ++ b) own (found_none q t (each_map (λ u n. not_same t u n) q apart.0)) ∙ append-nil (wait t),
-    each_both (λ u (n : t ≢ u) (e : found q u ≡ wait u). found_skip q t u (not_same u t (λ is. n (sym is))) ∙ e) q apart.0 (found_each q apart.1),
+    each_both (λ u (n : t ≢ u) (e : commands_found q u ≡ wait u). found_skip q t u (not_same u t (λ is. n (sym is))) ∙ e) q apart.0 (found_each q apart.1),
   )
     where
       own : commands_of t (private client h wait t) ≡ wait t

@@ -6,8 +6,8 @@ use Rattle.std.proofs.lemmas.List.Elements.{filter-append}
 use Rattle.std.proofs.lemmas.List.Concat.{flat_map-append}
 use Rattle.std.proofs.Math.Path.{fun_ext}
 use Rattle.qs_objects.specs.Act.{State}
-use Rattle.qs_objects.specs.Journals.{after, answer, replay, unstamp, unstamped, IsHonest}
-use Rattle.qs_objects.specs.Parts.{logged, stamp, same}
+use Rattle.qs_objects.specs.Journals.{after, answer, replay, unstamp, without_tickets, IsHonest}
+use Rattle.qs_objects.specs.Parts.{command_event, stamp, same}
 use Rattle.qs_objects.specs.declared.held.Event.{Event}
 use Rattle.qs_objects.specs.declared.held.Ticket.{Ticket}
 use Rattle.qs_objects.specs.declared.Request.{Request}
@@ -20,9 +20,9 @@ use Rattle.qs_meaning.specs.Solo.{event}
 use Rattle.qs_meaning.proofs.Each.{each_map, each_both, each_snoc, each_front, each_back, each_kept, flat_map_same}
 use Rattle.qs_meaning.proofs.Histories.{Apart, NoQuery}
 use Rattle.qs_played.proofs.FunctionUpdate.{put_at, put_at_here, put_at_there, put_at_holds}
-use Rattle.qs_plain_laws.proofs.ServedRuns.{Service, service_log, service_answer, service_run, service_leave, service_reserve, Front, shown, IsService}
+use Rattle.qs_plain_laws.proofs.ServedRuns.{Service, service_log, service_answer, service_run, service_leave, service_reserve, Front, entries_shown, IsService}
 
-shown_none : (ts : List Ticket) → shown ts [] ≡ []
+shown_none : (ts : List Ticket) → entries_shown ts [] ≡ []
 shown_none [] = refl
 shown_none (t ∷ ts) = refl
 
@@ -35,13 +35,13 @@ module _ (p : ProgramShape) (start : State) (order : List Ticket) (h : ℕ) wher
 
   -- an entry more
   honest_more : (l : Service) (parts : Ticket → List Event) (done : Ticket → Type 0) (t : Ticket) (r : Request) → IsService p start order h parts done l
-      → IsHonest start (unstamped (l.journal ++ stamp t (event r (answer l.state r)) ∷ []))
-      × (replay start (unstamped (l.journal ++ stamp t (event r (answer l.state r)) ∷ [])) ≡ after l.state r)
+      → IsHonest start (without_tickets (l.journal ++ stamp t (event r (answer l.state r)) ∷ []))
+      × (replay start (without_tickets (l.journal ++ stamp t (event r (answer l.state r)) ∷ [])) ≡ after l.state r)
   honest_more l parts done t r ok =
       let e = event r (answer l.state r) in
       let is = map-append unstamp l.journal (stamp t e ∷ []) in (
-        subst (IsHonest start) (sym is) (IsHonest-append start (unstamped l.journal) (e ∷ []) ok.honest (ap (λ s. answer s r) (sym ok.state), tt)),
-        ap (replay start) is ∙ (replay-append start (unstamped l.journal) (e ∷ []) ∙ ap (λ s. after s r) ok.state),
+        subst (IsHonest start) (sym is) (IsHonest-append start (without_tickets l.journal) (e ∷ []) ok.honest (ap (λ s. answer s r) (sym ok.state), tt)),
+        ap (replay start) is ∙ (replay-append start (without_tickets l.journal) (e ∷ []) ∙ ap (λ s. after s r) ok.state),
       )
 
   module _ (parts : Ticket → List Event) (done : Ticket → Type 0) where
@@ -56,31 +56,31 @@ module _ (p : ProgramShape) (start : State) (order : List Ticket) (h : ℕ) wher
         (ticket_cases t u)) ts over)
 
     pub service_log_ok : (done' : Ticket → Type 0) (l : Service) (t : Ticket) (r : Request) → ((u : Ticket) → done u → done' u) → (done t → ⊥) → NoQuery r
-        → IsService p start order h parts done l → IsService p start order h (put_at parts t (parts t ++ logged r ∷ [])) done' (service_log l t r)
+        → IsService p start order h parts done l → IsService p start order h (put_at parts t (parts t ++ command_event r ∷ [])) done' (service_log l t r)
     service_log_ok done' l t r d open' command ok = record {
       mine = ok.mine;
       apart = ok.apart;
       over = each_map d l.past ok.over;
       front = front l.queue ok.front;
-      entries = ok.entries ∙ ap (λ es. es ++ shown l.queue l.now) (past_same t _ open' l.past ok.over);
+      entries = ok.entries ∙ ap (λ es. es ++ entries_shown l.queue l.now) (past_same t _ open' l.past ok.over);
       commands = put_at_holds (AllByRecursion NoQuery) l.wait t (l.wait t ++ r ∷ []) (each_snoc NoQuery (l.wait t) r (ok.commands t) command) ok.commands;
       honest = ok.honest;
       state = ok.state;
     }
       where
         parts' : Ticket → List Event
-        parts' = put_at parts t (parts t ++ logged r ∷ [])
+        parts' = put_at parts t (parts t ++ command_event r ∷ [])
 
         wait' : Ticket → List Request
         wait' = put_at l.wait t (l.wait t ++ r ∷ [])
 
-        each : (now : List Event) (u : Ticket) → parts u ≡ now ++ map logged (l.wait u) → parts' u ≡ now ++ map logged (wait' u)
+        each : (now : List Event) (u : Ticket) → parts u ≡ now ++ map command_event (l.wait u) → parts' u ≡ now ++ map command_event (wait' u)
         each now u e =
             ⊎_elim
-            (λ (is : t ≡ u). subst (λ u. parts' u ≡ now ++ map logged (wait' u)) is
-            (put_at_here parts t _ ∙ (ap (λ es. es ++ logged r ∷ []) (subst (λ u. parts u ≡ now ++ map logged (l.wait u)) (sym is) e)
-            ∙ (append_assoc now (map logged (l.wait t)) (logged r ∷ []) ∙ ap (λ es. now ++ es) (sym (map-append logged (l.wait t) (r ∷ [])) ∙ ap (map logged) (sym (put_at_here l.wait t _)))))))
-            (λ (other : same t u ≡ false). put_at_there parts t _ u other ∙ (e ∙ ap (λ rs. now ++ map logged rs) (sym (put_at_there l.wait t _ u other))))
+            (λ (is : t ≡ u). subst (λ u. parts' u ≡ now ++ map command_event (wait' u)) is
+            (put_at_here parts t _ ∙ (ap (λ es. es ++ command_event r ∷ []) (subst (λ u. parts u ≡ now ++ map command_event (l.wait u)) (sym is) e)
+            ∙ (append_assoc now (map command_event (l.wait t)) (command_event r ∷ []) ∙ ap (λ es. now ++ es) (sym (map-append command_event (l.wait t) (r ∷ [])) ∙ ap (map command_event) (sym (put_at_here l.wait t _)))))))
+            (λ (other : same t u ≡ false). put_at_there parts t _ u other ∙ (e ∙ ap (λ rs. now ++ map command_event rs) (sym (put_at_there l.wait t _ u other))))
             (ticket_cases t u)
 
         front : (q : List Ticket) → Front parts l.now l.wait q → Front parts' l.now wait' q
@@ -96,13 +96,13 @@ module _ (p : ProgramShape) (start : State) (order : List Ticket) (h : ℕ) wher
         let f = subst (Front parts l.now l.wait) q ok.front in
         let a = subst Apart q ok.apart in
         let more = honest_more l parts done t r ok in
-        let head : parts t ≡ l.now = f.0 ∙ (ap (λ rs. l.now ++ map logged rs) w ∙ append-nil l.now) in
+        let head : parts t ≡ l.now = f.0 ∙ (ap (λ rs. l.now ++ map command_event rs) w ∙ append-nil l.now) in
         record {
           mine = ok.mine;
           apart = ok.apart;
           over = each_map d l.past ok.over;
           front = subst (Front parts' (l.now ++ e ∷ []) l.wait) (sym q) (
-            put_at_here parts t _ ∙ (ap (λ es. es ++ e ∷ []) head ∙ sym (ap (λ rs. (l.now ++ e ∷ []) ++ map logged rs) w ∙ append-nil (l.now ++ e ∷ []))),
+            put_at_here parts t _ ∙ (ap (λ es. es ++ e ∷ []) head ∙ sym (ap (λ rs. (l.now ++ e ∷ []) ++ map command_event rs) w ∙ append-nil (l.now ++ e ∷ []))),
             each_both (λ u n g.
                 ⊎_elim
                 (λ (is : t ≡ u). absurd (n is))
@@ -110,9 +110,9 @@ module _ (p : ProgramShape) (start : State) (order : List Ticket) (h : ℕ) wher
                 (ticket_cases t u)) ts a.0 f.1,
           );
           entries =
-              ap (λ es. es ++ stamp t e ∷ []) (ok.entries ∙ ap₂ (λ es q. es ++ shown q l.now) (past_same t _ open' l.past ok.over) q)
+              ap (λ es. es ++ stamp t e ∷ []) (ok.entries ∙ ap₂ (λ es q. es ++ entries_shown q l.now) (past_same t _ open' l.past ok.over) q)
               ∙ (append_assoc (flat_map (λ u. map (stamp u) (parts' u)) l.past) (map (stamp t) l.now) (stamp t e ∷ [])
-              ∙ ap (λ es. flat_map (λ u. map (stamp u) (parts' u)) l.past ++ es) (sym (map-append (stamp t) l.now (e ∷ [])) ∙ ap (λ q. shown q (l.now ++ e ∷ [])) (sym q)));
+              ∙ ap (λ es. flat_map (λ u. map (stamp u) (parts' u)) l.past ++ es) (sym (map-append (stamp t) l.now (e ∷ [])) ∙ ap (λ q. entries_shown q (l.now ++ e ∷ [])) (sym q)));
           commands = ok.commands;
           honest = more.0;
           state = more.1;
@@ -128,23 +128,23 @@ module _ (p : ProgramShape) (start : State) (order : List Ticket) (h : ℕ) wher
         let more = honest_more l parts done t r ok in
         let commands = subst (AllByRecursion NoQuery) w (ok.commands t) in
         let wait' = put_at l.wait t rs in
-        let is : stamp t e ≡ stamp t (logged r) = ap (λ v. stamp t (event r v)) (never_answers r.op commands.0 l.state r.args) in
+        let is : stamp t e ≡ stamp t (command_event r) = ap (λ v. stamp t (event r v)) (never_answers r.op commands.0 l.state r.args) in
         record {
           mine = ok.mine;
           apart = ok.apart;
           over = ok.over;
-          front = subst (Front parts (l.now ++ logged r ∷ []) wait') (sym q) (
-            f.0 ∙ (ap (λ rs. l.now ++ map logged rs) w ∙ (sym (append_assoc l.now (logged r ∷ []) (map logged rs)) ∙ ap (λ rs. (l.now ++ logged r ∷ []) ++ map logged rs) (sym (put_at_here l.wait t rs)))),
+          front = subst (Front parts (l.now ++ command_event r ∷ []) wait') (sym q) (
+            f.0 ∙ (ap (λ rs. l.now ++ map command_event rs) w ∙ (sym (append_assoc l.now (command_event r ∷ []) (map command_event rs)) ∙ ap (λ rs. (l.now ++ command_event r ∷ []) ++ map command_event rs) (sym (put_at_here l.wait t rs)))),
             each_both (λ u n g.
                 ⊎_elim
                 (λ (is : t ≡ u). absurd (n is))
-                (λ (other : same t u ≡ false). g ∙ ap (map logged) (sym (put_at_there l.wait t rs u other)))
+                (λ (other : same t u ≡ false). g ∙ ap (map command_event) (sym (put_at_there l.wait t rs u other)))
                 (ticket_cases t u)) ts a.0 f.1,
           );
           entries =
-              ap₂ (λ es x. es ++ x ∷ []) (ok.entries ∙ ap (λ q. flat_map (λ u. map (stamp u) (parts u)) l.past ++ shown q l.now) q) is
-              ∙ (append_assoc (flat_map (λ u. map (stamp u) (parts u)) l.past) (map (stamp t) l.now) (stamp t (logged r) ∷ [])
-              ∙ ap (λ es. flat_map (λ u. map (stamp u) (parts u)) l.past ++ es) (sym (map-append (stamp t) l.now (logged r ∷ [])) ∙ ap (λ q. shown q (l.now ++ logged r ∷ [])) (sym q)));
+              ap₂ (λ es x. es ++ x ∷ []) (ok.entries ∙ ap (λ q. flat_map (λ u. map (stamp u) (parts u)) l.past ++ entries_shown q l.now) q) is
+              ∙ (append_assoc (flat_map (λ u. map (stamp u) (parts u)) l.past) (map (stamp t) l.now) (stamp t (command_event r) ∷ [])
+              ∙ ap (λ es. flat_map (λ u. map (stamp u) (parts u)) l.past ++ es) (sym (map-append (stamp t) l.now (command_event r ∷ [])) ∙ ap (λ q. entries_shown q (l.now ++ command_event r ∷ [])) (sym q)));
           commands = put_at_holds (AllByRecursion NoQuery) l.wait t rs commands.1 ok.commands;
           honest = more.0;
           state = more.1;
@@ -156,20 +156,20 @@ module _ (p : ProgramShape) (start : State) (order : List Ticket) (h : ℕ) wher
     service_leave_ok l t ts q w d ok =
         let f = subst (Front parts l.now l.wait) q ok.front in
         let a = subst Apart q ok.apart in
-        let head : parts t ≡ l.now = f.0 ∙ (ap (λ rs. l.now ++ map logged rs) w ∙ append-nil l.now) in
+        let head : parts t ≡ l.now = f.0 ∙ (ap (λ rs. l.now ++ map command_event rs) w ∙ append-nil l.now) in
         let block = λ (u : Ticket). map (stamp u) (parts u) in
         record {
           mine = ok.mine ∙ (ap (λ q. l.past ++ q) q ∙ sym (append_assoc l.past (t ∷ []) ts));
           apart = a.1;
           over = each_snoc done l.past t ok.over d;
           front = front ts f.1;
-          entries = ok.entries ∙ (ap (λ q. flat_map block l.past ++ shown q l.now) q ∙ (ap (λ es. flat_map block l.past ++ map (stamp t) es) (sym head) ∙ (sym (ap (λ es. flat_map block l.past ++ es) (append-nil (block t))) ∙ (sym (flat_map-append block l.past (t ∷ [])) ∙ (sym (append-nil (flat_map block (l.past ++ t ∷ []))) ∙ ap (λ es. flat_map block (l.past ++ t ∷ []) ++ es) (sym (shown_none ts)))))));
+          entries = ok.entries ∙ (ap (λ q. flat_map block l.past ++ entries_shown q l.now) q ∙ (ap (λ es. flat_map block l.past ++ map (stamp t) es) (sym head) ∙ (sym (ap (λ es. flat_map block l.past ++ es) (append-nil (block t))) ∙ (sym (flat_map-append block l.past (t ∷ [])) ∙ (sym (append-nil (flat_map block (l.past ++ t ∷ []))) ∙ ap (λ es. flat_map block (l.past ++ t ∷ []) ++ es) (sym (shown_none ts)))))));
           commands = ok.commands;
           honest = ok.honest;
           state = ok.state;
         }
       where
-        front : (ts : List Ticket) → AllByRecursion (λ u. parts u ≡ map logged (l.wait u)) ts → Front parts [] l.wait ts
+        front : (ts : List Ticket) → AllByRecursion (λ u. parts u ≡ map command_event (l.wait u)) ts → Front parts [] l.wait ts
         front [] f = refl
         front (u ∷ us) f = f
 
@@ -205,7 +205,7 @@ module _ (p : ProgramShape) (start : State) (order : List Ticket) (h : ℕ) wher
         apart = ok.apart;
         over = past_over;
         front = front l.queue queue_fresh ok.front;
-        entries = ok.entries ∙ ap (λ es. es ++ shown l.queue l.now) blocks_same;
+        entries = ok.entries ∙ ap (λ es. es ++ entries_shown l.queue l.now) blocks_same;
         commands = ok.commands;
         honest = ok.honest;
         state = ok.state;
@@ -231,15 +231,15 @@ module _ (p : ProgramShape) (start : State) (order : List Ticket) (h : ℕ) wher
           apart [] n a = (tt, tt)
           apart (v ∷ vs) n a = (each_snoc (λ u. v ≢ u) vs t a.0 (λ is. true≢false (sym (subst (λ u. same t u ≡ true) (sym is) (same_self t)) ∙ n.0)), apart vs n.1 a.1)
 
-          seen : (q : List Ticket) → Front parts l.now l.wait q → shown q l.now ≡ shown (q ++ t ∷ []) l.now
+          seen : (q : List Ticket) → Front parts l.now l.wait q → entries_shown q l.now ≡ entries_shown (q ++ t ∷ []) l.now
           seen [] f = ap (map (stamp t)) (sym f)
           seen (v ∷ vs) f = refl
 
           front : (q : List Ticket) → AllByRecursion (λ u. same t u ≡ false) q → Front parts l.now l.wait q → Front (put_at parts t []) l.now (put_at l.wait t []) (q ++ t ∷ [])
-          front [] n f = (put_at_here parts t [] ∙ ap₂ (λ es rs. es ++ map logged rs) (sym f) (sym (put_at_here l.wait t [])), tt)
+          front [] n f = (put_at_here parts t [] ∙ ap₂ (λ es rs. es ++ map command_event rs) (sym f) (sym (put_at_here l.wait t [])), tt)
           front (v ∷ vs) n f = (
-            put_at_there parts t [] v n.0 ∙ (f.0 ∙ ap (λ rs. l.now ++ map logged rs) (sym (put_at_there l.wait t [] v n.0))),
-            each_snoc (λ u. put_at parts t [] u ≡ map logged (put_at l.wait t [] u)) vs t
-                (each_both (λ u e g. put_at_there parts t [] u e ∙ (g ∙ ap (map logged) (sym (put_at_there l.wait t [] u e)))) vs n.1 f.1)
-                (put_at_here parts t [] ∙ ap (map logged) (sym (put_at_here l.wait t []))),
+            put_at_there parts t [] v n.0 ∙ (f.0 ∙ ap (λ rs. l.now ++ map command_event rs) (sym (put_at_there l.wait t [] v n.0))),
+            each_snoc (λ u. put_at parts t [] u ≡ map command_event (put_at l.wait t [] u)) vs t
+                (each_both (λ u e g. put_at_there parts t [] u e ∙ (g ∙ ap (map command_event) (sym (put_at_there l.wait t [] u e)))) vs n.1 f.1)
+                (put_at_here parts t [] ∙ ap (map command_event) (sym (put_at_here l.wait t []))),
           )

@@ -6,7 +6,7 @@ use Rattle.std.proofs.lemmas.Simd.{map-map}
 use Rattle.qs_objects.specs.Act.{State}
 use Rattle.qs_objects.specs.Journals.{after, answer}
 use Rattle.qs_objects.specs.Operations.{is_query}
-use Rattle.qs_objects.specs.Parts.{logged, stamp, same}
+use Rattle.qs_objects.specs.Parts.{command_event, stamp, same}
 use Rattle.qs_objects.specs.declared.held.Entry.{Entry}
 use Rattle.qs_objects.specs.declared.held.Event.{Event}
 use Rattle.qs_objects.specs.declared.held.Ticket.{Ticket}
@@ -20,7 +20,7 @@ use Rattle.qs_program.specs.Sound.{IsSound}
 use Rattle.qs_program.specs.Values.{Locals}
 use Rattle.qs_meaning.proofs.Each.{each_map, each_kept, each_back, each_passes, every, map_same}
 use Rattle.qs_meaning.proofs.Histories.{Among, Apart, advance}
-use Rattle.qs_meaning.specs.BlockRecords.{Page, IsPage, IsDone, Begins}
+use Rattle.qs_meaning.specs.BlockRecords.{BlockRecord, IsBlockRecord, IsDone, Begins}
 use Rattle.qs_meaning.proofs.TreeWalks.{put_here, put_there}
 use Rattle.qs_played.specs.Played.{ticket}
 use Rattle.qs_played.specs.JournalRooms.{room_of}
@@ -28,25 +28,25 @@ use Rattle.qs_played.proofs.Orders.{counts_after, each_among, legal_among}
 use Rattle.qs_played.proofs.FunctionUpdate.{put_at, put_at_here, put_at_there, put_at_field, put_field, put_at_kept, put_kept, put_all, put_both}
 use Rattle.qs_plain_laws.specs.Plain.{Private, Handler, put_item, log_in, enter}
 use Rattle.qs_plain_laws.specs.declared.item.QueueItem.{QueueItem}
-use Rattle.qs_plain_laws.proofs.ServedRuns.{Service, ServedRun, log, reply, leave, run_first, reserve, service_reserve, IsServedRun}
+use Rattle.qs_plain_laws.proofs.ServedRuns.{Service, ServedRun, log, reply, end_block, run_first, reserve, service_reserve, IsServedRun}
 use Rattle.qs_plain_laws.proofs.ServedRunMoves.{asks_left, log_ok, reply_ok, run_ok, leave_ok, reserve_ok, fresh, page', is_done_kept}
 use Rattle.qs_plain_laws.proofs.Rooms.{room_to_run, room_to_ask}
-use Rattle.qs_plain_laws.proofs.RunViews.{Stance, Stands, Runs, Awaits, Standing, RunView, current, stand, answered, separate, call, query, end, do_step, ask_step, end_step}
+use Rattle.qs_plain_laws.proofs.RunViews.{PlainStage, Stands, Runs, Awaits, ClientView, RunView, current, stand, after_answer, separate, call, query, end, do_step, ask_step, end_step}
 use Rattle.qs_plain_laws.specs.declared.item.QueueItem.TheVariants as item
 
 -- what stands behind the commands in a private queue
-abbrev pub tail_now : Stance → ℕ → List QueueItem
+abbrev pub tail_now : PlainStage → ℕ → List QueueItem
 tail_now (Stands l) h = item.EndMark ∷ []
 tail_now (Runs t) h = []
 tail_now (Awaits r next) h = (if r.object == h then item.Query r ∷ [] else [])
 
-abbrev pub tail : (ℕ → Standing) → ℕ → Ticket → List QueueItem
+abbrev pub tail : (ℕ → ClientView) → ℕ → Ticket → List QueueItem
 tail client h u = (if suc u.index == (client u.client).begun then tail_now (client u.client).stage h else item.EndMark ∷ [])
 
-abbrev pub private : (ℕ → Standing) → ℕ → (Ticket → List Request) → Ticket → Private
+abbrev pub private : (ℕ → ClientView) → ℕ → (Ticket → List Request) → Ticket → Private
 private client h wait u = record { ticket = u; items = map item.Command (wait u) ++ tail client h u }
 
-abbrev pub StandsAt : (Ticket → Page) → ℕ → Stance → ℕ → Type 0
+abbrev pub StandsAt : (Ticket → BlockRecord) → ℕ → PlainStage → ℕ → Type 0
 StandsAt page c (Stands l) n = Begins page c n l
 StandsAt page c (Runs t) zero = ⊥
 StandsAt page c (Runs t) (suc k) = (page (ticket c k)).rest ≡ t
@@ -65,13 +65,13 @@ pub record Simulates (s : RunView) (w : ServedRun) : Type 0 where
   pub state : (h : ℕ) → (w.service h).state ≡ (s.handler h).held.object
 
 -- the current ticket's tail, and the others'
-tail_here : (client : ℕ → Standing) (h c k : ℕ) → suc k ≡ (client c).begun → tail client h (ticket c k) ≡ tail_now (client c).stage h
+tail_here : (client : ℕ → ClientView) (h c k : ℕ) → suc k ≡ (client c).begun → tail client h (ticket c k) ≡ tail_now (client c).stage h
 tail_here client h c k e = rw (← e) (rw (eqb_self (suc k)))
 
-tail_old : (client : ℕ → Standing) (h : ℕ) (u : Ticket) → (suc u.index == (client u.client).begun) ≡ false → tail client h u ≡ item.EndMark ∷ []
+tail_old : (client : ℕ → ClientView) (h : ℕ) (u : Ticket) → (suc u.index == (client u.client).begun) ≡ false → tail client h u ≡ item.EndMark ∷ []
 tail_old client h u e = rw e
 
-tail_there : (s : RunView) (h c k : ℕ) (stage : Stance) (u : Ticket) → suc k ≡ (s.client c).begun → same (ticket c k) u ≡ false → tail (stand s c stage) h u ≡ tail s.client h u
+tail_there : (s : RunView) (h c k : ℕ) (stage : PlainStage) (u : Ticket) → suc k ≡ (s.client c).begun → same (ticket c k) u ≡ false → tail (stand s c stage) h u ≡ tail s.client h u
 tail_there s h c k stage u e other =
     ⊎_elim
     (λ (is : c ≡ u.client).
@@ -79,13 +79,13 @@ tail_there s h c k stage u e other =
     let new : (stand s c stage u.client).begun ≡ (s.client u.client).begun = put_kept (λ x. x.begun) s.client c (record { begun = (s.client c).begun; stage = stage }) refl u.client in
     let out : (suc u.index == (s.client u.client).begun) ≡ false = eqb_apart (suc u.index) (s.client u.client).begun (λ i. let j : k ≡ u.index = omega arith in true≢false (sym (subst (λ t. same t u ≡ true) (sym (ticket_path is j)) (same_self u)) ∙ other)) in
     tail_old (stand s c stage) h u (ap (λ n. suc u.index == n) new ∙ out) ∙ sym (tail_old s.client h u out))
-    (λ (out : (c == u.client) ≡ false). ap (λ (x : Standing). (if suc u.index == x.begun then tail_now x.stage h else item.EndMark ∷ [])) (put_there s.client c (record { begun = (s.client c).begun; stage = stage }) u.client out))
+    (λ (out : (c == u.client) ≡ false). ap (λ (x : ClientView). (if suc u.index == x.begun then tail_now x.stage h else item.EndMark ∷ [])) (put_there s.client c (record { begun = (s.client c).begun; stage = stage }) u.client out))
     (num_cases c u.client)
 
 -- the current ticket's tail after a change of its client's stage
-tail_new : (s : RunView) (h c k : ℕ) (stage : Stance) → suc k ≡ (s.client c).begun → tail (stand s c stage) h (ticket c k) ≡ tail_now stage h
+tail_new : (s : RunView) (h c k : ℕ) (stage : PlainStage) → suc k ≡ (s.client c).begun → tail (stand s c stage) h (ticket c k) ≡ tail_now stage h
 tail_new s h c k stage e =
-    let x : Standing = record { begun = (s.client c).begun; stage = stage } in
+    let x : ClientView = record { begun = (s.client c).begun; stage = stage } in
     let here : stand s c stage c ≡ x = put_here s.client c x in
     tail_here (stand s c stage) h c k (e ∙ sym (ap (λ x. x.begun) here)) ∙ ap (λ x. tail_now x.stage h) here
 
@@ -93,7 +93,7 @@ private_path : (u : Ticket) (a b : List QueueItem) → a ≡ b → ◌≡◌ {A 
 private_path u a b e = λ i. record { ticket = u; items = e i }
 
 -- one item more in the private queue of t, and none in the others
-item_case : (client client' : ℕ → Standing) (h : ℕ) (wait wait' : Ticket → List Request) (t : Ticket) (i : QueueItem)
+item_case : (client client' : ℕ → ClientView) (h : ℕ) (wait wait' : Ticket → List Request) (t : Ticket) (i : QueueItem)
     → (map item.Command (wait t) ++ tail client h t) ++ i ∷ [] ≡ map item.Command (wait' t) ++ tail client' h t
     → ((u : Ticket) → same t u ≡ false → (wait' u ≡ wait u) × (tail client' h u ≡ tail client h u))
     → (u : Ticket) → put_item t i (private client h wait u) ≡ private client' h wait' u
@@ -103,11 +103,11 @@ item_case client client' h wait wait' t i here there u =
     (λ (other : same t u ≡ false). let k = there u other in rw other (private_path u _ _ (ap₂ (λ a b. map item.Command a ++ b) (sym k.0) (sym k.1))))
     (ticket_cases t u)
 
-none_case : (client client' : ℕ → Standing) (h : ℕ) (wait wait' : Ticket → List Request) (u : Ticket) → wait' u ≡ wait u → tail client' h u ≡ tail client h u → private client h wait u ≡ private client' h wait' u
+none_case : (client client' : ℕ → ClientView) (h : ℕ) (wait wait' : Ticket → List Request) (u : Ticket) → wait' u ≡ wait u → tail client' h u ≡ tail client h u → private client h wait u ≡ private client' h wait' u
 none_case client client' h wait wait' u a b = private_path u _ _ (ap₂ (λ a b. map item.Command a ++ b) (sym a) (sym b))
 
 -- the current ticket's tail stays, and so do all
-tail_stays : (s : RunView) (h c k : ℕ) (stage : Stance) → suc k ≡ (s.client c).begun → tail_now stage h ≡ tail_now (s.client c).stage h → (u : Ticket) → tail (stand s c stage) h u ≡ tail s.client h u
+tail_stays : (s : RunView) (h c k : ℕ) (stage : PlainStage) → suc k ≡ (s.client c).begun → tail_now stage h ≡ tail_now (s.client c).stage h → (u : Ticket) → tail (stand s c stage) h u ≡ tail s.client h u
 tail_stays s h c k stage e same_tail u =
     ⊎_elim
     (λ (is : ticket c k ≡ u). subst (λ u. tail (stand s c stage) h u ≡ tail s.client h u) is (tail_new s h c k stage e ∙ (same_tail ∙ sym (tail_here s.client h c k e))))
@@ -115,7 +115,7 @@ tail_stays s h c k stage e same_tail u =
     (ticket_cases (ticket c k) u)
 
 -- where the current ticket's tail was empty, what follows the commands is its new tail
-tail_first : (s : RunView) (h c k : ℕ) (stage : Stance) (i : QueueItem) (rs : List Request) → suc k ≡ (s.client c).begun → tail_now (s.client c).stage h ≡ [] → tail_now stage h ≡ i ∷ []
+tail_first : (s : RunView) (h c k : ℕ) (stage : PlainStage) (i : QueueItem) (rs : List Request) → suc k ≡ (s.client c).begun → tail_now (s.client c).stage h ≡ [] → tail_now stage h ≡ i ∷ []
     → (map item.Command rs ++ tail s.client h (ticket c k)) ++ i ∷ [] ≡ map item.Command rs ++ tail (stand s c stage) h (ticket c k)
 tail_first s h c k stage i rs e a b =
     ap (λ x. (map item.Command rs ++ x) ++ i ∷ []) (tail_here s.client h c k e ∙ a) ∙ (ap (λ x. x ++ i ∷ []) (append-nil (map item.Command rs)) ∙ ap (λ x. map item.Command rs ++ x) (sym b ∙ sym (tail_new s h c k stage e)))
@@ -125,10 +125,10 @@ call_item tl tl' rs rs' r a b e =
     ap (λ x. (map item.Command rs ++ x) ++ item.Command r ∷ []) a ∙ (ap (λ x. x ++ item.Command r ∷ []) (append-nil (map item.Command rs)) ∙ (sym (map-append item.Command rs (r ∷ [])) ∙ (sym (append-nil (map item.Command (rs ++ r ∷ []))) ∙ ap₂ (λ x y. map item.Command x ++ y) (sym e) (sym b))))
 
 module _ (p : ProgramShape) (sound : IsSound p) where
-  abbrev pub Kept : RunView → Type 0
-  Kept s = (w : ServedRun) × IsServedRun p w × Simulates s w
+  abbrev pub IsSimulated : RunView → Type 0
+  IsSimulated s = (w : ServedRun) × IsServedRun p w × Simulates s w
 
-  stands_moved : (page page' : Ticket → Page) (c : ℕ) (stage : Stance) (n : ℕ) → ((k : ℕ) → (page' (ticket c k)).rest ≡ (page (ticket c k)).rest) → StandsAt page c stage n → StandsAt page' c stage n
+  stands_moved : (page page' : Ticket → BlockRecord) (c : ℕ) (stage : PlainStage) (n : ℕ) → ((k : ℕ) → (page' (ticket c k)).rest ≡ (page (ticket c k)).rest) → StandsAt page c stage n → StandsAt page' c stage n
   stands_moved page page' c (Stands l) zero e h = h
   stands_moved page page' c (Stands l) (suc k) e h = e k ∙ h
   stands_moved page page' c (Runs t) zero e h = h
@@ -136,13 +136,13 @@ module _ (p : ProgramShape) (sound : IsSound p) where
   stands_moved page page' c (Awaits r next) zero e h = h
   stands_moved page page' c (Awaits r next) (suc k) e h = e k ∙ h
 
-  stands_after : (s : RunView) (page page' : Ticket → Page) (c : ℕ) (stage : Stance) → ((u : Ticket) → (c == u.client) ≡ false → (page' u).rest ≡ (page u).rest)
+  stands_after : (s : RunView) (page page' : Ticket → BlockRecord) (c : ℕ) (stage : PlainStage) → ((u : Ticket) → (c == u.client) ≡ false → (page' u).rest ≡ (page u).rest)
       → StandsAt page' c stage (s.client c).begun → ((d : ℕ) → StandsAt page d (s.client d).stage (s.client d).begun) → (d : ℕ) → StandsAt page' d (stand s c stage d).stage (stand s c stage d).begun
   stands_after s page page' c stage e here there =
-      put_all (λ d (x : Standing). StandsAt page' d x.stage x.begun) s.client c (record { begun = (s.client c).begun; stage = stage }) here
+      put_all (λ d (x : ClientView). StandsAt page' d x.stage x.begun) s.client c (record { begun = (s.client c).begun; stage = stage }) here
       (λ d other. stands_moved page page' d (s.client d).stage (s.client d).begun (λ k. e (ticket d k) other) (there d))
 
-  begun_same : (s : RunView) (c : ℕ) (stage : Stance) (d : ℕ) → (stand s c stage d).begun ≡ (s.client d).begun
+  begun_same : (s : RunView) (c : ℕ) (stage : PlainStage) (d : ℕ) → (stand s c stage d).begun ≡ (s.client d).begun
   begun_same s c stage d = put_kept (λ x. x.begun) s.client c (record { begun = (s.client c).begun; stage = stage }) refl d
 
   -- the current block of a client, what is left of it, and that it is in the order
@@ -164,34 +164,34 @@ module _ (p : ProgramShape) (sound : IsSound p) where
   here_waits s w c r next is (suc n) e ok sim = here_some s w c (Query r next) n e ok sim (subst (λ n. StandsAt w.page c (Awaits r next) n) e (subst (λ x. StandsAt w.page c x (s.client c).begun) is (sim.stands c)))
 
   -- a stage that stands at what is left of the current block
-  stands_here : (page : Ticket → Page) (c n : ℕ) (t : Interaction) → suc ((n - 1)) ≡ n → (page (ticket c ((n - 1)))).rest ≡ t → StandsAt page c (Runs t) n
+  stands_here : (page : Ticket → BlockRecord) (c n : ℕ) (t : Interaction) → suc ((n - 1)) ≡ n → (page (ticket c ((n - 1)))).rest ≡ t → StandsAt page c (Runs t) n
   stands_here page c zero t e h = absurd (omega arith)
   stands_here page c (suc k) t e h = subst (λ k. (page (ticket c k)).rest ≡ t) (let p : suc k - 1 ≡ k = omega arith in p) h
 
   -- a client in a block has begun one
-  pub begun_some : (s : RunView) (c : ℕ) (t : Interaction) → (s.client c).stage ≡ Runs t → Kept s → 0 < (s.client c).begun
+  pub begun_some : (s : RunView) (c : ℕ) (t : Interaction) → (s.client c).stage ≡ Runs t → IsSimulated s → 0 < (s.client c).begun
   begun_some s c t is kept = let here = (here_in s kept.0 c t is (s.client c).begun refl kept.1 kept.2).0 in omega (arith, here)
 
-  asks_here : (s : RunView) (c : ℕ) (t : Interaction) → (s.client c).stage ≡ Runs t → (kept : Kept s) → AsksOnly (reserves p (current s c)) t
+  asks_here : (s : RunView) (c : ℕ) (t : Interaction) → (s.client c).stage ≡ Runs t → (kept : IsSimulated s) → AsksOnly (reserves p (current s c)) t
   asks_here s c t is kept =
       let w = kept.0 in
       let here = here_in s w c t is (s.client c).begun refl kept.1 kept.2 in
       subst (AsksOnly (reserves p (current s c))) here.1
-      (asks_left p sound w (current s c) (each_among (λ t. IsPage p t (w.page t)) (current s c) w.order kept.1.pages here.2))
+      (asks_left p sound w (current s c) (each_among (λ t. IsBlockRecord p t (w.page t)) (current s c) w.order kept.1.pages here.2))
 
   -- what a client asks it has reserved
-  pub call_within : (s : RunView) (c : ℕ) (r : Request) (next : Interaction) → (s.client c).stage ≡ Runs (Call r next) → Kept s → reserves p (current s c) r.object ≡ true
+  pub call_within : (s : RunView) (c : ℕ) (r : Request) (next : Interaction) → (s.client c).stage ≡ Runs (Call r next) → IsSimulated s → reserves p (current s c) r.object ≡ true
   call_within s c r next is kept = (asks_here s c (Call r next) is kept).1
 
-  pub query_within : (s : RunView) (c : ℕ) (r : Request) (next : ℤ → Interaction) → (s.client c).stage ≡ Runs (Query r next) → Kept s → reserves p (current s c) r.object ≡ true
+  pub query_within : (s : RunView) (c : ℕ) (r : Request) (next : ℤ → Interaction) → (s.client c).stage ≡ Runs (Query r next) → IsSimulated s → reserves p (current s c) r.object ≡ true
   query_within s c r next is kept = (asks_here s c (Query r next) is kept).1
 
   -- and its commands are commands, its queries queries
-  pub call_commands : (s : RunView) (c : ℕ) (r : Request) (next : Interaction) → (s.client c).stage ≡ Runs (Call r next) → Kept s → is_query r.op ≡ false
+  pub call_commands : (s : RunView) (c : ℕ) (r : Request) (next : Interaction) → (s.client c).stage ≡ Runs (Call r next) → IsSimulated s → is_query r.op ≡ false
   call_commands s c r next is kept = (asks_here s c (Call r next) is kept).0
 
   pub waits_for_query : (s : RunView) (c : ℕ) (r : Request) (next : ℤ → Interaction) (n : ℕ) → (s.client c).stage ≡ Awaits r next → (s.client c).begun ≡ n
-      → Kept s → is_query r.op ≡ true
+      → IsSimulated s → is_query r.op ≡ true
   waits_for_query s c r next zero is b kept =
       absurd (subst (λ n. StandsAt (kept.0).page c (Awaits r next) n) b (subst (λ g. StandsAt (kept.0).page c g (s.client c).begun) is (kept.2.stands c)))
   waits_for_query s c r next (suc i) is b kept =
@@ -201,16 +201,16 @@ module _ (p : ProgramShape) (sound : IsSound p) where
       subst (λ n. StandsAt w.page c (Awaits r next) n) b (subst (λ g. StandsAt w.page c g (s.client c).begun) is (kept.2.stands c)) in
       let many : counts_after (λ _. 0) w.order c ≡ suc i = kept.1.counts c ∙ (kept.2.booked c ∙ b) in
       let member = legal_among p (λ _. 0) w.order c i kept.1.legal (omega arith) (omega (arith, many)) in
-      let page = each_among (λ t. IsPage p t (w.page t)) t w.order kept.1.pages member in
+      let page = each_among (λ t. IsBlockRecord p t (w.page t)) t w.order kept.1.pages member in
       let asking : AsksOnly (reserves p t) (Query r next) = subst (AsksOnly (reserves p t)) rest (asks_left p sound w t page) in
       asking.0
 
-  pub call_kept : (s : RunView) (c : ℕ) (r : Request) (next : Interaction) → (s.client c).stage ≡ Runs (Call r next) → Kept s → Kept (call s c r next)
+  pub call_kept : (s : RunView) (c : ℕ) (r : Request) (next : Interaction) → (s.client c).stage ≡ Runs (Call r next) → IsSimulated s → IsSimulated (call s c r next)
   call_kept s c r next is kept =
       let w = kept.0 in let sim = kept.2 in
       let t = current s c in
       let here = here_in s w c (Call r next) is (s.client c).begun refl kept.1 sim in
-      let adv = advance (w.page t) (logged r) next in
+      let adv = advance (w.page t) (command_event r) next in
       let busy : IsDone (w.page t).rest → ⊥ = λ d. subst IsDone here.1 d in (
         log w t r next,
         log_ok p sound w t r next here.2 here.1 kept.1,
@@ -218,12 +218,12 @@ module _ (p : ProgramShape) (sound : IsSound p) where
           order = sim.order;
           booked = λ d. sim.booked d ∙ sym (begun_same s c (Runs next) d);
           entry = λ u. put_at_kept (λ p. p.entry) w.page t adv refl u ∙ sim.entry u;
-          trace = put_at_field (λ p. p.trace) w.page s.trace t adv (s.trace t ++ logged r ∷ []) sim.trace (ap (λ es. es ++ logged r ∷ []) (sim.trace t));
+          trace = put_at_field (λ p. p.trace) w.page s.trace t adv (s.trace t ++ command_event r ∷ []) sim.trace (ap (λ es. es ++ command_event r ∷ []) (sim.trace t));
           stands = stands_after s w.page (put_at w.page t adv) c (Runs next)
               (λ u other. ap (λ p. p.rest) (put_at_there w.page t adv u (rw other)))
               (stands_here (put_at w.page t adv) c (s.client c).begun next here.0 (ap (λ p. p.rest) (put_at_here w.page t adv)))
               sim.stands;
-          older = λ d k lt. is_done_kept p sound w t (logged r) next busy (ticket d k) (sim.older d k (subst (λ n. suc k < n) (begun_same s c (Runs next) d) lt));
+          older = λ d k lt. is_done_kept p sound w t (command_event r) next busy (ticket d k) (sim.older d k (subst (λ n. suc k < n) (begun_same s c (Runs next) d) lt));
           queues = put_both (λ h (x : Handler) (l : Service). x.queues ≡ map (private (stand s c (Runs next)) h l.wait) l.queue) s.handler w.service r.object _ _
               (ap (map (put_item t (item.Command r))) (sim.queues r.object) ∙ (map-map (put_item t (item.Command r)) _ (w.service r.object).queue ∙ map_same _ _ (w.service r.object).queue (every
               (item_case s.client (stand s c (Runs next)) r.object (w.service r.object).wait (put_at (w.service r.object).wait t ((w.service r.object).wait t ++ r ∷ [])) t (item.Command r)
@@ -238,7 +238,7 @@ module _ (p : ProgramShape) (sound : IsSound p) where
         },
       )
 
-  pub query_kept : (s : RunView) (c : ℕ) (r : Request) (next : ℤ → Interaction) → (s.client c).stage ≡ Runs (Query r next) → Kept s → Kept (query s c r next)
+  pub query_kept : (s : RunView) (c : ℕ) (r : Request) (next : ℤ → Interaction) → (s.client c).stage ≡ Runs (Query r next) → IsSimulated s → IsSimulated (query s c r next)
   query_kept s c r next is kept =
       let w = kept.0 in let sim = kept.2 in
       let t = current s c in
@@ -267,7 +267,7 @@ module _ (p : ProgramShape) (sound : IsSound p) where
         },
       )
     where
-      waits_here : (page : Ticket → Page) (c n : ℕ) (r : Request) (next : ℤ → Interaction) → suc ((n - 1)) ≡ n → (page (ticket c ((n - 1)))).rest ≡ Query r next → StandsAt page c (Awaits r next) n
+      waits_here : (page : Ticket → BlockRecord) (c n : ℕ) (r : Request) (next : ℤ → Interaction) → suc ((n - 1)) ≡ n → (page (ticket c ((n - 1)))).rest ≡ Query r next → StandsAt page c (Awaits r next) n
       waits_here page c zero r next e h = absurd (omega arith)
       waits_here page c (suc k) r next e h = subst (λ k. (page (ticket c k)).rest ≡ Query r next) (let p : suc k - 1 ≡ k = omega arith in p) h
 
@@ -277,7 +277,7 @@ module _ (p : ProgramShape) (sound : IsSound p) where
       each_back (λ u. reserves p u h ≡ true) (w.service h).past (w.service h).queue
       (subst (AllByRecursion (λ u. reserves p u h ≡ true)) (ok.services h).mine (each_passes (λ u. reserves p u h) w.order))
 
-  pub end_kept : (s : RunView) (c : ℕ) (l : Locals) → (s.client c).stage ≡ Runs (Done l) → Kept s → Kept (end p s c l)
+  pub end_kept : (s : RunView) (c : ℕ) (l : Locals) → (s.client c).stage ≡ Runs (Done l) → IsSimulated s → IsSimulated (end p s c l)
   end_kept s c l is kept =
       let w = kept.0 in let sim = kept.2 in
       let t = current s c in
@@ -298,7 +298,7 @@ module _ (p : ProgramShape) (sound : IsSound p) where
         },
       )
     where
-      out_here : (page : Ticket → Page) (c n : ℕ) (l : Locals) → suc ((n - 1)) ≡ n → (page (ticket c ((n - 1)))).rest ≡ Done l → StandsAt page c (Stands l) n
+      out_here : (page : Ticket → BlockRecord) (c n : ℕ) (l : Locals) → suc ((n - 1)) ≡ n → (page (ticket c ((n - 1)))).rest ≡ Done l → StandsAt page c (Stands l) n
       out_here page c zero l e h = absurd (omega arith)
       out_here page c (suc k) l e h = subst (λ k. (page (ticket c k)).rest ≡ Done l) (let p : suc k - 1 ≡ k = omega arith in p) h
 
@@ -334,41 +334,41 @@ module _ (p : ProgramShape) (sound : IsSound p) where
   tail_entered : (s : RunView) (h c : ℕ) (l : Locals) (tr : Interaction) (u : Ticket) → (s.client c).stage ≡ Stands l → same (ticket c (s.client c).begun) u ≡ false
       → tail (put s.client c (record { begun = suc (s.client c).begun; stage = Runs tr })) h u ≡ tail s.client h u
   tail_entered s h c l tr u is other =
-      let x : Standing = record { begun = suc (s.client c).begun; stage = Runs tr } in
+      let x : ClientView = record { begun = suc (s.client c).begun; stage = Runs tr } in
       ⊎_elim
       (λ (at : c ≡ u.client).
       let new : put s.client c x u.client ≡ x = subst (λ d. put s.client c x d ≡ x) at (put_here s.client c x) in
       let out : (suc u.index == suc (s.client c).begun) ≡ false = eqb_apart (suc u.index) (suc (s.client c).begun) (λ i. let j : (s.client c).begun ≡ u.index = omega arith in true≢false (sym (subst (λ t. same t u ≡ true) (sym (ticket_path at j)) (same_self u)) ∙ other)) in
-      tail_old (put s.client c x) h u (ap (λ (x : Standing). suc u.index == x.begun) new ∙ out)
+      tail_old (put s.client c x) h u (ap (λ (x : ClientView). suc u.index == x.begun) new ∙ out)
       ∙ sym (both_end (suc u.index == (s.client u.client).begun) (s.client u.client).stage h l (ap (λ d. (s.client d).stage) (sym at) ∙ is)))
-      (λ (out : (c == u.client) ≡ false). ap (λ (x : Standing). (if suc u.index == x.begun then tail_now x.stage h else item.EndMark ∷ [])) (put_there s.client c x u.client out))
+      (λ (out : (c == u.client) ≡ false). ap (λ (x : ClientView). (if suc u.index == x.begun then tail_now x.stage h else item.EndMark ∷ [])) (put_there s.client c x u.client out))
       (num_cases c u.client)
     where
-      both_end : (b : Bool) (stage : Stance) (h : ℕ) (l : Locals) → stage ≡ Stands l → (if b then tail_now stage h else item.EndMark ∷ []) ≡ item.EndMark ∷ []
+      both_end : (b : Bool) (stage : PlainStage) (h : ℕ) (l : Locals) → stage ≡ Stands l → (if b then tail_now stage h else item.EndMark ∷ []) ≡ item.EndMark ∷ []
       both_end true stage h l e = ap (λ x. tail_now x h) e
       both_end false stage h l e = refl
 
-  pub separate_kept : (s : RunView) (c : ℕ) (l : Locals) → (s.client c).begun < blocks_of p c → (s.client c).stage ≡ Stands l → Kept s → Kept (separate p s c l)
+  pub separate_kept : (s : RunView) (c : ℕ) (l : Locals) → (s.client c).begun < blocks_of p c → (s.client c).stage ≡ Stands l → IsSimulated s → IsSimulated (separate p s c l)
   separate_kept s c l some is kept =
       let w = kept.0 in let sim = kept.2 in
       let n = (s.client c).begun in
       let t = ticket c n in
-      let x : Standing = record { begun = suc n; stage = Runs (block_tree p t l) } in
-      let pg : Page = record { entry = l; trace = []; rest = block_tree p t l } in
+      let x : ClientView = record { begun = suc n; stage = Runs (block_tree p t l) } in
+      let pg : BlockRecord = record { entry = l; trace = []; rest = block_tree p t l } in
       let ib : n ≡ w.booked c = sym (sim.booked c) in
       let begins : Begins w.page c n l = subst (λ x. StandsAt w.page c x n) is (sim.stands c) in (
         reserve p w t l,
         reserve_ok p sound w t l ib kept.1 some begins,
         record {
           order = ap (λ ts. ts ++ t ∷ []) sim.order;
-          booked = λ d. sym (put_field (λ (x : Standing). x.begun) s.client w.booked c x (suc n) (λ d. sym (sim.booked d)) refl d);
-          entry = put_at_field (λ (p : Page). p.entry) w.page s.entry t pg l sim.entry refl;
-          trace = put_at_field (λ (p : Page). p.trace) w.page s.trace t pg [] sim.trace refl;
-          stands = put_all (λ d (x : Standing). StandsAt (put_at w.page t pg) d x.stage x.begun) s.client c x (ap (λ (p : Page). p.rest) (put_at_here w.page t pg))
-              (λ d other. stands_moved w.page (put_at w.page t pg) d (s.client d).stage (s.client d).begun (λ k. ap (λ (p : Page). p.rest) (put_at_there w.page t pg (ticket d k) (rw other))) (sim.stands d));
-          older = put_all (λ d (x : Standing). (k : ℕ) → suc k < x.begun → IsDone (put_at w.page t pg (ticket d k)).rest) s.client c x
-              (λ k lt. subst (λ (p : Page). IsDone p.rest) (sym (put_at_there w.page t pg (ticket c k) (not_new k n lt))) (old_here w n k lt begins (λ k lt. sim.older c k lt)))
-              (λ d other k lt. subst (λ (p : Page). IsDone p.rest) (sym (put_at_there w.page t pg (ticket d k) (rw other))) (sim.older d k lt));
+          booked = λ d. sym (put_field (λ (x : ClientView). x.begun) s.client w.booked c x (suc n) (λ d. sym (sim.booked d)) refl d);
+          entry = put_at_field (λ (p : BlockRecord). p.entry) w.page s.entry t pg l sim.entry refl;
+          trace = put_at_field (λ (p : BlockRecord). p.trace) w.page s.trace t pg [] sim.trace refl;
+          stands = put_all (λ d (x : ClientView). StandsAt (put_at w.page t pg) d x.stage x.begun) s.client c x (ap (λ (p : BlockRecord). p.rest) (put_at_here w.page t pg))
+              (λ d other. stands_moved w.page (put_at w.page t pg) d (s.client d).stage (s.client d).begun (λ k. ap (λ (p : BlockRecord). p.rest) (put_at_there w.page t pg (ticket d k) (rw other))) (sim.stands d));
+          older = put_all (λ d (x : ClientView). (k : ℕ) → suc k < x.begun → IsDone (put_at w.page t pg (ticket d k)).rest) s.client c x
+              (λ k lt. subst (λ (p : BlockRecord). IsDone p.rest) (sym (put_at_there w.page t pg (ticket c k) (not_new k n lt))) (old_here w n k lt begins (λ k lt. sim.older c k lt)))
+              (λ d other k lt. subst (λ (p : BlockRecord). IsDone p.rest) (sym (put_at_there w.page t pg (ticket d k) (rw other))) (sim.older d k lt));
           queues = λ h. lists h (reserves p t h) refl;
           journal = λ h. journals h (reserves p t h);
           state = λ h. states h (reserves p t h);
@@ -404,7 +404,7 @@ module _ (p : ProgramShape) (sound : IsSound p) where
           ≡ map (private (put s.client c (record { begun = suc (s.client c).begun; stage = Runs (block_tree p (ticket c (s.client c).begun) l) })) h (if b then service_reserve (kept.0.service h) (ticket c (s.client c).begun) else kept.0.service h).wait)
           (if b then service_reserve (kept.0.service h) (ticket c (s.client c).begun) else kept.0.service h).queue
       lists h true e =
-          let w = kept.0 in let t = ticket c (s.client c).begun in let x : Standing = record { begun = suc (s.client c).begun; stage = Runs (block_tree p t l) } in
+          let w = kept.0 in let t = ticket c (s.client c).begun in let x : ClientView = record { begun = suc (s.client c).begun; stage = Runs (block_tree p t l) } in
           let client' = put s.client c x in
           let here : put s.client c x c ≡ x = put_here s.client c x in
           ap₂ (λ a b. a ++ b)
@@ -412,7 +412,7 @@ module _ (p : ProgramShape) (sound : IsSound p) where
           (ap (λ p. p ∷ []) (private_path t [] _ (ap₂ (λ rs i. map item.Command rs ++ i) (sym (put_at_here (w.service h).wait t [])) (sym (tail_here client' h c (s.client c).begun (sym (ap (λ x. x.begun) here)) ∙ ap (λ x. tail_now x.stage h) here)))))
           ∙ sym (map-append (private client' h (put_at (w.service h).wait t [])) (w.service h).queue (t ∷ []))
       lists h false e =
-          let w = kept.0 in let t = ticket c (s.client c).begun in let x : Standing = record { begun = suc (s.client c).begun; stage = Runs (block_tree p t l) } in
+          let w = kept.0 in let t = ticket c (s.client c).begun in let x : ClientView = record { begun = suc (s.client c).begun; stage = Runs (block_tree p t l) } in
           kept.2.queues h ∙ map_same _ _ (w.service h).queue (each_map (λ u n. none_case s.client (put s.client c x) h (w.service h).wait (w.service h).wait u refl (tail_entered s h c l (block_tree p t l) u is n)) (w.service h).queue (fresh_in h))
 
   -- the first private queue, and the line's first ticket
@@ -448,7 +448,7 @@ module _ (p : ProgramShape) (sound : IsSound p) where
   first_end (q ∷ rs) tl items e = absurd (cc)
 
   -- what a tail may begin with
-  now_do : (stage : Stance) (h : ℕ) (r : Request) (items : List QueueItem) → tail_now stage h ≡ item.Command r ∷ items → ⊥
+  now_do : (stage : PlainStage) (h : ℕ) (r : Request) (items : List QueueItem) → tail_now stage h ≡ item.Command r ∷ items → ⊥
   now_do (Stands l) h r items e = cc
   now_do (Runs t) h r items e = cc
   now_do (Awaits q next) h r items e = by_case (q.object == h) e
@@ -457,11 +457,11 @@ module _ (p : ProgramShape) (sound : IsSound p) where
       by_case true e = cc
       by_case false e = cc
 
-  tail_do : (b : Bool) (stage : Stance) (h : ℕ) (r : Request) (items : List QueueItem) → (if b then tail_now stage h else item.EndMark ∷ []) ≡ item.Command r ∷ items → ⊥
+  tail_do : (b : Bool) (stage : PlainStage) (h : ℕ) (r : Request) (items : List QueueItem) → (if b then tail_now stage h else item.EndMark ∷ []) ≡ item.Command r ∷ items → ⊥
   tail_do true stage h r items e = now_do stage h r items e
   tail_do false stage h r items e = cc
 
-  now_ask : (stage : Stance) (h : ℕ) (r : Request) (items : List QueueItem) → tail_now stage h ≡ item.Query r ∷ items → (next : ℤ → Interaction) × (stage ≡ Awaits r next) × (r.object ≡ h) × (items ≡ [])
+  now_ask : (stage : PlainStage) (h : ℕ) (r : Request) (items : List QueueItem) → tail_now stage h ≡ item.Query r ∷ items → (next : ℤ → Interaction) × (stage ≡ Awaits r next) × (r.object ≡ h) × (items ≡ [])
   now_ask (Stands l) h r items e = absurd (cc)
   now_ask (Runs t) h r items e = absurd (cc)
   now_ask (Awaits q next) h r items e = by_case (q.object == h) refl e
@@ -473,12 +473,12 @@ module _ (p : ProgramShape) (sound : IsSound p) where
           (next, ap (λ q. Awaits q next) same_one, sym (ap (λ (q : Request). q.object) same_one) ∙ eqb_true q.object h is, none)
       by_case false is e = absurd (cc)
 
-  tail_ask : (u : Ticket) (n : ℕ) (stage : Stance) (h : ℕ) (r : Request) (items : List QueueItem) (b : Bool) → (suc u.index == n) ≡ b → (if b then tail_now stage h else item.EndMark ∷ []) ≡ item.Query r ∷ items
+  tail_ask : (u : Ticket) (n : ℕ) (stage : PlainStage) (h : ℕ) (r : Request) (items : List QueueItem) (b : Bool) → (suc u.index == n) ≡ b → (if b then tail_now stage h else item.EndMark ∷ []) ≡ item.Query r ∷ items
       → (suc u.index ≡ n) × ((next : ℤ → Interaction) × (stage ≡ Awaits r next) × (r.object ≡ h) × (items ≡ []))
   tail_ask u n stage h r items true is e = (eqb_true (suc u.index) n is, now_ask stage h r items e)
   tail_ask u n stage h r items false is e = absurd (cc)
 
-  now_end : (stage : Stance) (h : ℕ) (items : List QueueItem) → tail_now stage h ≡ item.EndMark ∷ items → ((l : Locals) × (stage ≡ Stands l))
+  now_end : (stage : PlainStage) (h : ℕ) (items : List QueueItem) → tail_now stage h ≡ item.EndMark ∷ items → ((l : Locals) × (stage ≡ Stands l))
   now_end (Stands l) h items e = (l, refl)
   now_end (Runs t) h items e = absurd (cc)
   now_end (Awaits q next) h items e = by_case (q.object == h) e
@@ -487,9 +487,9 @@ module _ (p : ProgramShape) (sound : IsSound p) where
       by_case true e = absurd (cc)
       by_case false e = absurd (cc)
 
-  do_at : (s : RunView) (h : ℕ) (t : Ticket) (ts : List Ticket) (r : Request) (items : List QueueItem) (kept : Kept s) (f : (kept.0.service h).queue ≡ t ∷ ts)
+  do_at : (s : RunView) (h : ℕ) (t : Ticket) (ts : List Ticket) (r : Request) (items : List QueueItem) (kept : IsSimulated s) (f : (kept.0.service h).queue ≡ t ∷ ts)
       → ((rest : List Request) × ((kept.0.service h).wait t ≡ r ∷ rest) × (items ≡ map item.Command rest ++ tail s.client h t))
-      → Kept (do_step s h (private s.client h (kept.0.service h).wait t) (map (private s.client h (kept.0.service h).wait) ts) r items)
+      → IsSimulated (do_step s h (private s.client h (kept.0.service h).wait t) (map (private s.client h (kept.0.service h).wait) ts) r items)
   do_at s h t ts r items kept f d =
       let w = kept.0 in let sim = kept.2 in let ok = kept.1.services h in
       let wait' = put_at (w.service h).wait t d.0 in
@@ -515,7 +515,7 @@ module _ (p : ProgramShape) (sound : IsSound p) where
       )
 
   -- where a command is served, the journal has room
-  pub do_room : (s : RunView) (h : ℕ) (q : Private) (qs : List Private) (r : Request) (items : List QueueItem) → (s.handler h).queues ≡ q ∷ qs → q.items ≡ item.Command r ∷ items → Kept s
+  pub do_room : (s : RunView) (h : ℕ) (q : Private) (qs : List Private) (r : Request) (items : List QueueItem) → (s.handler h).queues ≡ q ∷ qs → q.items ≡ item.Command r ∷ items → IsSimulated s
       → length (s.handler h).held.journal < room_of p h
   do_room s h q qs r items e i kept =
       let w = kept.0 in
@@ -523,15 +523,15 @@ module _ (p : ProgramShape) (sound : IsSound p) where
       let d = first_do ((w.service h).wait f.0) (tail s.client h f.0) r items (tail_do (suc f.0.index == (s.client f.0.client).begun) (s.client f.0.client).stage h r items) (sym (ap (λ q. q.items) f.3) ∙ i) in
       subst (λ (j : List Entry). length j < room_of p h) (kept.2.journal h) (room_to_run p h w kept.1 f.0 f.1 r d.0 f.2 d.1)
 
-  pub do_kept : (s : RunView) (h : ℕ) (q : Private) (qs : List Private) (r : Request) (items : List QueueItem) → (s.handler h).queues ≡ q ∷ qs → q.items ≡ item.Command r ∷ items → Kept s → Kept (do_step s h q qs r items)
+  pub do_kept : (s : RunView) (h : ℕ) (q : Private) (qs : List Private) (r : Request) (items : List QueueItem) → (s.handler h).queues ≡ q ∷ qs → q.items ≡ item.Command r ∷ items → IsSimulated s → IsSimulated (do_step s h q qs r items)
   do_kept s h q qs r items e i kept =
       let f = first s kept.0 h q qs (kept.0.service h).queue refl (sym e ∙ kept.2.queues h) in
       let d = first_do ((kept.0.service h).wait f.0) (tail s.client h f.0) r items (tail_do (suc f.0.index == (s.client f.0.client).begun) (s.client f.0.client).stage h r items) (sym (ap (λ q. q.items) f.3) ∙ i) in
-      subst (λ q. Kept (do_step s h q qs r items)) (sym f.3) (subst (λ qs. Kept (do_step s h (private s.client h (kept.0.service h).wait f.0) qs r items)) (sym f.4) (do_at s h f.0 f.1 r items kept f.2 d))
+      subst (λ q. IsSimulated (do_step s h q qs r items)) (sym f.3) (subst (λ qs. IsSimulated (do_step s h (private s.client h (kept.0.service h).wait f.0) qs r items)) (sym f.4) (do_at s h f.0 f.1 r items kept f.2 d))
 
-  ask_at : (s : RunView) (t : Ticket) (ts : List Ticket) (r : Request) (next : ℤ → Interaction) (kept : Kept s) → (kept.0.service r.object).queue ≡ t ∷ ts → (kept.0.service r.object).wait t ≡ []
+  ask_at : (s : RunView) (t : Ticket) (ts : List Ticket) (r : Request) (next : ℤ → Interaction) (kept : IsSimulated s) → (kept.0.service r.object).queue ≡ t ∷ ts → (kept.0.service r.object).wait t ≡ []
       → suc t.index ≡ (s.client t.client).begun → (s.client t.client).stage ≡ Awaits r next
-      → Kept (ask_step s r.object (private s.client r.object (kept.0.service r.object).wait t) (map (private s.client r.object (kept.0.service r.object).wait) ts) r [])
+      → IsSimulated (ask_step s r.object (private s.client r.object (kept.0.service r.object).wait t) (map (private s.client r.object (kept.0.service r.object).wait) ts) r [])
   ask_at s t ts r next kept f none at is =
       let w = kept.0 in let sim = kept.2 in let ok = kept.1.services r.object in
       let c = t.client in
@@ -543,8 +543,8 @@ module _ (p : ProgramShape) (sound : IsSound p) where
       let v = answer (s.handler h).held.object r in
       let vw = answer (w.service h).state r in
       let v_is : vw ≡ v = ap (λ a. answer a r) (sim.state h) in
-      let stage' = answered (value_of v) (s.client c).stage in
-      let stage_is : Runs (next (value_of vw)) ≡ stage' = ap (λ v. Runs (next (value_of v))) v_is ∙ sym (ap (answered (value_of v)) is) in
+      let stage' = after_answer (value_of v) (s.client c).stage in
+      let stage_is : Runs (next (value_of vw)) ≡ stage' = ap (λ v. Runs (next (value_of v))) v_is ∙ sym (ap (after_answer (value_of v)) is) in
       let adv = advance (w.page t) (event r vw) (next (value_of vw)) in
       let busy : IsDone (w.page t).rest → ⊥ = λ d. subst IsDone rest d in
       let apart = subst Apart f ok.apart in
@@ -554,12 +554,12 @@ module _ (p : ProgramShape) (sound : IsSound p) where
         record {
           order = sim.order;
           booked = λ d. sim.booked d ∙ sym (begun_same s c stage' d);
-          entry = λ u. put_at_kept (λ (p : Page). p.entry) w.page t adv refl u ∙ sim.entry u;
-          trace = put_at_field (λ (p : Page). p.trace) w.page s.trace t adv (s.trace t ++ event r v ∷ []) sim.trace (ap₂ (λ (es : List Event) (v : Option ℤ). es ++ event r v ∷ []) (sim.trace t) v_is);
+          entry = λ u. put_at_kept (λ (p : BlockRecord). p.entry) w.page t adv refl u ∙ sim.entry u;
+          trace = put_at_field (λ (p : BlockRecord). p.trace) w.page s.trace t adv (s.trace t ++ event r v ∷ []) sim.trace (ap₂ (λ (es : List Event) (v : Option ℤ). es ++ event r v ∷ []) (sim.trace t) v_is);
           stands = stands_after s w.page (put_at w.page t adv) c stage'
-              (λ u other. ap (λ (p : Page). p.rest) (put_at_there w.page t adv u (rw other)))
+              (λ u other. ap (λ (p : BlockRecord). p.rest) (put_at_there w.page t adv u (rw other)))
               (subst (λ x. StandsAt (put_at w.page t adv) c x (s.client c).begun) stage_is
-              (stands_here (put_at w.page t adv) c (s.client c).begun (next (value_of vw)) here.0 (subst (λ u. (put_at w.page t adv u).rest ≡ next (value_of vw)) (sym k) (ap (λ (p : Page). p.rest) (put_at_here w.page t adv)))))
+              (stands_here (put_at w.page t adv) c (s.client c).begun (next (value_of vw)) here.0 (subst (λ u. (put_at w.page t adv u).rest ≡ next (value_of vw)) (sym k) (ap (λ (p : BlockRecord). p.rest) (put_at_here w.page t adv)))))
               sim.stands;
           older = λ d k lt. is_done_kept p sound w t (event r vw) (next (value_of vw)) busy (ticket d k) (sim.older d k (subst (λ n. suc k < n) (begun_same s c stage' d) lt));
           queues = put_both (λ h (x : Handler) (l : Service). x.queues ≡ map (private (stand s c stage') h l.wait) l.queue) s.handler w.service h _ _
@@ -573,17 +573,17 @@ module _ (p : ProgramShape) (sound : IsSound p) where
         },
       )
 
-  pub ask_kept : (s : RunView) (h : ℕ) (q : Private) (qs : List Private) (r : Request) (items : List QueueItem) → (s.handler h).queues ≡ q ∷ qs → q.items ≡ item.Query r ∷ items → Kept s → Kept (ask_step s h q qs r items)
+  pub ask_kept : (s : RunView) (h : ℕ) (q : Private) (qs : List Private) (r : Request) (items : List QueueItem) → (s.handler h).queues ≡ q ∷ qs → q.items ≡ item.Query r ∷ items → IsSimulated s → IsSimulated (ask_step s h q qs r items)
   ask_kept s h q qs r items e i kept =
       let f = first s kept.0 h q qs (kept.0.service h).queue refl (sym e ∙ kept.2.queues h) in
       let t = f.0 in
       let d = first_ask ((kept.0.service h).wait t) (tail s.client h t) r items (sym (ap (λ q. q.items) f.3) ∙ i) in
       let a = tail_ask t (s.client t.client).begun (s.client t.client).stage h r items (suc t.index == (s.client t.client).begun) refl d.1 in
-      let at = subst (λ g. ((kept.0.service g).queue ≡ t ∷ f.1) → ((kept.0.service g).wait t ≡ []) → Kept (ask_step s g (private s.client g (kept.0.service g).wait t) (map (private s.client g (kept.0.service g).wait) f.1) r [])) a.1.2
+      let at = subst (λ g. ((kept.0.service g).queue ≡ t ∷ f.1) → ((kept.0.service g).wait t ≡ []) → IsSimulated (ask_step s g (private s.client g (kept.0.service g).wait t) (map (private s.client g (kept.0.service g).wait) f.1) r [])) a.1.2
       (λ x y. ask_at s t f.1 r a.1.0 kept x y a.0 a.1.1) in
-      subst (λ q. Kept (ask_step s h q qs r items)) (sym f.3)
-      (subst (λ qs. Kept (ask_step s h (private s.client h (kept.0.service h).wait t) qs r items)) (sym f.4)
-      (subst (λ items. Kept (ask_step s h (private s.client h (kept.0.service h).wait t) (map (private s.client h (kept.0.service h).wait) f.1) r items)) (sym a.1.3) (at f.2 d.0)))
+      subst (λ q. IsSimulated (ask_step s h q qs r items)) (sym f.3)
+      (subst (λ qs. IsSimulated (ask_step s h (private s.client h (kept.0.service h).wait t) qs r items)) (sym f.4)
+      (subst (λ items. IsSimulated (ask_step s h (private s.client h (kept.0.service h).wait t) (map (private s.client h (kept.0.service h).wait) f.1) r items)) (sym a.1.3) (at f.2 d.0)))
 
   -- a query that is served: its client waits for it, and the journal has room
   pub record Asking (s : RunView) (h : ℕ) (q : Private) (r : Request) (items : List QueueItem) : Type 0 where
@@ -592,7 +592,7 @@ module _ (p : ProgramShape) (sound : IsSound p) where
     pub last : suc q.ticket.index ≡ (s.client q.ticket.client).begun
     pub room : length (s.handler h).held.journal < room_of p h
 
-  pub asking : (s : RunView) (h : ℕ) (q : Private) (qs : List Private) (r : Request) (items : List QueueItem) → (s.handler h).queues ≡ q ∷ qs → q.items ≡ item.Query r ∷ items → Kept s → Asking s h q r items
+  pub asking : (s : RunView) (h : ℕ) (q : Private) (qs : List Private) (r : Request) (items : List QueueItem) → (s.handler h).queues ≡ q ∷ qs → q.items ≡ item.Query r ∷ items → IsSimulated s → Asking s h q r items
   asking s h q qs r items e i kept =
       let w = kept.0 in
       let f = first s w h q qs (w.service h).queue refl (sym e ∙ kept.2.queues h) in
@@ -601,7 +601,7 @@ module _ (p : ProgramShape) (sound : IsSound p) where
       let a = tail_ask t (s.client t.client).begun (s.client t.client).stage h r items (suc t.index == (s.client t.client).begun) refl d.1 in
       let here = here_waits s w t.client r a.1.0 a.1.1 (s.client t.client).begun refl kept.1 kept.2 in
       let k : current s t.client ≡ t = ticket_path refl (let begun = a.0 in let i : (s.client t.client).begun - 1 ≡ t.index = omega (arith, begun) in i) in
-      let path = each_among (λ t. IsPage p t (w.page t)) t w.order kept.1.pages (subst (λ u. Among u w.order) k here.2) in
+      let path = each_among (λ t. IsBlockRecord p t (w.page t)) t w.order kept.1.pages (subst (λ u. Among u w.order) k here.2) in
       let fits = room_to_ask p h w kept.1 t f.1 r a.1.0 f.2 d.0 path (subst (λ u. (w.page u).rest ≡ Query r a.1.0) k here.1) a.1.2 in
       subst (λ q. Asking s h q r items) (sym f.3) (record {
         next = a.1.0;
@@ -615,7 +615,7 @@ module _ (p : ProgramShape) (sound : IsSound p) where
   queue_below w h ok = each_back (λ u. suc u.index ≤ w.booked u.client) (w.service h).past (w.service h).queue (subst (AllByRecursion (λ u. suc u.index ≤ w.booked u.client)) (ok.services h).mine (each_kept (λ u. suc u.index ≤ w.booked u.client) (λ u. reserves p u h) w.order ok.below))
 
   -- behind an end mark nothing is left
-  ended_done : (s : RunView) (t : Ticket) (h : ℕ) (items : List QueueItem) (kept : Kept s) → suc t.index ≤ kept.0.booked t.client → (b : Bool) → (suc t.index == (s.client t.client).begun) ≡ b
+  ended_done : (s : RunView) (t : Ticket) (h : ℕ) (items : List QueueItem) (kept : IsSimulated s) → suc t.index ≤ kept.0.booked t.client → (b : Bool) → (suc t.index == (s.client t.client).begun) ≡ b
       → (if b then tail_now (s.client t.client).stage h else item.EndMark ∷ []) ≡ item.EndMark ∷ items → IsDone (kept.0.page t).rest
   ended_done s t h items kept below true e is =
       let n : suc t.index ≡ (s.client t.client).begun = eqb_true (suc t.index) (s.client t.client).begun e in
@@ -627,7 +627,7 @@ module _ (p : ProgramShape) (sound : IsSound p) where
       let m = kept.2.booked t.client in
       kept.2.older t.client t.index (omega (arith, m))
 
-  pub end_step_kept : (s : RunView) (h : ℕ) (q : Private) (qs : List Private) (items : List QueueItem) → (s.handler h).queues ≡ q ∷ qs → q.items ≡ item.EndMark ∷ items → Kept s → Kept (end_step s h qs)
+  pub end_step_kept : (s : RunView) (h : ℕ) (q : Private) (qs : List Private) (items : List QueueItem) → (s.handler h).queues ≡ q ∷ qs → q.items ≡ item.EndMark ∷ items → IsSimulated s → IsSimulated (end_step s h qs)
   end_step_kept s h q qs items e i kept =
       let w = kept.0 in let sim = kept.2 in
       let f = first s w h q qs (w.service h).queue refl (sym e ∙ sim.queues h) in
@@ -635,7 +635,7 @@ module _ (p : ProgramShape) (sound : IsSound p) where
       let d = first_end ((w.service h).wait t) (tail s.client h t) items (sym (ap (λ q. q.items) f.3) ∙ i) in
       let below = (subst (AllByRecursion (λ u. suc u.index ≤ w.booked u.client)) f.2 (queue_below w h kept.1)).0 in
       let over = ended_done s t h items kept below (suc t.index == (s.client t.client).begun) refl d.1 in (
-        leave w h t f.1,
+        end_block w h t f.1,
         leave_ok p sound w h t f.1 f.2 d.0 over kept.1,
         record {
           order = sim.order;

@@ -1,13 +1,13 @@
 -- The plain rules: for each handler a queue of queues, in which each reservation has a private queue of single requests.
 use Rattle.std.specs.Prelude.{ℕ, ◌-◌, nat_lt, if◌then◌else◌, List, [], ◌∷◌, ◌++◌, map, length, slice_index_or, slice_set, Option, Some, None, ℤ}
 use Rattle.std.specs.List.{range_with_len}
-use Rattle.qs_objects.specs.Journals.{HeldState, ran}
+use Rattle.qs_objects.specs.Journals.{HeldState, run_one}
 use Rattle.qs_objects.specs.Parts.{same}
 use Rattle.qs_objects.specs.declared.held.Event.{Event}
 use Rattle.qs_objects.specs.declared.held.Ticket.{Ticket}
 use Rattle.qs_objects.specs.declared.Request.{Request}
 use Rattle.qs_program.specs.Program.{ProgramShape, blocks_of, text_of}
-use Rattle.qs_meaning.specs.Serial.{declared, zeros, no_state}
+use Rattle.qs_meaning.specs.Serial.{declared_states, zeros, no_state}
 use Rattle.qs_meaning.specs.Solo.{value_of, event}
 use Rattle.qs_program.specs.Values.{Locals}
 use Rattle.qs_meaning.specs.Interaction.{Interaction, Done, Call, Query, tree_of}
@@ -58,12 +58,12 @@ client_at s c = slice_index_or s.clients c no_client
 abbrev pub handler_at : List Handler → ℕ → Handler
 handler_at hs h = slice_index_or hs h no_handler
 
-abbrev pub begun : Client → ℕ
-begun c = length c.entries
+abbrev pub begun_blocks : Client → ℕ
+begun_blocks c = length c.entries
 
 -- the ticket of the block that a client is in
 abbrev pub current : ℕ → Client → Ticket
-current c it = ticket c (begun it - 1)
+current c it = ticket c (begun_blocks it - 1)
 
 -- an item at the end of the ticket's private queue
 abbrev pub put_item : Ticket → QueueItem → Private → Private
@@ -89,12 +89,12 @@ abbrev pub stands : Client → Stage → Client
 stands it stage = record { stage = stage; entries = it.entries; traces = it.traces; counts = it.counts }
 
 -- an event at the end of the k-th trace
-abbrev pub traced : Client → ℕ → Event → Client
-traced it k e = record it { traces = slice_set it.traces k (slice_index_or it.traces k [] ++ e ∷ []) }
+abbrev pub with_trace_event : Client → ℕ → Event → Client
+with_trace_event it k e = record it { traces = slice_set it.traces k (slice_index_or it.traces k [] ++ e ∷ []) }
 
 -- one query more for object h in the k-th block
-abbrev pub counted : Client → ℕ → ℕ → Client
-counted it k h = record it { counts = slice_set it.counts k (with_sync h (slice_index_or it.counts k [])) }
+abbrev pub with_query_counted : Client → ℕ → ℕ → Client
+with_query_counted it k h = record it { counts = slice_set it.counts k (with_sync h (slice_index_or it.counts k [])) }
 
 abbrev pub begins : Client → Locals → Interaction → List ℕ → Client
 begins it l rest reserved = record {
@@ -108,7 +108,7 @@ begins it l rest reserved = record {
 module _ (p : ProgramShape) where
   abbrev pub separate : Plain → ℕ → Client → Locals → Plain
   separate s c it l =
-      let t = ticket c (begun it) in
+      let t = ticket c (begun_blocks it) in
       record {
         order = s.order ++ t ∷ [];
         clients = slice_set s.clients c (begins it l (tree_of (text_of p t).body l) (text_of p t).reserved);
@@ -118,14 +118,14 @@ module _ (p : ProgramShape) where
   abbrev pub calls : Plain → ℕ → Client → Request → Interaction → Plain
   calls s c it r next = record {
     order = s.order;
-    clients = slice_set s.clients c (stands (traced it (begun it - 1) (event r None)) (within next));
+    clients = slice_set s.clients c (stands (with_trace_event it (begun_blocks it - 1) (event r None)) (within next));
     handlers = at_handler (log_in (current c it) (item.Command r)) s.handlers r.object;
   }
 
   abbrev pub asks : Plain → ℕ → Client → Request → (ℤ → Interaction) → Plain
   asks s c it r next = record {
     order = s.order;
-    clients = slice_set s.clients c (stands (counted it (begun it - 1) r.object) (waiting next));
+    clients = slice_set s.clients c (stands (with_query_counted it (begun_blocks it - 1) r.object) (waiting next));
     handlers = at_handler (log_in (current c it) (item.Query r)) s.handlers r.object;
   }
 
@@ -142,7 +142,7 @@ module _ (p : ProgramShape) where
   goes_on s c it (Query r next) = asks s c it r next
 
   abbrev pub client_step : Plain → ℕ → Client → Stage → Option Plain
-  client_step s c it (out l) = if nat_lt (begun it) (blocks_of p c) then Some (separate s c it l) else None
+  client_step s c it (out l) = if nat_lt (begun_blocks it) (blocks_of p c) then Some (separate s c it l) else None
   client_step s c it (within rest) = Some (goes_on s c it rest)
   client_step s c it (waiting next) = None
 
@@ -152,24 +152,24 @@ serves h q qs items held = record { queues = record { ticket = q.ticket; items =
 
 abbrev pub runs_command : Plain → ℕ → Handler → Private → List Private → List QueueItem → Request → Plain
 runs_command s h it q qs items r = record s {
-  handlers = slice_set s.handlers h (serves it q qs items (ran it.held q.ticket r).0);
+  handlers = slice_set s.handlers h (serves it q qs items (run_one it.held q.ticket r).0);
 }
 
 -- the reply goes to the client that waits for it, which no longer waits; one that does not wait gets nothing
 abbrev pub reply_to : Client → Request → Option ℤ → Stage → Client
 reply_to it r v (out l) = it
 reply_to it r v (within rest) = it
-reply_to it r v (waiting next) = stands (traced it (begun it - 1) (event r v)) (within (next (value_of v)))
+reply_to it r v (waiting next) = stands (with_trace_event it (begun_blocks it - 1) (event r v)) (within (next (value_of v)))
 
-abbrev pub replied : Client → Request → Option ℤ → Client
-replied it r v = reply_to it r v it.stage
+abbrev pub after_reply : Client → Request → Option ℤ → Client
+after_reply it r v = reply_to it r v it.stage
 
 abbrev pub runs_query : Plain → ℕ → Handler → Private → List Private → List QueueItem → Request → Plain
 runs_query s h it q qs items r =
-    let o = ran it.held q.ticket r in
+    let o = run_one it.held q.ticket r in
     record {
       order = s.order;
-      clients = slice_set s.clients q.ticket.client (replied (client_at s q.ticket.client) r o.1);
+      clients = slice_set s.clients q.ticket.client (after_reply (client_at s q.ticket.client) r o.1);
       handlers = slice_set s.handlers h (serves it q qs items o.0);
     }
 
@@ -200,7 +200,7 @@ fresh_client c = record { stage = out zeros; entries = []; traces = []; counts =
 
 -- it serves nobody, and its object is as declared
 abbrev pub fresh_handler : ProgramShape → ℕ → Handler
-fresh_handler p h = record { queues = []; held = record { object = declared p h; journal = []; room = room_of p h } }
+fresh_handler p h = record { queues = []; held = record { object = declared_states p h; journal = []; room = room_of p h } }
 
 -- nothing has run
 abbrev pub begin : ProgramShape → Plain

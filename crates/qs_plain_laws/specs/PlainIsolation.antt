@@ -23,9 +23,9 @@ abbrev pub commands_of : Ticket → Private → List Request
 commands_of t q = if same t q.ticket then commands_in q.items else []
 
 -- the commands of a ticket that lie in its private queue at handler h
-abbrev pub queued : Plain → ℕ → Ticket → List Request
-queued s h t = flat_map (commands_of t) (handler_at s.handlers h).queues
+abbrev pub commands_in_queue : Plain → ℕ → Ticket → List Request
+commands_in_queue s h t = flat_map (commands_of t) (handler_at s.handlers h).queues
 
 -- for every program and every list of actors
 abbrev pub PlainRunsAreIsolated : Type 0
-PlainRunsAreIsolated = (p : ProgramShape) → IsSound p → (actors : List Actor) → IsIsolated p (played_of p (plays p actors (begin p))) (queued (plays p actors (begin p)))
+PlainRunsAreIsolated = (p : ProgramShape) → IsSound p → (actors : List Actor) → IsIsolated p (played_of p (plays p actors (begin p))) (commands_in_queue (plays p actors (begin p)))

@@ -9,7 +9,7 @@ use Rattle.qs_played.specs.declared.schedule.actor.Actor.{Actor}
 use Rattle.qs_played.specs.declared.fault.PlayFault.{PlayFault}
 use Rattle.qs_played.specs.Played.{Played}
 use Rattle.qs_played.specs.Schedule.{schedule, plays_by, queries_in, IsPlayedAs}
-use Rattle.qs_plain_laws.specs.Plain.{Plain, Client, Handler, Stage, out, within, waiting, begin, step, begun, client_at}
+use Rattle.qs_plain_laws.specs.Plain.{Plain, Client, Handler, Stage, out, within, waiting, begin, step, begun_blocks, client_at}
 
 -- one step of each actor of a list, in this order
 abbrev pub plays : ProgramShape → List Actor → Plain → Plain
@@ -26,7 +26,7 @@ is_out (waiting next) = false
 
 -- between two blocks, with none to come
 abbrev pub is_done : ProgramShape → ℕ → Client → Bool
-is_done p c it = is_out it.stage && nat_eq (begun it) (blocks_of p c)
+is_done p c it = is_out it.stage && nat_eq (begun_blocks it) (blocks_of p c)
 
 abbrev pub all_done : ProgramShape → ℕ → List Client → Bool
 all_done p c [] = true
@@ -51,7 +51,7 @@ syncs_of it = waits it.stage + sum_by queries_in it.traces
 
 -- whether a client's block has ended
 abbrev pub has_ended : Client → ℕ → Bool
-has_ended it k = nat_lt (suc k) (begun it) || (nat_eq (suc k) (begun it) && is_out it.stage)
+has_ended it k = nat_lt (suc k) (begun_blocks it) || (nat_eq (suc k) (begun_blocks it) && is_out it.stage)
 
 abbrev pub ended_at : Plain → Ticket → Bool
 ended_at s t = has_ended (client_at s t.client) t.index

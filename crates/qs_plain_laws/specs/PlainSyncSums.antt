@@ -10,13 +10,13 @@ use Rattle.qs_played.specs.Schedule.{queries_in}
 use Rattle.qs_played.specs.declared.schedule.actor.Actor.{Actor}
 use Rattle.qs_played.specs.Played.{Played}
 use Rattle.qs_played.specs.SyncSums.{AreAll, AreListed, AreSent, counts_at, syncs_at}
-use Rattle.qs_plain_laws.specs.Plain.{begin, begun, client_at}
+use Rattle.qs_plain_laws.specs.Plain.{begin, begun_blocks, client_at}
 use Rattle.qs_plain_laws.specs.PlainSchedule.{played_of, plays, waits}
 use Rattle.qs_plain_laws.specs.Plain as rules
 
 -- under the plain rules: 1 where a ticket's client waits in its block for an answer
 abbrev pub waiting : rules.Plain → Ticket → ℕ
-waiting s t = if suc t.index == begun (client_at s t.client) then waits (client_at s t.client).stage else 0
+waiting s t = if suc t.index == begun_blocks (client_at s t.client) then waits (client_at s t.client).stage else 0
 
 -- The i-th reservation under the plain rules: it has asked for each query of its trace so far once, and for one more exactly while its
 -- client waits in it.

@@ -10,18 +10,18 @@ use Rattle.qs_played.specs.ExampleRuns.{answers, holding, in_transfer}
 use Rattle.qs_played.specs.declared.schedule.actor.Actor.TheVariants as actor
 use Rattle.qs_plain_laws.specs.PlainSchedule.{played_of, scheduled}
 
-abbrev pub shown : ProgramShape → List Actor → ℕ → Played
-shown p picks rounds = played_of p (scheduled p picks rounds)
+abbrev pub shown_by_schedule : ProgramShape → List Actor → ℕ → Played
+shown_by_schedule p picks rounds = played_of p (scheduled p picks rounds)
 
 -- after a schedule a program has these tickets, replies, states, syncs, and this end
 pub record Plays (p : ProgramShape) (picks : List Actor) (rounds : ℕ) (order : List Ticket) (ended : List Bool) (replies : List (List (Option ℤ)))
     (states : List State) (syncs : ℕ) (finished : Bool) : Type 0 where
-  pub order_is : (shown p picks rounds).order ≡ order
-  pub ended_is : (shown p picks rounds).ended ≡ ended
-  pub replies_are : answers (shown p picks rounds) ≡ replies
-  pub states_are : (shown p picks rounds).states ≡ states
-  pub syncs_are : (shown p picks rounds).syncs ≡ syncs
-  pub finished_is : (shown p picks rounds).finished ≡ finished
+  pub order_is : (shown_by_schedule p picks rounds).order ≡ order
+  pub ended_is : (shown_by_schedule p picks rounds).ended ≡ ended
+  pub replies_are : answers (shown_by_schedule p picks rounds) ≡ replies
+  pub states_are : (shown_by_schedule p picks rounds).states ≡ states
+  pub syncs_are : (shown_by_schedule p picks rounds).syncs ≡ syncs
+  pub finished_is : (shown_by_schedule p picks rounds).finished ≡ finished
 
 pub record PlayExamples : Type 0 where
   -- the deposit and the query, cut at each number of rounds

@@ -6,28 +6,28 @@ use Rattle.std.proofs.Common.{◌≡◌, ◌<◌, ℕ, zero, suc, true, List, []
 use Rattle.std.proofs.lemmas.List.Elements.{filter-append}
 use Rattle.std.specs.List.{AllByRecursion, AllZip}
 use Rattle.qs_objects.specs.Act.{State}
-use Rattle.qs_objects.specs.Journals.{replay, unstamped, IsHonest}
+use Rattle.qs_objects.specs.Journals.{replay, without_tickets, IsHonest}
 use Rattle.qs_objects.specs.Operations.{is_query}
-use Rattle.qs_objects.specs.Parts.{HasEntry, before, entries_of, logged, part}
+use Rattle.qs_objects.specs.Parts.{HasEntry, before, entries_of, command_event, part}
 use Rattle.qs_objects.specs.declared.held.Entry.{Entry}
 use Rattle.qs_objects.specs.declared.held.Event.{Event}
 use Rattle.qs_objects.specs.declared.held.Ticket.{Ticket}
 use Rattle.qs_objects.specs.declared.Request.{Request}
 use Rattle.qs_objects.proofs.Elements.{AllByRecursion-get_or}
 use Rattle.qs_program.specs.Program.{ProgramShape, blocks_of}
-use Rattle.qs_meaning.specs.Serial.{IsLegal, serial, declared}
+use Rattle.qs_meaning.specs.Serial.{IsLegal, serial, declared_states}
 use Rattle.qs_program.specs.Sound.{IsSound}
 use Rattle.qs_meaning.proofs.Each.{each_map, zip_at}
-use Rattle.qs_meaning.proofs.Histories.{Among, Flow, InTurn, Line, NoQuery, OnlyCommands, PartIs, Through, Told, parts_of, told}
-use Rattle.qs_meaning.specs.BlockRecords.{Begins, IsDone, IsPage, Page}
+use Rattle.qs_meaning.proofs.Histories.{Among, Flow, InTurn, ObjectCourse, NoQuery, OnlyCommands, PartIs, Through, IsTicketByTicket, parts_of, told}
+use Rattle.qs_meaning.specs.BlockRecords.{Begins, IsDone, IsBlockRecord, BlockRecord}
 use Rattle.qs_meaning.proofs.SerialRuns.{Agrees, legal_apart, line, runs_serially}
-use Rattle.qs_played.specs.Isolation.{IsFitting, IsIsolated, IsLine, IsPlace, IsWhole, ended_of, entry_of, journal_of, no_place, place_of, queries_of, state_of, ticket_at, trace_of}
+use Rattle.qs_played.specs.Isolation.{IsFitting, IsIsolated, IsIsolatedObject, IsIsolatedBlock, IsWhole, ended_of, entry_of, journal_of, no_block, serial_block, queries_of, state_of, ticket_at, trace_of}
 use Rattle.qs_played.specs.Played.{ticket}
 use Rattle.qs_played.specs.Played.{Played}
 use Rattle.qs_played.proofs.Orders.{among_once}
 
 -- where a later ticket has an entry, an earlier one is through
-turns_at : (x : Line) (j : List Entry) (ts : List Ticket) (i k : ℕ) (d : Ticket) → InTurn x j ts → i < k → k < length ts → HasEntry (get_or ts k d) j → Through x (get_or ts i d)
+turns_at : (x : ObjectCourse) (j : List Entry) (ts : List Ticket) (i k : ℕ) (d : Ticket) → InTurn x j ts → i < k → k < length ts → HasEntry (get_or ts k d) j → Through x (get_or ts i d)
 turns_at x j [] i k d turns less inside h = absurd (omega (arith, inside))
 turns_at x j (t ∷ ts) i zero d turns less inside h = absurd (omega (arith, less))
 turns_at x j (t ∷ ts) zero (suc k) d turns less inside h = turns.0 (get_or ts k d) (among_at ts k (omega (arith, inside))) h
@@ -38,21 +38,21 @@ turns_at x j (t ∷ ts) zero (suc k) d turns less inside h = turns.0 (get_or ts 
     among_at (u ∷ us) (suc k) inside = inr (among_at us k (omega (arith, inside)))
 turns_at x j (t ∷ ts) (suc i) (suc k) d turns less inside h = turns_at x j ts i k d turns.1 (omega (arith, less)) (omega (arith, inside)) h
 
-commands_have_no_reply : (ws : List Request) → AllByRecursion NoQuery ws → queries_of (map logged ws) ≡ []
+commands_have_no_reply : (ws : List Request) → AllByRecursion NoQuery ws → queries_of (map command_event ws) ≡ []
 commands_have_no_reply [] n = refl
 commands_have_no_reply (r ∷ ws) n = rw n.0 (commands_have_no_reply ws n.1)
 
 -- The abstract run behind what is shown. An object is busy while a reservation on it is still being served.
-pub record IsRun (p : ProgramShape) (sound : IsSound p) (r : Played) (page : Ticket → Page) (waits : ℕ → Ticket → List Request) (state : ℕ → State) (busy : ℕ → Type 0) (journal : ℕ → List Entry) : Type 0 where
+pub record IsRun (p : ProgramShape) (sound : IsSound p) (r : Played) (page : Ticket → BlockRecord) (waits : ℕ → Ticket → List Request) (state : ℕ → State) (busy : ℕ → Type 0) (journal : ℕ → List Entry) : Type 0 where
   -- what is shown is as long as the order and the program
   pub fits : IsFitting p r
   -- the order is legal, each page is one of its ticket's block, begins where the client's block before it has ended, and flows
   pub legal : IsLegal p r.order
-  pub pages : AllByRecursion (λ t. IsPage p t (page t)) r.order
+  pub pages : AllByRecursion (λ t. IsBlockRecord p t (page t)) r.order
   pub begins : AllByRecursion (λ t. Begins page t.client t.index (page t).entry) r.order
-  pub flows : (h : ℕ) → Flow (line p sound page waits state busy journal h) (declared p h) (journal h) r.order
-  pub honest : (h : ℕ) → h < length p.objects → IsHonest (declared p h) (unstamped (journal h))
-  pub replayed : (h : ℕ) → h < length p.objects → replay (declared p h) (unstamped (journal h)) ≡ state h
+  pub flows : (h : ℕ) → Flow (line p sound page waits state busy journal h) (declared_states p h) (journal h) r.order
+  pub honest : (h : ℕ) → h < length p.objects → IsHonest (declared_states p h) (without_tickets (journal h))
+  pub replayed : (h : ℕ) → h < length p.objects → replay (declared_states p h) (without_tickets (journal h)) ≡ state h
   -- what is shown of each reservation and of each object
   pub entry : (i : ℕ) → i < length r.order → entry_of r i ≡ (page (ticket_at r i)).entry
   pub trace : (i : ℕ) → i < length r.order → trace_of r i ≡ (page (ticket_at r i)).trace
@@ -64,30 +64,30 @@ pub record IsRun (p : ProgramShape) (sound : IsSound p) (r : Played) (page : Tic
   pub all : r.finished ≡ true → (t : Ticket) → t.index < blocks_of p t.client → Among t r.order
   pub idle : r.finished ≡ true → (h : ℕ) → h < length p.objects → busy h → ⊥
 
-module _ (p : ProgramShape) (sound : IsSound p) (r : Played) (page : Ticket → Page) (waits : ℕ → Ticket → List Request) (state : ℕ → State) (busy : ℕ → Type 0) (journal : ℕ → List Entry)
+module _ (p : ProgramShape) (sound : IsSound p) (r : Played) (page : Ticket → BlockRecord) (waits : ℕ → Ticket → List Request) (state : ℕ → State) (busy : ℕ → Type 0) (journal : ℕ → List Entry)
     (run : IsRun p sound r page waits state busy journal) where
-  abbrev x : ℕ → Line
+  abbrev x : ℕ → ObjectCourse
   x = line p sound page waits state busy journal
 
   serially : AllZip (Agrees p journal page) r.order (serial p r.order).places × ((h : ℕ) → (busy h → ⊥) → (serial p r.order).states h ≡ state h)
   serially = runs_serially p sound page waits state busy journal r.order run.legal run.pages run.begins run.flows
 
-  told_at : (h : ℕ) → Told (x h) (journal h) r.order
-  told_at h = told (x h) (declared p h) (journal h) r.order (legal_apart p (λ _. 0) r.order run.legal) (run.flows h)
+  told_at : (h : ℕ) → IsTicketByTicket (x h) (journal h) r.order
+  told_at h = told (x h) (declared_states p h) (journal h) r.order (legal_apart p (λ _. 0) r.order run.legal) (run.flows h)
 
   module _ (i : ℕ) (inside : i < length r.order) where
     abbrev t : Ticket
     t = ticket_at r i
 
-    agrees : Agrees p journal page t (place_of p r i)
-    agrees = zip_at (Agrees p journal page) r.order (serial p r.order).places i (ticket 0 0) no_place serially.0 inside
+    agrees : Agrees p journal page t (serial_block p r i)
+    agrees = zip_at (Agrees p journal page) r.order (serial p r.order).places i (ticket 0 0) no_block serially.0 inside
 
-    starts : (h : ℕ) → HasEntry t (journal_of r h) → replay (declared p h) (unstamped (before t (journal_of r h))) ≡ (place_of p r i).starts h
+    starts : (h : ℕ) → HasEntry t (journal_of r h) → replay (declared_states p h) (without_tickets (before t (journal_of r h))) ≡ (serial_block p r i).starts h
     starts h has =
         let is = run.written h t has in
-        ap (λ j. replay (declared p h) (unstamped (before t j))) is ∙ agrees.starts h (subst (HasEntry t) is has)
+        ap (λ j. replay (declared_states p h) (without_tickets (before t j))) is ∙ agrees.starts h (subst (HasEntry t) is has)
 
-    is_place : IsPlace p r i
+    is_place : IsIsolatedBlock p r i
     is_place = record {
       entry = run.entry i inside ∙ agrees.entry;
       front = (agrees.front.0, ap (λ es. es ++ agrees.front.0) (run.trace i inside) ∙ agrees.front.1);
@@ -99,24 +99,24 @@ module _ (p : ProgramShape) (sound : IsSound p) (r : Played) (page : Ticket → 
     part_is h = AllByRecursion-get_or (PartIs (x h) (journal h)) r.order i (ticket 0 0) (told_at h).parts inside
 
     module _ (h : ℕ) (own : h < length p.objects) where
-      shown_part : part h (trace_of r i) ≡ unstamped (entries_of t (journal_of r h)) ++ map logged (waits h t)
+      shown_part : part h (trace_of r i) ≡ without_tickets (entries_of t (journal_of r h)) ++ map command_event (waits h t)
       shown_part =
           ap (part h) (run.trace i inside)
-          ∙ (part_is h ∙ ap (λ j. unstamped (entries_of t j) ++ map logged (waits h t)) (sym (run.journals h own)))
+          ∙ (part_is h ∙ ap (λ j. without_tickets (entries_of t j) ++ map command_event (waits h t)) (sym (run.journals h own)))
 
-      shown_queries : AllByRecursion NoQuery (waits h t) → queries_of (part h (trace_of r i)) ≡ queries_of (unstamped (entries_of t (journal_of r h)))
+      shown_queries : AllByRecursion NoQuery (waits h t) → queries_of (part h (trace_of r i)) ≡ queries_of (without_tickets (entries_of t (journal_of r h)))
       shown_queries commands =
           ap queries_of shown_part
-          ∙ (filter-append (λ (e : Event). is_query e.request.op) (unstamped (entries_of t (journal_of r h))) (map logged (waits h t))
-          ∙ (ap (λ es. queries_of (unstamped (entries_of t (journal_of r h))) ++ es) (commands_have_no_reply (waits h t) commands) ∙ append-nil (queries_of (unstamped (entries_of t (journal_of r h))))))
+          ∙ (filter-append (λ (e : Event). is_query e.request.op) (without_tickets (entries_of t (journal_of r h))) (map command_event (waits h t))
+          ∙ (ap (λ es. queries_of (without_tickets (entries_of t (journal_of r h))) ++ es) (commands_have_no_reply (waits h t) commands) ∙ append-nil (queries_of (without_tickets (entries_of t (journal_of r h))))))
 
       -- where a later reservation has an entry
-      through : (m : ℕ) → i < m → m < length r.order → HasEntry (ticket_at r m) (journal_of r h) → unstamped (entries_of t (journal_of r h)) ≡ part h (place_of p r i).trace
+      through : (m : ℕ) → i < m → m < length r.order → HasEntry (ticket_at r m) (journal_of r h) → without_tickets (entries_of t (journal_of r h)) ≡ part h (serial_block p r i).trace
       through m less long has =
           let over = turns_at (x h) (journal h) r.order i m (ticket 0 0) (told_at h).turns less long (subst (HasEntry (ticket_at r m)) (run.journals h own) has) in
-          let whole : parts_of page h t ≡ unstamped (entries_of t (journal h)) =
-          part_is h ∙ (ap (λ ws. unstamped (entries_of t (journal h)) ++ map logged ws) over.1 ∙ append-nil (unstamped (entries_of t (journal h)))) in
-          ap (λ j. unstamped (entries_of t j)) (run.journals h own) ∙ (sym whole ∙ sym (agrees.through h over.0))
+          let whole : parts_of page h t ≡ without_tickets (entries_of t (journal h)) =
+          part_is h ∙ (ap (λ ws. without_tickets (entries_of t (journal h)) ++ map command_event ws) over.1 ∙ append-nil (without_tickets (entries_of t (journal h)))) in
+          ap (λ j. without_tickets (entries_of t j)) (run.journals h own) ∙ (sym whole ∙ sym (agrees.through h over.0))
 
   -- what is on the way are commands
   waiting_commands : (h : ℕ) (j : List Entry) (o : State) (ts : List Ticket) → Flow (x h) o j ts → AllByRecursion (λ t. AllByRecursion NoQuery (waits h t)) ts
@@ -124,16 +124,16 @@ module _ (p : ProgramShape) (sound : IsSound p) (r : Played) (page : Ticket → 
   waiting_commands h j o (t ∷ ts) (q, inl f) = (q.commands, waiting_commands h q.later (replay o q.ran) ts f.2)
   waiting_commands h j o (t ∷ ts) (q, inr f) = (q.commands, each_map (λ u (c : OnlyCommands (parts_of page h u) (waits h u)). c.1) ts f.2)
 
-  is_line : (h : ℕ) → h < length p.objects → IsLine p r waits h
+  is_line : (h : ℕ) → h < length p.objects → IsIsolatedObject p r waits h
   is_line h own = record {
-    honest = subst (λ j. IsHonest (declared p h) (unstamped j)) (sym (run.journals h own)) (run.honest h own);
-    replayed = ap (λ j. replay (declared p h) (unstamped j)) (run.journals h own) ∙ (run.replayed h own ∙ sym (run.states h own));
+    honest = subst (λ j. IsHonest (declared_states p h) (without_tickets j)) (sym (run.journals h own)) (run.honest h own);
+    replayed = ap (λ j. replay (declared_states p h) (without_tickets j)) (run.journals h own) ∙ (run.replayed h own ∙ sym (run.states h own));
     order = subst (λ j. j ≡ flat_map (λ t. entries_of t j) r.order) (sym (run.journals h own)) (told_at h).order;
     turns = λ i m less long has. through i (omega (arith, less, long)) h own m less long has;
     parts = λ i inside. shown_part i inside h own;
     queries = λ i inside.
         shown_queries i inside h own
-        (AllByRecursion-get_or (λ t. AllByRecursion NoQuery (waits h t)) r.order i (ticket 0 0) (waiting_commands h (journal h) (declared p h) r.order (run.flows h)) inside);
+        (AllByRecursion-get_or (λ t. AllByRecursion NoQuery (waits h t)) r.order i (ticket 0 0) (waiting_commands h (journal h) (declared_states p h) r.order (run.flows h)) inside);
   }
 
   is_whole : r.finished ≡ true → IsWhole p r

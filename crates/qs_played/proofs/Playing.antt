@@ -3,7 +3,7 @@
 use Rattle.std.proofs.Common.{◌≡◌, ℕ, ◌+◌, List, [], ◌∷◌, ◌++◌, Option, map, refl, ap, sym, ◌∙◌, add-one, zero-add, append_assoc}
 use Rattle.std.specs.List.{range_with_len}
 use Rattle.qs_program.specs.Program.{ProgramShape}
-use Rattle.qs_played.specs.Schedule.{actors_of, or_stay, plays_by, repeated, schedule}
+use Rattle.qs_played.specs.Schedule.{actors_of, or_stay, plays_by, rounds_of, schedule}
 use Rattle.qs_played.specs.declared.schedule.actor.Actor.{Actor}
 use Rattle.qs_played.proofs.Lists.{range_more}
 
@@ -19,7 +19,7 @@ row_more actors f n =
 
 -- one round more
 pub round_more : (p : ProgramShape) (picks : List Actor) (n : ℕ) → schedule p picks (n + 1) ≡ schedule p picks n ++ actors_of p
-round_more p picks n = ap (schedule p picks) (add-one n) ∙ sym (append_assoc picks (repeated n (actors_of p)) (actors_of p))
+round_more p picks n = ap (schedule p picks) (add-one n) ∙ sym (append_assoc picks (rounds_of n (actors_of p)) (actors_of p))
 
 -- one list after another
 pub plays_by-append : {S : Type 0} (step : S → Actor → Option S) (xs ys : List Actor) (s : S) → plays_by step (xs ++ ys) s ≡ plays_by step ys (plays_by step xs s)

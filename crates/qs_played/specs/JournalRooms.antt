@@ -2,7 +2,7 @@
 use Rattle.std.specs.Prelude.{[], ℕ, length, sum_by}
 use Rattle.std.specs.List.{range_with_len}
 use Rattle.qs_objects.specs.Journals.{HeldState}
-use Rattle.qs_meaning.specs.Serial.{declared}
+use Rattle.qs_meaning.specs.Serial.{declared_states}
 use Rattle.qs_program.specs.Loads.{load_of}
 use Rattle.qs_program.specs.Program.{ProgramShape, block_at, blocks_of}
 
@@ -15,4 +15,4 @@ room_of p h = sum_by (λ c. room_in p c h) (range_with_len 0 (length p.clients))
 
 -- an object as declared, with an empty journal
 abbrev pub fresh_held : ProgramShape → ℕ → HeldState
-fresh_held p h = record { object = declared p h; journal = []; room = room_of p h }
+fresh_held p h = record { object = declared_states p h; journal = []; room = room_of p h }

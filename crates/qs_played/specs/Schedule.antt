@@ -14,13 +14,13 @@ use Rattle.qs_played.specs.declared.schedule.actor.Actor.TheVariants as actor
 abbrev pub actors_of : ProgramShape → List Actor
 actors_of p = map actor.Client (range_with_len 0 (length p.clients)) ++ map actor.Handler (range_with_len 0 (length p.objects))
 
-abbrev pub repeated : ℕ → List Actor → List Actor
-repeated zero turn = []
-repeated (suc n) turn = repeated n turn ++ turn
+abbrev pub rounds_of : ℕ → List Actor → List Actor
+rounds_of zero turn = []
+rounds_of (suc n) turn = rounds_of n turn ++ turn
 
 -- the picks, and then so many rounds
 abbrev pub schedule : ProgramShape → List Actor → ℕ → List Actor
-schedule p picks rounds = picks ++ repeated rounds (actors_of p)
+schedule p picks rounds = picks ++ rounds_of rounds (actors_of p)
 
 abbrev pub names_actor : ProgramShape → Actor → Bool
 names_actor p (actor.Client c) = nat_lt c (length p.clients)

@@ -2,10 +2,10 @@
 use Rattle.std.proofs.Common.{◌≡◌, ◌≤◌, ◌<◌, ℕ, zero, suc, List, [], ◌∷◌, ◌++◌, length, get_or, refl, ap, arith}
 use Rattle.qs_program.specs.declared.code.Stmt.{Stmt}
 use Rattle.qs_program.specs.declared.code.Stmt.TheVariants.{Command, Query, Assign, If, Repeat, Leave}
-use Rattle.qs_program.specs.Statements.{command, query, assign, choose, again, leave, joined}
+use Rattle.qs_program.specs.Statements.{command, query, assign, choose, again, leave, join_statements}
 use Rattle.qs_program.specs.Views.{statements_of, single, size_of}
 
-pub statements_of-append : (xs : List Stmt) (s : Stmt) → statements_of (xs ++ s ∷ []) ≡ joined (statements_of xs) (single s)
+pub statements_of-append : (xs : List Stmt) (s : Stmt) → statements_of (xs ++ s ∷ []) ≡ join_statements (statements_of xs) (single s)
 statements_of-append [] s = refl
 statements_of-append (Command c ∷ xs) s = ap (command c) (statements_of-append xs s)
 statements_of-append (Query x c ∷ xs) s = ap (query x c) (statements_of-append xs s)

@@ -13,8 +13,8 @@ abbrev pub is_among : List Name → Name → Bool
 is_among names n = list_any (same_name n) names
 
 -- the names with one more, if it is not among them
-abbrev pub named : List Name → Name → List Name
-named names n = if list_any (same_name n) names then names else names ++ n ∷ []
+abbrev pub with_name : List Name → Name → List Name
+with_name names n = if list_any (same_name n) names then names else names ++ n ∷ []
 
 -- the number of a name: its place, or the next number
 abbrev pub number_of : List Name → Name → ℕ

@@ -14,11 +14,11 @@ pub data Statements : Type 0 where
   leave : (rest : Statements) → Statements
 
 -- one list after another
-abbrev pub joined : Statements → Statements → Statements
-joined end ys = ys
-joined (command c xs) ys = command c (joined xs ys)
-joined (query x c xs) ys = query x c (joined xs ys)
-joined (assign x e xs) ys = assign x e (joined xs ys)
-joined (choose t b first other xs) ys = choose t b first other (joined xs ys)
-joined (again n body xs) ys = again n body (joined xs ys)
-joined (leave xs) ys = leave (joined xs ys)
+abbrev pub join_statements : Statements → Statements → Statements
+join_statements end ys = ys
+join_statements (command c xs) ys = command c (join_statements xs ys)
+join_statements (query x c xs) ys = query x c (join_statements xs ys)
+join_statements (assign x e xs) ys = assign x e (join_statements xs ys)
+join_statements (choose t b first other xs) ys = choose t b first other (join_statements xs ys)
+join_statements (again n body xs) ys = again n body (join_statements xs ys)
+join_statements (leave xs) ys = leave (join_statements xs ys)

@@ -1,6 +1,6 @@
 -- What expressions, tests and requests are worth, by the client's variables.
 use Rattle.std.specs.Prelude.{Bool, not, ◌||◌, List, map, slice_index_or, ℤ, pos, ◌+ℤ◌, ◌-ℤ◌, ◌*ℤ◌, int_lt}
-use Rattle.qs_objects.specs.Act.{clamped}
+use Rattle.qs_objects.specs.Act.{clamp_to_word}
 use Rattle.qs_objects.specs.declared.Request.{Request}
 use Rattle.qs_script.specs.declared.tree.Operator.{Operator}
 use Rattle.qs_script.specs.declared.tree.Operator.TheVariants.{Plus, Minus, Times}
@@ -29,7 +29,7 @@ exact Times a b = a *ℤ b
 -- exact, then clamped to 64 bits
 abbrev pub expr_value : Locals → Expr → ℤ
 expr_value l (Plain a) = atom_value l a
-expr_value l (Binary a op b) = clamped (exact op (atom_value l a) (atom_value l b))
+expr_value l (Binary a op b) = clamp_to_word (exact op (atom_value l a) (atom_value l b))
 
 abbrev pub relates : Relation → ℤ → ℤ → Bool
 relates Equal a b = not (int_lt a b || int_lt b a)

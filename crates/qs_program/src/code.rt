@@ -5,7 +5,7 @@ ghost use Rattle.qs_script.specs.Limits.{most_levels};
 ghost use Rattle.qs_program.specs.Limits.{most_requests, most_steps};
 ghost use Rattle.qs_program.specs.Loads.{load_of, weight_of};
 ghost use Rattle.qs_program.specs.Sound.{levels_of};
-ghost use Rattle.qs_program.specs.Statements.{end, joined};
+ghost use Rattle.qs_program.specs.Statements.{end, join_statements};
 ghost use Rattle.qs_program.specs.Views.{single, statements_of};
 
 use qs_objects::Op;
@@ -149,7 +149,7 @@ impl Body {
     /// Adds a statement at the end, which stands inside at most eight others. An error means out of memory, and leaves the list as it was.
     pub fn push(&mut self, stmt: Stmt) -> Result<(), AllocError>
         requires shallow { levels_of (single stmt) ≤ most_levels }
-        ensures ok { OnOk result (self.new ≡ joined self.old (single stmt)) }
+        ensures ok { OnOk result (self.new ≡ join_statements self.old (single stmt)) }
         ensures kept { OnErr result (self.new ≡ self.old) }
     {
         self.stmts.push(stmt)?;

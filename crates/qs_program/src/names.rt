@@ -1,7 +1,7 @@
 //! Names, numbered in the order of their first appearance.
 
 ghost use Rattle.std.specs.Prelude.{◌≡◌, [], OnOk, OnErr, IfOk, length, slice_get, option_copied};
-ghost use Rattle.qs_program.specs.Numbering.{named, number_of, found_at, is_among};
+ghost use Rattle.qs_program.specs.Numbering.{with_name, number_of, found_at, is_among};
 
 use indexmap::IndexSet;
 use qs_script::Name;
@@ -39,7 +39,7 @@ impl Names {
 
     /// The number of a name, which is added at the end if it is new. An error leaves the names as they were.
     pub fn number(&mut self, name: Name) -> Result<usize, AllocError>
-        ensures names { OnOk result (self.new ≡ named self.old name) }
+        ensures names { OnOk result (self.new ≡ with_name self.old name) }
         ensures number { IfOk result (λ i. i ≡ number_of self.old name) }
         ensures err { OnErr result (self.new ≡ self.old) }
     {

@@ -2,7 +2,7 @@
 
 ghost use Rattle.std.specs.Prelude.{◌≡◌, ◌≤◌, ◌++◌, length, map, take};
 ghost use Rattle.qs_program.specs.Values.{atom_value, exact, expr_value, relates as holds, test_value, request_of};
-ghost use Rattle.qs_objects.specs.Act.{clamped};
+ghost use Rattle.qs_objects.specs.Act.{clamp_to_word};
 
 use crate::code::{Atom, Call, Expr, Test};
 use crate::limits::MOST_VARIABLES;
@@ -40,7 +40,7 @@ impl Expr {
 }
 
 fn combined(operator: Operator, left: i64, right: i64) -> i64
-    ensures value { result ≡ clamped (exact operator left right) }
+    ensures value { result ≡ clamp_to_word (exact operator left right) }
 {
     match operator {
         Operator::Plus => left.saturating_add(right),

@@ -1,6 +1,6 @@
 -- What an act of a client says of its object, and that no block begins by it.
 use Rattle.std.proofs.Common.{◌≡◌, ℕ, nat_lt, Bool, true, false, if◌then◌else◌, ◌==◌, ◌&&◌, is_some, List, [], ◌∷◌, ◌++◌, length, refl, sym, ap, ◌∙◌, subst, Option, Some, None, ℤ}
-use Rattle.qs_objects.specs.Journals.{HeldState, ran}
+use Rattle.qs_objects.specs.Journals.{HeldState, run_one}
 use Rattle.qs_objects.specs.declared.held.Ticket.{Ticket}
 use Rattle.qs_objects.specs.declared.Request.{Request}
 use Rattle.qs_objects.proofs.Choices.{eqb_self}
@@ -9,13 +9,13 @@ use Rattle.qs_program.specs.Program.{ProgramShape}
 use Rattle.qs_meaning.specs.Solo.{put, value_of}
 use Rattle.qs_program.specs.Sound.{is_in}
 use Rattle.qs_program.specs.Values.{Locals}
-use Rattle.qs_meaning.specs.BlockRecords.{Page}
+use Rattle.qs_meaning.specs.BlockRecords.{BlockRecord}
 use Rattle.qs_graph.specs.Synced.{Synced, Done, Call, Sync, Query}
 use Rattle.qs_chunk.specs.LaneViews.{asks, gone}
 use Rattle.qs_chunk.specs.declared.parcel.Parcel.{Parcel}
 use Rattle.qs_chunk.specs.declared.parcel.Parcel.TheVariants as parcels
 use Rattle.qs_client_run.specs.declared.act.Act.TheVariants.{Reserve, Send, Await, NeedChunk, Finished}
-use Rattle.qs_client_run.specs.Client.{Client, ClientStage, Settings, between, runs, full, awaits, leaves, stop_at, act_at, act_of, leave, call, query, settle, after_home, after_work, after_sync, after_end, after_parcel, take_chunk}
+use Rattle.qs_client_run.specs.Client.{Client, ClientStage, Settings, between, runs, full, awaits, leaves, stop_at, act_at, act_of, end_block, call, query, settle, after_home, after_work, after_sync, after_end, after_parcel, take_chunk}
 use Rattle.qs_client_run.specs.Client as clients
 use Rattle.qs_protocol.proofs.ClientInvariants.{in_hand, PlaceOk, standing_at}
 use Rattle.qs_protocol.specs.ClientHistories.{apart_from}
@@ -40,7 +40,7 @@ not_need settings blocks m l h e a = outside_not_need (nat_lt m.begun blocks) h 
 
 module _ (program : ProgramShape) (t : Ticket) (snt : ℕ → List Parcel) (got : ℕ → List HeldState) (settings : Settings) (blocks : ℕ) where
   -- what is sent goes to a reserved object that isn't left yet
-  pub send_at : (m : Client) (pg : Page) (pl : ClientStage) → PlaceOk program t snt got m pg pl → (h : ℕ) (parcel : Parcel) → act_at settings blocks m pl ≡ Send h parcel → (reserves program t h ≡ true) × (standing_at program t m pl h ≡ gone → ⊥)
+  pub send_at : (m : Client) (pg : BlockRecord) (pl : ClientStage) → PlaceOk program t snt got m pg pl → (h : ℕ) (parcel : Parcel) → act_at settings blocks m pl ≡ Send h parcel → (reserves program t h ≡ true) × (standing_at program t m pl h ≡ gone → ⊥)
   send_at m pg (between l) k h parcel e = absurd (outside_not_send (nat_lt m.begun blocks) h parcel e)
   send_at m pg (runs (Done l)) k h parcel e = absurd k.1
   send_at m pg (runs (Call r next)) k h parcel e =
@@ -63,7 +63,7 @@ module _ (program : ProgramShape) (t : Ticket) (snt : ℕ → List Parcel) (got 
       )
 
   -- what is awaited was asked for
-  pub await_at : (m : Client) (pg : Page) (pl : ClientStage) → PlaceOk program t snt got m pg pl → (h : ℕ) → act_at settings blocks m pl ≡ Await h → (reserves program t h ≡ true) × (standing_at program t m pl h ≡ asks)
+  pub await_at : (m : Client) (pg : BlockRecord) (pl : ClientStage) → PlaceOk program t snt got m pg pl → (h : ℕ) → act_at settings blocks m pl ≡ Await h → (reserves program t h ≡ true) × (standing_at program t m pl h ≡ asks)
   await_at m pg (between l) k h e = absurd (outside_not_await (nat_lt m.begun blocks) h e)
   await_at m pg (runs (Done l)) k h e = absurd k.1
   await_at m pg (runs (Call r next)) k h e = absurd (call_not_await settings r.object (m.held r.object) (m.chunk r.object) h e)
@@ -76,7 +76,7 @@ module _ (program : ProgramShape) (t : Ticket) (snt : ℕ → List Parcel) (got 
   await_at m pg (leaves g hs l) k h e = absurd (clears_not_await settings g (m.held g) (m.chunk g) parcels.End h e)
 
   -- a chunk is taken of a reserved object's lane
-  pub need_at : (m : Client) (pg : Page) (pl : ClientStage) → PlaceOk program t snt got m pg pl → (h : ℕ) → act_at settings blocks m pl ≡ NeedChunk h → reserves program t h ≡ true
+  pub need_at : (m : Client) (pg : BlockRecord) (pl : ClientStage) → PlaceOk program t snt got m pg pl → (h : ℕ) → act_at settings blocks m pl ≡ NeedChunk h → reserves program t h ≡ true
   need_at m pg (between l) k h e = absurd (outside_not_need (nat_lt m.begun blocks) h e)
   need_at m pg (runs (Done l)) k h e = absurd k.1
   need_at m pg (runs (Call r next)) k h e = subst (λ h. reserves program t h ≡ true) (need_object settings r.object (m.held r.object) (m.chunk r.object) h e) k.0.on.0
@@ -87,7 +87,7 @@ module _ (program : ProgramShape) (t : Ticket) (snt : ℕ → List Parcel) (got 
   need_at m pg (leaves g hs l) k h e = absurd (clears_not_need settings g (m.held g) (m.chunk g) parcels.End h e)
 
   -- who reserves is between blocks
-  pub reserve_at : (m : Client) (pg : Page) (pl : ClientStage) → PlaceOk program t snt got m pg pl → act_at settings blocks m pl ≡ Reserve → (l : Locals) × (pl ≡ between l)
+  pub reserve_at : (m : Client) (pg : BlockRecord) (pl : ClientStage) → PlaceOk program t snt got m pg pl → act_at settings blocks m pl ≡ Reserve → (l : Locals) × (pl ≡ between l)
   reserve_at m pg (between l) k e = (l, refl)
   reserve_at m pg (runs (Done l)) k e = absurd k.1
   reserve_at m pg (runs (Call r next)) k e = absurd (call_not_reserve settings r.object (m.held r.object) (m.chunk r.object) e)
@@ -99,7 +99,7 @@ module _ (program : ProgramShape) (t : Ticket) (snt : ℕ → List Parcel) (got 
 
 -- what a client does to its own values begins no block
 module _ (settings : Settings) (t : Ticket) (names : List ℕ) where
-  leaving_begun : (m : Client) (hs : List ℕ) (l : Locals) → (leave settings t names m hs l).client.begun ≡ m.begun
+  leaving_begun : (m : Client) (hs : List ℕ) (l : Locals) → (end_block settings t names m hs l).client.begun ≡ m.begun
   leaving_begun m [] l = refl
   leaving_begun m (h ∷ hs) l = refl
 
@@ -115,7 +115,7 @@ module _ (settings : Settings) (t : Ticket) (names : List ℕ) where
 
   ask_begun : (m : Client) (r : Request) (next : ℤ → Synced) (hd : Option HeldState) → ((v : ℤ) (m : Client) → (settle settings t names (next v) m).client.begun ≡ m.begun)
       → (query settings t names m r next (λ v m. settle settings t names (next v) m) hd).client.begun ≡ m.begun
-  ask_begun m r next (Some x) ih = ih (value_of (ran x t r).1) (record m { held = put m.held r.object (Some (ran x t r).0) })
+  ask_begun m r next (Some x) ih = ih (value_of (run_one x t r).1) (record m { held = put m.held r.object (Some (run_one x t r).0) })
   ask_begun m r next None ih = refl
 
   sync_begun : (m : Client) (h : ℕ) (next : Synced) (b : Bool) → ((m : Client) → (settle settings t names next m).client.begun ≡ m.begun) → (if b then settle settings t names next m else stop_at m (runs (Sync h next))).client.begun ≡ m.begun

@@ -11,21 +11,21 @@ use Rattle.qs_program.specs.Program.{ProgramShape}
 use Rattle.qs_meaning.specs.Solo.{put}
 use Rattle.qs_program.specs.Sound.{is_in}
 use Rattle.qs_program.specs.Values.{Locals}
-use Rattle.qs_meaning.specs.BlockRecords.{Page}
+use Rattle.qs_meaning.specs.BlockRecords.{BlockRecord}
 use Rattle.qs_graph.specs.Synced.{Synced, Call, Sync}
 use Rattle.qs_syncset.specs.SoundSynced.{IsSoundSynced}
 use Rattle.qs_chunk.specs.Batch.{batch}
-use Rattle.qs_chunk.specs.LaneViews.{Standing, sends, asks, holds, gone, ClientLane}
+use Rattle.qs_chunk.specs.LaneViews.{ObjectStance, sends, asks, holds, gone, ClientLane}
 use Rattle.qs_chunk.specs.declared.parcel.Parcel.{Parcel}
 use Rattle.qs_chunk.specs.declared.parcel.Parcel.TheVariants as parcels
 use Rattle.qs_client_run.specs.Client.{Client, Settings, work}
 use Rattle.qs_played.proofs.FunctionUpdate.{put_all, put_both}
 use Rattle.qs_protocol.proofs.ClientInvariants.{in_hand, NotBoth, holding, Ready, Waiting, Leaving}
 use Rattle.qs_protocol.specs.ClientHistories.{apart_from}
-use Rattle.qs_protocol.proofs.LaneMoves.{Goes, lane_goes, goes_work, goes_sync, goes_got, goes_home, goes_end}
+use Rattle.qs_protocol.proofs.LaneMoves.{ContinuesLane, lane_goes, goes_work, goes_sync, goes_got, goes_home, goes_end}
 use Rattle.qs_protocol.proofs.SilentSteps.{sound_more}
 
-lane_act : (t : Ticket) (ps : List Parcel) (gs : List HeldState) (es : List Event) (s : Standing) (ps' : List Parcel) (s' : Standing) → ClientLane t false ps gs es s → Goes t s ps' [] [] s' → ClientLane t false (ps ++ ps') gs es s'
+lane_act : (t : Ticket) (ps : List Parcel) (gs : List HeldState) (es : List Event) (s : ObjectStance) (ps' : List Parcel) (s' : ObjectStance) → ClientLane t false ps gs es s → ContinuesLane t s ps' [] [] s' → ClientLane t false (ps ++ ps') gs es s'
 lane_act t ps gs es s ps' s' k g =
     subst (λ gs. ClientLane t false (ps ++ ps') gs es s') (append-nil gs) (subst (λ es. ClientLane t false (ps ++ ps') (gs ++ []) es s') (append-nil es) (lane_goes t false ps gs es s ps' [] [] s' k g))
 
@@ -45,7 +45,7 @@ module _ (program : ProgramShape) (t : Ticket) (sent : ℕ → List Parcel) (got
   no_held m h rs (inl a) e = a
   no_held m h rs (inr b) e = absurd (none_some (m.chunk h) rs b e)
 
-  pub home_ready : (m : Client) (pg : Page) (code : Synced) (h : ℕ) (x : HeldState) → m.held h ≡ Some x → IsSoundSynced (put (holding m) h false) code → Ready program t sent got m pg code
+  pub home_ready : (m : Client) (pg : BlockRecord) (code : Synced) (h : ℕ) (x : HeldState) → m.held h ≡ Some x → IsSoundSynced (put (holding m) h false) code → Ready program t sent got m pg code
       → Ready program t (put sent h (sent h ++ parcels.Home x ∷ [])) got (record m { held = put m.held h None }) pg code
   home_ready m pg code h x e s k =
       let c = no_chunk m h x (k.not_both h) e in
@@ -89,7 +89,7 @@ module _ (program : ProgramShape) (t : Ticket) (sent : ℕ → List Parcel) (got
           by_case true e = e
           by_case false e = e
 
-  pub work_ready : (settings : Settings) (m : Client) (pg : Page) (code : Synced) (h : ℕ) (rs : List Request) → m.chunk h ≡ Some rs → Ready program t sent got m pg code
+  pub work_ready : (settings : Settings) (m : Client) (pg : BlockRecord) (code : Synced) (h : ℕ) (rs : List Request) → m.chunk h ≡ Some rs → Ready program t sent got m pg code
       → Ready program t (put sent h (sent h ++ work settings rs ∷ [])) got (record m { chunk = put m.chunk h None }) pg code
   work_ready settings m pg code h rs e k =
       let n = no_held m h rs (k.not_both h) e in
@@ -106,7 +106,7 @@ module _ (program : ProgramShape) (t : Ticket) (sent : ℕ → List Parcel) (got
         on = k.on;
       }
 
-  pub sync_waits : (m : Client) (pg : Page) (h : ℕ) (next : Synced) → m.held h ≡ None → m.chunk h ≡ None → Ready program t sent got m pg (Sync h next)
+  pub sync_waits : (m : Client) (pg : BlockRecord) (h : ℕ) (next : Synced) → m.held h ≡ None → m.chunk h ≡ None → Ready program t sent got m pg (Sync h next)
       → Waiting program t (put sent h (sent h ++ parcels.Sync ∷ [])) got m pg h next
   sync_waits m pg h next n c k =
       let old = subst (ClientLane t false (sent h) (got h) (part h pg.trace)) (ap₂ in_hand n c) (k.lanes h) in
@@ -125,7 +125,7 @@ module _ (program : ProgramShape) (t : Ticket) (sent : ℕ → List Parcel) (got
         on = k.on.1;
       }
 
-  pub got_ready : (m : Client) (pg : Page) (h : ℕ) (code : Synced) (x : HeldState) → Waiting program t sent got m pg h code
+  pub got_ready : (m : Client) (pg : BlockRecord) (h : ℕ) (code : Synced) (x : HeldState) → Waiting program t sent got m pg h code
       → Ready program t sent (put got h (got h ++ x ∷ [])) (record m { held = put m.held h (Some x) }) pg code
   got_ready m pg h code x k =
       let old : ClientLane t false (sent h) (got h) (part h pg.trace) asks = rw (eqb_self h) at (k.lanes h) in
@@ -148,7 +148,7 @@ module _ (program : ProgramShape) (t : Ticket) (sent : ℕ → List Parcel) (got
           by_case true e = refl
           by_case false e = e
 
-  pub chunk_ready : (m : Client) (pg : Page) (code : Synced) (h : ℕ) → m.held h ≡ None → m.chunk h ≡ None → reserves program t h ≡ true → Ready program t sent got m pg code
+  pub chunk_ready : (m : Client) (pg : BlockRecord) (code : Synced) (h : ℕ) → m.held h ≡ None → m.chunk h ≡ None → reserves program t h ≡ true → Ready program t sent got m pg code
       → Ready program t sent got (record m { chunk = put m.chunk h (Some []) }) pg code
   chunk_ready m pg code h n c mh k = record {
     page = k.page;
@@ -163,7 +163,7 @@ module _ (program : ProgramShape) (t : Ticket) (sent : ℕ → List Parcel) (got
   }
 
   -- leaving an object: its end is sent
-  pub end_leaves : (m : Client) (pg : Page) (h : ℕ) (hs : List ℕ) (l : Locals) → m.held h ≡ None → m.chunk h ≡ None → Leaving program t sent got m pg (h ∷ hs) l
+  pub end_leaves : (m : Client) (pg : BlockRecord) (h : ℕ) (hs : List ℕ) (l : Locals) → m.held h ≡ None → m.chunk h ≡ None → Leaving program t sent got m pg (h ∷ hs) l
       → Leaving program t (put sent h (sent h ++ parcels.End ∷ [])) got m pg hs l
   end_leaves m pg h hs l n c k =
       let last = k.lined.0 in let mh = k.lined.1 in
@@ -183,7 +183,7 @@ module _ (program : ProgramShape) (t : Ticket) (sent : ℕ → List Parcel) (got
             (num_cases h g);
       }
 
-  pub home_leaves : (m : Client) (pg : Page) (h : ℕ) (hs : List ℕ) (l : Locals) (x : HeldState) → m.held h ≡ Some x → Leaving program t sent got m pg (h ∷ hs) l
+  pub home_leaves : (m : Client) (pg : BlockRecord) (h : ℕ) (hs : List ℕ) (l : Locals) (x : HeldState) → m.held h ≡ Some x → Leaving program t sent got m pg (h ∷ hs) l
       → Leaving program t (put sent h (sent h ++ parcels.Home x ∷ [])) got (record m { held = put m.held h None }) pg (h ∷ hs) l
   home_leaves m pg h hs l x e k =
       let c = no_chunk m h x (k.not_both h) e in
@@ -200,7 +200,7 @@ module _ (program : ProgramShape) (t : Ticket) (sent : ℕ → List Parcel) (got
         empty = put_all (λ g (o : Option HeldState). is_in (h ∷ hs) g ≡ false → (o ≡ None) × (m.chunk g ≡ None)) m.held h None (λ out. (refl, c)) (λ g other. k.empty g);
       }
 
-  pub work_leaves : (settings : Settings) (m : Client) (pg : Page) (h : ℕ) (hs : List ℕ) (l : Locals) (rs : List Request) → m.chunk h ≡ Some rs → Leaving program t sent got m pg (h ∷ hs) l
+  pub work_leaves : (settings : Settings) (m : Client) (pg : BlockRecord) (h : ℕ) (hs : List ℕ) (l : Locals) (rs : List Request) → m.chunk h ≡ Some rs → Leaving program t sent got m pg (h ∷ hs) l
       → Leaving program t (put sent h (sent h ++ work settings rs ∷ [])) got (record m { chunk = put m.chunk h None }) pg (h ∷ hs) l
   work_leaves settings m pg h hs l rs e k =
       let n = no_held m h rs (k.not_both h) e in

@@ -1,7 +1,7 @@
 -- What a client sent in its block so far, and what it will send still, counted by its tree.
 use Rattle.std.proofs.Common.{◌≡◌, ℕ, suc, ◌+◌, nat_lt, Bool, true, false, if◌then◌else◌, ◌==◌, ◌&&◌, is_some, List, [], ◌∷◌, ◌++◌, length, refl, sym, ap, ◌∙◌, subst, ⊎_elim, append_assoc, append-nil, Option, Some, None, ℤ, arith}
-use Rattle.qs_objects.specs.Journals.{HeldState, ran}
-use Rattle.qs_objects.specs.Parts.{logged}
+use Rattle.qs_objects.specs.Journals.{HeldState, run_one}
+use Rattle.qs_objects.specs.Parts.{command_event}
 use Rattle.qs_objects.specs.declared.held.Event.{Event}
 use Rattle.qs_objects.specs.declared.held.Ticket.{Ticket}
 use Rattle.qs_objects.specs.declared.Request.{Request}
@@ -14,7 +14,7 @@ use Rattle.qs_syncset.specs.SyncCounts.{syncs_along}
 use Rattle.qs_syncset.proofs.SyncTrees.{IsAsking, IsQueryOf}
 use Rattle.qs_chunk.specs.declared.parcel.Parcel.{Parcel}
 use Rattle.qs_chunk.specs.declared.parcel.Parcel.TheVariants as parcels
-use Rattle.qs_client_run.specs.Client.{Client, ClientStage, Settings, Settlement, act_at, act_of, between, runs, full, awaits, leaves, call_act, call, clear, take_object, leave, query, after_parcel, after_end, after_home, after_sync, after_work, settle, stop_at, take_chunk, with_event, work}
+use Rattle.qs_client_run.specs.Client.{Client, ClientStage, Settings, Settlement, act_at, act_of, between, runs, full, awaits, leaves, call_act, call, clear, take_object, end_block, query, after_parcel, after_end, after_home, after_sync, after_work, settle, stop_at, take_chunk, with_event, work}
 use Rattle.qs_client_run.specs.declared.act.Act.TheVariants.{Send, Finished}
 use Rattle.qs_protocol.proofs.ActKinds.{outside_not_send}
 use Rattle.qs_protocol.proofs.ClientInvariants.{holding}
@@ -61,7 +61,7 @@ module _ (settings : Settings) (t : Ticket) (names : List ℕ) (first : Synced) 
   counts_event : (tr : List Event) (n : ℕ → ℕ) (e : Event) (r : Settlement) → Counts (tr ++ e ∷ []) n r → Counts tr n (with_event e r)
   counts_event tr n e r k = subst (λ es. CountAt es n r.client r.client.stage) (append_assoc tr (e ∷ []) r.events) k
 
-  leaving_counts : (tr : List Event) (n : ℕ → ℕ) (m : Client) (hs : List ℕ) (l : Locals) → Over tr n → Counts tr n (leave settings t names m hs l)
+  leaving_counts : (tr : List Event) (n : ℕ → ℕ) (m : Client) (hs : List ℕ) (l : Locals) → Over tr n → Counts tr n (end_block settings t names m hs l)
   leaving_counts tr n m [] l k = counts_stay tr n m (between l) k
   leaving_counts tr n m (h ∷ hs) l k = counts_stay tr n m (leaves h hs l) k
 
@@ -111,18 +111,18 @@ module _ (settings : Settings) (t : Ticket) (names : List ℕ) (first : Synced) 
   call_counts tr n m r next (Some x) ck a q k ih = counts_stay tr n m (runs (Call r next)) (k, tt, q)
   call_counts tr n m r next None None a q k ih = counts_stay tr n m (runs (Call r next)) (k, tt, q)
   call_counts tr n m r next None (Some rs) a q k ih =
-      let more : Even (tr ++ logged r ∷ []) n (holding m) next =
-      even_event tr n (holding m) (holding m) (Call r next) next (logged r) (λ h es. ap (λ b. along h b next es) (put_false m.held r.object h a)) k in
-      by_case (length (rs ++ r ∷ []) == settings.size) more (ih (tr ++ logged r ∷ []) (record m { chunk = put m.chunk r.object (Some (rs ++ r ∷ [])) }) more)
+      let more : Even (tr ++ command_event r ∷ []) n (holding m) next =
+      even_event tr n (holding m) (holding m) (Call r next) next (command_event r) (λ h es. ap (λ b. along h b next es) (put_false m.held r.object h a)) k in
+      by_case (length (rs ++ r ∷ []) == settings.size) more (ih (tr ++ command_event r ∷ []) (record m { chunk = put m.chunk r.object (Some (rs ++ r ∷ [])) }) more)
     where
-      by_case : (x : Bool) → Even (tr ++ logged r ∷ []) n (holding m) next
-          → Counts (tr ++ logged r ∷ []) n (settle settings t names next (record m { chunk = put m.chunk r.object (Some (rs ++ r ∷ [])) }))
-          → Counts tr n (with_event (logged r) (if x then stop_at (record m { chunk = put m.chunk r.object (Some (rs ++ r ∷ [])) })
+      by_case : (x : Bool) → Even (tr ++ command_event r ∷ []) n (holding m) next
+          → Counts (tr ++ command_event r ∷ []) n (settle settings t names next (record m { chunk = put m.chunk r.object (Some (rs ++ r ∷ [])) }))
+          → Counts tr n (with_event (command_event r) (if x then stop_at (record m { chunk = put m.chunk r.object (Some (rs ++ r ∷ [])) })
           (full r.object next) else settle settings t names next (record m { chunk = put m.chunk r.object (Some (rs ++ r ∷ [])) })))
       by_case true more rest =
           let m' : Client = record m { chunk = put m.chunk r.object (Some (rs ++ r ∷ [])) } in
-          counts_event tr n (logged r) (stop_at m' (full r.object next)) (counts_stay (tr ++ logged r ∷ []) n m' (full r.object next) (more, q))
-      by_case false more rest = counts_event tr n (logged r)
+          counts_event tr n (command_event r) (stop_at m' (full r.object next)) (counts_stay (tr ++ command_event r ∷ []) n m' (full r.object next) (more, q))
+      by_case false more rest = counts_event tr n (command_event r)
           (settle settings t names next (record m { chunk = put m.chunk r.object (Some (rs ++ r ∷ [])) })) rest
 
   query_counts : (tr : List Event) (n : ℕ → ℕ) (m : Client) (r : Request) (next : ℤ → Synced) (hd : Option HeldState) → m.held r.object ≡ hd → IsAsking
@@ -132,7 +132,7 @@ module _ (settings : Settings) (t : Ticket) (names : List ℕ) (first : Synced) 
       → ((v : ℤ) (tr : List Event) (m : Client) → Even tr n (holding m) (next v) → Counts tr n (settle settings t names (next v) m))
       → Counts tr n (query settings t names m r next (λ v m. settle settings t names (next v) m) hd)
   query_counts tr n m r next (Some x) a q none k ih =
-      let o = ran x t r in
+      let o = run_one x t r in
       let v = value_of o.1 in
       let m' : Client = record m { held = put m.held r.object (Some o.0) } in
       counts_event tr n (event r o.1) (settle settings t names (next v) m')

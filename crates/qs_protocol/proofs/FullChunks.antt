@@ -2,20 +2,20 @@
 use Rattle.std.proofs.Common.{◌≡◌, ◌<◌, ◌≤◌, arith, ℕ, nat_lt, Bool, true, false, if◌then◌else◌, ◌==◌, ◌&&◌, is_some, List, [], ◌∷◌, ◌++◌, length, refl, sym}
 use Rattle.std.proofs.Common.{ap, ◌∙◌, Option, Some, None, ℤ}
 use Rattle.std.proofs.lemmas.Bool.Decides.{nat_tests}
-use Rattle.qs_objects.specs.Journals.{HeldState, ran}
+use Rattle.qs_objects.specs.Journals.{HeldState, run_one}
 use Rattle.qs_objects.specs.declared.held.Ticket.{Ticket}
 use Rattle.qs_objects.specs.declared.Request.{Request}
 use Rattle.qs_program.specs.Program.{ProgramShape}
 use Rattle.qs_program.specs.Values.{Locals}
 use Rattle.qs_meaning.specs.Solo.{put, value_of}
-use Rattle.qs_meaning.specs.BlockRecords.{Page}
+use Rattle.qs_meaning.specs.BlockRecords.{BlockRecord}
 use Rattle.qs_meaning.proofs.TreeWalks.{put_here}
 use Rattle.qs_graph.specs.Synced.{Synced, Done, Call, Sync, Query}
 use Rattle.qs_chunk.specs.declared.parcel.Parcel.{Parcel}
 use Rattle.qs_chunk.specs.declared.parcel.Parcel.TheVariants as parcels
 use Rattle.qs_client_run.specs.declared.act.Act.{Act}
 use Rattle.qs_client_run.specs.declared.act.Act.TheVariants.{Reserve, Send, Finished}
-use Rattle.qs_client_run.specs.Client.{Client, ClientStage, Settings, Settlement, between, runs, full, awaits, leaves, act_at, call_act, call, clear, leave}
+use Rattle.qs_client_run.specs.Client.{Client, ClientStage, Settings, Settlement, between, runs, full, awaits, leaves, act_at, call_act, call, clear, end_block}
 use Rattle.qs_client_run.specs.Client.{query, after_parcel, after_end, after_home, after_sync, after_work, settle, stop_at, take_chunk}
 use Rattle.qs_client_run.specs.Client as clients
 use Rattle.qs_protocol.proofs.ActObjects.{between_acts}
@@ -32,7 +32,7 @@ abbrev pub ComesFull : Settlement → Type 0
 ComesFull r = HasFull r.client r.client.stage
 
 module _ (settings : Settings) (t : Ticket) (names : List ℕ) where
-  leaving_full : (m : Client) (hs : List ℕ) (l : Locals) → ComesFull (leave settings t names m hs l)
+  leaving_full : (m : Client) (hs : List ℕ) (l : Locals) → ComesFull (end_block settings t names m hs l)
   leaving_full m [] l = tt
   leaving_full m (h ∷ hs) l = tt
 
@@ -49,7 +49,7 @@ module _ (settings : Settings) (t : Ticket) (names : List ℕ) where
 
   query_full : (m : Client) (r : Request) (next : ℤ → Synced) (hd : Option HeldState) → ((v : ℤ) (m : Client) → ComesFull (settle settings t names (next v) m))
       → ComesFull (query settings t names m r next (λ v m. settle settings t names (next v) m) hd)
-  query_full m r next (Some x) ih = ih (value_of (ran x t r).1) (record m { held = put m.held r.object (Some (ran x t r).0) })
+  query_full m r next (Some x) ih = ih (value_of (run_one x t r).1) (record m { held = put m.held r.object (Some (run_one x t r).0) })
   query_full m r next None ih = tt
 
   sync_full : (m : Client) (h : ℕ) (next : Synced) (b : Bool) → ((m : Client) → ComesFull (settle settings t names next m))
@@ -132,7 +132,7 @@ module _ (settings : Settings) where
 
 -- who asks for nothing more is between blocks
 pub finished_at : (program : ProgramShape) (t : Ticket) (snt : ℕ → List Parcel) (got : ℕ → List HeldState) (settings : Settings) (blocks : ℕ)
-    (m : Client) (pg : Page) (pl : ClientStage) → PlaceOk program t snt got m pg pl → HasFull m pl → act_at settings blocks m pl ≡ Finished
+    (m : Client) (pg : BlockRecord) (pl : ClientStage) → PlaceOk program t snt got m pg pl → HasFull m pl → act_at settings blocks m pl ≡ Finished
     → (l : Locals) × (pl ≡ between l)
 finished_at program t snt got settings blocks m pg (between l) k some e = (l, refl)
 finished_at program t snt got settings blocks m pg (runs (Done l)) k some e = absurd k.1

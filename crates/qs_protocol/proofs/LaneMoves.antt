@@ -1,9 +1,9 @@
 -- A lane seen from either end goes on by one move.
 use Rattle.std.proofs.Common.{◌≡◌, Bool, true, false, List, [], ◌∷◌, ◌++◌, map, refl, sym, ap, ap₂, ◌∙◌, subst, append_assoc}
 use Rattle.std.proofs.lemmas.List.{map-append}
-use Rattle.qs_objects.specs.Journals.{HeldState, ran}
+use Rattle.qs_objects.specs.Journals.{HeldState, run_one}
 use Rattle.qs_objects.specs.Laws.{IsCommand}
-use Rattle.qs_objects.specs.Parts.{logged}
+use Rattle.qs_objects.specs.Parts.{command_event}
 use Rattle.qs_objects.specs.declared.held.Event.{Event}
 use Rattle.qs_objects.specs.declared.held.Ticket.{Ticket}
 use Rattle.qs_objects.specs.declared.Request.{Request}
@@ -11,33 +11,33 @@ use Rattle.qs_meaning.specs.Solo.{event}
 use Rattle.qs_meaning.proofs.Each.{each_join}
 use Rattle.qs_chunk.specs.Batch.{Batch}
 use Rattle.qs_chunk.specs.Runs.{ran_all}
-use Rattle.qs_chunk.specs.LaneViews.{AllCommands, Extends, Standing, sends, asks, holds, gone, ClientLane, Serving, serves, gives, lent, over, HandlerLane}
+use Rattle.qs_chunk.specs.LaneViews.{AllCommands, Extends, ObjectStance, sends, asks, holds, gone, ClientLane, Serving, serves, gives, lent, over, HandlerLane}
 use Rattle.qs_chunk.specs.declared.parcel.Parcel.{Parcel}
 use Rattle.qs_chunk.proofs.LaneMatch.{Extends-append}
 use Rattle.qs_chunk.specs.declared.parcel.Parcel.TheVariants as parcels
 
 -- from how the client stands, these go on to another standing
-abbrev pub Goes : Ticket → Standing → List Parcel → List HeldState → List Event → Standing → Type 0
-Goes t (sends chunk) sent gots es s = AllCommands chunk → ClientLane t false sent gots (map logged chunk ++ es) s
-Goes t asks sent gots es s = ClientLane t true sent gots es s
-Goes t (holds x) sent gots es s = (g : HeldState) → (ds : List Event) → Extends t g ds x → ClientLane t true sent (g ∷ gots) (ds ++ es) s
-Goes t gone sent gots es s = (sent ≡ []) × (gots ≡ []) × (es ≡ []) × (s ≡ gone)
+abbrev pub ContinuesLane : Ticket → ObjectStance → List Parcel → List HeldState → List Event → ObjectStance → Type 0
+ContinuesLane t (sends chunk) sent gots es s = AllCommands chunk → ClientLane t false sent gots (map command_event chunk ++ es) s
+ContinuesLane t asks sent gots es s = ClientLane t true sent gots es s
+ContinuesLane t (holds x) sent gots es s = (g : HeldState) → (ds : List Event) → Extends t g ds x → ClientLane t true sent (g ∷ gots) (ds ++ es) s
+ContinuesLane t gone sent gots es s = (sent ≡ []) × (gots ≡ []) × (es ≡ []) × (s ≡ gone)
 
-pub lane_goes : (t : Ticket) (asked : Bool) (sent : List Parcel) (gots : List HeldState) (es : List Event) (s : Standing) (sent' : List Parcel) (gots' : List HeldState) (es' : List Event) (s' : Standing)
-    → ClientLane t asked sent gots es s → Goes t s sent' gots' es' s' → ClientLane t asked (sent ++ sent') (gots ++ gots') (es ++ es') s'
+pub lane_goes : (t : Ticket) (asked : Bool) (sent : List Parcel) (gots : List HeldState) (es : List Event) (s : ObjectStance) (sent' : List Parcel) (gots' : List HeldState) (es' : List Event) (s' : ObjectStance)
+    → ClientLane t asked sent gots es s → ContinuesLane t s sent' gots' es' s' → ClientLane t asked (sent ++ sent') (gots ++ gots') (es ++ es') s'
 lane_goes t false [] gots es s sent' gots' es' s' k g =
-    let g' : ClientLane t false sent' gots' (map logged k.0 ++ es') s' = (subst (λ s. Goes t s sent' gots' es' s') k.1 g) k.4 in
+    let g' : ClientLane t false sent' gots' (map command_event k.0 ++ es') s' = (subst (λ s. ContinuesLane t s sent' gots' es' s') k.1 g) k.4 in
     subst (λ gs. ClientLane t false sent' (gs ++ gots') (es ++ es') s') (sym k.2) (subst (λ es. ClientLane t false sent' gots' (es ++ es') s') (sym k.3) g')
 lane_goes t false (parcels.Work chunk ∷ sent) gots es s sent' gots' es' s' k g =
-    (k.0 ++ es', ap (λ xs. xs ++ es') k.1 ∙ append_assoc (map logged chunk.items) k.0 es', k.2, lane_goes t false sent gots k.0 s sent' gots' es' s' k.3 g)
+    (k.0 ++ es', ap (λ xs. xs ++ es') k.1 ∙ append_assoc (map command_event chunk.items) k.0 es', k.2, lane_goes t false sent gots k.0 s sent' gots' es' s' k.3 g)
 lane_goes t false (parcels.Sync ∷ sent) gots es s sent' gots' es' s' k g = lane_goes t true sent gots es s sent' gots' es' s' k g
 lane_goes t false (parcels.Home x ∷ sent) gots es s sent' gots' es' s' k g = absurd k
 lane_goes t false (parcels.End ∷ sent) gots es s sent' gots' es' s' k g =
-    let e = subst (λ s. Goes t s sent' gots' es' s') k.3 g in
+    let e = subst (λ s. ContinuesLane t s sent' gots' es' s') k.3 g in
     (ap₂ (λ a b. a ++ b) k.0 e.0, ap₂ (λ a b. a ++ b) k.1 e.1, ap₂ (λ a b. a ++ b) k.2 e.2, e.3)
-lane_goes t true [] [] es s sent' gots' es' s' k g = subst (λ es. ClientLane t true sent' gots' (es ++ es') s') (sym k.0) (subst (λ s. Goes t s sent' gots' es' s') k.1 g)
+lane_goes t true [] [] es s sent' gots' es' s' k g = subst (λ es. ClientLane t true sent' gots' (es ++ es') s') (sym k.0) (subst (λ s. ContinuesLane t s sent' gots' es' s') k.1 g)
 lane_goes t true [] (x ∷ gots) es s sent' gots' es' s' k g =
-    subst (λ gs. ClientLane t true sent' (x ∷ (gs ++ gots')) (es ++ es') s') (sym k.1) ((subst (λ s. Goes t s sent' gots' es' s') k.2 g) x es k.3)
+    subst (λ gs. ClientLane t true sent' (x ∷ (gs ++ gots')) (es ++ es') s') (sym k.1) ((subst (λ s. ContinuesLane t s sent' gots' es' s') k.2 g) x es k.3)
 lane_goes t true (parcels.Home x ∷ sent) gots es s sent' gots' es' s' k g =
     (k.0, k.1 ++ gots', k.2, k.3 ++ es', ap (λ gs. gs ++ gots') k.4, ap (λ es. es ++ es') k.5 ∙ append_assoc k.2 k.3 es', k.6, lane_goes t false sent k.1 k.3 s sent' gots' es' s' k.7 g)
 lane_goes t true (parcels.Work chunk ∷ sent) gots es s sent' gots' es' s' k g = absurd k
@@ -45,25 +45,25 @@ lane_goes t true (parcels.Sync ∷ sent) gots es s sent' gots' es' s' k g = absu
 lane_goes t true (parcels.End ∷ sent) gots es s sent' gots' es' s' k g = absurd k
 
 -- the seven moves of a client
-pub goes_put : (t : Ticket) (chunk : List Request) (r : Request) → IsCommand r.op → Goes t (sends chunk) [] [] (logged r ∷ []) (sends (chunk ++ r ∷ []))
-goes_put t chunk r c k = (chunk ++ r ∷ [], refl, refl, sym (map-append logged chunk (r ∷ [])), each_join (λ (r : Request). IsCommand r.op) chunk (r ∷ []) k (c, tt))
+pub goes_put : (t : Ticket) (chunk : List Request) (r : Request) → IsCommand r.op → ContinuesLane t (sends chunk) [] [] (command_event r ∷ []) (sends (chunk ++ r ∷ []))
+goes_put t chunk r c k = (chunk ++ r ∷ [], refl, refl, sym (map-append command_event chunk (r ∷ [])), each_join (λ (r : Request). IsCommand r.op) chunk (r ∷ []) k (c, tt))
 
-pub goes_work : (t : Ticket) (chunk : Batch Request) → Goes t (sends chunk.items) (parcels.Work chunk ∷ []) [] [] (sends [])
+pub goes_work : (t : Ticket) (chunk : Batch Request) → ContinuesLane t (sends chunk.items) (parcels.Work chunk ∷ []) [] [] (sends [])
 goes_work t chunk k = ([], refl, k, ([], refl, refl, refl, tt))
 
-pub goes_sync : (t : Ticket) → Goes t (sends []) (parcels.Sync ∷ []) [] [] asks
+pub goes_sync : (t : Ticket) → ContinuesLane t (sends []) (parcels.Sync ∷ []) [] [] asks
 goes_sync t k = (refl, refl)
 
-pub goes_got : (t : Ticket) (x : HeldState) → Goes t asks [] (x ∷ []) [] (holds x)
+pub goes_got : (t : Ticket) (x : HeldState) → ContinuesLane t asks [] (x ∷ []) [] (holds x)
 goes_got t x = (x, refl, refl, refl)
 
-pub goes_ask : (t : Ticket) (x : HeldState) (r : Request) → Goes t (holds x) [] [] (event r ((ran x t r).1) ∷ []) (holds ((ran x t r).0))
-goes_ask t x r g ds e = ((ran x t r).0, refl, refl, Extends-append t g x ((ran x t r).0) ds (event r ((ran x t r).1) ∷ []) e (refl, refl))
+pub goes_ask : (t : Ticket) (x : HeldState) (r : Request) → ContinuesLane t (holds x) [] [] (event r ((run_one x t r).1) ∷ []) (holds ((run_one x t r).0))
+goes_ask t x r g ds e = ((run_one x t r).0, refl, refl, Extends-append t g x ((run_one x t r).0) ds (event r ((run_one x t r).1) ∷ []) e (refl, refl))
 
-pub goes_home : (t : Ticket) (x : HeldState) → Goes t (holds x) (parcels.Home x ∷ []) [] [] (sends [])
+pub goes_home : (t : Ticket) (x : HeldState) → ContinuesLane t (holds x) (parcels.Home x ∷ []) [] [] (sends [])
 goes_home t x g ds e = (g, [], ds, [], refl, refl, e, ([], refl, refl, refl, tt))
 
-pub goes_end : (t : Ticket) → Goes t (sends []) (parcels.End ∷ []) [] [] gone
+pub goes_end : (t : Ticket) → ContinuesLane t (sends []) (parcels.End ∷ []) [] [] gone
 goes_end t k = (refl, refl, refl, refl)
 
 -- from how the handler stands

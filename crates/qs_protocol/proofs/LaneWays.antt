@@ -7,7 +7,7 @@ use Rattle.qs_objects.specs.declared.held.Event.{Event}
 use Rattle.qs_objects.specs.declared.held.Ticket.{Ticket}
 use Rattle.qs_objects.proofs.Choices.{eqb_self}
 use Rattle.qs_chunk.specs.Runs.{ran_all}
-use Rattle.qs_chunk.specs.LaneViews.{Standing, gone, ClientLane, Serving, serves, gives, lent, over, HandlerLane}
+use Rattle.qs_chunk.specs.LaneViews.{ObjectStance, gone, ClientLane, Serving, serves, gives, lent, over, HandlerLane}
 use Rattle.qs_chunk.specs.declared.parcel.Parcel.{Parcel}
 use Rattle.qs_chunk.specs.declared.parcel.Parcel.TheVariants as parcels
 use Rattle.qs_played.proofs.FunctionUpdate.{put_at, put_at_here, put_at_there}
@@ -40,26 +40,26 @@ MayCome (lent x) parcels.End way = ⊥
 MayCome (gives x) p way = ⊥
 MayCome (over x) p way = ⊥
 
-come_serves : (t : Ticket) (z : HeldState) (p : Parcel) (way : List Parcel) (gots : List HeldState) (es : List Event) (c : Standing) → ClientLane t false (p ∷ way) gots es c → MayCome (serves z) p way
+come_serves : (t : Ticket) (z : HeldState) (p : Parcel) (way : List Parcel) (gots : List HeldState) (es : List Event) (c : ObjectStance) → ClientLane t false (p ∷ way) gots es c → MayCome (serves z) p way
 come_serves t z (parcels.Work chunk) way gots es c k = tt
 come_serves t z parcels.Sync way gots es c k = tt
 come_serves t z (parcels.Home y) way gots es c k = absurd k
 come_serves t z parcels.End way gots es c k = k.0
 
-come_lent : (t : Ticket) (z : HeldState) (p : Parcel) (way : List Parcel) (gots : List HeldState) (es : List Event) (c : Standing) → ClientLane t true (p ∷ way) gots es c → MayCome (lent z) p way
+come_lent : (t : Ticket) (z : HeldState) (p : Parcel) (way : List Parcel) (gots : List HeldState) (es : List Event) (c : ObjectStance) → ClientLane t true (p ∷ way) gots es c → MayCome (lent z) p way
 come_lent t z (parcels.Work chunk) way gots es c k = absurd k
 come_lent t z parcels.Sync way gots es c k = absurd k
 come_lent t z (parcels.Home y) way gots es c k = tt
 come_lent t z parcels.End way gots es c k = absurd k
 
 -- nothing comes before what was asked for was given
-come_gives : (t : Ticket) (p : Parcel) (way : List Parcel) (gots : List HeldState) (es : List Event) (c : Standing) → ClientLane t true (p ∷ way) gots es c → gots ≡ [] → ⊥
+come_gives : (t : Ticket) (p : Parcel) (way : List Parcel) (gots : List HeldState) (es : List Event) (c : ObjectStance) → ClientLane t true (p ∷ way) gots es c → gots ≡ [] → ⊥
 come_gives t (parcels.Work chunk) way gots es c k n = k
 come_gives t parcels.Sync way gots es c k n = k
 come_gives t (parcels.Home y) way gots es c k n = cc (k.4, n)
 come_gives t parcels.End way gots es c k n = k
 
-pub come : (t : Ticket) (x : HeldState) (received : List Parcel) (p : Parcel) (way : List Parcel) (gots gave : List HeldState) (es : List Event) (c : Standing) (s : Serving)
+pub come : (t : Ticket) (x : HeldState) (received : List Parcel) (p : Parcel) (way : List Parcel) (gots gave : List HeldState) (es : List Event) (c : ObjectStance) (s : Serving)
     → ClientLane t false (received ++ p ∷ way) gots es c → HandlerLane t false x received gave s → IsFront gots gave → MayCome s p way
 come t x [] p way gots gave es c s k l f = subst (λ s. MayCome s p way) (sym l.1) (come_serves t x p way gots es c k)
 come t x (parcels.Work chunk ∷ received) p way gots gave es c s k l f = come t (ran_all x t chunk.items) received p way gots gave k.0 c s k.3 l f
@@ -76,7 +76,7 @@ come t x (parcels.Sync ∷ (parcels.Sync ∷ received)) p way gots gave es c s k
 come t x (parcels.Sync ∷ (parcels.End ∷ received)) p way gots gave es c s k l f = absurd k
 
 -- Where a handler has the object and isn't asked for it, all that it gave was got (and came home).
-pub serves_got : (t : Ticket) (x z : HeldState) (received way : List Parcel) (gots gave : List HeldState) (es : List Event) (c : Standing)
+pub serves_got : (t : Ticket) (x z : HeldState) (received way : List Parcel) (gots gave : List HeldState) (es : List Event) (c : ObjectStance)
     → ClientLane t false (received ++ way) gots es c → HandlerLane t false x received gave (serves z) → IsFront gots gave → gots ≡ gave
 serves_got t x z [] way gots gave es c k l f = front_of_none gots (subst (IsFront gots) l.0 f) ∙ sym l.0
 serves_got t x z (parcels.Work chunk ∷ received) way gots gave es c k l f = serves_got t (ran_all x t chunk.items) z received way gots gave k.0 c k.3 l f

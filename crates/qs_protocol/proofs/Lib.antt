@@ -1,11 +1,11 @@
 pub mod ActKinds
 pub mod ActObjects
 pub mod BlockLists
-pub mod BlockTales
+pub mod BlockHistories
 pub mod ClientActs
 pub mod ClientCounts
 pub mod ClientLogs
-pub mod ClientTales
+pub mod ClientHistories
 pub mod DeedJoins
 pub mod DeedLanes
 pub mod ClientInvariants
@@ -21,4 +21,4 @@ pub mod ObjectSteps
 pub mod ReservedActs
 pub mod ReservedLists
 pub mod SilentSteps
-pub mod TaleCounts
+pub mod HistoryCounts

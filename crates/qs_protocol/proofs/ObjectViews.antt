@@ -6,7 +6,7 @@ use Rattle.qs_objects.specs.Parts.{IsFront}
 use Rattle.qs_objects.specs.declared.held.Event.{Event}
 use Rattle.qs_objects.specs.declared.held.Ticket.{Ticket}
 use Rattle.qs_meaning.proofs.Histories.{Among}
-use Rattle.qs_chunk.specs.LaneViews.{Standing, gone, Serving, ClientLane, HandlerLane}
+use Rattle.qs_chunk.specs.LaneViews.{ObjectStance, gone, Serving, ClientLane, HandlerLane}
 use Rattle.qs_chunk.specs.declared.parcel.Parcel.{Parcel}
 use Rattle.qs_chunk.specs.LaneViews as views
 use Rattle.qs_handler.specs.Handler.{Handler, free, serves, spares, gives, away, closed, serving}
@@ -48,7 +48,7 @@ pub record ClientLog : Type 0 where
   pub sent : Ticket → List Parcel
   pub got : Ticket → List HeldState
   pub events : Ticket → List Event
-  pub stands : Ticket → Standing
+  pub stands : Ticket → ObjectStance
 
 -- what the handler did, ticket by ticket, and what is on the way; the object that it gave last; those that it has served, and the object
 -- that the next one found

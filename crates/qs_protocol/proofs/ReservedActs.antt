@@ -5,7 +5,7 @@ use Rattle.qs_objects.specs.declared.held.Ticket.{Ticket}
 use Rattle.qs_program.specs.Program.{ProgramShape}
 use Rattle.qs_program.specs.Values.{Locals}
 use Rattle.qs_meaning.specs.Following.{AsksOnly, reserves, block_tree}
-use Rattle.qs_graph.specs.Synced.{erased}
+use Rattle.qs_graph.specs.Synced.{without_syncs}
 use Rattle.qs_syncset.specs.Codes.{ClientCode, code_at}
 use Rattle.qs_syncset.specs.SoundSynced.{IsSoundSynced, IsOnReserved}
 use Rattle.qs_chunk.specs.declared.parcel.Parcel.{Parcel}
@@ -15,16 +15,16 @@ use Rattle.qs_client.specs.ClientRuns.{Deed}
 use Rattle.qs_client.specs.ClientModel.{ClientModel, act_due, tree_at}
 use Rattle.qs_played.specs.Played.{ticket}
 use Rattle.qs_protocol.proofs.ActObjects.{await_at, need_at, not_await, not_need, not_send, send_at}
-use Rattle.qs_protocol.proofs.ClientInvariants.{Lined, listed}
-use Rattle.qs_protocol.proofs.ClientTales.{InTale, asks, in_tale_block, inside}
+use Rattle.qs_protocol.proofs.ClientInvariants.{Lined, objects_of_block}
+use Rattle.qs_protocol.proofs.ClientHistories.{InClientHistory, asks, in_tale_block, inside}
 
 module _ (program : ProgramShape) (fine : (t : Ticket) (l : Locals) → AsksOnly (reserves program t) (block_tree program t l))
-    (lined : (t : Ticket) → Lined (reserves program t) (listed program t)) (c : ℕ) (code : ClientCode) (size : ℕ)
-    (reserved_is : (k : ℕ) → k < length code.blocks → (code_at code k).reserved ≡ listed program (ticket c k))
+    (lined : (t : Ticket) → Lined (reserves program t) (objects_of_block program t)) (c : ℕ) (code : ClientCode) (size : ℕ)
+    (reserved_is : (k : ℕ) → k < length code.blocks → (code_at code k).reserved ≡ objects_of_block program (ticket c k))
     (walk_is : (k : ℕ) (l : Locals) → k < length code.blocks
-    → (erased (tree_at code k l) ≡ block_tree program (ticket c k) l) × IsSoundSynced (λ h. false) (tree_at code k l)
-    × IsOnReserved (listed program (ticket c k)) (tree_at code k l))
-    (before : List Deed) (m : ClientModel) (o : InTale program fine lined c code size reserved_is walk_is before m) where
+    → (without_syncs (tree_at code k l) ≡ block_tree program (ticket c k) l) × IsSoundSynced (λ h. false) (tree_at code k l)
+    × IsOnReserved (objects_of_block program (ticket c k)) (tree_at code k l))
+    (before : List Deed) (m : ClientModel) (o : InClientHistory program fine lined c code size reserved_is walk_is before m) where
   -- some block of the client reserves the object
   abbrev pub IsReservedObject : ℕ → Type 0
   IsReservedObject h = (k : ℕ) × (k < length code.blocks) × (reserves program (ticket c k) h ≡ true)

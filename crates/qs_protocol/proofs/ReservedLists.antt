@@ -10,7 +10,7 @@ use Rattle.qs_program.specs.Sound.{IsSound, is_in}
 use Rattle.qs_program.proofs.Bounds.{sound_block}
 use Rattle.qs_meaning.proofs.Each.{each_map}
 use Rattle.qs_played.proofs.ReservedObjects.{none_beyond, no_text}
-use Rattle.qs_protocol.proofs.ClientInvariants.{listed, Lined}
+use Rattle.qs_protocol.proofs.ClientInvariants.{objects_of_block, Lined}
 
 -- an object of a list of which none is twice is not among those after it
 lined_from : (may : ℕ → Bool) (hs : List ℕ) → IsDistinct ◌==◌ hs → AllByRecursion (λ h. may h ≡ true) hs → Lined may hs
@@ -30,16 +30,16 @@ each_is_in (h ∷ hs) = (rw (eqb_self h) refl, each_map (λ g (k : is_in hs g �
     more g k false = k
 
 module _ (program : ProgramShape) (sound : IsSound program) where
-  pub lined : (t : Ticket) → Lined (reserves program t) (listed program t)
+  pub lined : (t : Ticket) → Lined (reserves program t) (objects_of_block program t)
   lined t = by_client (nat_lt t.client (length program.clients)) refl
     where
-      none : text_of program t ≡ no_block → Lined (reserves program t) (listed program t)
+      none : text_of program t ≡ no_block → Lined (reserves program t) (objects_of_block program t)
       none e = subst (λ (b : BlockShape). Lined (is_in b.reserved) b.reserved) (sym e) tt
 
-      by_block : t.client < length program.clients → (b : Bool) → nat_lt t.index (blocks_of program t.client) ≡ b → Lined (reserves program t) (listed program t)
-      by_block inside true e = lined_from (reserves program t) (listed program t) (sound_block program t.client t.index sound inside (grind (arith, e))).distinct (each_is_in (listed program t))
+      by_block : t.client < length program.clients → (b : Bool) → nat_lt t.index (blocks_of program t.client) ≡ b → Lined (reserves program t) (objects_of_block program t)
+      by_block inside true e = lined_from (reserves program t) (objects_of_block program t) (sound_block program t.client t.index sound inside (grind (arith, e))).distinct (each_is_in (objects_of_block program t))
       by_block inside false e = none (no_text program sound t (grind (arith, e)))
 
-      by_client : (b : Bool) → nat_lt t.client (length program.clients) ≡ b → Lined (reserves program t) (listed program t)
+      by_client : (b : Bool) → nat_lt t.client (length program.clients) ≡ b → Lined (reserves program t) (objects_of_block program t)
       by_client true e = by_block (grind (arith, e)) (nat_lt t.index (blocks_of program t.client)) refl
       by_client false e = let n = none_beyond program sound t.client (grind (arith, e)) in none (no_text program sound t (omega (arith, n)))

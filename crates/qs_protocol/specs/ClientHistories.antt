@@ -5,11 +5,11 @@ use Rattle.qs_objects.specs.Journals.{HeldState}
 use Rattle.qs_objects.specs.Parts.{part}
 use Rattle.qs_objects.specs.declared.held.Ticket.{Ticket}
 use Rattle.qs_program.specs.Program.{ProgramShape}
-use Rattle.qs_meaning.specs.BlockRecords.{Page, Begins, IsDone, IsPage}
+use Rattle.qs_meaning.specs.BlockRecords.{BlockRecord, Begins, IsDone, IsBlockRecord}
 use Rattle.qs_meaning.specs.Following.{AsksOnly, reserves}
 use Rattle.qs_meaning.specs.Serial.{zeros}
 use Rattle.qs_syncset.specs.Codes.{ClientCode}
-use Rattle.qs_chunk.specs.LaneViews.{Standing, gone, sends, ClientLane}
+use Rattle.qs_chunk.specs.LaneViews.{ObjectStance, gone, sends, ClientLane}
 use Rattle.qs_chunk.specs.declared.parcel.Parcel.{Parcel}
 use Rattle.qs_client_run.specs.Client.{Client}
 use Rattle.qs_client_run.specs.Client as clients
@@ -22,12 +22,12 @@ abbrev pub HasNone : Client → ℕ → Type 0
 HasNone m h = (m.held h ≡ None) × (m.chunk h ≡ None)
 
 -- a page whose rest asks within the block's list
-pub record IsOpenPage (p : ProgramShape) (t : Ticket) (pg : Page) : Type 0 where
-  pub path : IsPage p t pg
+pub record IsOpenRecord (p : ProgramShape) (t : Ticket) (pg : BlockRecord) : Type 0 where
+  pub path : IsBlockRecord p t pg
   pub fine : AsksOnly (reserves p t) pg.rest
 
 -- left, or not reserved at all
-abbrev pub apart_from : ProgramShape → Ticket → ℕ → Standing
+abbrev pub apart_from : ProgramShape → Ticket → ℕ → ObjectStance
 apart_from p t h = if reserves p t h then gone else sends []
 
 -- the first n lists, joined
@@ -37,15 +37,15 @@ upto f (suc n) = upto f n ++ f n
 
 module _ (program : ProgramShape) (c : ℕ) where
   -- a block that is over: its page, and for each object what was sent and got
-  pub record BlockTold (k : ℕ) (pg : Page) (sent : ℕ → List Parcel) (got : ℕ → List HeldState) : Type 0 where
-    pub page : IsOpenPage program (ticket c k) pg
+  pub record IsBlockHistory (k : ℕ) (pg : BlockRecord) (sent : ℕ → List Parcel) (got : ℕ → List HeldState) : Type 0 where
+    pub page : IsOpenRecord program (ticket c k) pg
     pub done : IsDone pg.rest
     pub lanes : (h : ℕ) → ClientLane (ticket c k) false (sent h) (got h) (part h pg.trace) (apart_from program (ticket c k) h)
     pub outside : (h : ℕ) → reserves program (ticket c k) h ≡ false → (sent h ≡ []) × (got h ≡ [])
 
 -- what one client's whole run says
-pub record Tale (program : ProgramShape) (c : ℕ) (code : ClientCode) (deeds : List Deed) (end : ClientModel) : Type 0 where
-  pub page : ℕ → Page
+pub record ClientHistory (program : ProgramShape) (c : ℕ) (code : ClientCode) (deeds : List Deed) (end : ClientModel) : Type 0 where
+  pub page : ℕ → BlockRecord
   pub sent : ℕ → ℕ → List Parcel
   pub got : ℕ → ℕ → List HeldState
   pub begun : end.client.begun ≡ length code.blocks
@@ -53,7 +53,7 @@ pub record Tale (program : ProgramShape) (c : ℕ) (code : ClientCode) (deeds : 
   pub between : is_between end.client.stage ≡ true
   pub hands : (h : ℕ) → HasNone end.client h
   pub first : length code.blocks ≡ 0 → end.client.stage ≡ clients.between zeros
-  pub blocks : (k : ℕ) → k < length code.blocks → BlockTold program c k (page k) (sent k) (got k)
+  pub blocks : (k : ℕ) → k < length code.blocks → IsBlockHistory program c k (page k) (sent k) (got k)
   pub begins : (k : ℕ) → k < length code.blocks → Begins (λ (t : Ticket). page t.index) c k (page k).entry
   pub entries : (k : ℕ) → k < length code.blocks → slice_index_or end.entries k [] ≡ (page k).entry
   pub traces : (k : ℕ) → k < length code.blocks → slice_index_or end.traces k [] ≡ (page k).trace

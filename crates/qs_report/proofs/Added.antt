@@ -2,16 +2,16 @@
 use Rattle.std.proofs.Common.{◌≡◌, ℕ, ◌+◌, ◌<◌, List, [], ◌∷◌, ◌++◌, codes, length, flat_map, refl, ap, subst, ◌∙◌, append_assoc, add-one, arith}
 use Rattle.qs_program.specs.Program.{ProgramShape, block_at}
 use Rattle.qs_graph.specs.Graphs.{block_graph}
-use Rattle.qs_graph.specs.Nodes.{Place}
+use Rattle.qs_graph.specs.Nodes.{GraphNode}
 use Rattle.qs_syncset.specs.Table.{AreSetsOf}
-use Rattle.qs_report.specs.GraphText.{listed, nodes_text, block_line, AreNodesText, IsBlockText, AreTextsUpTo, IsAdded}
+use Rattle.qs_report.specs.GraphText.{list_text, nodes_text, block_line, AreNodesText, IsBlockText, AreTextsUpTo, IsAdded}
 
-pub listed_some : {X : Type 0} (text : X → List ℕ) (xs : List X) → 0 < length xs → listed text xs ≡ flat_map (λ y. codes " " ++ text y) xs
+pub listed_some : {X : Type 0} (text : X → List ℕ) (xs : List X) → 0 < length xs → list_text text xs ≡ flat_map (λ y. codes " " ++ text y) xs
 listed_some text [] some = absurd (omega arith)
 listed_some text (x ∷ xs) some = refl
 
 -- the text of a block, by any name of its list and its graph
-pub block_added : (p : ProgramShape) (c k : ℕ) (reserved : List ℕ) (g : List Place) (first line all : List ℕ)
+pub block_added : (p : ProgramShape) (c k : ℕ) (reserved : List ℕ) (g : List GraphNode) (first line all : List ℕ)
     → reserved ≡ (block_at p c k).reserved → g ≡ block_graph (block_at p c k).body
     → line ≡ first ++ block_line p c k → IsAdded (AreNodesText p reserved g) line all → IsAdded (IsBlockText p c k) first all
 block_added p c k reserved g first line all r e f (text, (sets, held, t), h) =

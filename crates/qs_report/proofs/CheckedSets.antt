@@ -4,7 +4,7 @@ use Rattle.std.specs.Prelude.{◌&&◌, ◌||◌, ◌==◌, ◌↔◌, not}
 use Rattle.std.proofs.lemmas.Bool.{eqb-true, and_parts, or_cases, not-true, both_ways}
 use Rattle.std.proofs.lemmas.Bool.{agree_below, agree_below_at}
 use Rattle.std.proofs.lemmas.List.{length-map}
-use Rattle.qs_graph.specs.Nodes.{Place, place_at}
+use Rattle.qs_graph.specs.Nodes.{GraphNode, place_at}
 use Rattle.qs_graph.specs.Paths.{IsAmong, IsPath}
 use Rattle.qs_syncset.specs.Flow.{held_along}
 use Rattle.qs_syncset.specs.Held.{IsHeld}
@@ -37,21 +37,21 @@ among : (n : ℕ) (ms : List ℕ) → is_among n ms ≡ true → IsAmong n ms
 among n [] e = absurd (let f : false ≡ true = e in cc)
 among n (m ∷ ms) e = elim (or_cases (n == m) (is_among n ms) e) [ inl same ↦ inl (eqb-true n m same) | inr later ↦ inr (among n ms later) ]
 
-abbrev is_path : List Place → List ℕ → ℕ → Bool
+abbrev is_path : List GraphNode → List ℕ → ℕ → Bool
 is_path g [] n = n == 0
 is_path g (m ∷ before) n = is_among n (place_at g m).edges && is_path g before m
 
-path : (g : List Place) (before : List ℕ) (n : ℕ) → is_path g before n ≡ true → IsPath g before n
+path : (g : List GraphNode) (before : List ℕ) (n : ℕ) → is_path g before n ≡ true → IsPath g before n
 path g [] n e = eqb-true n 0 e
 path g (m ∷ before) n e =
     let both = and_parts (is_among n (place_at g m).edges) (is_path g before m) e in
     (among n (place_at g m).edges both.0, path g before m both.1)
 
 -- this is a path to n, at whose end h is not held
-abbrev pub is_missed_by : List Place → (before : List ℕ) → (n h : ℕ) → Bool
+abbrev pub is_missed_by : List GraphNode → (before : List ℕ) → (n h : ℕ) → Bool
 is_missed_by g before n h = is_path g before n && not (held_along g before h)
 
-missed_by : (g : List Place) (before : List ℕ) (n h : ℕ) → is_missed_by g before n h ≡ true → IsHeld g n h → ⊥
+missed_by : (g : List GraphNode) (before : List ℕ) (n h : ℕ) → is_missed_by g before n h ≡ true → IsHeld g n h → ⊥
 missed_by g before n h e =
     let both = and_parts (is_path g before n) (not (held_along g before h)) e in
     missed g n h before (path g before n both.0) (not-true (held_along g before h) both.1)
@@ -71,7 +71,7 @@ begins (Some false) e = refl
 begins (Some true) e = absurd (let f : false ≡ true = e in cc)
 begins None e = absurd (let f : false ≡ true = e in cc)
 
-said_at : (g : List Place) (h : ℕ) (t : Table) → fits t h 0 g ≡ true → get_or t 0 None ≡ Some false
+said_at : (g : List GraphNode) (h : ℕ) (t : Table) → fits t h 0 g ≡ true → get_or t 0 None ≡ Some false
     → (before : List ℕ) (n : ℕ) (said : Bool) (x : Option Bool) → get_or t n None ≡ x
     → is_said x said (is_missed_by g before n h) ≡ true → (said ≡ true) ↔ IsHeld g n h
 said_at g h t right start before n said None is e = (λ u. held_where_no_path g h t right start n is, λ held. e)
@@ -81,7 +81,7 @@ said_at g h t right start before n said (Some false) is e =
     (λ u. absurd (both_ways said (not-true said both.0) u), λ held. absurd (missed_by g before n h both.1 held))
 
 -- for each node a path there, which shows what is missed
-module _ (g : List Place) (rows : Rows) (paths : List (List ℕ)) where
+module _ (g : List GraphNode) (rows : Rows) (paths : List (List ℕ)) where
   abbrev fits_node : (h n : ℕ) → Bool
   fits_node h n = is_said (get_or (table_of rows h) n None) (has (sets_in rows) n h) (is_missed_by g (get_or paths n []) n h)
 

@@ -5,7 +5,7 @@ use Rattle.std.specs.Fmt.{signed_decimal}
 use Rattle.std.specs.List.{join_by}
 use Rattle.std.proofs.Math.Seq.{take-suc}
 use Rattle.std.proofs.lemmas.List.{flat_map_more, take_all, take_more}
-use Rattle.qs_report.specs.Texts.{texts_up_to, spaced}
+use Rattle.qs_report.specs.Texts.{texts_up_to, spaced_value}
 
 -- the text of one more place
 pub one_place_more : (text : ℕ → List ℕ) (n : ℕ) (first before after : List ℕ) → before ≡ first ++ texts_up_to n text → after ≡ before ++ text n
@@ -21,22 +21,22 @@ one_item_more text xs i d first before after within e h =
     ∙ ap (λ l. first ++ flat_map text l) (sym (take_more xs i d within))
 
 -- a later place has a space
-spaced_later : (x : ℤ) (xs : List ℤ) (n : ℕ) → spaced (x ∷ xs) (suc n) ≡ codes " " ++ signed_decimal (get_or xs n (pos 0))
+spaced_later : (x : ℤ) (xs : List ℤ) (n : ℕ) → spaced_value (x ∷ xs) (suc n) ≡ codes " " ++ signed_decimal (get_or xs n (pos 0))
 spaced_later x xs n = let e : nat_eq (suc n) 0 ≡ false = grind (arith, nat_tests) in rw e refl
 
 -- a first value, and n others
 pub spaced_places : (x : ℤ) (xs : List ℤ) (n : ℕ) → n ≤ length xs
-    → texts_up_to (suc n) (spaced (x ∷ xs)) ≡ signed_decimal x ++ flat_map (λ y. codes " " ++ signed_decimal y) (take n xs)
+    → texts_up_to (suc n) (spaced_value (x ∷ xs)) ≡ signed_decimal x ++ flat_map (λ y. codes " " ++ signed_decimal y) (take n xs)
 spaced_places x xs zero h = sym (append-nil (signed_decimal x))
 spaced_places x xs (suc n) h =
     let t = λ (y : ℤ). codes " " ++ signed_decimal y in
-    ap (λ l. texts_up_to (suc n) (spaced (x ∷ xs)) ++ l) (spaced_later x xs n)
+    ap (λ l. texts_up_to (suc n) (spaced_value (x ∷ xs)) ++ l) (spaced_later x xs n)
     ∙ ap (λ l. l ++ t (get_or xs n (pos 0))) (spaced_places x xs n (omega arith))
     ∙ flat_map_more t (signed_decimal x) (take n xs) (get_or xs n (pos 0))
     ∙ ap (λ l. signed_decimal x ++ flat_map t l) (sym (take-suc xs n (pos 0) (omega arith)))
 
 -- values with a space between each two
-pub spaced_joined : (xs : List ℤ) → texts_up_to (length xs) (spaced xs) ≡ join_by signed_decimal (codes " ") xs
+pub spaced_joined : (xs : List ℤ) → texts_up_to (length xs) (spaced_value xs) ≡ join_by signed_decimal (codes " ") xs
 spaced_joined [] = refl
 spaced_joined (x ∷ xs) =
     spaced_places x xs (length xs) (omega arith)

@@ -9,20 +9,20 @@ use Rattle.qs_meaning.proofs.Each.{each_map}
 use Rattle.qs_graph.specs.declared.node.Node.{Node}
 use Rattle.qs_graph.specs.declared.node.Node.TheVariants.{Entry, Local, Branch, Sync, Query, Call, Exit}
 use Rattle.qs_graph.specs.Graphs.{block_graph}
-use Rattle.qs_graph.specs.Nodes.{Place, place_at, exit}
-use Rattle.qs_graph.specs.WellFormed.{IsGraph, IsPlace, IsInRange}
+use Rattle.qs_graph.specs.Nodes.{GraphNode, place_at, exit}
+use Rattle.qs_graph.specs.WellFormed.{IsGraph, IsGraphNode, IsInRange}
 use Rattle.qs_graph.proofs.Ranges.{blocks_have_graphs}
 use Rattle.qs_syncset.specs.Flow.{Holding}
 use Rattle.qs_syncset.specs.Table.{AreSetsOf, has}
 use Rattle.qs_report.specs.Texts.{texts_up_to}
-use Rattle.qs_report.specs.GraphText.{listed, name_of, removed_text, label_text, node_line, block_line, IsBlockText, IsClientText, IsGraphText, AreTextsUpTo, GraphTextsAreUnique}
+use Rattle.qs_report.specs.GraphText.{list_text, name_of, removed_text, label_text, node_line, block_line, IsBlockText, IsClientText, IsGraphText, AreTextsUpTo, GraphTextsAreUnique}
 
 same_truth : (a b : Bool) → (a ≡ true → b ≡ true) → (b ≡ true → a ≡ true) → a ≡ b
 same_truth true b there back = sym (there refl)
 same_truth false true there back = back refl
 same_truth false false there back = refl
 
-same_sets : (g : List Place) (one other : List (List Bool)) → AreSetsOf g one → AreSetsOf g other
+same_sets : (g : List GraphNode) (one other : List (List Bool)) → AreSetsOf g one → AreSetsOf g other
     → (n : ℕ) → n < length g → (h : ℕ) → h < 8 → has one n h ≡ has other n h
 same_sets g one other a b n inside h below =
     let x = a.exact n h inside below in
@@ -42,13 +42,13 @@ same_filter : (f g : Holding) (hs : List ℕ) → AllByRecursion (λ h. f h ≡ 
 same_filter f g [] each = refl
 same_filter f g (h ∷ hs) each = ap₂ (λ b l. if b then h ∷ l else l) each.0 (same_filter f g hs each.1)
 
-same_line : (p : ProgramShape) (reserved : List ℕ) (g : List Place) (one other : List (List Bool)) → AllByRecursion (λ h. h < 8) reserved
+same_line : (p : ProgramShape) (reserved : List ℕ) (g : List GraphNode) (one other : List (List Bool)) → AllByRecursion (λ h. h < 8) reserved
     → IsGraph g → AreSetsOf g one → AreSetsOf g other → (n : ℕ) → n < length g → node_line p reserved g one n ≡ node_line p reserved g other n
 same_line p reserved g one other below is a b n inside =
     let same = same_sets g one other a b n inside in
-    let place : IsPlace (length g) (place_at g n) = AllByRecursion-get_or (IsPlace (length g)) g n exit is.places inside in
-    ap₂ (λ label held. decimal n ++ codes " " ++ label ++ codes " ->" ++ listed decimal (place_at g n).edges
-    ++ codes " held" ++ listed (name_of p) held ++ codes "\n")
+    let place : IsGraphNode (length g) (place_at g n) = AllByRecursion-get_or (IsGraphNode (length g)) g n exit is.places inside in
+    ap₂ (λ label held. decimal n ++ codes " " ++ label ++ codes " ->" ++ list_text decimal (place_at g n).edges
+    ++ codes " held" ++ list_text (name_of p) held ++ codes "\n")
     (same_label p (has one n) (has other n) (place_at g n).node place.in_range same)
     (same_filter (has one n) (has other n) reserved (each_map same reserved below))
 

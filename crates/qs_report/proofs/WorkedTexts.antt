@@ -40,23 +40,23 @@ in_repeat = none ∷ none ∷ a ∷ a ∷ a ∷ a ∷ a ∷ a ∷ []
 in_repeat_sets : AreSetsOf (block_graph query_in_repeat) (sets_in in_repeat)
 in_repeat_sets = checked_sets (block_graph query_in_repeat) in_repeat (straight 7 ++ (4 ∷ to_4) ∷ []) refl refl
 
-abbrev left : Rows
-left = none ∷ none ∷ a ∷ a ∷ a ∷ a ∷ None ∷ a ∷ a ∷ a ∷ []
+abbrev sets_left : Rows
+sets_left = none ∷ none ∷ a ∷ a ∷ a ∷ a ∷ None ∷ a ∷ a ∷ a ∷ []
 
-left_sets : AreSetsOf (block_graph leave_first) (sets_in left)
+left_sets : AreSetsOf (block_graph leave_first) (sets_in sets_left)
 left_sets =
-    checked_sets (block_graph leave_first) left
+    checked_sets (block_graph leave_first) sets_left
     (straight 6 ++ [] ∷ (4 ∷ to_4) ∷ (7 ∷ 4 ∷ to_4) ∷ (8 ∷ 7 ∷ 4 ∷ to_4) ∷ []) refl refl
 
-abbrev met : Rows
-met = none ∷ none ∷ none ∷ none ∷ a ∷ none ∷ a ∷ a ∷ []
+abbrev sets_met : Rows
+sets_met = none ∷ none ∷ none ∷ none ∷ a ∷ none ∷ a ∷ a ∷ []
 
 abbrev to_5 : List ℕ
 to_5 = 2 ∷ 1 ∷ 0 ∷ []
 
-met_sets : AreSetsOf (block_graph two_bodies) (sets_in met)
+met_sets : AreSetsOf (block_graph two_bodies) (sets_in sets_met)
 met_sets =
-    checked_sets (block_graph two_bodies) met
+    checked_sets (block_graph two_bodies) sets_met
     (straight 3 ++ (1 ∷ 0 ∷ []) ∷ (3 ∷ 1 ∷ 0 ∷ []) ∷ to_5 ∷ (5 ∷ to_5) ∷ (6 ∷ 5 ∷ to_5) ∷ []) refl refl
 
 abbrev nowhere : Rows
@@ -104,8 +104,8 @@ graph_text_examples = record {
   no_block = no_block;
   empty = alone (on_a end) (sets_in neither) _ neither_sets refl;
   removed_in_repeat = alone (on_a query_in_repeat) (sets_in in_repeat) _ in_repeat_sets refl;
-  no_path_to_command = alone (on_a leave_first) (sets_in left) _ left_sets refl;
-  kept_where_bodies_meet = alone (on_a two_bodies) (sets_in met) _ met_sets refl;
+  no_path_to_command = alone (on_a leave_first) (sets_in sets_left) _ left_sets refl;
+  kept_where_bodies_meet = alone (on_a two_bodies) (sets_in sets_met) _ met_sets refl;
   empty_bodies = alone (on_a empty_bodies) (sets_in nowhere) _ nowhere_sets refl;
   two_blocks = two (on_a end) on_b_and_a
       (block_line ann_twice 0 0 ++ nodes_text ann_twice (0 ∷ []) (block_graph end) (sets_in neither))

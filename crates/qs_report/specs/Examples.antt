@@ -21,8 +21,8 @@ use Rattle.qs_report.specs.Report.{report_text, counted_report_text, counts_text
 use Rattle.qs_report.specs.Faults.{fault_text, fault_status}
 
 -- an object that is declared
-abbrev pub declared : List ℕ → Kind → Declared
-declared name kind = record { name = name; kind = kind }
+abbrev pub declaration : List ℕ → Kind → Declared
+declaration name kind = record { name = name; kind = kind }
 
 -- a client with as many blocks as there are lists of reserved objects
 abbrev pub client : List ℕ → List BlockShape → ClientShape
@@ -30,7 +30,7 @@ client name blocks = record { name = name; variables = []; blocks = blocks }
 
 -- a block without statements that reserves these objects
 abbrev pub block : List ℕ → BlockShape
-block reserved = record { reserved = reserved; body = end }
+block after_reservation = record { reserved = after_reservation; body = end }
 
 abbrev pub state : Content → ℤ → State
 state content refused = record { content = content; refused = refused }
@@ -49,12 +49,12 @@ ticket client index = record { client = client; index = index }
 -- an account with 100, and one client with one block
 abbrev pub deposits : ProgramShape
 deposits = record {
-  objects = declared (codes "a") (kinds.Account (pos 100)) ∷ [];
+  objects = declaration (codes "a") (kinds.Account (pos 100)) ∷ [];
   clients = client (codes "ann") (block (0 ∷ []) ∷ []) ∷ [];
 }
 
-abbrev pub deposited : Played
-deposited = record {
+abbrev pub after_deposit : Played
+after_deposit = record {
   order = ticket 0 0 ∷ [];
   ended = true ∷ [];
   entries = [];
@@ -68,26 +68,26 @@ deposited = record {
 
 -- the same after no round, and after one step
 abbrev pub before : Played
-before = record deposited { order = []; ended = []; traces = []; states = state (account (pos 100)) (pos 0) ∷ []; syncs = 0; finished = false }
+before = record after_deposit { order = []; ended = []; traces = []; states = state (account (pos 100)) (pos 0) ∷ []; syncs = 0; finished = false }
 
-abbrev pub reserved : Played
-reserved = record deposited { ended = false ∷ []; traces = [] ∷ []; states = state (account (pos 100)) (pos 0) ∷ []; syncs = 0; finished = false }
+abbrev pub after_reservation : Played
+after_reservation = record after_deposit { ended = false ∷ []; traces = [] ∷ []; states = state (account (pos 100)) (pos 0) ∷ []; syncs = 0; finished = false }
 
 -- two clients on three objects
 abbrev pub three : ProgramShape
 three = record {
   objects =
-      declared (codes "b") (kinds.Buffer (pos 1))
-      ∷ declared (codes "g") (kinds.Grid (pos 2) (pos 3))
-      ∷ declared (codes "z_9") (kinds.Account (pos 0)) ∷ [];
+      declaration (codes "b") (kinds.Buffer (pos 1))
+      ∷ declaration (codes "g") (kinds.Grid (pos 2) (pos 3))
+      ∷ declaration (codes "z_9") (kinds.Account (pos 0)) ∷ [];
   clients = client (codes "ann") (block (0 ∷ []) ∷ []) ∷ client (codes "bob") (block (1 ∷ 2 ∷ []) ∷ block (0 ∷ []) ∷ []) ∷ [];
 }
 
 abbrev pub large : ℤ
 large = pos 999999999999999999
 
-abbrev pub played : Played
-played = record {
+abbrev pub two_clients_played : Played
+two_clients_played = record {
   order = ticket 1 0 ∷ ticket 0 0 ∷ ticket 1 1 ∷ [];
   ended = true ∷ true ∷ false ∷ [];
   entries = [];
@@ -107,25 +107,25 @@ played = record {
 
 pub record RunExamples : Type 0 where
   pub deposit :
-      report_text deposits deposited
+      report_text deposits after_deposit
       ≡ codes "order 1\nticket ann 0 done\na.deposit(5)\na.balance() = 105\nstates\na account 105 refused 0\nsyncs 1\nfinished\n"
   pub no_step :
       report_text deposits before
       ≡ codes "order 0\nstates\na account 100 refused 0\nsyncs 0\nunfinished\n"
   pub one_step :
-      report_text deposits reserved
+      report_text deposits after_reservation
       ≡ codes "order 1\nticket ann 0 open\nstates\na account 100 refused 0\nsyncs 0\nunfinished\n"
   pub several :
-      report_text three played
+      report_text three two_clients_played
       ≡ codes "order 3\nticket bob 0 done\ng.set(2,0,9)\ng.get(5,-1) = 0\nticket ann 0 done\nb.put(-7)\nb.drop()\nb.take() = -7\nb.front() = 0\nticket bob 1 open\nstates\nb buffer 1 [] refused 2\ng grid 2 3 [999999999999999999 999999999999999999 0 0 0 0] refused 1\nz_9 account 1000000000000000 refused 0\nsyncs 3\nunfinished\n"
 
 -- the first with a synchronisation for its query
 abbrev pub deposited_once : Played
-deposited_once = record deposited { sync_counts = (sync_count 0 1 ∷ []) ∷ [] }
+deposited_once = record after_deposit { sync_counts = (sync_count 0 1 ∷ []) ∷ [] }
 
 -- a block that reserves nothing, one that has sent none, and an open one on two objects in the order of its list
-abbrev pub counted : Played
-counted = record played {
+abbrev pub counted_syncs : Played
+counted_syncs = record two_clients_played {
   traces = [] ∷ (query 0 First [] (pos 0) ∷ []) ∷ [] ∷ [];
   sync_counts = [] ∷ (sync_count 0 0 ∷ []) ∷ (sync_count 2 12 ∷ sync_count 0 4294967295 ∷ []) ∷ [];
   states = [];
@@ -142,7 +142,7 @@ pub record CountedRunExamples : Type 0 where
       counted_report_text deposits before
       ≡ codes "order 0\nstates\na account 100 refused 0\nsyncs 0\nunfinished\n"
   pub several :
-      counted_report_text three counted
+      counted_report_text three counted_syncs
       ≡ codes "order 3\nticket bob 0 done\nticket ann 0 done\nb.front() = 0\nsync b 0\nticket bob 1 open\nsync z_9 12\nsync b 4294967295\nstates\nsyncs 3\nunfinished\n"
 
 pub record StateExamples : Type 0 where

@@ -6,15 +6,15 @@ use Rattle.qs_program.specs.Sound.{IsSound}
 use Rattle.qs_graph.specs.declared.node.Node.{Node}
 use Rattle.qs_graph.specs.declared.node.Node.TheVariants.{Entry, Local, Branch, Sync, Query, Call, Exit}
 use Rattle.qs_graph.specs.Graphs.{block_graph}
-use Rattle.qs_graph.specs.Nodes.{Place, place_at}
+use Rattle.qs_graph.specs.Nodes.{GraphNode, place_at}
 use Rattle.qs_syncset.specs.Flow.{Holding}
 use Rattle.qs_syncset.specs.Table.{AreSetsOf, has}
 use Rattle.qs_report.specs.Texts.{texts_up_to}
 
 -- each after a space, or a dash where there are none
-abbrev pub listed : {X : Type 0} → (X → List ℕ) → List X → List ℕ
-listed text [] = codes " -"
-listed text (x ∷ xs) = flat_map (λ y. codes " " ++ text y) (x ∷ xs)
+abbrev pub list_text : {X : Type 0} → (X → List ℕ) → List X → List ℕ
+list_text text [] = codes " -"
+list_text text (x ∷ xs) = flat_map (λ y. codes " " ++ text y) (x ∷ xs)
 
 abbrev pub name_of : ProgramShape → ℕ → List ℕ
 name_of p h = (object_at p h).name
@@ -34,22 +34,22 @@ label_text p held (Call c) = codes "call " ++ name_of p c.object
 label_text p held Exit = codes "exit"
 
 -- the first part of a node's line: its number, what it does and where it leads
-abbrev pub step_text : ProgramShape → List Place → (sets : List (List Bool)) → ℕ → List ℕ
+abbrev pub step_text : ProgramShape → List GraphNode → (sets : List (List Bool)) → ℕ → List ℕ
 step_text p g sets n =
-    decimal n ++ codes " " ++ label_text p (has sets n) (place_at g n).node ++ codes " ->" ++ listed decimal (place_at g n).edges
+    decimal n ++ codes " " ++ label_text p (has sets n) (place_at g n).node ++ codes " ->" ++ list_text decimal (place_at g n).edges
 
 -- a node of a graph: its number, what it does, where it leads, and which objects of the block's list are held there, in the list's order
-abbrev pub node_line : ProgramShape → (reserved : List ℕ) → List Place → (sets : List (List Bool)) → ℕ → List ℕ
+abbrev pub node_line : ProgramShape → (reserved : List ℕ) → List GraphNode → (sets : List (List Bool)) → ℕ → List ℕ
 node_line p reserved g sets n =
     decimal n ++ codes " " ++ label_text p (has sets n) (place_at g n).node
-    ++ codes " ->" ++ listed decimal (place_at g n).edges
-    ++ codes " held" ++ listed (name_of p) (filter (has sets n) reserved) ++ codes "\n"
+    ++ codes " ->" ++ list_text decimal (place_at g n).edges
+    ++ codes " held" ++ list_text (name_of p) (filter (has sets n) reserved) ++ codes "\n"
 
-abbrev pub nodes_text : ProgramShape → (reserved : List ℕ) → List Place → (sets : List (List Bool)) → List ℕ
+abbrev pub nodes_text : ProgramShape → (reserved : List ℕ) → List GraphNode → (sets : List (List Bool)) → List ℕ
 nodes_text p reserved g sets = texts_up_to (length g) (node_line p reserved g sets)
 
 -- the nodes of a graph, with what is held at each on every path
-abbrev pub AreNodesText : ProgramShape → (reserved : List ℕ) → List Place → List ℕ → Type 0
+abbrev pub AreNodesText : ProgramShape → (reserved : List ℕ) → List GraphNode → List ℕ → Type 0
 AreNodesText p reserved g text = (sets : List (List Bool)) × AreSetsOf g sets × (text ≡ nodes_text p reserved g sets)
 
 abbrev pub block_line : ProgramShape → (c k : ℕ) → List ℕ

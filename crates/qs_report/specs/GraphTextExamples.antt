@@ -6,13 +6,13 @@ use Rattle.qs_program.specs.Statements.{Statements, end, command, query}
 use Rattle.qs_graph.specs.GraphExamples.{balance, deposit, query_in_repeat, empty_bodies, leave_first, two_bodies}
 use Rattle.qs_objects.specs.declared.Op.TheVariants.{Balance}
 use Rattle.qs_program.specs.declared.code.Call as calls
-use Rattle.qs_report.specs.Examples.{declared, client}
+use Rattle.qs_report.specs.Examples.{declaration, client}
 use Rattle.qs_report.specs.GraphText.{IsGraphText}
 
 -- two accounts, and a client with these blocks
 abbrev pub by_ann : List BlockShape → ProgramShape
 by_ann blocks = record {
-  objects = declared (codes "a") (Account (pos 100)) ∷ declared (codes "b") (Account (pos 100)) ∷ [];
+  objects = declaration (codes "a") (Account (pos 100)) ∷ declaration (codes "b") (Account (pos 100)) ∷ [];
   clients = client (codes "ann") blocks ∷ [];
 }
 

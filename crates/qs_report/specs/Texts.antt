@@ -8,8 +8,8 @@ abbrev pub count_line : List ℕ → ℕ → List ℕ
 count_line word n = word ++ codes " " ++ decimal n ++ codes "\n"
 
 -- the value at a place, with a space before it unless it is the first
-abbrev pub spaced : List ℤ → ℕ → List ℕ
-spaced values i = (if nat_eq i 0 then [] else codes " ") ++ signed_decimal (slice_index_or values i (pos 0))
+abbrev pub spaced_value : List ℤ → ℕ → List ℕ
+spaced_value values i = (if nat_eq i 0 then [] else codes " ") ++ signed_decimal (slice_index_or values i (pos 0))
 
 -- the texts of the places from 0 up to n
 abbrev pub texts_up_to : ℕ → (ℕ → List ℕ) → List ℕ

@@ -6,7 +6,7 @@ ghost use Rattle.qs_program.specs.Limits.{most_handlers};
 ghost use Rattle.qs_program.specs.Program.{block_at, blocks_of};
 ghost use Rattle.qs_graph.specs.Nodes.{place_at};
 ghost use Rattle.qs_syncset.specs.Table.{has};
-ghost use Rattle.qs_report.specs.GraphText.{listed, name_of, removed_text, label_text, node_line, nodes_text, block_line, step_text};
+ghost use Rattle.qs_report.specs.GraphText.{list_text, name_of, removed_text, label_text, node_line, nodes_text, block_line, step_text};
 ghost use Rattle.qs_report.specs.GraphText.{AreNodesText, IsBlockText, IsClientText, IsGraphText, IsAdded};
 
 use crate::bytes::{put, put_all};
@@ -65,7 +65,7 @@ fn put_label(
 
 // The numbers of the nodes that a node leads to.
 fn put_targets(out: &mut Vec<u8>, targets: &[usize]) -> Result<(), AllocError>
-    ensures ok { OnOk result (out.new.items ≡ out.old.items ++ listed decimal targets.now) }
+    ensures ok { OnOk result (out.new.items ≡ out.old.items ++ list_text decimal targets.now) }
 {
     if targets.is_empty() {
         return put(out, b" -");
@@ -94,7 +94,7 @@ fn held_at(alloc: Global, reserved: &[u8], sets: &Sets, n: usize) -> Result<Vec<
 
 // The names of objects.
 fn put_names(out: &mut Vec<u8>, program: &Program, objects: &[u8]) -> Result<(), AllocError>
-    ensures ok { OnOk result (out.new.items ≡ out.old.items ++ listed (name_of program.now) objects.now) }
+    ensures ok { OnOk result (out.new.items ≡ out.old.items ++ list_text (name_of program.now) objects.now) }
 {
     if objects.is_empty() {
         return put(out, b" -");
@@ -135,7 +135,7 @@ fn put_held(
 ) -> Result<(), AllocError>
     requires node { n < length sets.now }
     requires handlers { AllByRecursion (λ h. h < most_handlers) reserved.now }
-    ensures ok { OnOk result (out.new.items ≡ out.old.items ++ listed (name_of program.now) (filter (has sets.now n) reserved.now)) }
+    ensures ok { OnOk result (out.new.items ≡ out.old.items ++ list_text (name_of program.now) (filter (has sets.now n) reserved.now)) }
 {
     let held = held_at(alloc, reserved, sets, n)?;
     let put = put_names(out, program, held.as_slice());

@@ -5,7 +5,7 @@ ghost use Rattle.std.specs.Fmt.{signed_decimal};
 ghost use Rattle.std.specs.List.{join_by};
 ghost use Rattle.qs_objects.specs.Objects.{kind_of, values_of};
 ghost use Rattle.qs_report.specs.Report.{values_text, content_text, state_line, object_text, states_text};
-ghost use Rattle.qs_report.specs.Texts.{spaced};
+ghost use Rattle.qs_report.specs.Texts.{spaced_value};
 
 use crate::bytes::{put, put_number};
 use crate::names::object_name;
@@ -17,7 +17,7 @@ use std::alloc::AllocError;
 // One value of an object, with a space before it unless it is the first.
 fn put_value(out: &mut Vec<u8>, object: &Object, place: usize) -> Result<(), AllocError>
     requires { place < length (values_of object.now.content) }
-    ensures ok { OnOk result (out.new.items ≡ out.old.items ++ spaced (values_of object.now.content) place) }
+    ensures ok { OnOk result (out.new.items ≡ out.old.items ++ spaced_value (values_of object.now.content) place) }
 {
     if place > 0 {
         put(out, b" ")?;

@@ -4,7 +4,7 @@ use Rattle.std.proofs.Common.{◌≡◌, ℕ, zero, suc, ◌<◌, ◌≤◌, tru
 use Rattle.std.proofs.lemmas.List.{get_or-map}
 use Rattle.qs_program.specs.Program.{ProgramShape}
 use Rattle.qs_program.specs.Limits.{most_clients, most_handlers, most_objects}
-use Rattle.qs_desk.specs.Lines.{tickets_at}
+use Rattle.qs_desk.specs.TicketQueues.{tickets_at}
 use Rattle.qs_desk.specs.Places.{places, share_at}
 
 place_at : (i : ℕ) → i < most_handlers → get_or places i 0 ≡ i

@@ -9,7 +9,7 @@ use Rattle.qs_program.specs.Program.{ProgramShape}
 use Rattle.qs_program.specs.Sound.{IsSound}
 use Rattle.qs_syncset.specs.declared.mode.Mode.{Mode}
 use Rattle.qs_client.specs.MindState.{MindState}
-use Rattle.qs_desk.specs.Lines.{tickets_at}
+use Rattle.qs_desk.specs.TicketQueues.{tickets_at}
 use Rattle.qs_desk.specs.Places.{places, share_at}
 use Rattle.qs_desk.specs.Views.{ShareView, TicketsView}
 use Rattle.qs_lane.specs.Views.{InView, OutView}

@@ -12,7 +12,7 @@ use Rattle.qs_client.specs.ClientModel.{ClientModel}
 use Rattle.qs_played.proofs.JournalRooms.{no_block_beyond}
 use Rattle.qs_core_laws.specs.Core.{AreCodes}
 use Rattle.qs_run_laws.specs.ThreadRuns.{IsThreadRun, ThreadRun}
-use Rattle.qs_run_laws.proofs.ThreadTales.{count_is, inside, rows_end}
+use Rattle.qs_run_laws.proofs.ThreadHistories.{count_is, inside, rows_end}
 use Rattle.qs_run_laws.proofs.ThreadsIsolated.{mind_is}
 
 -- a mind has written what there is to say of its k-th block

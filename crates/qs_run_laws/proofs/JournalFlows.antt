@@ -3,15 +3,15 @@
 -- room suffices, as no block's part is longer than its load.
 use Rattle.std.proofs.Common.{◌≡◌, ◌+◌, ◌≤◌, arith, ℕ, Bool, true, false, true≢false, if◌then◌else◌, List, [], ◌∷◌, ◌++◌, map, flat_map, filter, length, refl, sym, ap, ◌∙◌, subst, inl, append_assoc, append-nil}
 use Rattle.std.specs.List.{AllByRecursion}
-use Rattle.qs_objects.specs.Journals.{HeldState, replay, unstamped, IsHonest}
-use Rattle.qs_objects.specs.Parts.{logged, stamp}
+use Rattle.qs_objects.specs.Journals.{HeldState, replay, without_tickets, IsHonest}
+use Rattle.qs_objects.specs.Parts.{command_event, stamp}
 use Rattle.qs_objects.specs.declared.held.Entry.{Entry}
 use Rattle.qs_objects.specs.declared.held.Event.{Event}
 use Rattle.qs_objects.specs.declared.held.Ticket.{Ticket}
 use Rattle.qs_program.specs.Program.{ProgramShape}
 use Rattle.qs_meaning.specs.Following.{reserves}
-use Rattle.qs_meaning.proofs.Histories.{Flow, Line, done_of, parts_of}
-use Rattle.qs_meaning.specs.BlockRecords.{IsDone, Page}
+use Rattle.qs_meaning.proofs.Histories.{Flow, ObjectCourse, done_of, parts_of}
+use Rattle.qs_meaning.specs.BlockRecords.{IsDone, BlockRecord}
 use Rattle.qs_chunk.specs.LaneViews.{ClientLane, Extends, gone, sends}
 use Rattle.qs_chunk.specs.declared.parcel.Parcel.{Parcel}
 use Rattle.qs_played.proofs.JournalRooms.{total}
@@ -25,9 +25,9 @@ no_requests : (t : Ticket) (sent : List Parcel) (got : List HeldState) (es : Lis
 no_requests t sent got es none_sent none_got lane = only (subst (λ ps. ClientLane t false ps got es (sends [])) none_sent lane)
   where
     only : ClientLane t false [] got es (sends []) → es ≡ []
-    only k = let none : k.0 ≡ [] = cc (k.1) in k.3 ∙ ap (λ rs. map logged rs) none
+    only k = let none : k.0 ≡ [] = cc (k.1) in k.3 ∙ ap (λ rs. map command_event rs) none
 
-module _ (p : ProgramShape) (page : Ticket → Page) (h : ℕ) (sent : Ticket → List Parcel) (got : Ticket → List HeldState) (end : HeldState) where
+module _ (p : ProgramShape) (page : Ticket → BlockRecord) (h : ℕ) (sent : Ticket → List Parcel) (got : Ticket → List HeldState) (end : HeldState) where
   abbrev parts : Ticket → List Event
   parts = parts_of page h
 
@@ -38,7 +38,7 @@ module _ (p : ProgramShape) (page : Ticket → Page) (h : ℕ) (sent : Ticket �
     pub outside : reserves p t h ≡ false → (sent t ≡ []) × (got t ≡ [])
 
   -- nothing is on its way, and the object is served by nobody
-  abbrev pub over_line : Line
+  abbrev pub over_line : ObjectCourse
   over_line = record { may = λ t. reserves p t h; parts = parts; done = done_of page; waits = λ t. []; busy = ⊥; present = end.object }
 
   -- what the journal got from here on, and where it leads
@@ -47,8 +47,8 @@ module _ (p : ProgramShape) (page : Ticket → Page) (h : ℕ) (sent : Ticket �
     pub journal : end.journal ≡ x.journal ++ more
     pub by_tickets : more ≡ flat_map (λ t. map (stamp t) (parts t)) ts
     pub flow : Flow over_line x.object more ts
-    pub honest : IsHonest x.object (unstamped more)
-    pub replayed : replay x.object (unstamped more) ≡ end.object
+    pub honest : IsHonest x.object (without_tickets more)
+    pub replayed : replay x.object (without_tickets more) ≡ end.object
 
   abbrev pub size_of : List Ticket → ℕ
   size_of ts = total (λ t. length (parts t)) ts

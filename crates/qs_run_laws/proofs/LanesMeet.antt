@@ -30,7 +30,7 @@ use Rattle.qs_desk.specs.Tickets.{of_client, of_handler}
 use Rattle.qs_run_laws.specs.ThreadRuns.{IsThreadRun, ThreadRun}
 use Rattle.qs_run_laws.proofs.ClientTickets.{along_turns, legal_tickets, upto_tickets, without_others}
 use Rattle.qs_run_laws.proofs.LaneCuts.{AreFronts, IsMet, Sent, block_whole, turns_meet}
-use Rattle.qs_run_laws.proofs.ThreadTales.{block_told, count_is, count_of, deeds_of, held_of, inside, tale, tasks_of, turned, turns_are}
+use Rattle.qs_run_laws.proofs.ThreadHistories.{block_told, count_is, count_of, deeds_of, held_of, inside, tale, tasks_of, turned, turns_are}
 
 -- what holds of all tickets of turns
 each_unmapped : (P : Ticket → Type 0) (us : List Turn) → AllByRecursion P (map (λ (u : Turn). u.ticket) us) → AllByRecursion (λ (u : Turn). P u.ticket) us

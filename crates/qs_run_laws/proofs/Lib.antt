@@ -1,7 +1,7 @@
 pub mod LaneCuts
 pub mod ClientTickets
 pub mod JournalFlows
-pub mod ThreadTales
+pub mod ThreadHistories
 pub mod LanesMeet
 pub mod ThreadsIsolated
 pub mod RunOutcomes

@@ -24,10 +24,10 @@ use Rattle.qs_played.specs.JournalRooms.{fresh_held}
 use Rattle.qs_played.specs.Played.{ticket}
 use Rattle.qs_played.proofs.ReservedObjects.{reserved_inside}
 use Rattle.qs_core_laws.specs.Core.{AreCodes}
-use Rattle.qs_core_laws.specs.CoreExamples.{built}
+use Rattle.qs_core_laws.specs.CoreExamples.{example_code}
 use Rattle.qs_core_laws.proofs.BuiltCodes.{built_codes}
 use Rattle.qs_desk.specs.Tickets.{of_client, pushed_to}
-use Rattle.qs_run_laws.specs.OutcomeExamples.{OutcomeExamples, bank, bank_deeds, bank_held, bank_run, bank_tasks, deposited, deposits_and_asks, depositor_deeds, mind_after, mover_deeds, moves_30, taker_more, withdrawn}
+use Rattle.qs_run_laws.specs.OutcomeExamples.{OutcomeExamples, bank, bank_deeds, bank_held, bank_run, bank_tasks, after_deposit, deposits_and_asks, depositor_deeds, mind_after, mover_deeds, moves_30, taker_more, withdrawn}
 use Rattle.qs_run_laws.specs.Outcomes.{IsOutcome}
 use Rattle.qs_run_laws.specs.ThreadRuns.{IsThreadRun, shown_by}
 use Rattle.qs_run_laws.proofs.RunOutcomes.{runs_have_outcomes}
@@ -122,25 +122,25 @@ bank_sound = record {
   form = formed;
 }
 
-mover_runs : RunsTo 0 (fresh_mind (built false bank 0) 8) mover_deeds (bank_run.mind 0)
+mover_runs : RunsTo 0 (fresh_mind (example_code false bank 0) 8) mover_deeds (bank_run.mind 0)
 unfolding limit move
 mover_runs = record {
-  last = mind_after 0 (fresh_mind (built false bank 0) 8) mover_deeds;
+  last = mind_after 0 (fresh_mind (example_code false bank 0) 8) mover_deeds;
   deeds_lead = (refl, (refl, (refl, (refl, (refl, (refl, (refl, (refl, (refl, (refl, (refl, (refl, (refl, refl)))))))))))));
   finished = refl;
   end_is = refl;
 }
 
-depositor_runs : RunsTo 1 (fresh_mind (built false bank 1) 8) depositor_deeds (bank_run.mind 1)
+depositor_runs : RunsTo 1 (fresh_mind (example_code false bank 1) 8) depositor_deeds (bank_run.mind 1)
 unfolding limit move
 depositor_runs = record {
-  last = mind_after 1 (fresh_mind (built false bank 1) 8) depositor_deeds;
+  last = mind_after 1 (fresh_mind (example_code false bank 1) 8) depositor_deeds;
   deeds_lead = (refl, (refl, (refl, (refl, (refl, (refl, (refl, (refl, (refl, (refl, (refl, refl)))))))))));
   finished = refl;
   end_is = refl;
 }
 
-clients_run : (c : ℕ) → c < 2 → RunsTo c (fresh_mind (built false bank c) 8) (bank_deeds c) (bank_run.mind c)
+clients_run : (c : ℕ) → c < 2 → RunsTo c (fresh_mind (example_code false bank c) 8) (bank_deeds c) (bank_run.mind c)
 clients_run zero own = mover_runs
 clients_run (suc zero) own = depositor_runs
 clients_run (suc (suc c)) own = absurd (omega (arith, own))
@@ -165,7 +165,7 @@ no_third_object t h own = let inside : suc (suc h) < 2 = reserved_inside bank ba
 lanes_run : (c k h : ℕ) → k < blocks_of bank c → reserves bank (ticket c k) h ≡ true
     → IsLaneRun 8 (sent_to h (bank_deeds c)) (received_from c (bank_tasks h)) (given_to c (bank_tasks h)) (got_from h (bank_deeds c))
 lanes_run zero zero zero few own = whole_lane (sent_to 0 mover_deeds) (withdrawn ∷ []) ((refl, refl), ((refl, tt), ((refl, tt), ((refl, tt), tt)))) refl
-lanes_run zero zero (suc zero) few own = whole_lane (sent_to 1 mover_deeds) (deposited ∷ []) ((refl, refl), ((refl, tt), ((refl, tt), ((refl, tt), tt)))) refl
+lanes_run zero zero (suc zero) few own = whole_lane (sent_to 1 mover_deeds) (after_deposit ∷ []) ((refl, refl), ((refl, tt), ((refl, tt), ((refl, tt), tt)))) refl
 lanes_run zero zero (suc (suc h)) few own = absurd (no_third_object (ticket 0 0) h own)
 lanes_run zero (suc k) h few own = absurd (omega (arith, few))
 lanes_run (suc zero) zero zero few own = whole_lane (sent_to 0 depositor_deeds) [] ((refl, refl), ((refl, tt), tt)) refl
@@ -187,7 +187,7 @@ all_taken zero own = refl
 all_taken (suc zero) own = refl
 all_taken (suc (suc h)) own = absurd (omega (arith, own))
 
-bank_is_run : IsThreadRun bank (built false bank) 8 bank_run
+bank_is_run : IsThreadRun bank (example_code false bank) 8 bank_run
 bank_is_run = record {
   legal = (refl, omega arith, (refl, omega arith, (refl, omega arith, tt)));
   booked = all_booked;
@@ -197,11 +197,11 @@ bank_is_run = record {
   handlers = handlers_run;
 }
 
-bank_codes : AreCodes bank modes.Plain (built false bank)
+bank_codes : AreCodes bank modes.Plain (example_code false bank)
 bank_codes = built_codes bank false modes.Plain refl refl
 
 bank_outcome : IsOutcome bank modes.Plain (shown_by bank bank_run)
-bank_outcome = runs_have_outcomes bank bank_sound modes.Plain (built false bank) bank_codes 8 bank_run bank_is_run
+bank_outcome = runs_have_outcomes bank bank_sound modes.Plain (example_code false bank) bank_codes 8 bank_run bank_is_run
 
 pub bank_example : OutcomeExamples
 unfolding limit move

@@ -11,7 +11,7 @@ use Rattle.qs_objects.specs.declared.held.Ticket.{Ticket}
 use Rattle.qs_program.specs.Program.{ProgramShape, blocks_of}
 use Rattle.qs_program.specs.Sound.{IsSound}
 use Rattle.qs_meaning.specs.Following.{Leads, block_tree}
-use Rattle.qs_meaning.specs.Serial.{Place, serial}
+use Rattle.qs_meaning.specs.Serial.{SerialBlock, serial}
 use Rattle.qs_meaning.proofs.SerialRuns.{Agrees, legal_apart, runs_serially}
 use Rattle.qs_syncset.specs.Codes.{ClientCode}
 use Rattle.qs_syncset.specs.SyncCounts.{syncs_along}
@@ -23,13 +23,13 @@ use Rattle.qs_played.specs.Played.{ticket}
 use Rattle.qs_played.specs.SyncSums.{AreSent, AreSyncsCounted, IsCounted, counts_at, syncs_at}
 use Rattle.qs_played.proofs.JournalRooms.{no_block_beyond}
 use Rattle.qs_played.proofs.Orders.{among_once}
-use Rattle.qs_protocol.proofs.ClientInvariants.{listed}
-use Rattle.qs_protocol.proofs.TaleCounts.{IsTallied}
+use Rattle.qs_protocol.proofs.ClientInvariants.{objects_of_block}
+use Rattle.qs_protocol.proofs.HistoryCounts.{IsTallied}
 use Rattle.qs_core_laws.specs.Core.{AreCodes, tree_of}
 use Rattle.qs_core_laws.proofs.CountedTraces.{trace_counted, tree_count}
 use Rattle.qs_run_laws.specs.Outcomes.{IsOutcome, ThreadRunsHaveOutcomes, part_at}
 use Rattle.qs_run_laws.specs.ThreadRuns.{IsThreadRun, ThreadRun, counts_by, entry_by, shown_by, trace_by}
-use Rattle.qs_run_laws.proofs.ThreadTales.{block_told, inside, tale, tale_counts}
+use Rattle.qs_run_laws.proofs.ThreadHistories.{block_told, inside, tale, tale_counts}
 use Rattle.qs_run_laws.proofs.ThreadsIsolated.{abstract_run, end, end_is, entry_is, every, isolated, mind_is, journal_of_object, page, shown, ticket_inside, trace_is}
 
 -- the same for each number of a range
@@ -62,7 +62,7 @@ zip_flat f g (x ∷ xs) (y ∷ ys) zip = ap₂ (λ z zs. z ++ zs) zip.0 (zip_fla
 module _ (p : ProgramShape) (sound : IsSound p) (mode : Mode) (code : ℕ → ClientCode) (codes : AreCodes p mode code) (size : ℕ) (r : ThreadRun)
     (run : IsThreadRun p code size r) where
   -- each ticket's page is its place of the serial run
-  record IsAt (t : Ticket) (q : Place) : Type 0 where
+  record IsAt (t : Ticket) (q : SerialBlock) : Type 0 where
     pub ticket : q.ticket ≡ t
     pub entry : entry_by r t ≡ q.entry
     pub trace : trace_by r t ≡ q.trace
@@ -76,7 +76,7 @@ module _ (p : ProgramShape) (sound : IsSound p) (mode : Mode) (code : ℕ → Cl
       (λ h. (end p sound mode code codes size r run h).journal) r.order a.legal a.pages a.begins a.flows
 
   places : AllZip IsAt r.order (serial p r.order).places
-  places = zip_both (λ (t : Ticket) (q : Place) (few : t.index < blocks_of p t.client) (a : Agrees p (λ h. (end p sound mode code codes size r run h).journal) (page p sound mode code codes size r run) t q).
+  places = zip_both (λ (t : Ticket) (q : SerialBlock) (few : t.index < blocks_of p t.client) (a : Agrees p (λ h. (end p sound mode code codes size r run h).journal) (page p sound mode code codes size r run) t q).
       let done = ((tale p sound mode code codes size r run t.client).blocks t.index (block_told p sound mode code codes size r run t few)).done in
       record {
         ticket = a.ticket;
@@ -92,25 +92,25 @@ module _ (p : ProgramShape) (sound : IsSound p) (mode : Mode) (code : ℕ → Cl
       all [] = tt
       all (t ∷ ts) = (tt, all ts)
 
-  entries : map (entry_by r) r.order ≡ map (λ (q : Place). q.entry) (serial p r.order).places
-  entries = zip_map (entry_by r) (λ (q : Place). q.entry) r.order (serial p r.order).places
-      (zip_both (λ (t : Ticket) (q : Place) (k : Unit {0}) (is : IsAt t q). is.entry) r.order (serial p r.order).places always places)
+  entries : map (entry_by r) r.order ≡ map (λ (q : SerialBlock). q.entry) (serial p r.order).places
+  entries = zip_map (entry_by r) (λ (q : SerialBlock). q.entry) r.order (serial p r.order).places
+      (zip_both (λ (t : Ticket) (q : SerialBlock) (k : Unit {0}) (is : IsAt t q). is.entry) r.order (serial p r.order).places always places)
 
-  traces : map (trace_by r) r.order ≡ map (λ (q : Place). q.trace) (serial p r.order).places
-  traces = zip_map (trace_by r) (λ (q : Place). q.trace) r.order (serial p r.order).places
-      (zip_both (λ (t : Ticket) (q : Place) (k : Unit {0}) (is : IsAt t q). is.trace) r.order (serial p r.order).places always places)
+  traces : map (trace_by r) r.order ≡ map (λ (q : SerialBlock). q.trace) (serial p r.order).places
+  traces = zip_map (trace_by r) (λ (q : SerialBlock). q.trace) r.order (serial p r.order).places
+      (zip_both (λ (t : Ticket) (q : SerialBlock) (k : Unit {0}) (is : IsAt t q). is.trace) r.order (serial p r.order).places always places)
 
   -- what a ticket enters into an object's journal
-  abbrev entered : ℕ → Ticket → List Entry
-  entered h t = map (stamp t) (part h (page p sound mode code codes size r run t).trace)
+  abbrev entries_of_ticket : ℕ → Ticket → List Entry
+  entries_of_ticket h t = map (stamp t) (part h (page p sound mode code codes size r run t).trace)
 
   journals : (h : ℕ) → h < length p.objects → (r.held h).journal ≡ flat_map (part_at h) (serial p r.order).places
   journals h own =
       let g = journal_of_object p sound mode code codes size r run h in
       ap (λ (o : HeldState). o.journal) (end_is p sound mode code codes size r run h own)
       ∙ (g.journal ∙ (g.by_tickets
-      ∙ zip_flat (entered h) (part_at h) r.order (serial p r.order).places
-      (zip_both (λ (t : Ticket) (q : Place) (k : Unit {0}) (is : IsAt t q). ap₂ (λ (u : Ticket) es. map (stamp u) (part h es)) (sym is.ticket) is.page)
+      ∙ zip_flat (entries_of_ticket h) (part_at h) r.order (serial p r.order).places
+      (zip_both (λ (t : Ticket) (q : SerialBlock) (k : Unit {0}) (is : IsAt t q). ap₂ (λ (u : Ticket) es. map (stamp u) (part h es)) (sym is.ticket) is.page)
       r.order (serial p r.order).places always places)))
 
   states : (h : ℕ) → h < length p.objects → (r.held h).object ≡ (serial p r.order).states h
@@ -133,10 +133,10 @@ module _ (p : ProgramShape) (sound : IsSound p) (mode : Mode) (code : ℕ → Cl
     counts_are : counts_at (shown p sound mode code codes size r run) i ≡ counts_by r t
     counts_are = get_or-map (counts_by r) r.order i (ticket 0 0) [] few
 
-    tallied : IsTallied (listed p t) (counts_by r t) ((tale_counts p sound mode code codes size r run t.client).syncs t.index)
+    tallied : IsTallied (objects_of_block p t) (counts_by r t) ((tale_counts p sound mode code codes size r run t.client).syncs t.index)
     tallied =
         let client = no_block_beyond p t.client (let o = own in omega (arith, o)) in
-        subst (λ (m : ClientModel). IsTallied (listed p t) (get_or m.counts t.index []) ((tale_counts p sound mode code codes size r run t.client).syncs t.index))
+        subst (λ (m : ClientModel). IsTallied (objects_of_block p t) (get_or m.counts t.index []) ((tale_counts p sound mode code codes size r run t.client).syncs t.index))
         (sym (mind_is p sound mode code codes size r run t.client client))
         ((tale_counts p sound mode code codes size r run t.client).tallied t.index (block_told p sound mode code codes size r run t own))
 

@@ -4,7 +4,7 @@ use Rattle.std.proofs.Common.{◌≡◌, ◌<◌, ◌≤◌, arith, ℕ, zero, s
 use Rattle.std.proofs.lemmas.List.{get_or-map, get_or_past, length-map}
 use Rattle.std.proofs.lemmas.List.FromFn.{get_or-map-range_with_len, length-range_with_len}
 use Rattle.std.specs.List.{AllByRecursion, range_with_len}
-use Rattle.qs_objects.specs.Journals.{HeldState, replay, unstamped, IsHonest}
+use Rattle.qs_objects.specs.Journals.{HeldState, replay, without_tickets, IsHonest}
 use Rattle.qs_objects.specs.Parts.{HasEntry, part}
 use Rattle.qs_objects.specs.declared.held.Ticket.{Ticket}
 use Rattle.qs_objects.proofs.Elements.{AllByRecursion-get_or}
@@ -12,10 +12,10 @@ use Rattle.qs_program.specs.Program.{ProgramShape, blocks_of, text_of}
 use Rattle.qs_program.specs.Sound.{IsSound}
 use Rattle.qs_program.specs.Values.{Locals}
 use Rattle.qs_meaning.specs.Following.{block_tree}
-use Rattle.qs_meaning.specs.Serial.{declared, no_state}
+use Rattle.qs_meaning.specs.Serial.{declared_states, no_state}
 use Rattle.qs_meaning.proofs.Each.{each_map}
 use Rattle.qs_meaning.proofs.Histories.{Among, Flow}
-use Rattle.qs_meaning.specs.BlockRecords.{Begins, IsPage, Page}
+use Rattle.qs_meaning.specs.BlockRecords.{Begins, IsBlockRecord, BlockRecord}
 use Rattle.qs_meaning.proofs.RequestPaths.{requests_within}
 use Rattle.qs_meaning.proofs.SerialRuns.{line}
 use Rattle.qs_syncset.specs.Codes.{ClientCode}
@@ -32,7 +32,7 @@ use Rattle.qs_run_laws.specs.ThreadRuns.{IsThreadRun, ThreadRun, counts_by, entr
 use Rattle.qs_run_laws.proofs.ClientTickets.{legal_counts}
 use Rattle.qs_run_laws.proofs.JournalFlows.{JournalGrowth, IsOver, grows, size_of}
 use Rattle.qs_run_laws.proofs.LanesMeet.{all_counted, got_for, sent_for, served_whole}
-use Rattle.qs_run_laws.proofs.ThreadTales.{block_told, held_of, inside, mind_of, tale}
+use Rattle.qs_run_laws.proofs.ThreadHistories.{block_told, held_of, inside, mind_of, tale}
 
 module _ (p : ProgramShape) (sound : IsSound p) (mode : Mode) (code : ℕ → ClientCode) (codes : AreCodes p mode code) (size : ℕ) (r : ThreadRun)
     (run : IsThreadRun p code size r) where
@@ -40,7 +40,7 @@ module _ (p : ProgramShape) (sound : IsSound p) (mode : Mode) (code : ℕ → Cl
   shown = shown_by p r
 
   -- of each ticket its page, and of each object what its handler ended with
-  abbrev pub page : Ticket → Page
+  abbrev pub page : Ticket → BlockRecord
   page t = (tale p sound mode code codes size r run t.client).page t.index
 
   abbrev pub end : ℕ → HeldState
@@ -52,7 +52,7 @@ module _ (p : ProgramShape) (sound : IsSound p) (mode : Mode) (code : ℕ → Cl
       let block = (tale p sound mode code codes size r run t.client).blocks t.index (block_told p sound mode code codes size r run t few) in
       record { done = block.done; lane = block.lanes h; outside = block.outside h }) r.order (inside p sound mode code codes size r run)
 
-  pages : AllByRecursion (λ t. IsPage p t (page t)) r.order
+  pages : AllByRecursion (λ t. IsBlockRecord p t (page t)) r.order
   pages =
       each_map (λ (t : Ticket) (few : t.index < blocks_of p t.client).
       ((tale p sound mode code codes size r run t.client).blocks t.index (block_told p sound mode code codes size r run t few)).page.path)
@@ -70,7 +70,7 @@ module _ (p : ProgramShape) (sound : IsSound p) (mode : Mode) (code : ℕ → Cl
       r.order (inside p sound mode code codes size r run)
 
   -- the room of a journal is never used up
-  within_load : (h : ℕ) (t : Ticket) → IsPage p t (page t) → length (part h (page t).trace) ≤ cost p h t
+  within_load : (h : ℕ) (t : Ticket) → IsBlockRecord p t (page t) → length (part h (page t).trace) ≤ cost p h t
   within_load h t path = leads_within h (block_tree p t (page t).entry) (page t).trace (page t).rest (cost p h t) path (requests_within (text_of p t).body (page t).entry h)
 
   parts_fit : (h : ℕ) → size_of p page h (sent_for p sound mode code codes size r run h) (got_for p sound mode code codes size r run h) (end h) r.order ≤ room_of p h
@@ -133,10 +133,10 @@ module _ (p : ProgramShape) (sound : IsSound p) (mode : Mode) (code : ℕ → Cl
       let all = all_counted p sound mode code codes size r run t.client own in
       legal_among p (λ _. 0) r.order t.client t.index run.legal (omega arith) (omega (arith, few, count, all))
 
-  pub flows : (h : ℕ) → Flow (line p sound page (λ h t. []) (λ h. (end h).object) (λ h. ⊥) (λ h. (end h).journal) h) (declared p h) (end h).journal r.order
+  pub flows : (h : ℕ) → Flow (line p sound page (λ h t. []) (λ h. (end h).object) (λ h. ⊥) (λ h. (end h).journal) h) (declared_states p h) (end h).journal r.order
   flows h =
       let g = journal_of_object h in
-      subst (λ j. Flow (line p sound page (λ h t. []) (λ h. (end h).object) (λ h. ⊥) (λ h. (end h).journal) h) (declared p h) j r.order) (sym g.journal) g.flow
+      subst (λ j. Flow (line p sound page (λ h t. []) (λ h. (end h).object) (λ h. ⊥) (λ h. (end h).journal) h) (declared_states p h) j r.order) (sym g.journal) g.flow
 
   pub abstract_run : IsRun p sound shown page (λ h t. []) (λ h. (end h).object) (λ h. ⊥) (λ h. (end h).journal)
   abstract_run = record {
@@ -152,8 +152,8 @@ module _ (p : ProgramShape) (sound : IsSound p) (mode : Mode) (code : ℕ → Cl
     pages = pages;
     begins = begins;
     flows = flows;
-    honest = λ h own. let g = journal_of_object h in subst (λ j. IsHonest (declared p h) (unstamped j)) (sym g.journal) g.honest;
-    replayed = λ h own. let g = journal_of_object h in ap (λ j. replay (declared p h) (unstamped j)) g.journal ∙ g.replayed;
+    honest = λ h own. let g = journal_of_object h in subst (λ j. IsHonest (declared_states p h) (without_tickets j)) (sym g.journal) g.honest;
+    replayed = λ h own. let g = journal_of_object h in ap (λ j. replay (declared_states p h) (without_tickets j)) g.journal ∙ g.replayed;
     entry = λ i few. get_or-map (entry_by r) r.order i (ticket 0 0) [] few ∙ entry_is (ticket_at shown i) (ticket_inside i few);
     trace = λ i few. get_or-map (trace_by r) r.order i (ticket 0 0) [] few ∙ trace_is (ticket_at shown i) (ticket_inside i few);
     ended = λ i few e.

@@ -24,7 +24,7 @@ use Rattle.qs_client.specs.ClientRuns.{Deed, next_ticket, reserves, sends, gets,
 use Rattle.qs_client.specs.ClientModel.{ClientModel, mind_after_begin, mind_after_chunk, fresh_mind, mind_after_object, next_mind}
 use Rattle.qs_played.specs.Played.{ticket}
 use Rattle.qs_core_laws.specs.Core.{AreCodes}
-use Rattle.qs_core_laws.specs.CoreExamples.{built, counted}
+use Rattle.qs_core_laws.specs.CoreExamples.{example_code, sync_count}
 use Rattle.qs_run_laws.specs.Outcomes.{IsOutcome}
 use Rattle.qs_run_laws.specs.ThreadRuns.{IsThreadRun, ThreadRun, counts_by, shown_by, trace_by}
 
@@ -32,8 +32,8 @@ use Rattle.qs_run_laws.specs.ThreadRuns.{IsThreadRun, ThreadRun, counts_by, show
 abbrev pub holder : ℕ → Declared
 holder letter = record { name = letter ∷ []; kind = hundred }
 
-abbrev pub named : ℕ → List (List ℕ) → List BlockShape → ClientShape
-named letter variables blocks = record { name = letter ∷ []; variables = variables; blocks = blocks }
+abbrev pub example_client : ℕ → List (List ℕ) → List BlockShape → ClientShape
+example_client letter variables blocks = record { name = letter ∷ []; variables = variables; blocks = blocks }
 
 abbrev pub moves_30 : BlockShape
 moves_30 = block (0 ∷ 1 ∷ [])
@@ -48,7 +48,7 @@ deposits_and_asks = block (1 ∷ []) (command (call 1 Deposit (n 1 ∷ [])) (que
 abbrev pub bank : ProgramShape
 bank = record {
   objects = holder 97 ∷ holder 98 ∷ [];
-  clients = named 99 ((120 ∷ []) ∷ (121 ∷ []) ∷ []) (moves_30 ∷ []) ∷ named 100 ((120 ∷ []) ∷ []) (deposits_1 ∷ deposits_and_asks ∷ []) ∷ [];
+  clients = example_client 99 ((120 ∷ []) ∷ (121 ∷ []) ∷ []) (moves_30 ∷ []) ∷ example_client 100 ((120 ∷ []) ∷ []) (deposits_1 ∷ deposits_and_asks ∷ []) ∷ [];
 }
 
 abbrev pub request : ℕ → Op → ℕ → Request
@@ -57,8 +57,8 @@ request h op amount = record { object = h; op = op; args = pos amount ∷ [] }
 abbrev pub asks : ℕ → Request
 asks h = record { object = h; op = Balance; args = [] }
 
-abbrev pub entered : Ticket → Request → Option ℤ → Entry
-entered t r reply = record { ticket = t; request = r; reply = reply }
+abbrev pub example_entry : Ticket → Request → Option ℤ → Entry
+example_entry t r reply = record { ticket = t; request = r; reply = reply }
 
 abbrev pub first : Ticket
 first = ticket 0 0
@@ -74,32 +74,32 @@ abbrev pub giver : ℕ → List Entry → HeldState
 giver amount journal = record { object = left_with (account (pos amount)) 0; journal = journal; room = 3 }
 
 abbrev pub withdrawn : HeldState
-withdrawn = giver 70 (entered first (request 0 Withdraw 30) None ∷ [])
+withdrawn = giver 70 (example_entry first (request 0 Withdraw 30) None ∷ [])
 
 abbrev pub giver_asked : HeldState
-giver_asked = giver 70 (entered first (request 0 Withdraw 30) None ∷ entered first (asks 0) (some 70) ∷ [])
+giver_asked = giver 70 (example_entry first (request 0 Withdraw 30) None ∷ example_entry first (asks 0) (some 70) ∷ [])
 
 abbrev pub giver_end : HeldState
-giver_end = giver 71 (entered first (request 0 Withdraw 30) None ∷ entered first (asks 0) (some 70) ∷ entered second (request 0 Deposit 1) None ∷ [])
+giver_end = giver 71 (example_entry first (request 0 Withdraw 30) None ∷ example_entry first (asks 0) (some 70) ∷ example_entry second (request 0 Deposit 1) None ∷ [])
 
 -- and the second, with room for four
 abbrev pub taker : ℕ → List Entry → HeldState
 taker amount journal = record { object = left_with (account (pos amount)) 0; journal = journal; room = 4 }
 
 abbrev pub taker_moved : List Entry
-taker_moved = entered first (request 1 Deposit 30) None ∷ entered first (asks 1) (some 130) ∷ []
+taker_moved = example_entry first (request 1 Deposit 30) None ∷ example_entry first (asks 1) (some 130) ∷ []
 
-abbrev pub deposited : HeldState
-deposited = taker 130 (entered first (request 1 Deposit 30) None ∷ [])
+abbrev pub after_deposit : HeldState
+after_deposit = taker 130 (example_entry first (request 1 Deposit 30) None ∷ [])
 
 abbrev pub taker_asked : HeldState
 taker_asked = taker 130 taker_moved
 
 abbrev pub taker_more : HeldState
-taker_more = taker 131 (taker_moved ++ entered third (request 1 Deposit 1) None ∷ [])
+taker_more = taker 131 (taker_moved ++ example_entry third (request 1 Deposit 1) None ∷ [])
 
 abbrev pub taker_end : HeldState
-taker_end = taker 131 (taker_moved ++ entered third (request 1 Deposit 1) None ∷ entered third (asks 1) (some 131) ∷ [])
+taker_end = taker 131 (taker_moved ++ example_entry third (request 1 Deposit 1) None ∷ example_entry third (asks 1) (some 131) ∷ [])
 
 abbrev pub full_chunk : Request → Parcel
 full_chunk r = Work (batch (r ∷ []) 8)
@@ -111,7 +111,7 @@ abbrev pub mover_deeds : List Deed
 mover_deeds =
     reserves ∷ takes_chunk 0 ∷ takes_chunk 1
     ∷ sends 0 (full_chunk (request 0 Withdraw 30)) ∷ sends 0 Sync ∷ gets 0 withdrawn
-    ∷ sends 1 (full_chunk (request 1 Deposit 30)) ∷ sends 1 Sync ∷ gets 1 deposited
+    ∷ sends 1 (full_chunk (request 1 Deposit 30)) ∷ sends 1 Sync ∷ gets 1 after_deposit
     ∷ sends 0 (Home giver_asked) ∷ sends 0 End ∷ sends 1 (Home taker_asked) ∷ sends 1 End ∷ []
 
 abbrev pub depositor_deeds : List Deed
@@ -130,7 +130,7 @@ giver_tasks =
 abbrev pub taker_tasks : List Task
 taker_tasks =
     takes (nexts.Ticket first) ∷ receives 0 (full_chunk (request 1 Deposit 30)) ∷ spares 0 empty_chunk
-    ∷ receives 0 Sync ∷ gives 0 deposited ∷ receives 0 (Home taker_asked) ∷ receives 0 End
+    ∷ receives 0 Sync ∷ gives 0 after_deposit ∷ receives 0 (Home taker_asked) ∷ receives 0 End
     ∷ takes (nexts.Ticket third) ∷ receives 1 (full_chunk (request 1 Deposit 1)) ∷ spares 1 empty_chunk
     ∷ receives 1 Sync ∷ gives 1 taker_more ∷ receives 1 (Home taker_end) ∷ receives 1 End
     ∷ takes nexts.Closed ∷ []
@@ -160,7 +160,7 @@ abbrev pub bank_run : ThreadRun
 bank_run = record {
   order = first ∷ second ∷ third ∷ [];
   deeds = bank_deeds;
-  mind = λ c. next_mind (mind_after c (fresh_mind (built false bank c) 8) (bank_deeds c));
+  mind = λ c. next_mind (mind_after c (fresh_mind (example_code false bank c) 8) (bank_deeds c));
   tasks = bank_tasks;
   held = bank_held;
 }
@@ -168,10 +168,10 @@ bank_run = record {
 pub record OutcomeExamples : Type 0 where
   -- what the law asks for
   pub sound : IsSound bank
-  pub codes : AreCodes bank modes.Plain (built false bank)
-  pub run : IsThreadRun bank (built false bank) 8 bank_run
+  pub codes : AreCodes bank modes.Plain (example_code false bank)
+  pub run : IsThreadRun bank (example_code false bank) 8 bank_run
   -- and what it says, computed
   pub outcome : IsOutcome bank modes.Plain (shown_by bank bank_run)
   pub replies : map (map (λ (e : Event). e.reply)) (map (trace_by bank_run) bank_run.order)
       ≡ (None ∷ None ∷ some 70 ∷ some 130 ∷ []) ∷ (None ∷ []) ∷ (None ∷ some 131 ∷ []) ∷ []
-  pub syncs : map (counts_by bank_run) bank_run.order ≡ (counted 0 1 ∷ counted 1 1 ∷ []) ∷ (counted 0 0 ∷ []) ∷ (counted 1 1 ∷ []) ∷ []
+  pub syncs : map (counts_by bank_run) bank_run.order ≡ (sync_count 0 1 ∷ sync_count 1 1 ∷ []) ∷ (sync_count 0 0 ∷ []) ∷ (sync_count 1 1 ∷ []) ∷ []

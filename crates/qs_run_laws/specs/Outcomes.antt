@@ -7,7 +7,7 @@ use Rattle.qs_objects.specs.declared.held.Entry.{Entry}
 use Rattle.qs_objects.specs.declared.held.Ticket.{Ticket}
 use Rattle.qs_program.specs.Program.{ProgramShape, blocks_of}
 use Rattle.qs_program.specs.Sound.{IsSound}
-use Rattle.qs_meaning.specs.Serial.{IsLegal, Place, serial}
+use Rattle.qs_meaning.specs.Serial.{IsLegal, SerialBlock, serial}
 use Rattle.qs_syncset.specs.Codes.{ClientCode}
 use Rattle.qs_syncset.specs.declared.mode.Mode.{Mode}
 use Rattle.qs_played.specs.Isolation.{IsIsolated}
@@ -17,7 +17,7 @@ use Rattle.qs_core_laws.specs.Core.{AreCodes}
 use Rattle.qs_run_laws.specs.ThreadRuns.{IsThreadRun, ThreadRun, shown_by}
 
 -- a ticket's part on an object, as it stands in the object's journal
-abbrev pub part_at : ℕ → Place → List Entry
+abbrev pub part_at : ℕ → SerialBlock → List Entry
 part_at h q = map (stamp q.ticket) (part h q.trace)
 
 -- The order is legal, and each block of the program stands in it exactly once. The variables at entry and the traces are those of the serial
@@ -27,8 +27,8 @@ part_at h q = map (stamp q.ticket) (part h q.trace)
 pub record IsOutcome (p : ProgramShape) (mode : Mode) (o : Played) : Type 0 where
   pub legal : IsLegal p o.order
   pub once : (t : Ticket) → t.index < blocks_of p t.client → length (filter (same t) o.order) ≡ 1
-  pub entries : o.entries ≡ map (λ (q : Place). q.entry) (serial p o.order).places
-  pub traces : o.traces ≡ map (λ (q : Place). q.trace) (serial p o.order).places
+  pub entries : o.entries ≡ map (λ (q : SerialBlock). q.entry) (serial p o.order).places
+  pub traces : o.traces ≡ map (λ (q : SerialBlock). q.trace) (serial p o.order).places
   pub journals : o.journals ≡ map (λ h. flat_map (part_at h) (serial p o.order).places) (range_with_len 0 (length p.objects))
   pub states : o.states ≡ map (serial p o.order).states (range_with_len 0 (length p.objects))
   pub ended : o.ended ≡ map (λ t. true) o.order

@@ -5,7 +5,7 @@ use Rattle.qs_script.specs.declared.tree.Item.{Item}
 use Rattle.qs_script.specs.declared.lex.TokenFault.{TokenFault}
 use Rattle.qs_script.specs.declared.lex.TokenFault.TheVariants.{Number, Name}
 use Rattle.qs_script.specs.declared.token.Token.TheVariants as t
-use Rattle.qs_script.specs.Tokens.{is_letter, is_digit, is_space, is_name_byte, word_token, value_of, Pending, nothing, word, digits, comment, sign, Step, over, tokens_from, tokens_of, after, ends, begun, before, step, going_on, any_sign, single_sign, at, signs, equals_signs}
+use Rattle.qs_script.specs.Tokens.{is_letter, is_digit, is_space, is_name_byte, word_token, value_of, Pending, nothing, word, digits, comment, sign, Step, over, tokens_from, tokens_of, after, ends, first_byte, before, step, going_on, any_sign, single_sign, at, signs, equals_signs}
 use Rattle.qs_script.specs.Reads.{IsScriptText}
 use Rattle.qs_script.specs.Sizes.{statements}
 use Rattle.qs_script.proofs.Counts.{item_counted, items_counted}
@@ -54,7 +54,7 @@ few_begun_by false true space b other h = omega arith
 few_begun_by false false true b other h = omega arith
 few_begun_by false false false b other h = h
 
-few_begun : (b : ℕ) → FewAfter 1 (begun b)
+few_begun : (b : ℕ) → FewAfter 1 (first_byte b)
 few_begun b = few_begun_by (is_letter b) (is_digit b) (is_space b) b (if nat_eq b 35 then Ok ([], comment) else any_sign b (at b equals_signs)) (few_comment b)
 
 few_long : (long : Bool) (fault : TokenFault) (token : Token) → Few 1 (if long then Err fault else Ok (token ∷ []))
@@ -74,7 +74,7 @@ few_before n ts (Ok p) h k = omega (arith, length-append ts p.0)
 few_before n ts (Err e) h k = tt
 
 few_ends : (n : ℕ) (r : Result (List Token) TokenFault) (b : ℕ) → Few n r → FewAfter (n + 1) (ends r b)
-few_ends n (Ok ts) b h = few_before n ts (begun b) h (few_begun b)
+few_ends n (Ok ts) b h = few_before n ts (first_byte b) h (few_begun b)
 few_ends n (Err e) b h = tt
 
 few_step : (p : Pending) (b : ℕ) → FewAfter (weight p + 1) (step p b)

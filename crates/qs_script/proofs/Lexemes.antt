@@ -5,7 +5,7 @@ use Rattle.qs_script.specs.declared.token.Token.{Token}
 use Rattle.qs_script.specs.declared.lex.TokenFault.{TokenFault}
 use Rattle.qs_script.specs.declared.lex.TokenFault.TheVariants.{Number, Name}
 use Rattle.std.proofs.Math.Dec.{ltb}
-use Rattle.qs_script.specs.Tokens.{Pending, nothing, word, digits, comment, sign, is_name_byte, is_letter, is_digit, is_space, word_token, value_of, Step, over, tokens_from, tokens_of, after, ends, begun, before, step, going_on, any_sign, single_sign, at, equals_signs}
+use Rattle.qs_script.specs.Tokens.{Pending, nothing, word, digits, comment, sign, is_name_byte, is_letter, is_digit, is_space, word_token, value_of, Step, over, tokens_from, tokens_of, after, ends, first_byte, before, step, going_on, any_sign, single_sign, at, equals_signs}
 use Rattle.qs_script.specs.declared.token.Token.TheVariants as t
 use Rattle.qs_script.specs.Cutting.{run_of}
 use Rattle.qs_script.specs.Limits.{longest_name}
@@ -31,7 +31,7 @@ begun_next ts (Ok p) bs = sym (after-after ts p.0 (tokens_from p.1 bs))
 begun_next ts (Err e) bs = refl
 
 then_ends : (r : Tokens) (b : ℕ) (bs : List ℕ) → going_on (ends r b) (λ q. tokens_from q bs) ≡ then_tokens r (b ∷ bs)
-then_ends (Ok ts) b bs = begun_next ts (begun b) bs
+then_ends (Ok ts) b bs = begun_next ts (first_byte b) bs
 then_ends (Err e) b bs = refl
 
 then_nil : (r : Tokens) → r ≡ then_tokens r []
@@ -57,7 +57,7 @@ module _ (test : ℕ → Bool) (run : List ℕ → Pending)
   first_step passes b bs e = rw (e, one-add) refl
 
   -- the run at the front of a text whose first byte begins one
-  front_run : (b : ℕ) (bs : List ℕ) → begun b ≡ Ok ([], run (b ∷ [])) → test b ≡ true → tokens_of (b ∷ bs) ≡ then_tokens (over (run (take (run_of test (b ∷ bs)) (b ∷ bs)))) (drop (run_of test (b ∷ bs)) (b ∷ bs))
+  front_run : (b : ℕ) (bs : List ℕ) → first_byte b ≡ Ok ([], run (b ∷ [])) → test b ≡ true → tokens_of (b ∷ bs) ≡ then_tokens (over (run (take (run_of test (b ∷ bs)) (b ∷ bs)))) (drop (run_of test (b ∷ bs)) (b ∷ bs))
   front_run b bs e passes =
       ap (λ s. going_on s (λ q. tokens_from q bs)) e ∙ after-nil (tokens_from (run (b ∷ [])) bs) ∙ run_goes (b ∷ []) bs ∙ first_step (test b) b bs passes
 

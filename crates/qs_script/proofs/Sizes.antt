@@ -3,11 +3,11 @@ use Rattle.std.proofs.Common.{◌≡◌, ℕ, zero, suc, ◌+◌, ◌<◌, ◌�
 use Rattle.std.proofs.Math.Seq.{drop-cons}
 use Rattle.qs_script.specs.declared.tree.Stmt.{Stmt}
 use Rattle.qs_script.specs.declared.tree.Stmt.TheVariants.{Command, Query, Assign, If, IfElse, Repeat, Leave}
-use Rattle.qs_script.specs.Tree.{Stmts, end, command, query, assign, choose, choose_else, again, leave, joined}
+use Rattle.qs_script.specs.Tree.{Stmts, end, command, query, assign, choose, choose_else, again, leave, join_statements}
 use Rattle.qs_script.specs.Views.{stmts_of, single, size_of}
 
 -- a statement and the ones after it
-pub stmts_of-cons : (s : Stmt) (xs : List Stmt) → stmts_of (s ∷ xs) ≡ joined (single s) (stmts_of xs)
+pub stmts_of-cons : (s : Stmt) (xs : List Stmt) → stmts_of (s ∷ xs) ≡ join_statements (single s) (stmts_of xs)
 stmts_of-cons (Command c) xs = refl
 stmts_of-cons (Query v c) xs = refl
 stmts_of-cons (Assign v e) xs = refl
@@ -17,7 +17,7 @@ stmts_of-cons (Repeat n body) xs = refl
 stmts_of-cons Leave xs = refl
 
 -- the statements from i on: the one at i, and the others
-pub stmts_of-drop : (xs : List Stmt) (i : ℕ) (d : Stmt) → i < length xs → stmts_of (drop i xs) ≡ joined (single (get_or xs i d)) (stmts_of (drop (i + 1) xs))
+pub stmts_of-drop : (xs : List Stmt) (i : ℕ) (d : Stmt) → i < length xs → stmts_of (drop i xs) ≡ join_statements (single (get_or xs i d)) (stmts_of (drop (i + 1) xs))
 stmts_of-drop xs i d within = rw (drop-cons xs i d within, add-one) (stmts_of-cons (get_or xs i d) (drop (suc i) xs))
 
 -- no statements are left past the end
@@ -27,7 +27,7 @@ drop_past [] (suc i) h = refl
 drop_past (x ∷ xs) zero h = absurd (omega arith)
 drop_past (x ∷ xs) (suc i) h = drop_past xs i (omega arith)
 
-pub size_of-joined : (xs ys : Stmts) → size_of (joined xs ys) ≡ size_of xs + size_of ys
+pub size_of-joined : (xs ys : Stmts) → size_of (join_statements xs ys) ≡ size_of xs + size_of ys
 size_of-joined end ys = omega arith
 size_of-joined (command c xs) ys = omega (arith, size_of-joined xs ys)
 size_of-joined (query v c xs) ys = omega (arith, size_of-joined xs ys)
@@ -74,7 +74,7 @@ item_within body xs i item body_is within item_is =
 -- a loop over a list, for a function that goes through joined lists part by part: what it has so far, and the suffix that is left
 module _ {X : Type 0} (f : Stmts → X) (join : X → X → X)
     (regroups : (x y z : X) → join (join x y) z ≡ join x (join y z))
-    (splits : (s u : Stmts) → f (joined s u) ≡ join (f s) (f u)) where
+    (splits : (s u : Stmts) → f (join_statements s u) ≡ join (f s) (f u)) where
   at_item : (xs : List Stmt) (i : ℕ) (item : Stmt) → i < length xs → item ≡ get_or xs i item → f (stmts_of (drop i xs)) ≡ join (f (single item)) (f (stmts_of (drop (i + 1) xs)))
   at_item xs i item within item_is =
       ap f (stmts_of-drop xs i item within)

@@ -16,8 +16,8 @@ use Rattle.qs_script.specs.declared.tree.Block.{Block}
 use Rattle.qs_script.specs.declared.tree.KindText.{KindText}
 use Rattle.qs_script.specs.declared.tree.KindText.TheVariants.{Account, Buffer, Grid}
 use Rattle.qs_script.specs.declared.tree.Item.{Item}
-use Rattle.qs_script.specs.Tree.{Stmts, end, command, query, assign, again, leave, joined}
-use Rattle.qs_script.specs.Reading.{Read, ◌>>=◌, Loop, after, stopped, then_more, many_at, run, one, list_loop, name_at, number_at, open_brace_at, close_brace_at, open_paren_at, close_paren_at, comma_at, semicolon_at, negative_at, atom_at, further_at, more_loop, first_arg, args_at, call_of, call_at, operator_at, relation_at, expr_with, expr_at, test_of, test_at, query_at, assign_at, assigned_at, command_at, named_at, braced_at, other_at, choice_of, choice_at, repeat_at, stmt_at, body_loop, names_loop, block_of, block_at, separate_at, blocks_loop, kind_at, object_of, client_of, object_called_at, object_at, client_at, item_at, end_at, items_loop}
+use Rattle.qs_script.specs.Tree.{Stmts, end, command, query, assign, again, leave, join_statements}
+use Rattle.qs_script.specs.Reading.{Read, ◌>>=◌, Loop, after, stop_or, then_more, many_at, run, one, list_loop, name_at, number_at, open_brace_at, close_brace_at, open_paren_at, close_paren_at, comma_at, semicolon_at, negative_at, atom_at, further_at, more_loop, first_arg, args_at, call_of, call_at, operator_at, relation_at, expr_with, expr_at, test_of, test_at, query_at, assign_at, assigned_at, command_at, named_at, braced_at, other_at, choice_of, choice_at, repeat_at, stmt_at, body_loop, names_loop, block_of, block_at, separate_at, blocks_loop, kind_at, object_of, client_of, object_called_at, object_at, client_at, item_at, end_at, items_loop}
 use Rattle.qs_script.specs.Grammar.{IsAtom, AreMore, AreArgs, IsCall, operator_token, relation_token, IsExpr, IsTest, AreStmts, AreNames, AreSomeNames, IsBlock, AreBlocks, IsKind, IsItem, AreItems, IsScript}
 
 bind_some : {A B : Type 0} (r : Option A) (f : A → Option B) (y : B) → (r >>= f) ≡ Some y → (x : A) × (r ≡ Some x) × f x ≡ Some y
@@ -108,7 +108,7 @@ module _ {M : Type 0} (loop : Loop M) (Good : M → List Token → List Token �
       let (y, q, s) = after_some m.0 (next m.1) x p in
       subst (λ z. Good z.0 ts z.1) s (goes ts m y.0 y.1 e (ih m.1 y q))
 
-  step_sound : (ts : List Token) (stop : Option (List Token)) (next : List Token → Read M) (x : M × List Token) → loop.stop ts ≡ stop → stopped loop stop (then_more loop (loop.element ts) next) ≡ Some x → ((us : List Token) (y : M × List Token) → next us ≡ Some y → Good y.0 us y.1) → Good x.0 ts x.1
+  step_sound : (ts : List Token) (stop : Option (List Token)) (next : List Token → Read M) (x : M × List Token) → loop.stop ts ≡ stop → stop_or loop stop (then_more loop (loop.element ts) next) ≡ Some x → ((us : List Token) (y : M × List Token) → next us ≡ Some y → Good y.0 us y.1) → Good x.0 ts x.1
   step_sound ts (Some rest) next x e p ih = subst (λ z. Good z.0 ts z.1) (some_inj _ x p) (ends ts rest e)
   step_sound ts None next x e p ih = more_sound ts (loop.element ts) next x refl p ih
 
@@ -149,7 +149,7 @@ first_sound ts x p =
     let (y, h, e) = list_after close_paren_at further_at (λ xs ts rest. AreMore xs ts (t.CloseParen ∷ rest)) close_paren_sound further_goes a.0 a.1 x s in
     subst (λ z. AreArgs z.0 ts (t.CloseParen ∷ z.1)) e (a.1, atom_sound ts a q, h)
 
-args_step : (ts : List Token) (stop : Option (List Token)) (x : List Atom × List Token) → close_paren_at ts ≡ stop → stopped more_loop stop (first_arg ts) ≡ Some x → AreArgs x.0 ts (t.CloseParen ∷ x.1)
+args_step : (ts : List Token) (stop : Option (List Token)) (x : List Atom × List Token) → close_paren_at ts ≡ stop → stop_or more_loop stop (first_arg ts) ≡ Some x → AreArgs x.0 ts (t.CloseParen ∷ x.1)
 args_step ts (Some rest) x e p = subst (λ z. AreArgs z.0 ts (t.CloseParen ∷ z.1)) (some_inj _ x p) (close_paren_sound ts rest e)
 args_step ts None x e p = first_sound ts x p
 
@@ -184,35 +184,35 @@ test_sound ts x p =
     subst (λ z. IsTest z.0 ts z.1) v (r.1, subst (IsAtom a.0 ts) (relation_sound a.1 r s) (atom_sound ts a q), atom_sound r.1 b u)
 
 -- statements: one goes before others
-abbrev Goes : ℕ → List Token → Stmts × List Token → Type 0
-Goes n ts x = (more : Stmts) (rest : List Token) → AreStmts (suc n) more x.1 rest → AreStmts (suc n) (joined x.0 more) ts rest
+abbrev ExtendsStatements : ℕ → List Token → Stmts × List Token → Type 0
+ExtendsStatements n ts x = (more : Stmts) (rest : List Token) → AreStmts (suc n) more x.1 rest → AreStmts (suc n) (join_statements x.0 more) ts rest
 
-command_sound : (n : ℕ) (object : List ℕ) (ts : List Token) (x : Stmts × List Token) → command_at object ts ≡ Some x → Goes n (t.Name object ∷ t.Dot ∷ ts) x
+command_sound : (n : ℕ) (object : List ℕ) (ts : List Token) (x : Stmts × List Token) → command_at object ts ≡ Some x → ExtendsStatements n (t.Name object ∷ t.Dot ∷ ts) x
 command_sound n object ts x p =
     let (c, q, p') = bind_some (call_at object ts) (λ c. semicolon_at c.1 >>= λ x. Some (command c.0 end, x)) x p in
     let (y, s, v) = bind_last (semicolon_at c.1) (λ x. (command c.0 end, x)) x p' in
-    subst (Goes n (t.Name object ∷ t.Dot ∷ ts)) v
+    subst (ExtendsStatements n (t.Name object ∷ t.Dot ∷ ts)) v
     (λ more rest h. (y, subst (IsCall c.0 (t.Name object ∷ t.Dot ∷ ts)) (semicolon_sound c.1 y s) (call_sound object ts c q), h))
 
-query_sound : (n : ℕ) (v object : List ℕ) (ts : List Token) (x : Stmts × List Token) → query_at v object ts ≡ Some x → Goes n (t.Name v ∷ t.Assign ∷ t.Name object ∷ t.Dot ∷ ts) x
+query_sound : (n : ℕ) (v object : List ℕ) (ts : List Token) (x : Stmts × List Token) → query_at v object ts ≡ Some x → ExtendsStatements n (t.Name v ∷ t.Assign ∷ t.Name object ∷ t.Dot ∷ ts) x
 query_sound n v object ts x p =
     let (c, q, p') = bind_some (call_at object ts) (λ c. semicolon_at c.1 >>= λ x. Some (query v c.0 end, x)) x p in
     let (y, s, e) = bind_last (semicolon_at c.1) (λ x. (query v c.0 end, x)) x p' in
-    subst (Goes n (t.Name v ∷ t.Assign ∷ t.Name object ∷ t.Dot ∷ ts)) e
+    subst (ExtendsStatements n (t.Name v ∷ t.Assign ∷ t.Name object ∷ t.Dot ∷ ts)) e
     (λ more rest h. (_, y, refl, subst (IsCall c.0 (t.Name object ∷ t.Dot ∷ ts)) (semicolon_sound c.1 y s) (call_sound object ts c q), h))
 
-assign_sound : (n : ℕ) (v : List ℕ) (ts : List Token) (x : Stmts × List Token) → assign_at v ts ≡ Some x → Goes n (t.Name v ∷ t.Assign ∷ ts) x
+assign_sound : (n : ℕ) (v : List ℕ) (ts : List Token) (x : Stmts × List Token) → assign_at v ts ≡ Some x → ExtendsStatements n (t.Name v ∷ t.Assign ∷ ts) x
 assign_sound n v ts x p =
     let (c, q, p') = bind_some (expr_at ts) (λ e. semicolon_at e.1 >>= λ x. Some (assign v e.0 end, x)) x p in
     let (y, s, e) = bind_last (semicolon_at c.1) (λ x. (assign v c.0 end, x)) x p' in
-    subst (Goes n (t.Name v ∷ t.Assign ∷ ts)) e
+    subst (ExtendsStatements n (t.Name v ∷ t.Assign ∷ ts)) e
     (λ more rest h. (ts, y, refl, subst (IsExpr c.0 ts) (semicolon_sound c.1 y s) (expr_sound ts c q), h))
 
-assigned_sound : (n : ℕ) (v : List ℕ) (ts : List Token) (x : Stmts × List Token) → assigned_at v ts ≡ Some x → Goes n (t.Name v ∷ t.Assign ∷ ts) x
+assigned_sound : (n : ℕ) (v : List ℕ) (ts : List Token) (x : Stmts × List Token) → assigned_at v ts ≡ Some x → ExtendsStatements n (t.Name v ∷ t.Assign ∷ ts) x
 assigned_sound n v (t.Name object ∷ t.Dot ∷ ts) x p = query_sound n v object ts x p
 assigned_sound n v ts x p = assign_sound n v ts x p
 
-named_sound : (n : ℕ) (name : List ℕ) (ts : List Token) (x : Stmts × List Token) → named_at name ts ≡ Some x → Goes n (t.Name name ∷ ts) x
+named_sound : (n : ℕ) (name : List ℕ) (ts : List Token) (x : Stmts × List Token) → named_at name ts ≡ Some x → ExtendsStatements n (t.Name name ∷ ts) x
 named_sound n name (t.Dot ∷ ts) x p = command_sound n name ts x p
 named_sound n name (t.Assign ∷ ts) x p = assigned_sound n name ts x p
 named_sound n name _ x p = cc
@@ -241,33 +241,33 @@ module _ (n : ℕ) (inner : List Token → Read Stmts) (inner_sound : (ts : List
   other_sound (t.Else ∷ ts) x p = some_other_sound ts x p
   other_sound ts x p = no_other_sound ts x p
 
-  choice_whole : (c : Test) (first : Stmts) (other : Option Stmts) (x y z w : List Token) → IsTest c x (t.OpenBrace ∷ y) → AreStmts n first y (t.CloseBrace ∷ z) → IsOther other z w → Goes n (t.If ∷ x) (choice_of c first other, w)
+  choice_whole : (c : Test) (first : Stmts) (other : Option Stmts) (x y z w : List Token) → IsTest c x (t.OpenBrace ∷ y) → AreStmts n first y (t.CloseBrace ∷ z) → IsOther other z w → ExtendsStatements n (t.If ∷ x) (choice_of c first other, w)
   choice_whole c first None x y z w h k e = λ more rest m. (x, y, z, refl, h, k, rw e m)
   choice_whole c first (Some other) x y z w h k (u, e, l) = λ more rest m. (x, y, u, w, refl, h, subst (λ us. AreStmts n first y (t.CloseBrace ∷ us)) e k, l, m)
 
-  choice_sound : (ts : List Token) (x : Stmts × List Token) → choice_at inner ts ≡ Some x → Goes n (t.If ∷ ts) x
+  choice_sound : (ts : List Token) (x : Stmts × List Token) → choice_at inner ts ≡ Some x → ExtendsStatements n (t.If ∷ ts) x
   choice_sound ts x p =
       let (c, q, p') = bind_some (test_at ts) (λ c. braced_at inner c.1 >>= λ b. other_at inner b.1 >>= λ e. Some (choice_of c.0 b.0 e.0, e.1)) x p in
       let (b, s, p'') = bind_some (braced_at inner c.1) (λ b. other_at inner b.1 >>= λ e. Some (choice_of c.0 b.0 e.0, e.1)) x p' in
       let (e, u, v) = bind_last (other_at inner b.1) (λ e. (choice_of c.0 b.0 e.0, e.1)) x p'' in
       let (y, e', k) = braced_sound c.1 b s in
-      subst (Goes n (t.If ∷ ts)) v
+      subst (ExtendsStatements n (t.If ∷ ts)) v
       (choice_whole c.0 b.0 e.0 ts y b.1 e.1 (subst (IsTest c.0 ts) e' (test_sound ts c q)) k (other_sound b.1 e u))
 
-  repeat_sound : (ts : List Token) (x : Stmts × List Token) → repeat_at inner ts ≡ Some x → Goes n (t.Repeat ∷ ts) x
+  repeat_sound : (ts : List Token) (x : Stmts × List Token) → repeat_at inner ts ≡ Some x → ExtendsStatements n (t.Repeat ∷ ts) x
   repeat_sound ts x p =
       let (k, q, p') = bind_some (number_at ts) (λ n. braced_at inner n.1 >>= λ b. Some (again n.0 b.0 end, b.1)) x p in
       let (b, s, v) = bind_last (braced_at inner k.1) (λ b. (again k.0 b.0 end, b.1)) x p' in
       let (y, e, h) = braced_sound k.1 b s in
       let ts_is : ts ≡ t.Number k.0 ∷ t.OpenBrace ∷ y = number_sound ts k q ∙ ap (λ us. t.Number k.0 ∷ us) e in
-      subst (Goes n (t.Repeat ∷ ts)) v (λ more rest m. (y, b.1, ap (λ us. t.Repeat ∷ us) ts_is, h, m))
+      subst (ExtendsStatements n (t.Repeat ∷ ts)) v (λ more rest m. (y, b.1, ap (λ us. t.Repeat ∷ us) ts_is, h, m))
 
-  leave_sound : (ts : List Token) (x : Stmts × List Token) → (semicolon_at ts >>= λ y. Some (leave end, y)) ≡ Some x → Goes n (t.Leave ∷ ts) x
+  leave_sound : (ts : List Token) (x : Stmts × List Token) → (semicolon_at ts >>= λ y. Some (leave end, y)) ≡ Some x → ExtendsStatements n (t.Leave ∷ ts) x
   leave_sound ts x p =
       let (y, q, v) = bind_last (semicolon_at ts) (λ y. (leave end, y)) x p in
-      subst (Goes n (t.Leave ∷ ts)) v (λ more rest m. (y, ap (λ us. t.Leave ∷ us) (semicolon_sound ts y q), m))
+      subst (ExtendsStatements n (t.Leave ∷ ts)) v (λ more rest m. (y, ap (λ us. t.Leave ∷ us) (semicolon_sound ts y q), m))
 
-  stmt_sound : (ts : List Token) (x : Stmts × List Token) → stmt_at inner ts ≡ Some x → Goes n ts x
+  stmt_sound : (ts : List Token) (x : Stmts × List Token) → stmt_at inner ts ≡ Some x → ExtendsStatements n ts x
   stmt_sound (t.Leave ∷ ts) x p = leave_sound ts x p
   stmt_sound (t.If ∷ ts) x p = choice_sound ts x p
   stmt_sound (t.Repeat ∷ ts) x p = repeat_sound ts x p
@@ -277,7 +277,7 @@ module _ (n : ℕ) (inner : List Token → Read Stmts) (inner_sound : (ts : List
 body_ends : (levels : ℕ) (ts rest : List Token) → close_brace_at ts ≡ Some rest → AreStmts levels end ts (t.CloseBrace ∷ rest)
 body_ends levels ts rest e = close_brace_sound ts rest e
 
-no_statement : (ts : List Token) (x : Stmts × List Token) (m : Stmts) (rest : List Token) → None ≡ Some x → AreStmts zero m x.1 (t.CloseBrace ∷ rest) → AreStmts zero (joined x.0 m) ts (t.CloseBrace ∷ rest)
+no_statement : (ts : List Token) (x : Stmts × List Token) (m : Stmts) (rest : List Token) → None ≡ Some x → AreStmts zero m x.1 (t.CloseBrace ∷ rest) → AreStmts zero (join_statements x.0 m) ts (t.CloseBrace ∷ rest)
 no_statement ts x m rest p h = cc
 
 body_sound : (levels : ℕ) (ts : List Token) (x : Stmts × List Token) → run (body_loop levels) ts ≡ Some x → AreStmts levels x.0 ts (t.CloseBrace ∷ x.1)

@@ -20,7 +20,7 @@ use Rattle.qs_script.specs.declared.tree.Item.{Item}
 use Rattle.qs_script.specs.declared.tree.Item.TheVariants.{Object, Client}
 use Rattle.qs_script.specs.declared.fault.Fault.{Fault}
 use Rattle.qs_script.specs.declared.fault.Fault.TheVariants.{Form, Memory}
-use Rattle.qs_script.specs.Tree.{Stmts, end, command, query, assign, choose, choose_else, again, leave, joined}
+use Rattle.qs_script.specs.Tree.{Stmts, end, command, query, assign, choose, choose_else, again, leave, join_statements}
 use Rattle.qs_script.specs.Limits.{most_levels}
 
 -- what is read and the tokens after it, or nothing
@@ -58,9 +58,9 @@ abbrev pub after : {M : Type 0} → Loop M → M → Read M → Read M
 after loop xs None = None
 after loop xs (Some p) = Some (loop.join xs p.0, p.1)
 
-abbrev pub stopped : {M : Type 0} → Loop M → Option (List Token) → Read M → Read M
-stopped loop (Some rest) read = Some (loop.none, rest)
-stopped loop None read = read
+abbrev pub stop_or : {M : Type 0} → Loop M → Option (List Token) → Read M → Read M
+stop_or loop (Some rest) read = Some (loop.none, rest)
+stop_or loop None read = read
 
 abbrev pub then_more : {M : Type 0} → Loop M → Read M → (List Token → Read M) → Read M
 then_more loop None rest = None
@@ -69,7 +69,7 @@ then_more loop (Some x) rest = after loop x.0 (rest x.1)
 -- elements up to the end, in at most n steps
 abbrev pub many_at : {M : Type 0} → Loop M → ℕ → List Token → Read M
 many_at loop zero ts = None
-many_at loop (suc n) ts = stopped loop (loop.stop ts) (then_more loop (loop.element ts) (many_at loop n))
+many_at loop (suc n) ts = stop_or loop (loop.stop ts) (then_more loop (loop.element ts) (many_at loop n))
 
 -- elements up to the end
 unfoldable pub run : {M : Type 0} → Loop M → List Token → Read M
@@ -138,7 +138,7 @@ first_arg ts = atom_at ts >>= λ a. after more_loop (a.0 ∷ []) (run more_loop 
 
 -- the arguments, and the bracket that closes them
 abbrev pub args_at : List Token → Read (List Atom)
-args_at ts = stopped more_loop (close_paren_at ts) (first_arg ts)
+args_at ts = stop_or more_loop (close_paren_at ts) (first_arg ts)
 
 abbrev pub call_of : List ℕ → List ℕ → List Atom → Call
 call_of object op args = record { object = object; op = op; args = args }
@@ -232,7 +232,7 @@ stmt_at inner (t.Name n ∷ ts) = named_at n ts
 stmt_at inner _ = None
 
 abbrev pub stmts_loop : (List Token → Read Stmts) → Loop Stmts
-stmts_loop element = record { none = end; join = joined; stop = close_brace_at; element = element }
+stmts_loop element = record { none = end; join = join_statements; stop = close_brace_at; element = element }
 
 -- a statement as a list of one, where at most `levels` statements stand one inside another
 abbrev pub stmt_in : ℕ → List Token → Read Stmts

@@ -32,8 +32,8 @@ abbrev pub value_of : List ℕ → ℕ
 value_of digits = fold (λ n b. n * 10 + (b - 48)) 0 digits
 
 -- the reserved words
-abbrev pub reserved : List (List ℕ × Token)
-reserved =
+abbrev pub reserved_words : List (List ℕ × Token)
+reserved_words =
     (codes "object", t.Object) ∷ (codes "client", t.Client) ∷ (codes "separate", t.Separate) ∷ (codes "if", t.If)
     ∷ (codes "else", t.Else) ∷ (codes "repeat", t.Repeat) ∷ (codes "leave", t.Leave) ∷ (codes "account", t.Account)
     ∷ (codes "buffer", t.Buffer) ∷ (codes "grid", t.Grid) ∷ []
@@ -48,7 +48,7 @@ word_in (p ∷ ps) w = if same w p.0 then p.1 else word_in ps w
 
 -- a reserved word, or a name
 abbrev pub word_token : List ℕ → Token
-word_token w = word_in reserved w
+word_token w = word_in reserved_words w
 
 -- what has begun and isn't over
 pub data Pending : Type 0 where
@@ -98,8 +98,8 @@ any_sign b None = single_sign (at b signs)
 any_sign b (Some p) = Ok ([], sign p.0 p.1)
 
 -- a byte where nothing has begun
-abbrev pub begun : ℕ → Step
-begun b =
+abbrev pub first_byte : ℕ → Step
+first_byte b =
     if is_letter b then Ok ([], word (b ∷ [])) else
     (if is_digit b then Ok ([], digits (b ∷ [])) else
     (if is_space b then Ok ([], nothing) else
@@ -111,12 +111,12 @@ before ts (Err e) = Err e
 
 -- what has begun is over, and the byte begins something
 abbrev pub ends : Result (List Token) TokenFault → ℕ → Step
-ends (Ok ts) b = before ts (begun b)
+ends (Ok ts) b = before ts (first_byte b)
 ends (Err e) b = Err e
 
 -- one byte
 abbrev pub step : Pending → ℕ → Step
-step nothing b = begun b
+step nothing b = first_byte b
 step (word w) b = if is_name_byte b then Ok ([], word (w ++ b ∷ [])) else ends (over (word w)) b
 step (digits ds) b = if is_digit b then Ok ([], digits (ds ++ b ∷ [])) else ends (over (digits ds)) b
 step comment b = if nat_eq b 10 then Ok ([], nothing) else Ok ([], comment)

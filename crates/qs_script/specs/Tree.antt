@@ -18,12 +18,12 @@ pub data Stmts : Type 0 where
   leave : (rest : Stmts) → Stmts
 
 -- one list of statements after another
-abbrev pub joined : Stmts → Stmts → Stmts
-joined end ys = ys
-joined (command c xs) ys = command c (joined xs ys)
-joined (query v c xs) ys = query v c (joined xs ys)
-joined (assign v e xs) ys = assign v e (joined xs ys)
-joined (choose t first xs) ys = choose t first (joined xs ys)
-joined (choose_else t first other xs) ys = choose_else t first other (joined xs ys)
-joined (again n body xs) ys = again n body (joined xs ys)
-joined (leave xs) ys = leave (joined xs ys)
+abbrev pub join_statements : Stmts → Stmts → Stmts
+join_statements end ys = ys
+join_statements (command c xs) ys = command c (join_statements xs ys)
+join_statements (query v c xs) ys = query v c (join_statements xs ys)
+join_statements (assign v e xs) ys = assign v e (join_statements xs ys)
+join_statements (choose t first xs) ys = choose t first (join_statements xs ys)
+join_statements (choose_else t first other xs) ys = choose_else t first other (join_statements xs ys)
+join_statements (again n body xs) ys = again n body (join_statements xs ys)
+join_statements (leave xs) ys = leave (join_statements xs ys)

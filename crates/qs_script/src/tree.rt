@@ -1,7 +1,7 @@
 // Syntax trees.
 
 ghost use Rattle.std.specs.Prelude.{◌≡◌, OnOk, OnErr};
-ghost use Rattle.qs_script.specs.Tree.{end, joined};
+ghost use Rattle.qs_script.specs.Tree.{end, join_statements};
 ghost use Rattle.qs_script.specs.Views.{single, stmts_of};
 ghost use Rattle.qs_script.specs.Form.{HasForm};
 
@@ -134,7 +134,7 @@ impl Body {
 
     // Adds a statement at the end. An error means out of memory, and leaves the list as it was.
     pub(crate) fn push(&mut self, stmt: Stmt) -> Result<(), AllocError>
-        ensures added { OnOk result (self.new ≡ joined self.old (single stmt)) }
+        ensures added { OnOk result (self.new ≡ join_statements self.old (single stmt)) }
         ensures kept { OnErr result (self.new ≡ self.old) }
     {
         self.stmts.push(stmt)?;

@@ -14,7 +14,7 @@ use Rattle.qs_report.specs.Texts.{AppendsFront}
 use Rattle.qs_script.specs.Reads.{IsRefused, IsScriptText}
 use Rattle.qs_script.specs.declared.tree.Item.{Item}
 use Rattle.qs_check.specs.Checked.{fault_of}
-use Rattle.qs_check.specs.Resolve.{resolved}
+use Rattle.qs_check.specs.Resolve.{program_of_items}
 use Rattle.qs_program.specs.Program.{ProgramShape}
 use Rattle.qs_core_laws.specs.CoreSchedule.{IsPlayedIn}
 use Rattle.qs_plain_laws.specs.PlainSchedule.{IsPlayed}
@@ -88,11 +88,11 @@ IsDueOfProgram request p (Refused _) = ⊥
 -- what a request makes of a text: the result of its program, or the fault of the text, of its script, of its schedule or of its threads
 abbrev pub IsDueOfText : Request → List ℕ → Due → Type 0
 IsDueOfText request text (Text bytes) =
-    (s : List Item) × IsScriptText text s × (fault_of s ≡ None) × IsTextBy request (resolved s) bytes.items
+    (s : List Item) × IsScriptText text s × (fault_of s ≡ None) × IsTextBy request (program_of_items s) bytes.items
 IsDueOfText request text (Refused (fault.Read f)) = IsRefused f text
 IsDueOfText request text (Refused (fault.Check f)) = (s : List Item) × IsScriptText text s × (fault_of s ≡ Some f)
 IsDueOfText request text (Refused (fault.Play f)) =
-    (s : List Item) × IsScriptText text s × (fault_of s ≡ None) × IsUnplayedBy request (resolved s) f
+    (s : List Item) × IsScriptText text s × (fault_of s ≡ None) × IsUnplayedBy request (program_of_items s) f
 IsDueOfText request text (Refused (fault.Run f)) = (s : List Item) × IsScriptText text s × (fault_of s ≡ None) × IsRun request
 IsDueOfText request text (Refused _) = ⊥
 

@@ -2,38 +2,38 @@
 use Rattle.std.proofs.Common.{◌≡◌, ◌<◌, ◌≤◌, ℕ, zero, suc, ◌+◌, ◌==◌, Bool, true, false, if◌then◌else◌, List, [], ◌∷◌, ◌++◌, length, get_or, set, map, take, drop, replicate, refl, sym, ap, ◌∙◌, arith, append_assoc, drop-cons, get_or-set_same, set-set}
 use Rattle.std.proofs.lemmas.List.{drop_all, take_more}
 use Rattle.qs_sync_counts.specs.declared.sync_counts.SyncCount.{SyncCount}
-use Rattle.qs_sync_counts.specs.SyncRows.{AreFew, HaveCounts, all_counts, begun_rows, count_of, fresh_rows, no_syncs, object_of, objects_in, paired, sync_count, with_counts, with_sync}
+use Rattle.qs_sync_counts.specs.SyncRows.{AreFew, HaveCounts, all_counts, begun_rows, count_of, fresh_rows, no_syncs, object_of, objects_in, pair_counts, sync_count, with_counts, with_sync}
 
-pub length_paired : (os cs : List ℕ) → length cs ≡ length os → length (paired os cs) ≡ length os
+pub length_paired : (os cs : List ℕ) → length cs ≡ length os → length (pair_counts os cs) ≡ length os
 length_paired [] cs same = refl
 length_paired (o ∷ os) [] same = absurd (omega (arith, same))
 length_paired (o ∷ os) (c ∷ cs) same = ap suc (length_paired os cs (omega (arith, same)))
 
-pub objects_paired : (os cs : List ℕ) → length cs ≡ length os → map object_of (paired os cs) ≡ os
+pub objects_paired : (os cs : List ℕ) → length cs ≡ length os → map object_of (pair_counts os cs) ≡ os
 objects_paired [] cs same = refl
 objects_paired (o ∷ os) [] same = absurd (omega (arith, same))
 objects_paired (o ∷ os) (c ∷ cs) same = ap (λ rest. o ∷ rest) (objects_paired os cs (omega (arith, same)))
 
-pub counts_paired : (os cs : List ℕ) → length cs ≡ length os → map count_of (paired os cs) ≡ cs
+pub counts_paired : (os cs : List ℕ) → length cs ≡ length os → map count_of (pair_counts os cs) ≡ cs
 counts_paired [] [] same = refl
 counts_paired [] (c ∷ cs) same = absurd (omega (arith, same))
 counts_paired (o ∷ os) [] same = absurd (omega (arith, same))
 counts_paired (o ∷ os) (c ∷ cs) same = ap (λ rest. c ∷ rest) (counts_paired os cs (omega (arith, same)))
 
-pub paired_at : (os cs : List ℕ) (k : ℕ) → length cs ≡ length os → get_or (paired os cs) k (sync_count 0 0) ≡ sync_count (get_or os k 0) (get_or cs k 0)
+pub paired_at : (os cs : List ℕ) (k : ℕ) → length cs ≡ length os → get_or (pair_counts os cs) k (sync_count 0 0) ≡ sync_count (get_or os k 0) (get_or cs k 0)
 paired_at [] [] k same = refl
 paired_at [] (c ∷ cs) k same = absurd (omega (arith, same))
 paired_at (o ∷ os) [] k same = absurd (omega (arith, same))
 paired_at (o ∷ os) (c ∷ cs) zero same = refl
 paired_at (o ∷ os) (c ∷ cs) (suc k) same = paired_at os cs k (omega (arith, same))
 
-paired_push : (os cs : List ℕ) (o c : ℕ) → length cs ≡ length os → paired (os ++ o ∷ []) (cs ++ c ∷ []) ≡ paired os cs ++ sync_count o c ∷ []
+paired_push : (os cs : List ℕ) (o c : ℕ) → length cs ≡ length os → pair_counts (os ++ o ∷ []) (cs ++ c ∷ []) ≡ pair_counts os cs ++ sync_count o c ∷ []
 paired_push [] [] o c same = refl
 paired_push [] (d ∷ cs) o c same = absurd (omega (arith, same))
 paired_push (p ∷ os) [] o c same = absurd (omega (arith, same))
 paired_push (p ∷ os) (d ∷ cs) o c same = ap (λ rest. sync_count p d ∷ rest) (paired_push os cs o c (omega (arith, same)))
 
-paired_set : (os cs : List ℕ) (k n : ℕ) → length cs ≡ length os → paired os (set cs k n) ≡ set (paired os cs) k (sync_count (get_or os k 0) n)
+paired_set : (os cs : List ℕ) (k n : ℕ) → length cs ≡ length os → pair_counts os (set cs k n) ≡ set (pair_counts os cs) k (sync_count (get_or os k 0) n)
 paired_set [] [] k n same = refl
 paired_set [] (c ∷ cs) k n same = absurd (omega (arith, same))
 paired_set (o ∷ os) [] k n same = absurd (omega (arith, same))
@@ -60,7 +60,7 @@ have_at (os ∷ oss) [] k have = absurd have
 have_at (os ∷ oss) (cs ∷ css) zero have = have.0
 have_at (os ∷ oss) (cs ∷ css) (suc k) have = have_at oss css k have.1
 
-pub row_at : (oss css : List (List ℕ)) (k : ℕ) → HaveCounts oss css → get_or (with_counts oss css) k [] ≡ paired (get_or oss k []) (get_or css k [])
+pub row_at : (oss css : List (List ℕ)) (k : ℕ) → HaveCounts oss css → get_or (with_counts oss css) k [] ≡ pair_counts (get_or oss k []) (get_or css k [])
 row_at [] [] k have = refl
 row_at [] (cs ∷ css) k have = absurd have
 row_at (os ∷ oss) [] k have = absurd have
@@ -77,7 +77,7 @@ counts_of_rows (os ∷ oss) (cs ∷ css) have =
 -- where a row of pairs is empty, so are its objects and its counts
 pub empty_rows : (oss css : List (List ℕ)) (k : ℕ) → HaveCounts oss css → get_or (with_counts oss css) k [] ≡ [] → (get_or oss k [] ≡ []) × (get_or css k [] ≡ [])
 empty_rows oss css k have none =
-    let pairs : paired (get_or oss k []) (get_or css k []) ≡ [] = sym (row_at oss css k have) ∙ none in
+    let pairs : pair_counts (get_or oss k []) (get_or css k []) ≡ [] = sym (row_at oss css k have) ∙ none in
     let same = have_at oss css k have in (
       sym (objects_paired (get_or oss k []) (get_or css k []) same) ∙ ap (map object_of) pairs,
       sym (counts_paired (get_or oss k []) (get_or css k []) same) ∙ ap (map count_of) pairs,
@@ -90,7 +90,7 @@ pub rows_push : (oss css : List (List ℕ)) (k o c : ℕ) → HaveCounts oss css
 rows_push [] css k o c have inside = absurd (omega (arith, inside))
 rows_push (os ∷ oss) [] k o c have inside = absurd have
 rows_push (os ∷ oss) (cs ∷ css) zero o c have inside = ap (λ row. row ∷ with_counts oss css) (paired_push os cs o c have.0)
-rows_push (os ∷ oss) (cs ∷ css) (suc k) o c have inside = ap (λ rest. paired os cs ∷ rest) (rows_push oss css k o c have.1 (omega (arith, inside)))
+rows_push (os ∷ oss) (cs ∷ css) (suc k) o c have inside = ap (λ rest. pair_counts os cs ∷ rest) (rows_push oss css k o c have.1 (omega (arith, inside)))
 
 pub have_push : (oss css : List (List ℕ)) (k o c : ℕ) → HaveCounts oss css → k < length oss
     → HaveCounts (set oss k (get_or oss k [] ++ o ∷ [])) (set css k (get_or css k [] ++ c ∷ []))
@@ -114,7 +114,7 @@ rows_set [] [] k i n have = refl
 rows_set [] (cs ∷ css) k i n have = absurd have
 rows_set (os ∷ oss) [] k i n have = absurd have
 rows_set (os ∷ oss) (cs ∷ css) zero i n have = ap (λ row. row ∷ with_counts oss css) (paired_set os cs i n have.0)
-rows_set (os ∷ oss) (cs ∷ css) (suc k) i n have = ap (λ rest. paired os cs ∷ rest) (rows_set oss css k i n have.1)
+rows_set (os ∷ oss) (cs ∷ css) (suc k) i n have = ap (λ rest. pair_counts os cs ∷ rest) (rows_set oss css k i n have.1)
 
 pub have_set : (oss css : List (List ℕ)) (k i n : ℕ) → HaveCounts oss css → HaveCounts oss (set css k (set (get_or css k []) i n))
 have_set [] [] k i n have = have

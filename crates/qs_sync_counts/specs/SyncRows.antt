@@ -54,15 +54,15 @@ abbrev pub counts_state : List (List SyncCount) → ℕ → CountsState
 counts_state rows room = record { rows = rows; room = room }
 
 -- objects with their counts, in a block and in all
-abbrev pub paired : List ℕ → List ℕ → List SyncCount
-paired [] cs = []
-paired (o ∷ os) [] = []
-paired (o ∷ os) (c ∷ cs) = sync_count o c ∷ paired os cs
+abbrev pub pair_counts : List ℕ → List ℕ → List SyncCount
+pair_counts [] cs = []
+pair_counts (o ∷ os) [] = []
+pair_counts (o ∷ os) (c ∷ cs) = sync_count o c ∷ pair_counts os cs
 
 abbrev pub with_counts : List (List ℕ) → List (List ℕ) → List (List SyncCount)
 with_counts [] css = []
 with_counts (os ∷ oss) [] = []
-with_counts (os ∷ oss) (cs ∷ css) = paired os cs ∷ with_counts oss css
+with_counts (os ∷ oss) (cs ∷ css) = pair_counts os cs ∷ with_counts oss css
 
 -- each object has its count
 abbrev pub HaveCounts : List (List ℕ) → List (List ℕ) → Type 0

@@ -1,7 +1,7 @@
 //! How many Syncs a client has sent, for each block and each object of its list.
 
 ghost use Rattle.std.specs.Prelude.{◌≡◌, ◌<◌, ◌≤◌, ◌+◌, ◌-◌, ◌==◌, suc, if◌then◌else◌, [], ◌∷◌, ◌++◌, IfOk, IsErr, length, map, replicate, slice_index_or, slice_set};
-ghost use Rattle.qs_objects.specs.Rows.{IsLast, joined};
+ghost use Rattle.qs_objects.specs.Rows.{IsLast, join_rows};
 ghost use Rattle.qs_sync_counts.specs.SyncRows.{AreFew, all_counts, count_of, counts_state, greatest_count, no_syncs, object_of, one_more, sync_count, with_sync};
 
 use qs_objects::Rows;
@@ -115,7 +115,7 @@ impl SyncCounts {
 
     /// The counts of all blocks, block after block.
     pub fn joined(&self) -> &[u32]
-        ensures value { result.now ≡ joined (all_counts self.now.rows) }
+        ensures value { result.now ≡ join_rows (all_counts self.now.rows) }
     {
         self.counts.joined()
     }

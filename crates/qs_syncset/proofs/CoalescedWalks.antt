@@ -6,10 +6,10 @@ use Rattle.qs_meaning.specs.Solo.{put}
 use Rattle.qs_graph.specs.declared.node.Node.{Node}
 use Rattle.qs_graph.specs.declared.node.Node.TheVariants.{Entry, Local, Branch, Sync, Query, Call, Exit}
 use Rattle.std.proofs.lemmas.List.{ext_get_or}
-use Rattle.qs_graph.specs.Nodes.{Place, place_at, exit, made_local, first_target}
+use Rattle.qs_graph.specs.Nodes.{GraphNode, place_at, exit, made_local, first_target}
 use Rattle.qs_graph.specs.Paths.{IsPath}
-use Rattle.qs_graph.specs.Synced.{erased}
-use Rattle.qs_graph.specs.Walk.{Spot, Goes, Syncs, at_node, move, said, walk, EachNext, Within}
+use Rattle.qs_graph.specs.Synced.{without_syncs}
+use Rattle.qs_graph.specs.Walk.{Spot, Goes, Syncs, at_node, move, tree_of_move, walk, EachNext, Within}
 use Rattle.qs_graph.specs.WellFormed.{IsGraph}
 use Rattle.qs_graph.proofs.Along.{walks_go_along_paths}
 use Rattle.qs_graph.proofs.Saying.{next_up}
@@ -22,13 +22,13 @@ use Rattle.qs_syncset.proofs.Paths.{put_same, put_other, synced_along}
 use Rattle.qs_syncset.proofs.Moves.{after_move, after_is, move_same, move_here, next_three, sound_next, sound_said, erased_said}
 
 -- a synchronisation that is removed
-pub record IsRemovedHere (g new : List Place) (n : ℕ) : Type 0 where
+pub record IsRemovedHere (g new : List GraphNode) (n : ℕ) : Type 0 where
   pub handler : ℕ
   pub sync : (place_at g n).node ≡ Sync handler
   pub held : IsHeld g n handler
   pub place : place_at new n ≡ made_local (place_at g n)
 
-place_by : (g new : List Place) (n : ℕ) (v : Node) → (place_at g n).node ≡ v
+place_by : (g new : List GraphNode) (n : ℕ) (v : Node) → (place_at g n).node ≡ v
     → IsRemovedIfHeld (IsHeld g n) v (place_at g n) (place_at new n) → (place_at new n ≡ place_at g n) ⊎ IsRemovedHere g new n
 place_by g new n Entry e r = inl r
 place_by g new n (Local a) e r = inl r
@@ -40,7 +40,7 @@ place_by g new n (Call c) e r = inl r
 place_by g new n Exit e r = inl r
 
 -- each place is as it was, or its synchronisation is removed
-pub place_is : (g new : List Place) → IsCoalesced g new → (n : ℕ) → n < length g → (place_at new n ≡ place_at g n) ⊎ IsRemovedHere g new n
+pub place_is : (g new : List GraphNode) → IsCoalesced g new → (n : ℕ) → n < length g → (place_at new n ≡ place_at g n) ⊎ IsRemovedHere g new n
 place_is g new c n inside = place_by g new n (place_at g n).node refl (c.places n inside)
 
 -- what is held already is held as before
@@ -52,18 +52,18 @@ put_again held h t = fun_ext (λ k. elim (cases_eq h k) [
   | inr other ↦ put_other held h k true other
 ])
 
-pub sync_moves : (g : List Place) (s : Spot) (h : ℕ) → (place_at g s.node).node ≡ Sync h
+pub sync_moves : (g : List GraphNode) (s : Spot) (h : ℕ) → (place_at g s.node).node ≡ Sync h
     → move g s ≡ Syncs h (at_node s (first_target (place_at g s.node)))
 unfolding move
 sync_moves g s h e = rw e refl
 
 -- within n nodes the walk is at Exit, it says what the walk with all synchronisations says but for these, and soundly
-pub record IsReduced (g new : List Place) (n : ℕ) (s : Spot) (held : Holding) : Type 0 where
+pub record IsReduced (g new : List GraphNode) (n : ℕ) (s : Spot) (held : Holding) : Type 0 where
   pub ends : Within new n s
-  pub tree : erased (walk new n s) ≡ erased (walk g n s)
+  pub tree : without_syncs (walk new n s) ≡ without_syncs (walk g n s)
   pub sound : IsSoundSynced held (walk new n s)
 
-module _ (g new : List Place) (ok : IsGraph g) (c : IsCoalesced g new) where
+module _ (g new : List GraphNode) (ok : IsGraph g) (c : IsCoalesced g new) where
   -- the place is as it was
   kept_step : (n : ℕ) (s : Spot) (held : Holding) → place_at new s.node ≡ place_at g s.node → s.node < length new
       → IsSoundSynced held (walk g (suc n) s)
@@ -78,10 +78,10 @@ module _ (g new : List Place) (ok : IsGraph g) (c : IsCoalesced g new) where
           subst (EachNext (Within new n)) (sym moves)
               (next_up Reduced (Within new n) (λ t w. w.ends) m each),
         );
-        tree = ap (λ k. erased (said (walk new n) s.locals k)) moves
+        tree = ap (λ k. without_syncs (tree_of_move (walk new n) s.locals k)) moves
             ∙ erased_said m (walk g n) (walk new n) s.locals
-            (next_up Reduced (λ t. erased (walk new n t) ≡ erased (walk g n t)) (λ t w. w.tree) m each);
-        sound = subst (λ k. IsSoundSynced held (said (walk new n) s.locals k)) (sym moves)
+            (next_up Reduced (λ t. without_syncs (walk new n t) ≡ without_syncs (walk g n t)) (λ t w. w.tree) m each);
+        sound = subst (λ k. IsSoundSynced held (tree_of_move (walk new n) s.locals k)) (sym moves)
             (sound_said m held (walk g n) (walk new n) s.locals sound
             (next_up Reduced (λ t. IsSoundSynced (after_move m held) (walk new n t)) (λ t w. w.sound) m each));
       }
@@ -91,7 +91,7 @@ module _ (g new : List Place) (ok : IsGraph g) (c : IsCoalesced g new) where
       → IsReduced g new n t held → IsReduced g new (suc n) s held
   removed_step n s held h t old now inside w = record {
     ends = (inside, rw now w.ends);
-    tree = ap (λ k. erased (said (walk new n) s.locals k)) now ∙ w.tree ∙ sym (ap (λ k. erased (said (walk g n) s.locals k)) old);
+    tree = ap (λ k. without_syncs (tree_of_move (walk new n) s.locals k)) now ∙ w.tree ∙ sym (ap (λ k. without_syncs (tree_of_move (walk g n) s.locals k)) old);
     sound = rw now w.sound;
   }
 
@@ -126,7 +126,7 @@ module _ (g new : List Place) (ok : IsGraph g) (c : IsCoalesced g new) where
 
 -- ---- a graph has one coalesced form
 
-one_place : (held : ℕ → Type 0) (v : Node) (old one other : Place) → IsRemovedIfHeld held v old one → IsRemovedIfHeld held v old other
+one_place : (held : ℕ → Type 0) (v : Node) (old one other : GraphNode) → IsRemovedIfHeld held v old one → IsRemovedIfHeld held v old other
     → one ≡ other
 one_place held Entry old one other w u = w ∙ sym u
 one_place held (Local a) old one other w u = w ∙ sym u

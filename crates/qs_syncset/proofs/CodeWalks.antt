@@ -7,10 +7,10 @@ use Rattle.qs_program.specs.Statements.{Statements}
 use Rattle.qs_program.specs.Values.{Locals}
 use Rattle.qs_program.specs.declared.program.Declared.{Declared}
 use Rattle.qs_graph.specs.Graphs.{block_graph}
-use Rattle.qs_graph.specs.Nodes.{Place, exit}
+use Rattle.qs_graph.specs.Nodes.{GraphNode, exit}
 use Rattle.qs_graph.specs.SoundNodes.{IsSoundNode, AreSoundNodes}
 use Rattle.qs_graph.specs.Steps.{limit}
-use Rattle.qs_graph.specs.Synced.{erased}
+use Rattle.qs_graph.specs.Synced.{without_syncs}
 use Rattle.qs_graph.specs.Walk.{entry}
 use Rattle.qs_graph.specs.WalkLaws.{FollowsBlock}
 use Rattle.qs_graph.specs.WellFormed.{IsGraph}
@@ -31,10 +31,10 @@ all_from P [] d each = tt
 all_from P (x ∷ xs) d each = (each 0 (omega arith), all_from P xs d (λ i l. each (suc i) (omega arith)))
 
 -- the nodes of a coalesced graph are sound where those of the graph are
-coalesced_nodes : (objects : List Declared) (reserved : List ℕ) (g new : List Place) → IsCoalesced g new → AreSoundNodes objects reserved g
+coalesced_nodes : (objects : List Declared) (reserved : List ℕ) (g new : List GraphNode) → IsCoalesced g new → AreSoundNodes objects reserved g
     → AreSoundNodes objects reserved new
 coalesced_nodes objects reserved g new c nodes =
-    let P = λ (p : Place). IsSoundNode objects reserved p.node in
+    let P = λ (p : GraphNode). IsSoundNode objects reserved p.node in
     all_from P new exit (λ i l.
     let inside : i < length g = rw (← c.count) l in
     elim (place_is g new c i inside) [
@@ -42,12 +42,12 @@ coalesced_nodes objects reserved g new c nodes =
       | inr r ↦ subst P (sym r.place) tt
     ])
 
-graph_nodes : (objects : List Declared) (b : BlockShape) (static : Bool) (g : List Place) → IsGraphOf static b.body g
+graph_nodes : (objects : List Declared) (b : BlockShape) (static : Bool) (g : List GraphNode) → IsGraphOf static b.body g
     → AreSoundNodes objects b.reserved (block_graph b.body) → AreSoundNodes objects b.reserved g
 graph_nodes objects b false g same nodes = subst (AreSoundNodes objects b.reserved) (sym same) nodes
 graph_nodes objects b true g c nodes = coalesced_nodes objects b.reserved (block_graph b.body) g c nodes
 
-pub graph_length : (b : Statements) (static : Bool) (g : List Place) → IsGraphOf static b g → length g ≡ length (block_graph b)
+pub graph_length : (b : Statements) (static : Bool) (g : List GraphNode) → IsGraphOf static b g → length g ≡ length (block_graph b)
 graph_length b false g same = ap length same
 graph_length b true g c = c.count
 
@@ -58,7 +58,7 @@ nodes_stay_sound p mode client code sound of k inside =
 
 -- the walk with all its synchronisations
 pub built_walk : (b : Statements) (l : Locals) (counts : List ℕ) → FollowsBlock limit b l counts → IsGraph (block_graph b)
-    → (static : Bool) (g : List Place) → IsGraphOf static b g
+    → (static : Bool) (g : List GraphNode) → IsGraphOf static b g
     → IsReduced (block_graph b) g limit (entry l counts) nothing
 built_walk b l counts f ok false g same =
     subst (λ h. IsReduced (block_graph b) h limit (entry l counts) nothing) (sym same) (record {
@@ -81,7 +81,7 @@ walks_are_sound p mode client code sound of k l counts inside room =
     built_walk b.body l counts f (blocks_have_graphs p client k sound).graph (is_static mode) g is in
     record {
       ends = w.ends;
-      tree = w.tree ∙ ap erased f.tree ∙ syncs_erased b.body l;
+      tree = w.tree ∙ ap without_syncs f.tree ∙ syncs_erased b.body l;
       sound = w.sound;
       reserved = walk_reserved p.objects b.reserved g (nodes_stay_sound p mode client code sound of k inside) limit (entry l counts);
     }

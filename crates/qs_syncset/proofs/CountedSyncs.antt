@@ -20,10 +20,10 @@ use Rattle.qs_graph.specs.declared.node.Node.TheVariants.{Entry, Local, Branch, 
 use Rattle.qs_graph.specs.declared.node.Action.TheVariants.{Assign, SetCount, Nothing}
 use Rattle.qs_graph.specs.declared.node.Choice.TheVariants.{If, Repeat}
 use Rattle.qs_graph.specs.Graphs.{block_graph}
-use Rattle.qs_graph.specs.Nodes.{Place, place_at, exit, made_local, first_target, second_target}
+use Rattle.qs_graph.specs.Nodes.{GraphNode, place_at, exit, made_local, first_target, second_target}
 use Rattle.qs_graph.specs.Steps.{limit}
-use Rattle.qs_graph.specs.Synced.{Synced, erased}
-use Rattle.qs_graph.specs.Walk.{Spot, move, move_by, turned, walk, EachNext, Within}
+use Rattle.qs_graph.specs.Synced.{Synced, without_syncs}
+use Rattle.qs_graph.specs.Walk.{Spot, move, move_by, after_repeat, walk, EachNext, Within}
 use Rattle.qs_graph.specs.WalkLaws.{FollowsBlock}
 use Rattle.qs_graph.specs.WellFormed.{IsGraph}
 use Rattle.qs_graph.proofs.Alone.{syncs_erased}
@@ -42,18 +42,18 @@ use Rattle.qs_syncset.proofs.SyncTrees.{AreAllSynced, IsAsking, block_asks, fewe
 use Rattle.qs_syncset.proofs.SyncWalks.{asking, in_range, kept_is}
 
 -- a synchronisation is a node of the graph
-inside_at : (g : List Place) (n h : ℕ) → (place_at g n).node ≡ Sync h → n < length g
+inside_at : (g : List GraphNode) (n h : ℕ) → (place_at g n).node ≡ Sync h → n < length g
 inside_at g n h e = by_case (nat_lt n (length g)) refl
   where
     by_case : (b : Bool) → nat_lt n (length g) ≡ b → n < length g
     by_case true t = grind (arith, t)
     by_case false f =
         let past : place_at g n ≡ exit = get_or_past g n exit (grind (arith, f)) in
-        absurd (let never : Exit ≡ Sync h = sym (ap (λ (p : Place). p.node) past) ∙ e in cc)
+        absurd (let never : Exit ≡ Sync h = sym (ap (λ (p : GraphNode). p.node) past) ∙ e in cc)
 
 -- ---- a graph coalesced by a test
 
-coalesced_node : (ℕ → Bool) → Node → Place → Place
+coalesced_node : (ℕ → Bool) → Node → GraphNode → GraphNode
 coalesced_node holds Entry p = p
 coalesced_node holds (Local a) p = p
 coalesced_node holds (Branch c) p = p
@@ -62,10 +62,10 @@ coalesced_node holds (Query x c) p = p
 coalesced_node holds (Call c) p = p
 coalesced_node holds Exit p = p
 
-coalesced_by : (ℕ → ℕ → Bool) → List Place → List Place
+coalesced_by : (ℕ → ℕ → Bool) → List GraphNode → List GraphNode
 coalesced_by held g = map (λ n. coalesced_node (held n) (place_at g n).node (place_at g n)) (range_with_len 0 (length g))
 
-module _ (g : List Place) (held : ℕ → ℕ → Bool) (decides : Decides g held) where
+module _ (g : List GraphNode) (held : ℕ → ℕ → Bool) (decides : Decides g held) where
   removed_by : (n : ℕ) (v : Node) → (place_at g n).node ≡ v
       → IsRemovedIfHeld (IsHeld g n) v (place_at g n) (coalesced_node (held n) v (place_at g n))
   unfolding coalesced_node
@@ -101,7 +101,7 @@ is_sync (Sync h) = true
 is_sync _ = false
 
 -- a coalesced graph tells of each synchronisation
-coalesced_tests : (g new : List Place) → IsCoalesced g new → HasTest g
+coalesced_tests : (g new : List GraphNode) → IsCoalesced g new → HasTest g
 unfolding is_sync
 coalesced_tests g new c = (
   (λ n h. not (is_sync (place_at new n).node)),
@@ -112,9 +112,9 @@ coalesced_tests g new c = (
     by_place : (n h : ℕ) → (place_at g n).node ≡ Sync h → (IsHeld g n h × (place_at new n ≡ made_local (place_at g n))) ⊎
         ((IsHeld g n h → ⊥) × (place_at new n ≡ place_at g n))
         → (not (is_sync (place_at new n).node) ≡ true) ↔ IsHeld g n h
-    by_place n h e (inl w) = ((λ t. w.0), λ t. ap (λ (p : Place). not (is_sync p.node)) w.1)
+    by_place n h e (inl w) = ((λ t. w.0), λ t. ap (λ (p : GraphNode). not (is_sync p.node)) w.1)
     by_place n h e (inr w) = (
-      (λ t. absurd (let never : false ≡ true = sym (ap (λ (p : Place). not (is_sync p.node)) w.1 ∙ ap (λ v. not (is_sync v)) e) ∙ t in cc)),
+      (λ t. absurd (let never : false ≡ true = sym (ap (λ (p : GraphNode). not (is_sync p.node)) w.1 ∙ ap (λ v. not (is_sync v)) e) ∙ t in cc)),
       λ t. absurd (w.0 t),
     )
 
@@ -145,13 +145,13 @@ alike_set m c d a branch k = record {
   ];
 }
 
-module _ (g : List Place) (held : ℕ → ℕ → Bool) (h : ℕ) where
+module _ (g : List GraphNode) (held : ℕ → ℕ → Bool) (h : ℕ) where
   abbrev Alike : ℕ → Type 0
   Alike n = (x : ℕ) (l : Locals) (c d : List ℕ) (es : List Event) → AreAlike (length g) c d → Within g n (spot x l c)
       → kept_along g held h n (spot x l d) es ≡ kept_along g held h n (spot x l c) es
 
   turned_alike : (n : ℕ) → Alike n → (k x a b : ℕ) (l : Locals) (c d : List ℕ) (es : List Event) → AreAlike (length g) c d
-      → Within g n (turned k (spot x l c) a b) → kept_along g held h n (turned k (spot x l d) a b) es ≡ kept_along g held h n (turned k (spot x l c) a b) es
+      → Within g n (after_repeat k (spot x l c) a b) → kept_along g held h n (after_repeat k (spot x l d) a b) es ≡ kept_along g held h n (after_repeat k (spot x l c) a b) es
   turned_alike n later zero x a b l c d es alike within = later b l c d es alike within
   turned_alike n later (suc k) x a b l c d es alike within = later a l (slice_set c x k) (slice_set d x k) es (alike_set (length g) c d alike x k) within
 
@@ -165,7 +165,7 @@ module _ (g : List Place) (held : ℕ → ℕ → Bool) (h : ℕ) where
   alike_by n later (Local Nothing) x a b l c d es alike inside within = later a l c d es alike within
   alike_by n later (Branch (If t)) x a b l c d es alike inside within = later (if test_value l t then a else b) l c d es alike within
   alike_by n later (Branch Repeat) x a b l c d es alike inside within =
-      subst (λ k. kept_along g held h n (turned k (spot x l d) a b) es ≡ kept_along g held h n (turned (slice_index_or c x 0) (spot x l c) a b) es)
+      subst (λ k. kept_along g held h n (after_repeat k (spot x l d) a b) es ≡ kept_along g held h n (after_repeat (slice_index_or c x 0) (spot x l c) a b) es)
       (sym (alike.same x inside)) (turned_alike n later (slice_index_or c x 0) x a b l c d es alike within)
   alike_by n later (Sync j) x a b l c d [] alike inside within = refl
   alike_by n later (Sync j) x a b l c d (e ∷ es) alike inside within =
@@ -199,69 +199,69 @@ module _ (program : ProgramShape) (sound : IsSound program) (client index : ℕ)
   abbrev body : Statements
   body = (block_at program client index).body
 
-  abbrev built : List Place
-  built = block_graph body
+  abbrev built_graph : List GraphNode
+  built_graph = block_graph body
 
   abbrev may : ℕ → Bool
   may = reserves program (record { client = client; index = index })
 
-  ok : IsGraph built
+  ok : IsGraph built_graph
   ok = (blocks_have_graphs program client index sound).graph
 
-  follows : (n : ℕ) → length built ≤ n → FollowsBlock limit body l (replicate n 0)
+  follows : (n : ℕ) → length built_graph ≤ n → FollowsBlock limit body l (replicate n 0)
   follows n room = walks_within_limit program client index l (replicate n 0) sound (omega (arith, zeros_long n, room))
 
-  asks_built : (n : ℕ) → length built ≤ n → IsAsking (walk built limit (entry_with n l)) × AreAllSynced false (walk built limit (entry_with n l))
+  asks_built : (n : ℕ) → length built_graph ≤ n → IsAsking (walk built_graph limit (entry_with n l)) × AreAllSynced false (walk built_graph limit (entry_with n l))
   asks_built n room = subst (λ t. IsAsking t × AreAllSynced false t) (sym (follows n room).tree) (block_asks body l)
 
   -- the tree of a graph of the block, as it is built or coalesced
   record IsTree (tree : Synced) : Type 0 where
-    erases : erased tree ≡ tree_of body l
+    erases : without_syncs tree ≡ tree_of body l
     asks : IsAsking tree
     holds : IsSoundSynced nothing tree
 
-  is_tree : (n : ℕ) → length built ≤ n → (static : Bool) (g : List Place) → IsGraphOf static body g → IsTree (walk g limit (entry_with n l))
+  is_tree : (n : ℕ) → length built_graph ≤ n → (static : Bool) (g : List GraphNode) → IsGraphOf static body g → IsTree (walk g limit (entry_with n l))
   is_tree n room static g is =
       let f = follows n room in
       let w = built_walk body l (replicate n 0) f ok static g is in
       record {
-        erases = w.tree ∙ (ap erased f.tree ∙ syncs_erased body l);
+        erases = w.tree ∙ (ap without_syncs f.tree ∙ syncs_erased body l);
         asks = by_static static g is;
         holds = w.sound;
       }
     where
-      by_static : (static : Bool) (g : List Place) → IsGraphOf static body g → IsAsking (walk g limit (entry_with n l))
+      by_static : (static : Bool) (g : List GraphNode) → IsGraphOf static body g → IsAsking (walk g limit (entry_with n l))
       by_static false g same = subst (λ g. IsAsking (walk g limit (entry_with n l))) (sym same) (asks_built n room).0
-      by_static true g c = asking built g c limit (entry_with n l) (follows n room).ends (asks_built n room).0
+      by_static true g c = asking built_graph g c limit (entry_with n l) (follows n room).ends (asks_built n room).0
 
   module _ (es : List Event) (rest : Interaction) (leads : Leads (tree_of body l) es rest) (h : ℕ) where
-    only : (tree : Synced) → IsTree tree → AsksOnly may (erased tree)
+    only : (tree : Synced) → IsTree tree → AsksOnly may (without_syncs tree)
     only tree is = subst (AsksOnly may) (sym is.erases) (blocks_ask_only program sound (record { client = client; index = index }) l)
 
-    leads_along : (tree : Synced) → IsTree tree → Leads (erased tree) es rest
+    leads_along : (tree : Synced) → IsTree tree → Leads (without_syncs tree) es rest
     leads_along tree is = subst (λ t. Leads t es rest) (sym is.erases) leads
 
     sent_runs : (tree : Synced) → IsTree tree → syncs_along true h false tree es ≡ runs h es
     sent_runs tree is = runs_is h may tree es nothing false rest (λ t. t) is.asks is.holds (only tree is) (leads_along tree is)
 
-    sent_queries : (n : ℕ) → length built ≤ n → syncs_along false h false (walk built limit (entry_with n l)) es ≡ queries h es
+    sent_queries : (n : ℕ) → length built_graph ≤ n → syncs_along false h false (walk built_graph limit (entry_with n l)) es ≡ queries h es
     sent_queries n room =
-        let tree = walk built limit (entry_with n l) in
-        let is = is_tree n room false built refl in
+        let tree = walk built_graph limit (entry_with n l) in
+        let is = is_tree n room false built_graph refl in
         plain_is h may tree es false rest is.asks (asks_built n room).1 (only tree is) (leads_along tree is)
 
-    module _ (held : ℕ → ℕ → Bool) (decides : Decides built held) where
-      sent_kept : (n : ℕ) → length built ≤ n → (g : List Place) → IsCoalesced built g → syncs_along false h false
+    module _ (held : ℕ → ℕ → Bool) (decides : Decides built_graph held) where
+      sent_kept : (n : ℕ) → length built_graph ≤ n → (g : List GraphNode) → IsCoalesced built_graph g → syncs_along false h false
           (walk g limit (entry_with n l)) es ≡ kept body held l h es
       sent_kept n room g c =
-          kept_is built g c held decides h limit (entry_with n l) (follows n room).ends es false
-          ∙ sym (kept_alike built held h limit 0 l (replicate n 0) (replicate (length built) 0) es (zeros_alike (length built) n room) (follows n room).ends)
+          kept_is built_graph g c held decides h limit (entry_with n l) (follows n room).ends es false
+          ∙ sym (kept_alike built_graph held h limit 0 l (replicate n 0) (replicate (length built_graph) 0) es (zeros_alike (length built_graph) n room) (follows n room).ends)
 
       are_ordered : AreOrdered body l es h held
       are_ordered =
-          let n = length built in
-          let g = coalesced_by held built in
-          let c = is_coalesced_by built held decides in
+          let n = length built_graph in
+          let g = coalesced_by held built_graph in
+          let c = is_coalesced_by built_graph held decides in
           let tree = walk g limit (entry_with n l) in
           let is = is_tree n (omega arith) true g c in
           let same = sent_kept n (omega arith) g c in

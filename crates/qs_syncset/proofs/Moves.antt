@@ -6,9 +6,9 @@ use Rattle.qs_meaning.specs.Interaction as tree
 use Rattle.qs_program.specs.Values.{Locals}
 use Rattle.qs_graph.specs.declared.node.Node.{Node}
 use Rattle.qs_graph.specs.declared.node.Node.TheVariants.{Entry, Local, Branch, Sync, Query, Call, Exit}
-use Rattle.qs_graph.specs.Nodes.{Place, place_at}
-use Rattle.qs_graph.specs.Synced.{Synced, erased}
-use Rattle.qs_graph.specs.Walk.{Spot, Move, Ends, Goes, Calls, Syncs, Queries, move, move_by, move_at, said, EachNext}
+use Rattle.qs_graph.specs.Nodes.{GraphNode, place_at}
+use Rattle.qs_graph.specs.Synced.{Synced, without_syncs}
+use Rattle.qs_graph.specs.Walk.{Spot, Move, Ends, Goes, Calls, Syncs, Queries, move, move_by, move_at, tree_of_move, EachNext}
 use Rattle.qs_syncset.specs.Flow.{Holding, held_after}
 use Rattle.qs_syncset.specs.SoundSynced.{IsSoundSynced}
 
@@ -27,16 +27,16 @@ after_by (Call c) s n m held = refl
 after_by Exit s n m held = refl
 
 -- a move does to what is held what its node does
-pub after_is : (g : List Place) (s : Spot) (held : Holding) → after_move (move g s) held ≡ held_after (place_at g s.node).node held
+pub after_is : (g : List GraphNode) (s : Spot) (held : Holding) → after_move (move g s) held ≡ held_after (place_at g s.node).node held
 unfolding move
 after_is g s held = after_by (place_at g s.node).node s _ _ held
 
 -- where two graphs have the same place, a walk moves alike
-pub move_same : (g new : List Place) (s : Spot) → place_at new s.node ≡ place_at g s.node → move new s ≡ move g s
+pub move_same : (g new : List GraphNode) (s : Spot) → place_at new s.node ≡ place_at g s.node → move new s ≡ move g s
 unfolding move
 move_same g new s same = ap (λ p. move_at p s) same
 
-pub move_here : (g : List Place) (s : Spot) (p : Place) → place_at g s.node ≡ p → move g s ≡ move_at p s
+pub move_here : (g : List GraphNode) (s : Spot) (p : GraphNode) → place_at g s.node ≡ p → move g s ≡ move_at p s
 unfolding move
 move_here g s p same = ap (λ p. move_at p s) same
 
@@ -48,7 +48,7 @@ next_three P Q R T f (Calls o s) p q r = f s p q r
 next_three P Q R T f (Syncs h s) p q r = f s p q r
 next_three P Q R T f (Queries o s) p q r = λ v. f (s v) (p v) (q v) (r v)
 
-pub sound_next : (m : Move) (held : Holding) (go : Spot → Synced) (l : Locals) → IsSoundSynced held (said go l m)
+pub sound_next : (m : Move) (held : Holding) (go : Spot → Synced) (l : Locals) → IsSoundSynced held (tree_of_move go l m)
     → EachNext (λ t. IsSoundSynced (after_move m held) (go t)) m
 sound_next Ends held go l w = tt
 sound_next (Goes s) held go l w = w
@@ -57,16 +57,16 @@ sound_next (Syncs h s) held go l w = w
 sound_next (Queries r s) held go l w = w.1
 
 -- the same said otherwise from the next spots on
-pub sound_said : (m : Move) (held : Holding) (go other : Spot → Synced) (l : Locals) → IsSoundSynced held (said go l m)
-    → EachNext (λ t. IsSoundSynced (after_move m held) (other t)) m → IsSoundSynced held (said other l m)
+pub sound_said : (m : Move) (held : Holding) (go other : Spot → Synced) (l : Locals) → IsSoundSynced held (tree_of_move go l m)
+    → EachNext (λ t. IsSoundSynced (after_move m held) (other t)) m → IsSoundSynced held (tree_of_move other l m)
 sound_said Ends held go other l w each = tt
 sound_said (Goes s) held go other l w each = each
 sound_said (Calls r s) held go other l w each = each
 sound_said (Syncs h s) held go other l w each = each
 sound_said (Queries r s) held go other l w each = (w.0, each)
 
-pub erased_said : (m : Move) (go other : Spot → Synced) (l : Locals) → EachNext (λ t. erased (other t) ≡ erased (go t)) m
-    → erased (said other l m) ≡ erased (said go l m)
+pub erased_said : (m : Move) (go other : Spot → Synced) (l : Locals) → EachNext (λ t. without_syncs (other t) ≡ without_syncs (go t)) m
+    → without_syncs (tree_of_move other l m) ≡ without_syncs (tree_of_move go l m)
 erased_said Ends go other l each = refl
 erased_said (Goes s) go other l each = each
 erased_said (Calls r s) go other l each = ap (tree.Call r) each

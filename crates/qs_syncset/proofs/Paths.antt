@@ -7,7 +7,7 @@ use Rattle.qs_program.specs.Limits.{most_handlers}
 use Rattle.qs_meaning.specs.Solo.{put}
 use Rattle.qs_graph.specs.declared.node.Node.{Node}
 use Rattle.qs_graph.specs.declared.node.Node.TheVariants.{Entry, Local, Branch, Sync, Query, Call, Exit}
-use Rattle.qs_graph.specs.Nodes.{Place, place_at}
+use Rattle.qs_graph.specs.Nodes.{GraphNode, place_at}
 use Rattle.qs_graph.specs.Paths.{HasEdge, IsPath}
 use Rattle.qs_syncset.specs.Held.{IsCallOf, IsSynced, IsHeld}
 use Rattle.qs_syncset.specs.Flow.{Holding, held_after, held_along, IsReached, IsMissed, AreWitnessed, IsAtEntry, IsPassedOn}
@@ -18,10 +18,10 @@ put_same f h b = let e : (h == h) ≡ true = eq-eqb h h refl in rw e refl
 pub put_other : (f : Holding) (k h : ℕ) (b : Bool) → k ≢ h → put f k b h ≡ f h
 put_other f k h b ne = let e : (k == h) ≡ false = ne_eqb k h ne in rw e refl
 
-sync_here : (g : List Place) (h m : ℕ) (before : List ℕ) → (place_at g m).node ≡ Sync h → IsSynced g h (m ∷ before)
+sync_here : (g : List GraphNode) (h m : ℕ) (before : List ℕ) → (place_at g m).node ≡ Sync h → IsSynced g h (m ∷ before)
 sync_here g h m before e = record { since = []; sync = m; earlier = before; parts = refl; is_sync = e; no_call = tt }
 
-sync_on : (g : List Place) (h m : ℕ) (before : List ℕ) → (IsCallOf h (place_at g m).node → ⊥) → IsSynced g h before
+sync_on : (g : List GraphNode) (h m : ℕ) (before : List ℕ) → (IsCallOf h (place_at g m).node → ⊥) → IsSynced g h before
     → IsSynced g h (m ∷ before)
 sync_on g h m before other s = record {
   since = m ∷ s.since;
@@ -33,7 +33,7 @@ sync_on g h m before other s = record {
 }
 
 -- one more node of a path
-synced_step : (g : List Place) (h m : ℕ) (before : List ℕ) (held : Holding) (v : Node) → (place_at g m).node ≡ v
+synced_step : (g : List GraphNode) (h m : ℕ) (before : List ℕ) (held : Holding) (v : Node) → (place_at g m).node ≡ v
     → (held h ≡ true → IsSynced g h before) → held_after v held h ≡ true → IsSynced g h (m ∷ before)
 synced_step g h m before held Entry e synced t = sync_on g h m before (λ c. rw e at c) (synced t)
 synced_step g h m before held (Local a) e synced t = sync_on g h m before (λ c. rw e at c) (synced t)
@@ -52,7 +52,7 @@ synced_step g h m before held (Call c) e synced t = elim (cases_eq c.object h) [
 synced_step g h m before held Exit e synced t = sync_on g h m before (λ c. rw e at c) (synced t)
 
 -- where h is held along a path, a synchronisation with h stands on it, with no call of h since
-pub synced_from : (g : List Place) (h : ℕ) (before : List ℕ) → held_along g before h ≡ true → IsSynced g h before
+pub synced_from : (g : List GraphNode) (h : ℕ) (before : List ℕ) → held_along g before h ≡ true → IsSynced g h before
 synced_from g h [] t = absurd (let f : false ≡ true = t in cc)
 synced_from g h (m ∷ before) t =
     synced_step g h m before (held_along g before) (place_at g m).node refl (synced_from g h before) t
@@ -73,26 +73,26 @@ kept (Query x c) held h other t = t
 kept (Call c) held h other t = put_other held c.object h false other ∙ t
 kept Exit held h other t = t
 
-synced_since : (g : List Place) (h sync : ℕ) (earlier : List ℕ) → (place_at g sync).node ≡ Sync h
+synced_since : (g : List GraphNode) (h sync : ℕ) (earlier : List ℕ) → (place_at g sync).node ≡ Sync h
     → (since : List ℕ) → AllByRecursion (λ m. IsCallOf h (place_at g m).node → ⊥) since → held_along g (since ++ sync ∷ earlier) h ≡ true
 synced_since g h sync earlier e [] none = rw e (put_same (held_along g earlier) h true)
 synced_since g h sync earlier e (m ∷ since) none =
     kept (place_at g m).node (held_along g (since ++ sync ∷ earlier)) h none.0 (synced_since g h sync earlier e since none.1)
 
-pub synced_along : (g : List Place) (h : ℕ) (before : List ℕ) → IsSynced g h before → held_along g before h ≡ true
+pub synced_along : (g : List GraphNode) (h : ℕ) (before : List ℕ) → IsSynced g h before → held_along g before h ≡ true
 synced_along g h before s = rw s.parts (synced_since g h s.sync s.earlier s.is_sync s.since s.no_call)
 
 -- what does not go out of a node that is reached is missed by some path through it
-record IsMissedAfter (g : List Place) (m h : ℕ) (v : Node) : Type 0 where
+record IsMissedAfter (g : List GraphNode) (m h : ℕ) (v : Node) : Type 0 where
   before : List ℕ
   path : IsPath g before m
   missed : held_after v (held_along g before) h ≡ false
 
-missed_on : (g : List Place) (m h : ℕ) (v : Node) → ((held : Holding) → held_after v held h ≡ held h) → IsMissed g m h
+missed_on : (g : List GraphNode) (m h : ℕ) (v : Node) → ((held : Holding) → held_after v held h ≡ held h) → IsMissed g m h
     → IsMissedAfter g m h v
 missed_on g m h v same w = record { before = w.before; path = w.path; missed = same (held_along g w.before) ∙ w.missed }
 
-missed_after : (g : List Place) (m h : ℕ) (v : Node) (held : Holding) → IsReached g m → (held h ≡ false → IsMissed g m h)
+missed_after : (g : List GraphNode) (m h : ℕ) (v : Node) (held : Holding) → IsReached g m → (held h ≡ false → IsMissed g m h)
     → held_after v held h ≡ false → IsMissedAfter g m h v
 missed_after g m h Entry held w miss f = missed_on g m h Entry (λ _. refl) (miss f)
 missed_after g m h (Local a) held w miss f = missed_on g m h (Local a) (λ _. refl) (miss f)
@@ -135,7 +135,7 @@ monotone (Call c) h less more up t = elim (cases_eq c.object h) [
 ]
 monotone Exit h less more up t = up t
 
-module _ (g : List Place) (reached : ℕ → Bool) (held : ℕ → Holding) where
+module _ (g : List GraphNode) (reached : ℕ → Bool) (held : ℕ → Holding) where
   pub reached_past : AreWitnessed g reached held → (m n : ℕ) → HasEdge g m n → reached m ≡ true → IsReached g n
   reached_past w m n edge r = let x = w.reach m r in record { before = m ∷ x.before; path = (edge, x.path) }
 

@@ -3,33 +3,33 @@ use Rattle.std.proofs.Common.{◌≡◌, ℕ, ◌+◌, ◌<◌, ◌≤◌, inl, 
 use Rattle.std.proofs.lemmas.List.{length-set, get_or-set_same, get_or-set_other}
 use Rattle.qs_graph.specs.declared.node.Node.{Node}
 use Rattle.qs_graph.specs.declared.node.Node.TheVariants.{Entry, Local, Branch, Sync, Query, Call, Exit}
-use Rattle.qs_graph.specs.Nodes.{Place, place_at, exit, made_local}
+use Rattle.qs_graph.specs.Nodes.{GraphNode, place_at, exit, made_local}
 use Rattle.qs_syncset.specs.Held.{IsHeld}
 use Rattle.qs_syncset.specs.Coalesced.{IsRemovedIfHeld, IsCoalesced}
 
 -- what becomes of a node's place
-abbrev pub IsRemovedAt : List Place → ℕ → Place → Type 0
+abbrev pub IsRemovedAt : List GraphNode → ℕ → GraphNode → Type 0
 IsRemovedAt g n new = IsRemovedIfHeld (IsHeld g n) (place_at g n).node (place_at g n) new
 
 -- the places before n are done, and the others as they were
-pub record IsDone (g now : List Place) (n : ℕ) : Type 0 where
+pub record IsDone (g now : List GraphNode) (n : ℕ) : Type 0 where
   pub count : length now ≡ length g
   pub done : (k : ℕ) → k < n → IsRemovedAt g k (place_at now k)
   pub rest : (k : ℕ) → n ≤ k → place_at now k ≡ place_at g k
 
-pub done_at_first : (g : List Place) → IsDone g g 0
+pub done_at_first : (g : List GraphNode) → IsDone g g 0
 done_at_first g = record { count = refl; done = λ k l. absurd (omega arith); rest = λ k l. refl }
 
-pub all_done : (g now : List Place) → IsDone g now (length g) → IsCoalesced g now
+pub all_done : (g now : List GraphNode) → IsDone g now (length g) → IsCoalesced g now
 all_done g now d = record { count = d.count; places = d.done }
 
-pub removed : (held : ℕ → Type 0) (h : ℕ) (old : Place) → old.node ≡ Sync h → held h → IsRemovedIfHeld held old.node old (made_local old)
+pub removed : (held : ℕ → Type 0) (h : ℕ) (old : GraphNode) → old.node ≡ Sync h → held h → IsRemovedIfHeld held old.node old (made_local old)
 removed held h old e is = rw e (inl (is, refl))
 
-pub not_held : (held : ℕ → Type 0) (h : ℕ) (old : Place) → old.node ≡ Sync h → (held h → ⊥) → IsRemovedIfHeld held old.node old old
+pub not_held : (held : ℕ → Type 0) (h : ℕ) (old : GraphNode) → old.node ≡ Sync h → (held h → ⊥) → IsRemovedIfHeld held old.node old old
 not_held held h old e other = rw e (inr (other, refl))
 
-no_sync_by : (held : ℕ → Type 0) (v : Node) (old : Place) → ((h : ℕ) → v ≡ Sync h → ⊥) → IsRemovedIfHeld held v old old
+no_sync_by : (held : ℕ → Type 0) (v : Node) (old : GraphNode) → ((h : ℕ) → v ≡ Sync h → ⊥) → IsRemovedIfHeld held v old old
 no_sync_by held Entry old other = refl
 no_sync_by held (Local a) old other = refl
 no_sync_by held (Branch c) old other = refl
@@ -38,11 +38,11 @@ no_sync_by held (Query x c) old other = refl
 no_sync_by held (Call c) old other = refl
 no_sync_by held Exit old other = refl
 
-pub no_sync : (held : ℕ → Type 0) (old : Place) → ((h : ℕ) → old.node ≡ Sync h → ⊥) → IsRemovedIfHeld held old.node old old
+pub no_sync : (held : ℕ → Type 0) (old : GraphNode) → ((h : ℕ) → old.node ≡ Sync h → ⊥) → IsRemovedIfHeld held old.node old old
 no_sync held old other = no_sync_by held old.node old other
 
 -- the place of n stays
-pub done_kept : (g now : List Place) (n : ℕ) → IsDone g now n → IsRemovedAt g n (place_at g n) → IsDone g now (n + 1)
+pub done_kept : (g now : List GraphNode) (n : ℕ) → IsDone g now n → IsRemovedAt g n (place_at g n) → IsDone g now (n + 1)
 done_kept g now n d stays = record {
   count = d.count;
   done = below_more (λ k. IsRemovedAt g k (place_at now k)) _ d.done
@@ -51,7 +51,7 @@ done_kept g now n d stays = record {
 }
 
 -- the place of n is removed
-pub done_set : (g now : List Place) (n : ℕ) → n < length now → IsDone g now n → IsRemovedAt g n (made_local (place_at g n))
+pub done_set : (g now : List GraphNode) (n : ℕ) → n < length now → IsDone g now n → IsRemovedAt g n (made_local (place_at g n))
     → IsDone g (set now n (made_local (place_at now n))) (n + 1)
 done_set g now n inside d goes =
     let new = made_local (place_at now n) in

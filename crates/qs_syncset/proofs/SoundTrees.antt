@@ -6,10 +6,10 @@ use Rattle.qs_program.specs.Values.{Locals, expr_value, test_value}
 use Rattle.qs_program.specs.declared.program.Declared.{Declared}
 use Rattle.qs_graph.specs.declared.node.Node.{Node}
 use Rattle.qs_graph.specs.declared.node.Node.TheVariants.{Entry, Local, Branch, Sync, Query, Call, Exit}
-use Rattle.qs_graph.specs.Nodes.{Place, place_at, exit}
+use Rattle.qs_graph.specs.Nodes.{GraphNode, place_at, exit}
 use Rattle.qs_graph.specs.SoundNodes.{IsSoundNode, AreSoundNodes}
 use Rattle.qs_graph.specs.Synced.{Synced, Done, Next, turns, meaning, synced_of}
-use Rattle.qs_graph.specs.Walk.{Spot, move, move_by, said, walk}
+use Rattle.qs_graph.specs.Walk.{Spot, move, move_by, tree_of_move, walk}
 use Rattle.qs_graph.proofs.Ranges.{all_at}
 use Rattle.qs_syncset.specs.Flow.{Holding}
 use Rattle.qs_syncset.specs.SoundSynced.{IsSoundSynced, IsOnReserved}
@@ -52,7 +52,7 @@ block_sound b l held = meaning_sound b Done Done (λ _ _. tt) (λ _ _. tt) held 
 
 module _ (objects : List Declared) (reserved : List ℕ) where
   said_reserved : (go : Spot → Synced) → ((t : Spot) → IsOnReserved reserved (go t)) → (l : Locals) (v : Node) (s : Spot) (n m : ℕ)
-      → IsSoundNode objects reserved v → IsOnReserved reserved (said go l (move_by v s n m))
+      → IsSoundNode objects reserved v → IsOnReserved reserved (tree_of_move go l (move_by v s n m))
   said_reserved go ok l Entry s n m sound = ok _
   said_reserved go ok l (Local a) s n m sound = ok _
   said_reserved go ok l (Branch c) s n m sound = ok _
@@ -61,11 +61,11 @@ module _ (objects : List Declared) (reserved : List ℕ) where
   said_reserved go ok l (Call c) s n m sound = (sound.reserves, ok _)
   said_reserved go ok l Exit s n m sound = tt
 
-  pub walk_reserved : (g : List Place) → AreSoundNodes objects reserved g → (n : ℕ) (s : Spot) → IsOnReserved reserved (walk g n s)
+  pub walk_reserved : (g : List GraphNode) → AreSoundNodes objects reserved g → (n : ℕ) (s : Spot) → IsOnReserved reserved (walk g n s)
   unfolding move
   walk_reserved g nodes zero s = tt
   walk_reserved g nodes (suc n) s =
       let here : IsSoundNode objects reserved (place_at g s.node).node =
-      all_at (λ (p : Place). IsSoundNode objects reserved p.node) (λ (p : Place). IsSoundNode objects reserved p.node) g s.node exit nodes
+      all_at (λ (p : GraphNode). IsSoundNode objects reserved p.node) (λ (p : GraphNode). IsSoundNode objects reserved p.node) g s.node exit nodes
       (λ p w. w) tt in
       said_reserved (walk g n) (walk_reserved g nodes n) s.locals (place_at g s.node).node s _ _ here

@@ -9,7 +9,7 @@ use Rattle.qs_meaning.specs.Interaction.{Interaction}
 use Rattle.qs_meaning.specs.Solo.{put, value_of}
 use Rattle.qs_program.specs.Statements.{Statements, end, command, query, assign, choose, again, leave}
 use Rattle.qs_program.specs.Values.{Locals, expr_value, test_value}
-use Rattle.qs_graph.specs.Synced.{Synced, Done, Call, Sync, Query, Next, turns, meaning, synced_of, erased}
+use Rattle.qs_graph.specs.Synced.{Synced, Done, Call, Sync, Query, Next, turns, meaning, synced_of, without_syncs}
 use Rattle.qs_syncset.specs.Flow.{Holding}
 use Rattle.qs_syncset.specs.SoundSynced.{IsSoundSynced}
 use Rattle.qs_syncset.specs.SyncCounts.{asks, first_queries, queries, syncs_along}
@@ -116,7 +116,7 @@ module _ (h : ℕ) where
 
     -- where none is removed, without the test: one for each query
     pub plain_is : (tree : Synced) (es : List Event) (held : Bool) (rest : Interaction) → IsAsking tree → AreAllSynced false tree
-        → AsksOnly may (erased tree) → Leads (erased tree) es rest → syncs_along false h held tree es ≡ queries h es
+        → AsksOnly may (without_syncs tree) → Leads (without_syncs tree) es rest → syncs_along false h held tree es ≡ queries h es
     plain_is (Done l) [] held rest a s o p = refl
     plain_is (Done l) (e ∷ es) held rest a s o p = absurd p
     plain_is (Call r next) [] held rest a s o p = refl
@@ -143,7 +143,7 @@ module _ (h : ℕ) where
 
     -- with the test: one for each query that comes first or after a command
     pub runs_is : (tree : Synced) (es : List Event) (held : Holding) (asked : Bool) (rest : Interaction) → (held h ≡ true → asked ≡ true)
-        → IsAsking tree → IsSoundSynced held tree → AsksOnly may (erased tree) → Leads (erased tree) es rest
+        → IsAsking tree → IsSoundSynced held tree → AsksOnly may (without_syncs tree) → Leads (without_syncs tree) es rest
         → syncs_along true h asked tree es ≡ first_queries asked (part h es)
     runs_is (Done l) [] held asked rest less a s o p = refl
     runs_is (Done l) (e ∷ es) held asked rest less a s o p = absurd p
@@ -189,8 +189,8 @@ module _ (h : ℕ) where
         by_case false here = refl
 
     -- without the test, whatever was removed: at most one for each query
-    pub most_is : (tree : Synced) (es : List Event) (held : Bool) (rest : Interaction) → IsAsking tree → AsksOnly may (erased tree)
-        → Leads (erased tree) es rest → syncs_along false h held tree es ≤ queries h es
+    pub most_is : (tree : Synced) (es : List Event) (held : Bool) (rest : Interaction) → IsAsking tree → AsksOnly may (without_syncs tree)
+        → Leads (without_syncs tree) es rest → syncs_along false h held tree es ≤ queries h es
     most_is (Done l) es held rest a o p = omega arith
     most_is (Call r next) [] held rest a o p = omega arith
     most_is (Call r next) (e ∷ es) held rest a o p =

@@ -9,10 +9,10 @@ use Rattle.qs_program.specs.Limits.{most_handlers}
 use Rattle.qs_graph.specs.declared.node.Node.{Node}
 use Rattle.qs_graph.specs.declared.node.Node.TheVariants.{Entry, Local, Branch, Sync, Query, Call, Exit}
 use Rattle.qs_graph.specs.declared.node.Action.TheVariants.{Nothing}
-use Rattle.qs_graph.specs.Nodes.{Place, place_at, exit, first_target, made_local}
+use Rattle.qs_graph.specs.Nodes.{GraphNode, place_at, exit, first_target, made_local}
 use Rattle.qs_graph.specs.Synced.{Synced}
-use Rattle.qs_graph.specs.Walk.{Spot, Move, Ends, Goes, Calls, Syncs, Queries, at_node, move, move_by, said, walk, EachNext, Within}
-use Rattle.qs_graph.specs.WellFormed.{IsGraph, IsPlace, IsInRange}
+use Rattle.qs_graph.specs.Walk.{Spot, Move, Ends, Goes, Calls, Syncs, Queries, at_node, move, move_by, tree_of_move, walk, EachNext, Within}
+use Rattle.qs_graph.specs.WellFormed.{IsGraph, IsGraphNode, IsInRange}
 use Rattle.qs_syncset.specs.Coalesced.{IsRemovedIfHeld, IsCoalesced}
 use Rattle.qs_syncset.specs.Held.{IsHeld}
 use Rattle.qs_syncset.specs.SyncCounts.{Decides, kept_along, kept_by, syncs_along}
@@ -21,7 +21,7 @@ use Rattle.qs_syncset.proofs.CoalescedWalks.{IsRemovedHere, place_is, sync_moves
 use Rattle.qs_syncset.proofs.SyncTrees.{IsAsking, IsQueryOf}
 
 -- where a synchronisation leads
-abbrev pub beyond : List Place → Spot → Spot
+abbrev pub beyond : List GraphNode → Spot → Spot
 beyond g s = at_node s (first_target (place_at g s.node))
 
 -- a move to a synchronisation is made at its node
@@ -34,12 +34,12 @@ syncs_by (Query x c) s a b j t e = absurd (cc)
 syncs_by (Call c) s a b j t e = absurd (cc)
 syncs_by Exit s a b j t e = absurd (cc)
 
-syncs_at : (g : List Place) (s : Spot) (j : ℕ) (t : Spot) → move g s ≡ Syncs j t → (place_at g s.node).node ≡ Sync j
+syncs_at : (g : List GraphNode) (s : Spot) (j : ℕ) (t : Spot) → move g s ≡ Syncs j t → (place_at g s.node).node ≡ Sync j
 unfolding move
 syncs_at g s j t e = syncs_by (place_at g s.node).node s _ _ j t e
 
 query_said : (h : ℕ) (go other : Spot → Synced) (l : Locals) (m : Move) → EachNext (λ t. IsQueryOf h (go t) → IsQueryOf h (other t)) m
-    → IsQueryOf h (said go l m) → IsQueryOf h (said other l m)
+    → IsQueryOf h (tree_of_move go l m) → IsQueryOf h (tree_of_move other l m)
 query_said h go other l Ends each q = q
 query_said h go other l (Goes s) each q = each q
 query_said h go other l (Calls r s) each q = q
@@ -54,19 +54,19 @@ next_both P Q f (Calls r s) p = f s p
 next_both P Q f (Syncs h s) p = f s p
 next_both P Q f (Queries r s) p = λ v. f (s v) (p v)
 
-module _ (g new : List Place) (c : IsCoalesced g new) where
+module _ (g new : List GraphNode) (c : IsCoalesced g new) where
   query_here : (h n : ℕ) (s : Spot) → Within g n s → IsQueryOf h (walk g n s) → IsQueryOf h (walk new n s)
   query_here h zero s within q = absurd within
   query_here h (suc n) s within q = elim (place_is g new c s.node within.0) [
     | inl same ↦
-        subst (λ m. IsQueryOf h (said (walk new n) s.locals m)) (sym (move_same g new s same))
+        subst (λ m. IsQueryOf h (tree_of_move (walk new n) s.locals m)) (sym (move_same g new s same))
         (query_said h (walk g n) (walk new n) s.locals (move g s)
         (next_both (Within g n) (λ t. IsQueryOf h (walk g n t) → IsQueryOf h (walk new n t)) (query_here h n) (move g s) within.1) q)
-    | inr r ↦ absurd (subst (λ m. IsQueryOf h (said (walk g n) s.locals m)) (sync_moves g s r.handler r.sync) q)
+    | inr r ↦ absurd (subst (λ m. IsQueryOf h (tree_of_move (walk g n) s.locals m)) (sync_moves g s r.handler r.sync) q)
   ]
 
   asking_said : (n : ℕ) (l : Locals) (m : Move) → EachNext (Within g n) m → EachNext (λ t. IsAsking (walk g n t) → IsAsking (walk new n t)) m
-      → IsAsking (said (walk g n) l m) → IsAsking (said (walk new n) l m)
+      → IsAsking (tree_of_move (walk g n) l m) → IsAsking (tree_of_move (walk new n) l m)
   asking_said n l Ends within each a = a
   asking_said n l (Goes s) within each a = each a
   asking_said n l (Calls r s) within each a = each a
@@ -78,7 +78,7 @@ module _ (g new : List Place) (c : IsCoalesced g new) where
   asking zero s within a = absurd within
   asking (suc n) s within a = elim (place_is g new c s.node within.0) [
     | inl same ↦
-        subst (λ m. IsAsking (said (walk new n) s.locals m)) (sym (move_same g new s same))
+        subst (λ m. IsAsking (tree_of_move (walk new n) s.locals m)) (sym (move_same g new s same))
         (asking_said n s.locals (move g s) within.1
         (next_both (Within g n) (λ t. IsAsking (walk g n t) → IsAsking (walk new n t)) (asking n) (move g s) within.1) a)
     | inr r ↦ removed r (λ t within a. asking n t within a)
@@ -88,16 +88,16 @@ module _ (g new : List Place) (c : IsCoalesced g new) where
       removed r ih =
           let old = sync_moves g s r.handler r.sync in
           let now = move_here new s (made_local (place_at g s.node)) r.place in
-          let there : IsAsking (said (walk g n) s.locals (Syncs r.handler (beyond g s))) = subst (λ m. IsAsking (said (walk g n) s.locals m)) old a in
-          subst (λ m. IsAsking (said (walk new n) s.locals m)) (sym now) (ih (beyond g s) (subst (EachNext (Within g n)) old within.1) there.1)
+          let there : IsAsking (tree_of_move (walk g n) s.locals (Syncs r.handler (beyond g s))) = subst (λ m. IsAsking (tree_of_move (walk g n) s.locals m)) old a in
+          subst (λ m. IsAsking (tree_of_move (walk new n) s.locals m)) (sym now) (ih (beyond g s) (subst (EachNext (Within g n)) old within.1) there.1)
 
 -- a synchronisation is with one of 8 handlers
-pub in_range : (g : List Place) → IsGraph g → (n : ℕ) → n < length g → (j : ℕ) → (place_at g n).node ≡ Sync j → j < most_handlers
+pub in_range : (g : List GraphNode) → IsGraph g → (n : ℕ) → n < length g → (j : ℕ) → (place_at g n).node ≡ Sync j → j < most_handlers
 in_range g ok n inside j e =
-    let here : IsPlace (length g) (place_at g n) = AllByRecursion-get_or (IsPlace (length g)) g n exit ok.places inside in
+    let here : IsGraphNode (length g) (place_at g n) = AllByRecursion-get_or (IsGraphNode (length g)) g n exit ok.places inside in
     subst IsInRange e here.in_range
 
-module _ (g new : List Place) (c : IsCoalesced g new) (held : ℕ → ℕ → Bool) (decides : Decides g held) (h : ℕ) where
+module _ (g new : List GraphNode) (c : IsCoalesced g new) (held : ℕ → ℕ → Bool) (decides : Decides g held) (h : ℕ) where
   -- of no trace there are none
   kept_none : (n : ℕ) (s : Spot) → kept_along g held h n s [] ≡ 0
   kept_none zero s = refl
@@ -119,7 +119,7 @@ module _ (g new : List Place) (c : IsCoalesced g new) (held : ℕ → ℕ → Bo
   left_here n j inside e same =
       elim (subst (λ v. IsRemovedIfHeld (IsHeld g n) v (place_at g n) (place_at new n)) e (c.places n inside)) [
         | inl w ↦
-            let never : Local Nothing ≡ Sync j = sym (ap (λ (p : Place). p.node) w.1) ∙ (ap (λ (p : Place). p.node) same ∙ e) in
+            let never : Local Nothing ≡ Sync j = sym (ap (λ (p : GraphNode). p.node) w.1) ∙ (ap (λ (p : GraphNode). p.node) same ∙ e) in
             absurd (cc)
         | inr w ↦ to_false (held n j) (λ t. w.0 ((decides n j e).0 t))
       ]
@@ -132,7 +132,7 @@ module _ (g new : List Place) (c : IsCoalesced g new) (held : ℕ → ℕ → Bo
 
   -- the place is as it was
   same_step : (n : ℕ) (s : Spot) (m : Move) → ((j : ℕ) (t : Spot) → m ≡ Syncs j t → held s.node j ≡ false) → EachNext (Same n) m
-      → (es : List Event) (b : Bool) → syncs_along false h b (said (walk new n) s.locals m) es ≡ kept_by g held h (kept_along g held h n) s.node m es
+      → (es : List Event) (b : Bool) → syncs_along false h b (tree_of_move (walk new n) s.locals m) es ≡ kept_by g held h (kept_along g held h n) s.node m es
   same_step n s Ends left each es b = refl
   same_step n s (Goes t) left each es b = each es b
   same_step n s (Calls r t) left each [] b = refl
@@ -158,7 +158,7 @@ module _ (g new : List Place) (c : IsCoalesced g new) (held : ℕ → ℕ → Bo
       let each : EachNext (Same n) (move g s) = next_both (Within g n) (Same n) (kept_is n) (move g s) within.1 in
       elim (place_is g new c s.node within.0) [
         | inl same ↦
-            subst (λ m. syncs_along false h b (said (walk new n) s.locals m) es ≡ kept_along g held h (suc n) s es) (sym (move_same g new s same))
+            subst (λ m. syncs_along false h b (tree_of_move (walk new n) s.locals m) es ≡ kept_along g held h (suc n) s es) (sym (move_same g new s same))
             (same_step n s (move g s) (λ j t e. left_here s.node j within.0 (syncs_at g s j t e) same) each es b)
         | inr r ↦ removed r each
       ]
@@ -168,7 +168,7 @@ module _ (g new : List Place) (c : IsCoalesced g new) (held : ℕ → ℕ → Bo
           let old = sync_moves g s r.handler r.sync in
           let now = move_here new s (made_local (place_at g s.node)) r.place in
           let next : Same n (beyond g s) = subst (EachNext (Same n)) old each in
-          subst (λ m. syncs_along false h b (said (walk new n) s.locals m) es ≡ kept_along g held h (suc n) s es) (sym now)
+          subst (λ m. syncs_along false h b (tree_of_move (walk new n) s.locals m) es ≡ kept_along g held h (suc n) s es) (sym now)
           (subst (λ m. syncs_along false h b (walk new n (beyond g s)) es ≡ kept_by g held h (kept_along g held h n) s.node m es) (sym old) (by_trace es next))
         where
           by_case : (x : Bool) → (r.handler == h) ≡ x → (k : ℕ) → k ≡ (if x && not (held s.node h) then 1 else 0) + k

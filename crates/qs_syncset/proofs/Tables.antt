@@ -1,7 +1,7 @@
 -- What is held at the nodes of a worked graph, by a table.
 use Rattle.std.proofs.Common.{◌≡◌, ℕ, zero, suc, ◌+◌, ◌<◌, inl, inr, Bool, true, false, List, [], ◌∷◌, length, get_or, Option, Some, None, refl, sym, ap, ◌∙◌, subst, arith}
 use Rattle.std.specs.Prelude.{◌&&◌, ◌||◌, not}
-use Rattle.qs_graph.specs.Nodes.{Place, place_at, exit}
+use Rattle.qs_graph.specs.Nodes.{GraphNode, place_at, exit}
 use Rattle.qs_graph.specs.Paths.{IsAmong, IsPath}
 use Rattle.qs_syncset.specs.Coalesced.{IsRemovedIfHeld, IsCoalesced}
 use Rattle.qs_syncset.specs.Flow.{held_after, held_along}
@@ -21,12 +21,12 @@ abbrev pub allows_all : Table → Bool → List ℕ → Bool
 allows_all t out [] = true
 allows_all t out (n ∷ ns) = allows out (get_or t n None) && allows_all t out ns
 
-abbrev pub fits_at : Table → ℕ → Option Bool → Place → Bool
+abbrev pub fits_at : Table → ℕ → Option Bool → GraphNode → Bool
 fits_at t h None p = true
 fits_at t h (Some held) p = allows_all t (held_after p.node (λ k. held) h) p.edges
 
 -- the table fits the places, which are numbered from m
-abbrev pub fits : Table → ℕ → ℕ → List Place → Bool
+abbrev pub fits : Table → ℕ → ℕ → List GraphNode → Bool
 fits t h m [] = true
 fits t h m (p ∷ ps) = fits_at t h (get_or t m None) p && fits t h (suc m) ps
 
@@ -50,7 +50,7 @@ fits_exit : (t : Table) (h : ℕ) (x : Option Bool) → fits_at t h x exit ≡ t
 fits_exit t h None = refl
 fits_exit t h (Some held) = refl
 
-fits_from : (t : Table) (h m : ℕ) (ps : List Place) (i : ℕ) → fits t h m ps ≡ true
+fits_from : (t : Table) (h m : ℕ) (ps : List GraphNode) (i : ℕ) → fits t h m ps ≡ true
     → fits_at t h (get_or t (m + i) None) (place_at ps i) ≡ true
 fits_from t h m [] i e = fits_exit t h (get_or t (m + i) None)
 fits_from t h m (p ∷ ps) zero e =
@@ -74,7 +74,7 @@ allowed out None e = absurd (let f : false ≡ true = e in cc)
 allowed out (Some true) e = record { value = true; is = refl; below = λ t. e }
 allowed out (Some false) e = record { value = false; is = refl; below = λ t. absurd (let f : false ≡ true = t in cc) }
 
-module _ (g : List Place) (h : ℕ) (t : Table) (right : fits t h 0 g ≡ true) (start : get_or t 0 None ≡ Some false) where
+module _ (g : List GraphNode) (h : ℕ) (t : Table) (right : fits t h 0 g ≡ true) (start : get_or t 0 None ≡ Some false) where
   -- the table knows each node that a path leads to
   record IsKnown (before : List ℕ) (n : ℕ) : Type 0 where
     value : Bool
@@ -112,23 +112,23 @@ module _ (g : List Place) (h : ℕ) (t : Table) (right : fits t h 0 g ≡ true) 
       let k = known before n path in
       let never : Some k.value ≡ None = sym k.is ∙ e in cc
 
-pub missed : (g : List Place) (n h : ℕ) (before : List ℕ) → IsPath g before n → held_along g before h ≡ false → IsHeld g n h → ⊥
+pub missed : (g : List GraphNode) (n h : ℕ) (before : List ℕ) → IsPath g before n → held_along g before h ≡ false → IsHeld g n h → ⊥
 missed g n h before path e held =
     let never : true ≡ false = sym (synced_along g h before (held before path)) ∙ e in cc
 
 -- the places from the number m on, one after another
-abbrev pub AreCoalesced : List Place → ℕ → (old new : List Place) → Type 0
+abbrev pub AreCoalesced : List GraphNode → ℕ → (old new : List GraphNode) → Type 0
 AreCoalesced g m [] [] = Unit {0}
 AreCoalesced g m (p ∷ ps) (q ∷ qs) = IsRemovedIfHeld (IsHeld g m) p.node p q × AreCoalesced g (suc m) ps qs
 AreCoalesced g m _ _ = ⊥
 
-same_count : (g : List Place) (m : ℕ) (ps qs : List Place) → AreCoalesced g m ps qs → length qs ≡ length ps
+same_count : (g : List GraphNode) (m : ℕ) (ps qs : List GraphNode) → AreCoalesced g m ps qs → length qs ≡ length ps
 same_count g m [] [] c = refl
 same_count g m (p ∷ ps) (q ∷ qs) c = ap suc (same_count g (suc m) ps qs c.1)
 same_count g m [] (q ∷ qs) c = absurd c
 same_count g m (p ∷ ps) [] c = absurd c
 
-each_place : (g : List Place) (m : ℕ) (ps qs : List Place) → AreCoalesced g m ps qs → (i : ℕ) → i < length ps
+each_place : (g : List GraphNode) (m : ℕ) (ps qs : List GraphNode) → AreCoalesced g m ps qs → (i : ℕ) → i < length ps
     → IsRemovedIfHeld (IsHeld g (m + i)) (place_at ps i).node (place_at ps i) (place_at qs i)
 each_place g m [] qs c i inside = absurd (omega arith)
 each_place g m (p ∷ ps) [] c i inside = absurd c
@@ -139,7 +139,7 @@ each_place g m (p ∷ ps) (q ∷ qs) c (suc i) inside =
     subst (λ n. IsRemovedIfHeld (IsHeld g n) (place_at ps i).node (place_at ps i) (place_at qs i)) same
     (each_place g (suc m) ps qs c.1 i (omega arith))
 
-pub coalesced_one_by_one : (g new : List Place) → AreCoalesced g 0 g new → IsCoalesced g new
+pub coalesced_one_by_one : (g new : List GraphNode) → AreCoalesced g 0 g new → IsCoalesced g new
 coalesced_one_by_one g new c = record {
   count = same_count g 0 g new c;
   places = λ n inside.

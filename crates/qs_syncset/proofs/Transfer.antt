@@ -5,7 +5,7 @@ use Rattle.std.proofs.lemmas.Bool.{and_cases, and_parts, cases_eq, cases_lt}
 use Rattle.std.proofs.lemmas.List.{get_or-map, get_or-set_other, get_or-set_same, get_or_default, get_or_past, length-map}
 use Rattle.std.proofs.lemmas.Nat.Bits.{shr_and_one}
 use Rattle.qs_program.specs.Limits.{most_handlers}
-use Rattle.qs_graph.specs.Nodes.{Place, place_at}
+use Rattle.qs_graph.specs.Nodes.{GraphNode, place_at}
 use Rattle.qs_graph.specs.declared.node.Node.{Node}
 use Rattle.qs_graph.specs.Paths.{HasEdge}
 use Rattle.qs_syncset.specs.Flow.{Holding, held_after, IsReached, IsMissed, AreWitnessed, HasArrived, IsAtEntry, IsPassedOn}
@@ -16,7 +16,7 @@ use Rattle.qs_syncset.proofs.Bits.{in_both, truths_at}
 use Rattle.qs_syncset.proofs.Paths.{held_is, missed_past, reached_past}
 
 -- what goes to n lacks only what some path to n misses
-pub record IsFair (g : List Place) (n out : ℕ) : Type 0 where
+pub record IsFair (g : List GraphNode) (n out : ℕ) : Type 0 where
   pub reached : IsReached g n
   pub lacks : (h : ℕ) → h < most_handlers → in_set out h ≡ false → IsMissed g n h
 
@@ -55,14 +55,14 @@ module _ (old new : State) (n out : ℕ) (m : IsMetAt old new n out) where
     | inr other ↦ reached_elsewhere x other ∙ r
   ]
 
-  missed_there : (g : List Place) → AreWitnessed g (reached_at old) (held_at old) → IsFair g n out
+  missed_there : (g : List GraphNode) → AreWitnessed g (reached_at old) (held_at old) → IsFair g n out
       → (h : ℕ) → h < most_handlers → held_at new n h ≡ false → IsMissed g n h
   missed_there g w f h below e = elim (and_cases (held_at old n h) (in_set out h) (sym (held_there h) ∙ e)) [
     | inl before ↦ w.miss n h below before
     | inr lacking ↦ f.lacks h below lacking
   ]
 
-  pub witnessed_still : (g : List Place) → AreWitnessed g (reached_at old) (held_at old) → IsFair g n out
+  pub witnessed_still : (g : List GraphNode) → AreWitnessed g (reached_at old) (held_at old) → IsFair g n out
       → AreWitnessed g (reached_at new) (held_at new)
   witnessed_still g w f = record {
     reach = λ x r. elim (cases_eq x n) [
@@ -104,7 +104,7 @@ module _ (old new : State) (n out : ℕ) (m : IsMetAt old new n out) where
   }
 
   -- another node has passed on what it has, as before
-  pub passed_still : (g : List Place) (x : ℕ) → x ≢ n → IsPassedOn g (reached_at old) (held_at old) x
+  pub passed_still : (g : List GraphNode) (x : ℕ) → x ≢ n → IsPassedOn g (reached_at old) (held_at old) x
       → IsPassedOn g (reached_at new) (held_at new) x
   passed_still g x other passed to edge =
       let sent = held_after (place_at g x).node (held_at old x) in
@@ -116,7 +116,7 @@ module _ (old new : State) (n out : ℕ) (m : IsMetAt old new n out) where
       }
 
 -- what goes along an edge of a node that is reached is fair
-pub fair_edge : (g : List Place) (s : State) (m n out : ℕ) → AreWitnessed g (reached_at s) (held_at s) → HasEdge g m n
+pub fair_edge : (g : List GraphNode) (s : State) (m n out : ℕ) → AreWitnessed g (reached_at s) (held_at s) → HasEdge g m n
     → reached_at s m ≡ true → ((h : ℕ) → h < most_handlers → in_set out h ≡ held_after (place_at g m).node (held_at s m) h) → IsFair g n out
 fair_edge g s m n out w edge r is = record {
   reached = reached_past g (reached_at s) (held_at s) w m n edge r;
@@ -131,7 +131,7 @@ reached_inside s n r = elim (cases_lt n (length s.reached)) [
 ]
 
 -- what goes out of a node, by the byte that the code reads
-pub sent_from : (g : List Place) (v : Node) (out : ℕ) (s : State) (x d : ℕ) → v ≡ (place_at g x).node → x < length s.sets
+pub sent_from : (g : List GraphNode) (v : Node) (out : ℕ) (s : State) (x d : ℕ) → v ≡ (place_at g x).node → x < length s.sets
     → ((h : ℕ) → h < most_handlers → in_set out h ≡ held_after v (in_set (get_or s.sets x d)) h)
     → (h : ℕ) → h < most_handlers → in_set out h ≡ held_after (place_at g x).node (held_at s x) h
 sent_from g v out s x d e inside is h below =
@@ -151,7 +151,7 @@ has_bit sets n h set inside below read =
     ap (λ b. b == 1) (shr_and_one set h) ∙ ap (λ s. in_set s h) read ∙ sym (has_byte sets n h set within below)
 
 -- where everything is passed on, the bytes are the held sets
-pub bytes_are_sets : (g : List Place) (s : State) → length s.sets ≡ length g → AreWitnessed g (reached_at s) (held_at s)
+pub bytes_are_sets : (g : List GraphNode) (s : State) → length s.sets ≡ length g → AreWitnessed g (reached_at s) (held_at s)
     → IsAtEntry (reached_at s) (held_at s) → ((m : ℕ) → reached_at s m ≡ true → IsPassedOn g (reached_at s) (held_at s) m)
     → AreSetsOf g (truths_of s.sets)
 bytes_are_sets g s each w entry closed = record {

@@ -8,10 +8,10 @@ use Rattle.std.proofs.lemmas.List.Sums.{sum_by-set, sum_by-le}
 use Rattle.std.proofs.lemmas.Nat.{and_le_l}
 use Rattle.std.proofs.lemmas.Nat.Bits.{bit_at_ones, bit_at-zero}
 use Rattle.qs_program.specs.Limits.{most_handlers}
-use Rattle.qs_graph.specs.Nodes.{Place, place_at}
+use Rattle.qs_graph.specs.Nodes.{GraphNode, place_at}
 use Rattle.qs_graph.specs.Paths.{IsAmong, HasEdge}
 use Rattle.qs_syncset.specs.Bytes.{in_set, size, truths_of}
-use Rattle.qs_syncset.specs.Dataflow.{State, IsKnown, IsPassed, IsSettled, IsTaken, IsWork, held_at, reached_at, set_at, state, turns_left, unreached}
+use Rattle.qs_syncset.specs.Dataflow.{State, IsKnown, IsPassed, IsSettled, IsTaken, IsWork, held_at, reached_at, set_at, state, turns_left, unreached_count}
 use Rattle.qs_syncset.specs.Flow.{held_after, HasArrived}
 use Rattle.qs_syncset.specs.Table.{AreSetsOf}
 use Rattle.qs_syncset.proofs.Bits.{at_most_8, both_less, none_in_0, shrunk_less}
@@ -64,7 +64,7 @@ module _ (old new : State) (to out : ℕ) (inside_reached : to < length old.reac
       (All-weaker (λ m. reached_at old m ≡ true) (λ m. reached_at new m ≡ true) (reached_still old new to out met) old.list all)
       (reached_there old new to out met))
 
-  known_still : (g : List Place) → IsPassed old new to out → IsKnown g old → IsFair g to out → IsKnown g new
+  known_still : (g : List GraphNode) → IsPassed old new to out → IsKnown g old → IsFair g to out → IsKnown g new
   known_still g p k fair =
       let met = passed_met p in
       record {
@@ -76,7 +76,7 @@ module _ (old new : State) (to out : ℕ) (inside_reached : to < length old.reac
       }
 
   -- a node stays settled unless it is met, and then it is on the list or its set is as before
-  settled_still : (g : List Place) (m : ℕ) → IsPassed old new to out → IsSettled g old m → IsSettled g new m
+  settled_still : (g : List GraphNode) (m : ℕ) → IsPassed old new to out → IsSettled g old m → IsSettled g new m
   settled_still g m (inl k) s = rw k.same s
   settled_still g m (inr p) (inl listed) = inl (rw p.list (Contains-append_left old.list (to ∷ []) m listed))
   settled_still g m (inr p) (inr passed) = elim (cases_eq m to) [
@@ -102,7 +102,7 @@ module _ (old new : State) (to out : ℕ) (inside_reached : to < length old.reac
     | inr other ↦ inr (set_elsewhere old new to out (passed_met (inr p)) x other ∙ same)
   ]
 
-  lighter : (r : Bool) (s : ℕ) → s < 2 ^ 8 → (r ≡ false) ⊎ (bit_and s out ≢ s) → size (bit_and s out) + 1 ≤ unreached r + size s
+  lighter : (r : Bool) (s : ℕ) → s < 2 ^ 8 → (r ≡ false) ⊎ (bit_and s out ≢ s) → size (bit_and s out) + 1 ≤ unreached_count r + size s
   lighter r s small (inl first) = rw first (omega (arith, both_less s out))
   lighter r s small (inr shrunk) = omega (arith, shrunk_less s out small (omega (arith, and_le_l s out)) shrunk)
 
@@ -110,7 +110,7 @@ module _ (old new : State) (to out : ℕ) (inside_reached : to < length old.reac
   less_left : IsPassed old new to out → turns_left new ≤ turns_left old
   less_left (inl k) = rw k.same (omega arith)
   less_left (inr p) =
-      let marked = sum_by-set unreached old.reached to true false inside_reached in
+      let marked = sum_by-set unreached_count old.reached to true false inside_reached in
       let shrunk = sum_by-set size old.sets to (bit_and (set_at old to) out) 255 inside in
       let paid = lighter (reached_at old to) (set_at old to) p.in_range p.why in
       rw (p.reached, p.sets, p.list, length_push old.list to) (omega (arith, marked, shrunk, paid))
@@ -121,14 +121,14 @@ module _ (old new : State) (to out : ℕ) (inside_reached : to < length old.reac
 
 -- ---- a visit of x, whose set was `first` as it began, with `listed` nodes on the list; `most` bounds the turns that are left
 
-pub record IsVisit (g : List Place) (x first listed most : ℕ) (s : State) : Type 0 where
+pub record IsVisit (g : List GraphNode) (x first listed most : ℕ) (s : State) : Type 0 where
   pub known : IsKnown g s
   pub settled : (m : ℕ) → reached_at s m ≡ true → m ≢ x → IsSettled g s m
   pub tracked : Contains s.list x ⊎ (set_at s x ≡ first)
   pub grown : listed ≤ length s.list
   pub cost : turns_left s ≤ most
 
-pub visit_passed : (g : List Place) (x first listed most : ℕ) (old new : State) (to out : ℕ) → to < length g → IsVisit g x first listed most old
+pub visit_passed : (g : List GraphNode) (x first listed most : ℕ) (old new : State) (to out : ℕ) → to < length g → IsVisit g x first listed most old
     → IsFair g to out → IsPassed old new to out → IsVisit g x first listed most new
 visit_passed g x first listed most old new to out inside v fair p =
     let within_reached : to < length old.reached = omega (arith, v.known.each_reached) in
@@ -145,7 +145,7 @@ visit_passed g x first listed most old new to out inside v fair p =
     }
 
 -- what goes out of x has come to each node that it leads to, unless x was put on the list again
-pub visit_done : (g : List Place) (x first listed most : ℕ) (s : State) (out : ℕ) → IsVisit g x first listed most s
+pub visit_done : (g : List GraphNode) (x first listed most : ℕ) (s : State) (out : ℕ) → IsVisit g x first listed most s
     → ((n : ℕ) → HasEdge g x n → HasArrived (reached_at s) (held_at s) n (in_set out))
     → ((h : ℕ) → h < most_handlers → in_set out h ≡ held_after (place_at g x).node (in_set first) h) → IsWork g s
 visit_done g x first listed most s out v arrived is = record {
@@ -167,7 +167,7 @@ visit_done g x first listed most s out v arrived is = record {
 
 -- ---- the node that is taken from the list
 
-pub work_taken : (g : List Place) (reached : List Bool) (sets list rest : List ℕ) (x : ℕ) → list ≡ rest ++ x ∷ []
+pub work_taken : (g : List GraphNode) (reached : List Bool) (sets list rest : List ℕ) (x : ℕ) → list ≡ rest ++ x ∷ []
     → IsWork g (state reached sets list) → IsTaken g (state reached sets rest) x
 work_taken g reached sets list rest x e w =
     let both = All-pop (λ m. reached_at (state reached sets list) m ≡ true) list rest (Some x) e w.known.listed in
@@ -187,7 +187,7 @@ work_taken g reached sets list rest x e w =
     }
 
 -- where the list is empty, the bytes are the held sets
-pub done_sets : (g : List Place) (reached : List Bool) (sets : List ℕ) → IsWork g (state reached sets []) → AreSetsOf g (truths_of sets)
+pub done_sets : (g : List GraphNode) (reached : List Bool) (sets : List ℕ) → IsWork g (state reached sets []) → AreSetsOf g (truths_of sets)
 done_sets g reached sets w =
     bytes_are_sets g (state reached sets []) w.known.each_set w.known.witnessed w.known.entry
     (λ m r. elim (w.settled m r) [
@@ -197,14 +197,14 @@ done_sets g reached sets w =
 
 -- ---- the pass as it begins, for n nodes
 
-abbrev pub begun : ℕ → State
-begun n = state (set (replicate n false) 0 true) (set (replicate n 255) 0 0) (0 ∷ [])
+abbrev pub first_state : ℕ → State
+first_state n = state (set (replicate n false) 0 true) (set (replicate n 255) 0 0) (0 ∷ [])
 
 module _ (n : ℕ) (some : 0 < n) where
-  begun_first : reached_at (begun n) 0 ≡ true
+  begun_first : reached_at (first_state n) 0 ≡ true
   begun_first = get_or-set_same (replicate n false) 0 true false (rw (length-replicate {A = Bool} n false) some)
 
-  begun_empty : set_at (begun n) 0 ≡ 0
+  begun_empty : set_at (first_state n) 0 ≡ 0
   begun_empty = get_or-set_same (replicate n 255) 0 0 255 (rw (length-replicate {A = ℕ} n 255) some)
 
   replicated : {A : Type 0} (a : A) (m : ℕ) → get_or (replicate n a) m a ≡ a
@@ -213,19 +213,19 @@ module _ (n : ℕ) (some : 0 < n) where
     | inr past ↦ get_or_past (replicate n a) m a (rw (length-replicate n a) past)
   ]
 
-  begun_unreached : (m : ℕ) → m ≢ 0 → reached_at (begun n) m ≡ true → ⊥
+  begun_unreached : (m : ℕ) → m ≢ 0 → reached_at (first_state n) m ≡ true → ⊥
   begun_unreached m other r =
-      let none : reached_at (begun n) m ≡ false =
+      let none : reached_at (first_state n) m ≡ false =
       get_or-set_other (replicate n false) 0 m true false other ∙ replicated false m in
       let never : false ≡ true = sym none ∙ r in cc
 
-  begun_full : (m h : ℕ) → m ≢ 0 → h < most_handlers → held_at (begun n) m h ≡ false → ⊥
+  begun_full : (m h : ℕ) → m ≢ 0 → h < most_handlers → held_at (first_state n) m h ≡ false → ⊥
   begun_full m h other below missing =
-      let full : set_at (begun n) m ≡ 255 = get_or-set_other (replicate n 255) 0 m 0 255 other ∙ replicated 255 m in
-      let all : held_at (begun n) m h ≡ true = ap (λ s. in_set s h) full ∙ ap (λ x. x == 1) (bit_at_ones 8 h below) in
+      let full : set_at (first_state n) m ≡ 255 = get_or-set_other (replicate n 255) 0 m 0 255 other ∙ replicated 255 m in
+      let all : held_at (first_state n) m h ≡ true = ap (λ s. in_set s h) full ∙ ap (λ x. x == 1) (bit_at_ones 8 h below) in
       let never : true ≡ false = sym all ∙ missing in cc
 
-  pub begun_known : (g : List Place) → n ≡ length g → IsKnown g (begun n)
+  pub begun_known : (g : List GraphNode) → n ≡ length g → IsKnown g (first_state n)
   begun_known g count = record {
     each_reached = length-set (replicate n false) 0 true ∙ length-replicate {A = Bool} n false ∙ count;
     each_set = length-set (replicate n 255) 0 0 ∙ length-replicate {A = ℕ} n 255 ∙ count;
@@ -243,10 +243,10 @@ module _ (n : ℕ) (some : 0 < n) where
       reach = begun_first;
       none = λ h below. ap (λ s. in_set s h) begun_empty ∙ ap (λ x. x == 1) (bit_at-zero h);
     };
-    listed = All-cons (λ m. reached_at (begun n) m ≡ true) 0 [] begun_first (All-nil (λ m. reached_at (begun n) m ≡ true));
+    listed = All-cons (λ m. reached_at (first_state n) m ≡ true) 0 [] begun_first (All-nil (λ m. reached_at (first_state n) m ≡ true));
   }
 
-  pub begun_work : (g : List Place) → n ≡ length g → IsWork g (begun n)
+  pub begun_work : (g : List GraphNode) → n ≡ length g → IsWork g (first_state n)
   begun_work g count = record {
     known = begun_known g count;
     settled = λ m r. elim (cases_eq m 0) [
@@ -255,13 +255,13 @@ module _ (n : ℕ) (some : 0 < n) where
     ];
   }
 
-  pub begun_left : turns_left (begun n) ≤ 9 * n
+  pub begun_left : turns_left (first_state n) ≤ 9 * n
   begun_left =
       let none : List Bool = replicate n false in
       let full : List ℕ = replicate n 255 in
-      let first : unreached (get_or none 0 false) ≡ 1 = ap unreached (get_or-replicate {A = Bool} n 0 false false some) in
-      let reached = sum_by-set unreached none 0 true false (rw (length-replicate {A = Bool} n false) some) in
+      let first : unreached_count (get_or none 0 false) ≡ 1 = ap unreached_count (get_or-replicate {A = Bool} n 0 false false some) in
+      let reached = sum_by-set unreached_count none 0 true false (rw (length-replicate {A = Bool} n false) some) in
       let sets = sum_by-set size full 0 0 255 (rw (length-replicate {A = ℕ} n 255) some) in
-      let each_reached = sum_by-le unreached 1 none (All-replicate (λ r. unreached r ≤ 1) n false (omega arith)) in
+      let each_reached = sum_by-le unreached_count 1 none (All-replicate (λ r. unreached_count r ≤ 1) n false (omega arith)) in
       let each_set = sum_by-le size 8 full (All-replicate (λ s. size s ≤ most_handlers) n 255 (at_most_8 255)) in
       omega (arith, first, reached, sets, each_reached, each_set, length-replicate {A = Bool} n false, length-replicate {A = ℕ} n 255, none_in_0)

@@ -5,7 +5,7 @@ use Rattle.qs_graph.specs.Steps.{limit}
 use Rattle.qs_graph.specs.Walk.{move}
 use Rattle.qs_syncset.specs.Coalesced.{IsCoalesced}
 use Rattle.qs_syncset.specs.Held.{IsHeld}
-use Rattle.qs_syncset.specs.SyncExamples.{SyncExamples, either, first_alone, repeated, three}
+use Rattle.qs_syncset.specs.SyncExamples.{SyncExamples, either, first_alone, repeated_query, three}
 use Rattle.qs_syncset.proofs.Tables.{Table, held_by_table, missed, coalesced_one_by_one}
 use Rattle.qs_syncset.proofs.WorkedGraphs.{held_examples}
 
@@ -31,11 +31,11 @@ three_coalesced =
       ),
     )
 
-repeated_missed : IsHeld (block_graph repeated) 3 0 → ⊥
-repeated_missed = missed (block_graph repeated) 3 0 (2 ∷ 1 ∷ 0 ∷ []) (inl refl, (inl refl, (inl refl, refl))) refl
+repeated_missed : IsHeld (block_graph repeated_query) 3 0 → ⊥
+repeated_missed = missed (block_graph repeated_query) 3 0 (2 ∷ 1 ∷ 0 ∷ []) (inl refl, (inl refl, (inl refl, refl))) refl
 
-repeated_coalesced : IsCoalesced (block_graph repeated) (block_graph repeated)
-repeated_coalesced = coalesced_one_by_one (block_graph repeated) (block_graph repeated)
+repeated_coalesced : IsCoalesced (block_graph repeated_query) (block_graph repeated_query)
+repeated_coalesced = coalesced_one_by_one (block_graph repeated_query) (block_graph repeated_query)
     (refl, (refl, (refl, (inr (repeated_missed, refl), (refl, (refl, tt))))))
 
 other_missed : IsHeld (block_graph either) 3 0 → ⊥

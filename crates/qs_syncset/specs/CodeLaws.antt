@@ -4,10 +4,10 @@ use Rattle.qs_meaning.specs.Interaction.{tree_of}
 use Rattle.qs_program.specs.Program.{BlockShape, ProgramShape, block_at, blocks_of}
 use Rattle.qs_program.specs.Sound.{IsSound}
 use Rattle.qs_program.specs.Values.{Locals}
-use Rattle.qs_graph.specs.Nodes.{Place}
+use Rattle.qs_graph.specs.Nodes.{GraphNode}
 use Rattle.qs_graph.specs.SoundNodes.{AreSoundNodes}
 use Rattle.qs_graph.specs.Steps.{limit}
-use Rattle.qs_graph.specs.Synced.{erased}
+use Rattle.qs_graph.specs.Synced.{without_syncs}
 use Rattle.qs_graph.specs.Walk.{entry, walk, Within}
 use Rattle.qs_syncset.specs.declared.mode.Mode.{Mode}
 use Rattle.qs_syncset.specs.Coalesced.{IsCoalesced}
@@ -17,9 +17,9 @@ use Rattle.qs_syncset.specs.SoundSynced.{IsSoundSynced, IsOnReserved}
 
 -- from Entry, with these variables and any counts: within the limit the walk is at Exit; without its synchronisations it says the
 -- block's interaction tree; each query is on an object that is held, and all is asked of the block's list
-pub record IsSoundWalk (b : BlockShape) (g : List Place) (l : Locals) (counts : List ℕ) : Type 0 where
+pub record IsSoundWalk (b : BlockShape) (g : List GraphNode) (l : Locals) (counts : List ℕ) : Type 0 where
   pub ends : Within g limit (entry l counts)
-  pub tree : erased (walk g limit (entry l counts)) ≡ tree_of b.body l
+  pub tree : without_syncs (walk g limit (entry l counts)) ≡ tree_of b.body l
   pub sound : IsSoundSynced nothing (walk g limit (entry l counts))
   pub reserved : IsOnReserved b.reserved (walk g limit (entry l counts))
 
@@ -38,4 +38,4 @@ NodesStaySound =
 
 -- a graph has one coalesced form
 abbrev pub CoalescingIsUnique : Type 0
-CoalescingIsUnique = (g one other : List Place) → IsCoalesced g one → IsCoalesced g other → one ≡ other
+CoalescingIsUnique = (g one other : List GraphNode) → IsCoalesced g one → IsCoalesced g other → one ≡ other

@@ -6,7 +6,7 @@ use Rattle.qs_program.specs.Sound.{IsSound}
 use Rattle.qs_program.specs.Statements.{Statements}
 use Rattle.qs_program.specs.Limits.{most_handlers}
 use Rattle.qs_graph.specs.Graphs.{block_graph}
-use Rattle.qs_graph.specs.Nodes.{Place}
+use Rattle.qs_graph.specs.Nodes.{GraphNode}
 use Rattle.qs_syncset.specs.declared.mode.Mode.{Mode}
 use Rattle.qs_syncset.specs.Coalesced.{IsCoalesced}
 use Rattle.qs_syncset.specs.Modes.{is_static, is_dynamic}
@@ -14,7 +14,7 @@ use Rattle.qs_syncset.specs.Modes.{is_static, is_dynamic}
 -- the handlers that a block reserves, in the order of its list, its graph, and for each of 8 handlers its load
 pub record BlockCode : Type 0 where
   pub reserved : List ℕ
-  pub graph : List Place
+  pub graph : List GraphNode
   pub loads : List ℕ
 
 -- whether the client tests what it holds, and its blocks
@@ -32,7 +32,7 @@ abbrev pub load_at : BlockCode → ℕ → ℕ
 load_at b h = slice_index_or b.loads h 0
 
 -- the graph of a block as it is built, or coalesced
-abbrev pub IsGraphOf : (static : Bool) → Statements → List Place → Type 0
+abbrev pub IsGraphOf : (static : Bool) → Statements → List GraphNode → Type 0
 IsGraphOf false body g = g ≡ block_graph body
 IsGraphOf true body g = IsCoalesced (block_graph body) g
 

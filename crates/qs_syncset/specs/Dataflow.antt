@@ -2,7 +2,7 @@
 use Rattle.std.specs.Prelude.{◌≡◌, ◌≢◌, ℕ, ◌+◌, ◌<◌, ◌^◌, ◌⊎◌, Bool, true, false, cond, List, [], ◌∷◌, ◌++◌, length, slice_index_or, slice_set, bit_and, All, Contains}
 use Rattle.std.specs.List.{sum_by}
 use Rattle.qs_program.specs.Limits.{most_handlers}
-use Rattle.qs_graph.specs.Nodes.{Place}
+use Rattle.qs_graph.specs.Nodes.{GraphNode}
 use Rattle.qs_syncset.specs.Bytes.{in_set, size}
 use Rattle.qs_syncset.specs.Flow.{Holding, AreWitnessed, IsAtEntry, IsPassedOn}
 
@@ -24,12 +24,12 @@ set_at s n = slice_index_or s.sets n 255
 abbrev pub held_at : State → ℕ → Holding
 held_at s n = in_set (set_at s n)
 
-abbrev pub unreached : Bool → ℕ
-unreached r = cond r 0 1
+abbrev pub unreached_count : Bool → ℕ
+unreached_count r = cond r 0 1
 
 -- how many more nodes can be taken from the list: those on it, and each node once as it is reached and once for each handler that it loses
 abbrev pub turns_left : State → ℕ
-turns_left s = sum_by unreached s.reached + sum_by size s.sets + length s.list
+turns_left s = sum_by unreached_count s.reached + sum_by size s.sets + length s.list
 
 -- what came to a node had come there before, so nothing changes
 pub record IsKept (old new : State) (to out : ℕ) : Type 0 where
@@ -49,7 +49,7 @@ abbrev pub IsPassed : (old new : State) (to out : ℕ) → Type 0
 IsPassed old new to out = IsKept old new to out ⊎ IsPut old new to out
 
 -- what is known is so: what is reached has a path, what is not held a path that shows it
-pub record IsKnown (g : List Place) (s : State) : Type 0 where
+pub record IsKnown (g : List GraphNode) (s : State) : Type 0 where
   pub each_reached : length s.reached ≡ length g
   pub each_set : length s.sets ≡ length g
   pub witnessed : AreWitnessed g (reached_at s) (held_at s)
@@ -57,16 +57,16 @@ pub record IsKnown (g : List Place) (s : State) : Type 0 where
   pub listed : All (λ m. reached_at s m ≡ true) s.list
 
 -- a node is on the list, or what goes out of it has come to each node that it leads to
-abbrev pub IsSettled : List Place → State → ℕ → Type 0
+abbrev pub IsSettled : List GraphNode → State → ℕ → Type 0
 IsSettled g s m = Contains s.list m ⊎ IsPassedOn g (reached_at s) (held_at s) m
 
 -- between two visits each node that is reached is settled; so where the list is empty, everything is passed on
-pub record IsWork (g : List Place) (s : State) : Type 0 where
+pub record IsWork (g : List GraphNode) (s : State) : Type 0 where
   pub known : IsKnown g s
   pub settled : (m : ℕ) → reached_at s m ≡ true → IsSettled g s m
 
 -- x was taken from the list, so each but x is settled
-pub record IsTaken (g : List Place) (s : State) (x : ℕ) : Type 0 where
+pub record IsTaken (g : List GraphNode) (s : State) (x : ℕ) : Type 0 where
   pub known : IsKnown g s
   pub reached : reached_at s x ≡ true
   pub settled : (m : ℕ) → reached_at s m ≡ true → m ≢ x → IsSettled g s m

@@ -4,7 +4,7 @@ use Rattle.qs_program.specs.Limits.{most_handlers}
 use Rattle.qs_meaning.specs.Solo.{put}
 use Rattle.qs_graph.specs.declared.node.Node.{Node}
 use Rattle.qs_graph.specs.declared.node.Node.TheVariants.{Sync, Call}
-use Rattle.qs_graph.specs.Nodes.{Place, place_at}
+use Rattle.qs_graph.specs.Nodes.{GraphNode, place_at}
 use Rattle.qs_graph.specs.Paths.{HasEdge, IsPath}
 
 -- for each handler whether it is held
@@ -21,22 +21,22 @@ held_after (Call c) held = put held c.object false
 held_after _ held = held
 
 -- what is held at the end of a path, whose nodes before the last are these, the latest first
-abbrev pub held_along : List Place → List ℕ → Holding
+abbrev pub held_along : List GraphNode → List ℕ → Holding
 held_along g [] = nothing
 held_along g (m ∷ before) = held_after (place_at g m).node (held_along g before)
 
-pub record IsReached (g : List Place) (n : ℕ) : Type 0 where
+pub record IsReached (g : List GraphNode) (n : ℕ) : Type 0 where
   pub before : List ℕ
   pub path : IsPath g before n
 
 -- a path to n, at whose end h is not held
-pub record IsMissed (g : List Place) (n h : ℕ) : Type 0 where
+pub record IsMissed (g : List GraphNode) (n h : ℕ) : Type 0 where
   pub before : List ℕ
   pub path : IsPath g before n
   pub missed : held_along g before h ≡ false
 
 -- `reached` and `held` are what is known of each node
-module _ (g : List Place) (reached : ℕ → Bool) (held : ℕ → Holding) where
+module _ (g : List GraphNode) (reached : ℕ → Bool) (held : ℕ → Holding) where
   -- each node that is reached has a path, and each handler that is not held a path that shows it
   pub record AreWitnessed : Type 0 where
     pub reach : (n : ℕ) → reached n ≡ true → IsReached g n
@@ -53,6 +53,6 @@ pub record HasArrived (reached : ℕ → Bool) (held : ℕ → Holding) (n : ℕ
   pub below : (h : ℕ) → h < most_handlers → held n h ≡ true → out h ≡ true
 
 -- what goes out of m has come to each node that m leads to
-abbrev pub IsPassedOn : List Place → (ℕ → Bool) → (ℕ → Holding) → ℕ → Type 0
+abbrev pub IsPassedOn : List GraphNode → (ℕ → Bool) → (ℕ → Holding) → ℕ → Type 0
 IsPassedOn g reached held m =
     (n : ℕ) → HasEdge g m n → HasArrived reached held n (held_after (place_at g m).node (held m))

@@ -3,7 +3,7 @@ use Rattle.std.specs.Prelude.{◌≡◌, ℕ, List, ◌∷◌, ◌++◌}
 use Rattle.std.specs.List.{AllByRecursion}
 use Rattle.qs_graph.specs.declared.node.Node.{Node}
 use Rattle.qs_graph.specs.declared.node.Node.TheVariants.{Sync, Call}
-use Rattle.qs_graph.specs.Nodes.{Place, place_at}
+use Rattle.qs_graph.specs.Nodes.{GraphNode, place_at}
 use Rattle.qs_graph.specs.Paths.{IsPath}
 
 abbrev pub IsCallOf : ℕ → Node → Type 0
@@ -11,7 +11,7 @@ IsCallOf h (Call c) = c.object ≡ h
 IsCallOf h _ = ⊥
 
 -- among the nodes before a path's last, the latest first, there is a synchronisation with h, and no call of h since
-pub record IsSynced (g : List Place) (h : ℕ) (before : List ℕ) : Type 0 where
+pub record IsSynced (g : List GraphNode) (h : ℕ) (before : List ℕ) : Type 0 where
   pub since : List ℕ
   pub sync : ℕ
   pub earlier : List ℕ
@@ -20,5 +20,5 @@ pub record IsSynced (g : List Place) (h : ℕ) (before : List ℕ) : Type 0 wher
   pub no_call : AllByRecursion (λ m. IsCallOf h (place_at g m).node → ⊥) since
 
 -- h is held at n: so it is on every path from Entry to n; where no path leads to n, every handler is held there
-abbrev pub IsHeld : List Place → ℕ → ℕ → Type 0
+abbrev pub IsHeld : List GraphNode → ℕ → ℕ → Type 0
 IsHeld g n h = (before : List ℕ) → IsPath g before n → IsSynced g h before

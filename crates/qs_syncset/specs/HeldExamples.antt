@@ -4,7 +4,7 @@ use Rattle.qs_program.specs.Statements.{Statements, end, command, query, again}
 use Rattle.qs_graph.specs.declared.node.Node.TheVariants.{Entry, Local, Branch, Sync, Query, Call}
 use Rattle.qs_graph.specs.declared.node.Action.TheVariants.{SetCount, Nothing}
 use Rattle.qs_graph.specs.declared.node.Choice.TheVariants.{Repeat}
-use Rattle.qs_graph.specs.Nodes.{Place, to, to_either, exit}
+use Rattle.qs_graph.specs.Nodes.{GraphNode, to, to_either, exit}
 use Rattle.qs_graph.specs.Graphs.{block_graph}
 use Rattle.qs_graph.specs.GraphExamples.{balance, deposit, query_in_repeat, leave_first, two_bodies}
 use Rattle.qs_graph.specs.Synced as tree
@@ -19,13 +19,13 @@ abbrev pub call_in_repeat : Statements
 call_in_repeat = query 0 balance (again 2 (query 0 balance (command deposit end)) end)
 
 -- of the queries, the one in the repeat has lost its synchronisation
-abbrev pub without_inner : List Place
+abbrev pub without_inner : List GraphNode
 without_inner =
     to Entry 1 ∷ to (Sync 0) 2 ∷ to (Query 0 balance) 3 ∷ to (Local (SetCount 3)) 4 ∷ to_either (Branch Repeat) 5 7
     ∷ to (Local Nothing) 6 ∷ to (Query 0 balance) 4 ∷ exit ∷ []
 
 -- of the queries, the last has lost its synchronisation
-abbrev pub without_last : List Place
+abbrev pub without_last : List GraphNode
 without_last =
     to Entry 1 ∷ to (Sync 0) 2 ∷ to (Query 0 balance) 3 ∷ to (Local (SetCount 2)) 4 ∷ to_either (Branch Repeat) 5 7
     ∷ to (Local Nothing) 7 ∷ to (Call deposit) 4 ∷ to (Local Nothing) 8 ∷ to (Query 1 balance) 9 ∷ exit ∷ []

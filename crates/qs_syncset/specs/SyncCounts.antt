@@ -11,7 +11,7 @@ use Rattle.qs_program.specs.Sound.{IsSound}
 use Rattle.qs_program.specs.Statements.{Statements}
 use Rattle.qs_program.specs.Values.{Locals}
 use Rattle.qs_graph.specs.Graphs.{block_graph}
-use Rattle.qs_graph.specs.Nodes.{Place, place_at}
+use Rattle.qs_graph.specs.Nodes.{GraphNode, place_at}
 use Rattle.qs_graph.specs.Steps.{limit}
 use Rattle.qs_graph.specs.declared.node.Node.TheVariants as node
 use Rattle.qs_graph.specs.Synced.{Synced, Done, Call, Sync, Query}
@@ -41,7 +41,7 @@ abbrev pub runs : ℕ → List Event → ℕ
 runs h es = first_queries false (part h es)
 
 -- A walk through a graph with a trace: its synchronisations with h whose queries are in the trace, but those at which h is held by a test.
-module _ (g : List Place) (held : ℕ → ℕ → Bool) (h : ℕ) where
+module _ (g : List GraphNode) (held : ℕ → ℕ → Bool) (h : ℕ) where
   -- at node n, where `go` counts from the next spot on
   abbrev pub kept_by : (Spot → List Event → ℕ) → (n : ℕ) → Move → List Event → ℕ
   kept_by go n Ends es = 0
@@ -67,10 +67,10 @@ abbrev pub kept : Statements → (ℕ → ℕ → Bool) → Locals → ℕ → L
 kept body held l h es = kept_along (block_graph body) held h limit (entry_with (length (block_graph body)) l) es
 
 -- a test of whether a handler is held where a graph synchronises with it
-abbrev pub Decides : List Place → (ℕ → ℕ → Bool) → Type 0
+abbrev pub Decides : List GraphNode → (ℕ → ℕ → Bool) → Type 0
 Decides g held = (n h : ℕ) → (place_at g n).node ≡ node.Sync h → (held n h ≡ true) ↔ IsHeld g n h
 
-abbrev pub HasTest : List Place → Type 0
+abbrev pub HasTest : List GraphNode → Type 0
 HasTest g = (held : ℕ → ℕ → Bool) × Decides g held
 
 -- The Syncs for h along a tree with synchronisations whose queries are in the trace. With the dynamic test one is skipped where h is held:
@@ -91,7 +91,7 @@ pub record AreOrdered (body : Statements) (l : Locals) (es : List Event) (h : �
   pub most : kept body held l h es ≤ queries h es
 
 -- what a client that follows a trace sends for h along the tree that this graph says
-pub record IsSentBy (mode : Mode) (body : Statements) (g : List Place) (n : ℕ) (l : Locals) (es : List Event) (h : ℕ) : Type 0 where
+pub record IsSentBy (mode : Mode) (body : Statements) (g : List GraphNode) (n : ℕ) (l : Locals) (es : List Event) (h : ℕ) : Type 0 where
   pub plain : mode ≡ Plain → syncs_along (is_dynamic mode) h false (walk g limit (entry_with n l)) es ≡ queries h es
   pub dynamic : is_dynamic mode ≡ true → syncs_along (is_dynamic mode) h false (walk g limit (entry_with n l)) es ≡ runs h es
   pub static : mode ≡ Static → (held : ℕ → ℕ → Bool) → Decides (block_graph body) held
@@ -101,7 +101,7 @@ pub record IsSentBy (mode : Mode) (body : Statements) (g : List Place) (n : ℕ)
 
 -- the held sets of a graph are such a test
 abbrev pub SetsDecide : Type 0
-SetsDecide = (g : List Place) (sets : List (List Bool)) → IsGraph g → AreSetsOf g sets → Decides g (has sets)
+SetsDecide = (g : List GraphNode) (sets : List (List Bool)) → IsGraph g → AreSetsOf g sets → Decides g (has sets)
 
 -- each block of a sound program, with its graph as the mode says, and each trace that leads along the block's tree
 abbrev pub SyncsAreCounted : Type 0

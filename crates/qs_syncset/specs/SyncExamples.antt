@@ -11,7 +11,7 @@ use Rattle.qs_program.specs.declared.code.Atom.TheVariants.{Variable, Number}
 use Rattle.qs_program.specs.declared.code.Test as tests
 use Rattle.qs_graph.specs.GraphExamples.{balance, deposit, leave_first, query_in_repeat}
 use Rattle.qs_graph.specs.Graphs.{block_graph}
-use Rattle.qs_graph.specs.Nodes.{Place, exit, to}
+use Rattle.qs_graph.specs.Nodes.{GraphNode, exit, to}
 use Rattle.qs_graph.specs.Steps.{limit}
 use Rattle.qs_graph.specs.Synced.{Synced}
 use Rattle.qs_graph.specs.SyncedExamples.{both}
@@ -27,14 +27,14 @@ abbrev pub three : Statements
 three = query 0 balance (query 0 balance (query 0 balance end))
 
 -- of the queries, the first alone has kept its synchronisation
-abbrev pub first_alone : List Place
+abbrev pub first_alone : List GraphNode
 first_alone =
     to Entry 1 ∷ to (Sync 0) 2 ∷ to (Query 0 balance) 3 ∷ to (Local Nothing) 4 ∷ to (Query 0 balance) 5 ∷ to (Local Nothing) 6
     ∷ to (Query 0 balance) 7 ∷ exit ∷ []
 
 -- repeat 3 { x = a.balance(); }
-abbrev pub repeated : Statements
-repeated = again 3 (query 0 balance end) end
+abbrev pub repeated_query : Statements
+repeated_query = again 3 (query 0 balance end) end
 
 -- x != 0
 abbrev pub not_zero : tests.Test
@@ -50,7 +50,7 @@ zeros = both (pos 0) (pos 0)
 abbrev pub trace_of : Statements → List Event
 trace_of b = (solo b zeros (λ h. fresh (account (pos 100)))).trace
 
-abbrev pub tree_in : List Place → Synced
+abbrev pub tree_in : List GraphNode → Synced
 tree_in g = walk g limit (entry_with (length g) zeros)
 
 -- a test of what is held, by the nodes at which a is
@@ -59,7 +59,7 @@ held_at table n h = slice_index_or table n false
 
 -- a block with its graph coalesced and a table of the nodes at which a is held: the queries, the runs of them and those at which a is not
 -- held; and the Syncs that are sent in the modes Plain, Dynamic, Static and Both
-pub record Counts (b : Statements) (coalesced : List Place) (table : List Bool) (counted sent : List ℕ) : Type 0 where
+pub record Counts (b : Statements) (coalesced : List GraphNode) (table : List Bool) (counted sent : List ℕ) : Type 0 where
   pub graph : IsCoalesced (block_graph b) coalesced
   pub counts : queries 0 (trace_of b) ∷ runs 0 (trace_of b) ∷ kept b (held_at table) zeros 0 (trace_of b) ∷ [] ≡ counted
   pub sends : syncs_along false 0 false (tree_in (block_graph b)) (trace_of b) ∷ syncs_along true 0 false (tree_in (block_graph b)) (trace_of b)
@@ -68,7 +68,7 @@ pub record Counts (b : Statements) (coalesced : List Place) (table : List Bool) 
 pub record SyncExamples : Type 0 where
   pub one_after_another : Counts three first_alone (false ∷ false ∷ true ∷ true ∷ true ∷ true ∷ true ∷ true ∷ [])
       (3 ∷ 1 ∷ 1 ∷ []) (3 ∷ 1 ∷ 1 ∷ 1 ∷ [])
-  pub in_repeat : Counts repeated (block_graph repeated) [] (3 ∷ 1 ∷ 3 ∷ []) (3 ∷ 1 ∷ 3 ∷ 1 ∷ [])
+  pub in_repeat : Counts repeated_query (block_graph repeated_query) [] (3 ∷ 1 ∷ 3 ∷ []) (3 ∷ 1 ∷ 3 ∷ 1 ∷ [])
   pub before_repeat : Counts query_in_repeat without_inner (false ∷ false ∷ true ∷ true ∷ true ∷ true ∷ true ∷ true ∷ [])
       (4 ∷ 1 ∷ 1 ∷ []) (4 ∷ 1 ∷ 1 ∷ 1 ∷ [])
   pub where_bodies_meet : Counts either (block_graph either) (false ∷ false ∷ false ∷ false ∷ true ∷ false ∷ true ∷ true ∷ [])

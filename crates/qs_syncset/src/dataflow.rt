@@ -8,7 +8,7 @@ ghost use Rattle.qs_syncset.specs.Bytes.{in_set};
 ghost use Rattle.qs_syncset.specs.Dataflow.{IsPassed, IsTaken, IsWork, state, turns_left};
 ghost use Rattle.qs_syncset.specs.Flow.{held_after};
 
-use crate::worklist::{Turns, Worklist};
+use crate::worklist::{VisitCount, Worklist};
 use qs_graph::{Graph, Node};
 use std::alloc::AllocError;
 use std::sync::ledger::Ledger;
@@ -74,7 +74,7 @@ pub(crate) fn run<L: Ledger>(
     reached: &mut [bool],
     sets: &mut [u8],
     list: &mut Worklist,
-    turns: &mut Turns<L>,
+    turns: &mut VisitCount<L>,
 ) -> Result<(), AllocError>
     requires work { IsWork graph.now.nodes (state reached.old sets.old list.old) }
     ensures done { OnOk result (IsWork graph.now.nodes (state reached.new sets.new [])) }

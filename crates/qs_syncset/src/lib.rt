@@ -14,4 +14,4 @@ pub use code::{Code, compile};
 pub use mode::Mode;
 pub use removal::coalesce;
 pub use sets::{Sets, held_sets, held_sets_counted};
-pub use worklist::Turns;
+pub use worklist::VisitCount;

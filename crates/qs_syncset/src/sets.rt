@@ -5,7 +5,7 @@ ghost use Rattle.qs_program.specs.Limits.{most_handlers};
 ghost use Rattle.qs_syncset.specs.Table.{AreSetsOf, has};
 
 use crate::dataflow::run;
-use crate::worklist::{Turns, Worklist};
+use crate::worklist::{VisitCount, Worklist};
 use qs_graph::Graph;
 use std::alloc::{AllocError, Global};
 use std::marker::{Brand, Model};
@@ -48,7 +48,7 @@ impl Sets {
 pub fn held_sets_counted<L: Ledger>(
     alloc: Global,
     graph: &Graph,
-    turns: &mut Turns<L>,
+    turns: &mut VisitCount<L>,
 ) -> Result<Sets, AllocError>
     ensures sets { IfOk result (λ sets. AreSetsOf graph.now.nodes sets) }
     ensures counted { OnOk result (turns.old < turns.new) }
@@ -72,7 +72,7 @@ fn newly_counted<L: Ledger>(alloc: Global, graph: &Graph, blank: Blank) -> Resul
     requires some { 0 < blank.parts }
     ensures sets { IfOk result (λ sets. AreSetsOf graph.now.nodes sets) }
 {
-    let mut turns = Turns::<L>::new(blank);
+    let mut turns = VisitCount::<L>::new(blank);
     held_sets_counted(alloc, graph, &mut turns)
 }
 

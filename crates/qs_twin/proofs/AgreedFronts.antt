@@ -2,7 +2,7 @@
 -- both blocks made, on an object on which both have an entry, and which both found in the same state.
 use Rattle.std.proofs.Common.{◌≡◌, ◌<◌, ◌≤◌, ◌⊎◌, inl, inr, ⊎_elim, ℕ, zero, suc, Bool, true, false, true≢false, ◌==◌, if◌then◌else◌, List, [], ◌∷◌, ◌++◌, length, get_or, take, refl, sym, ap, subst, ◌∙◌, arith}
 use Rattle.std.specs.List.{AllByRecursion}
-use Rattle.qs_objects.specs.Journals.{unstamped}
+use Rattle.qs_objects.specs.Journals.{without_tickets}
 use Rattle.qs_objects.specs.Operations.{is_query}
 use Rattle.qs_objects.specs.Parts.{HasEntry, entries_of, part, same}
 use Rattle.qs_objects.specs.declared.Request.{Request}
@@ -15,10 +15,10 @@ use Rattle.qs_program.specs.Program.{ProgramShape, text_of}
 use Rattle.qs_program.specs.Sound.{IsSound}
 use Rattle.qs_program.specs.Values.{Locals}
 use Rattle.qs_meaning.specs.Alike.{HasValues, SameTrace, SameValues}
-use Rattle.qs_meaning.specs.Serial.{Place, declared, serial, serial_from, zeros}
+use Rattle.qs_meaning.specs.Serial.{SerialBlock, declared_states, serial, serial_from, zeros}
 use Rattle.qs_meaning.specs.Solo.{States, put, solo}
 use Rattle.qs_meaning.proofs.AlikeTraces.{Alike, IsPlaceOf, places_of, solo_traces}
-use Rattle.qs_played.specs.Isolation.{IsIsolated, IsPlace, entry_of, journal_of, no_place, place_of, queries_of, ticket_at, trace_of}
+use Rattle.qs_played.specs.Isolation.{IsIsolated, IsIsolatedBlock, entry_of, journal_of, no_block, serial_block, queries_of, ticket_at, trace_of}
 use Rattle.qs_played.specs.Played.{Played, ticket}
 use Rattle.qs_played.proofs.ReservedObjects.{reserved_inside}
 use Rattle.qs_twin.specs.Twins.{Agreement, SameObjects, shorter}
@@ -61,7 +61,7 @@ all_hold : (P : Event → Type 0) → ((e : Event) → P e) → (es : List Event
 all_hold P f [] = tt
 all_hold P f (e ∷ es) = (f e, all_hold P f es)
 
-asked_entry : (t : Ticket) (h : ℕ) (j : List Entry) (es : List Event) → queries_of (part h es) ≡ queries_of (unstamped (entries_of t j))
+asked_entry : (t : Ticket) (h : ℕ) (j : List Entry) (es : List Event) → queries_of (part h es) ≡ queries_of (without_tickets (entries_of t j))
     → AllByRecursion (λ (e : Event). e.request.object ≡ h → is_query e.request.op ≡ true → HasEntry t j) es
 asked_entry t h j es is =
     ⊎_elim
@@ -69,7 +69,7 @@ asked_entry t h j es is =
     (λ (none : entries_of t j ≡ []).
     each_kept_by (λ (e : Event). e.request.object ≡ h → is_query e.request.op ≡ true → ⊥)
     (λ (e : Event). e.request.object ≡ h → is_query e.request.op ≡ true → HasEntry t j) (λ e f at asks. absurd (f at asks)) es
-    (none_asked h es (is ∙ ap (λ k. queries_of (unstamped k)) none)))
+    (none_asked h es (is ∙ ap (λ k. queries_of (without_tickets k)) none)))
     (has_or_none t j)
 
 -- on whatever object of the program
@@ -84,7 +84,7 @@ all_asked p t journal (e ∷ es) each = ((λ h less. (each h less).0), all_asked
 
 -- what the places of a serial run are
 
-place_ticket : (p : ProgramShape) (ls : ℕ → Locals) (st : States) (ts : List Ticket) (i : ℕ) (d : Ticket) (e : Place) → i < length ts
+place_ticket : (p : ProgramShape) (ls : ℕ → Locals) (st : States) (ts : List Ticket) (i : ℕ) (d : Ticket) (e : SerialBlock) → i < length ts
     → (get_or (serial_from p ls st ts).places i e).ticket ≡ get_or ts i d
 place_ticket p ls st [] i d e less = absurd (omega (arith, less))
 place_ticket p ls st (t ∷ ts) zero d e less = refl
@@ -116,18 +116,18 @@ module _ (p q : ProgramShape) (sound : IsSound p) (right : IsSound q) (t u : Tic
 
 -- a reservation of an isolated run
 record Shown (p : ProgramShape) (r : Played) (i : ℕ) : Type 0 where
-  pub place : IsPlace p r i
-  pub alone : HasValues p (ticket_at r i) (place_of p r i).entry
-      × ((place_of p r i).trace ≡ (solo (text_of p (ticket_at r i)).body (place_of p r i).entry (place_of p r i).starts).trace)
+  pub place : IsIsolatedBlock p r i
+  pub alone : HasValues p (ticket_at r i) (serial_block p r i).entry
+      × ((serial_block p r i).trace ≡ (solo (text_of p (ticket_at r i)).body (serial_block p r i).entry (serial_block p r i).starts).trace)
   pub asked : AllByRecursion (Asked p (ticket_at r i) (journal_of r)) (trace_of r i)
 
 shown : (p : ProgramShape) → IsSound p → (r : Played) (waits : ℕ → Ticket → List Request) (i : ℕ) → i < length r.order → IsIsolated p r waits → Shown p r i
 unfolding IsIsolated
 shown p sound r waits i less iso =
-    let place : Place = place_of p r i in
-    let is : place.ticket ≡ ticket_at r i = place_ticket p (λ _. zeros) (declared p) r.order i (ticket 0 0) no_place less in
-    let many : length (serial p r.order).places ≡ length r.order = places_long p (λ _. zeros) (declared p) r.order in
-    let of : IsPlaceOf p place = AllByRecursion-get_or (IsPlaceOf p) (serial p r.order).places i no_place (places_of p sound r.order) (omega (arith, less, many)) in
+    let place : SerialBlock = serial_block p r i in
+    let is : place.ticket ≡ ticket_at r i = place_ticket p (λ _. zeros) (declared_states p) r.order i (ticket 0 0) no_block less in
+    let many : length (serial p r.order).places ≡ length r.order = places_long p (λ _. zeros) (declared_states p) r.order in
+    let of : IsPlaceOf p place = AllByRecursion-get_or (IsPlaceOf p) (serial p r.order).places i no_block (places_of p sound r.order) (omega (arith, less, many)) in
     record {
       place = iso.places i less;
       alone = subst (λ t. HasValues p t place.entry × (place.trace ≡ (solo (text_of p t).body place.entry place.starts).trace)) is of;
@@ -139,8 +139,8 @@ pub agreed_fronts : (p q : ProgramShape) → IsSound p → IsSound q → (r s : 
     → Agreement p r i q s j → (waits later : ℕ → Ticket → List Request) → IsIsolated p r waits → IsIsolated q s later
     → SameTrace p q (take (shorter p r i q s j) (trace_of r i)) (take (shorter p r i q s j) (trace_of s j))
 agreed_fronts p q sound right r s i j less within agree waits later iso iso' =
-    let a : Place = place_of p r i in
-    let b : Place = place_of q s j in
+    let a : SerialBlock = serial_block p r i in
+    let b : SerialBlock = serial_block q s j in
     let t : Ticket = ticket_at r i in
     let u : Ticket = ticket_at s j in
     let here : Shown p r i = shown p sound r waits i less iso in

@@ -1,7 +1,7 @@
 -- Two blocks of two runs, of one program or of two, that are to do the same.
 use Rattle.std.specs.Prelude.{◌≡◌, ◌<◌, ℕ, List, [], length, min, slice_index_or, Option, Some, None, take}
 use Rattle.qs_objects.specs.Act.{State}
-use Rattle.qs_objects.specs.Journals.{replay, unstamped}
+use Rattle.qs_objects.specs.Journals.{replay, without_tickets}
 use Rattle.qs_objects.specs.Parts.{HasEntry, before}
 use Rattle.qs_objects.specs.declared.Request.{Request}
 use Rattle.qs_objects.specs.declared.held.Entry.{Entry}
@@ -10,7 +10,7 @@ use Rattle.qs_program.specs.Numbering.{Name}
 use Rattle.qs_program.specs.Program.{ProgramShape, blocks_of}
 use Rattle.qs_program.specs.Values.{Locals}
 use Rattle.qs_meaning.specs.Alike.{SameText, SameTrace, SameValues, object_name, value_at}
-use Rattle.qs_meaning.specs.Serial.{declared}
+use Rattle.qs_meaning.specs.Serial.{declared_states}
 use Rattle.qs_played.specs.Isolation.{IsFitting, IsIsolated, entry_of, journal_of, ticket_at, trace_of}
 use Rattle.qs_played.specs.Played.{Played}
 use Rattle.qs_twin.specs.declared.answer.Twin.{Twin}
@@ -26,11 +26,11 @@ SameVariables ns ms l k x y = (slice_index_or ns x [] ≡ slice_index_or ms y []
 
 -- the state in which a ticket with an entry in a journal found the object that began in this one
 abbrev pub found_by : State → Ticket → List Entry → State
-found_by s t j = replay s (unstamped (before t j))
+found_by s t j = replay s (without_tickets (before t j))
 
 -- the state in which the i-th reservation found an object on which it has an entry
 abbrev pub start_of : ProgramShape → Played → ℕ → ℕ → State
-start_of p r i h = found_by (declared p h) (ticket_at r i) (journal_of r h)
+start_of p r i h = found_by (declared_states p h) (ticket_at r i) (journal_of r h)
 
 -- the state in which a ticket found an object, where it has an entry in the journal
 abbrev pub IsStart : State → Ticket → List Entry → Option State → Type 0

@@ -3,7 +3,7 @@
 ghost use Rattle.std.specs.Prelude.{◌≡◌, ◌<◌, IfOk, length, ℕ};
 ghost use Rattle.std.specs.Bool.{Decides};
 ghost use Rattle.qs_objects.specs.Objects.{values_of};
-ghost use Rattle.qs_meaning.specs.Serial.{declared};
+ghost use Rattle.qs_meaning.specs.Serial.{declared_states};
 ghost use Rattle.qs_played.specs.Isolation.{journal_of, ticket_at};
 ghost use Rattle.qs_twin.specs.Twins.{IsReserved, IsStart, StartsAlike};
 
@@ -16,7 +16,7 @@ use std::alloc::{AllocError, Global};
 // An object as declared. An error means that its memory was refused.
 fn declared_object(alloc: Global, program: &Program, object: u8) -> Result<Object, AllocError>
     requires { object < length program.now.objects }
-    ensures value { IfOk result (λ state. state ≡ declared program.now object) }
+    ensures value { IfOk result (λ state. state ≡ declared_states program.now object) }
 {
     program.is_sound();
     match Object::new(alloc, program.kind(object)) {
@@ -43,7 +43,7 @@ fn state_before(mut state: Object, journal: &[Entry], ticket: Ticket) -> Option<
 fn start(alloc: Global, run: &Reservation<'_>, object: u8) -> Result<Option<Object>, AllocError>
     requires run { IsReserved run.now.program.now run.now.played.now run.now.place }
     requires object { object < length run.now.program.now.objects }
-    ensures start { IfOk result (IsStart (declared run.now.program.now object) (ticket_at run.now.played.now run.now.place)
+    ensures start { IfOk result (IsStart (declared_states run.now.program.now object) (ticket_at run.now.played.now run.now.place)
         (journal_of run.now.played.now object)) }
 {
     let ticket = ticket(run);

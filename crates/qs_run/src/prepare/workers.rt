@@ -2,7 +2,7 @@
 
 ghost use Rattle.std.specs.Prelude.{◌≡◌, ℕ, ◌≤◌, [], length, map, vec_capacity, IfOk};
 ghost use Rattle.qs_program.specs.Sound.{IsSound};
-ghost use Rattle.qs_desk.specs.Lines.{tickets_at};
+ghost use Rattle.qs_desk.specs.TicketQueues.{tickets_at};
 ghost use Rattle.qs_desk.specs.Places.{places, share_at};
 ghost use Rattle.qs_run.specs.Prepared.{AreRunParts, IsClientOf, IsHandlerOf, IsNewIn, IsNewOut, ever_reserves, in_at, out_at};
 ghost use Rattle.qs_run.specs.Workers.{AreReady, IsListOf, IsMindAtStart, IsObjectAtStart};

@@ -1,6 +1,6 @@
 use Rattle.std.proofs.Common.{◌≡◌, ap, ◌∙◌, drop, ◌+◌, ◌∷◌, [], ◌++◌, Ok}
 use Rattle.std.proofs.lemmas.Result.{err_from_is_err_and}
-use Rattle.qs_check.specs.Places.{met, over, without_variables, item_places, script_places, Fails}
+use Rattle.qs_check.specs.Places.{scope_or_fault, over, without_variables, item_places, script_places, Fails}
 use Rattle.qs_check.specs.Resolve.{lists_of, variables_of}
 use Rattle.qs_check.proofs.Walks.{parts_at, meets_err}
 use Rattle.qs_check.proofs.Items.{over_fails, over_goes_on, forget, lists_at, list_added, list_kept}
@@ -13,8 +13,8 @@ returns-in_err-check_client-in-Client-clause-meets c =
     let xs = c.args.items.now in
     let i = c.loop-item.item-index in
     let fault = c.in_err-check_client-in-Client.field-0.0 in
-    let h : Fails fault (met c.loop-item.scope (item_places c.item-item.result)) = rw c.in-Client.is c.in_err-check_client-in-Client.ensures.meets in
-    meets_err c.from_residual-in_err-check_client-in-Client.result p.0 fault (over (met c.args.scope.now (script_places xs))) (without_variables c.check_client.new.scope) p.1 p.2
+    let h : Fails fault (scope_or_fault c.loop-item.scope (item_places c.item-item.result)) = rw c.in-Client.is c.in_err-check_client-in-Client.ensures.meets in
+    meets_err c.from_residual-in_err-check_client-in-Client.result p.0 fault (over (scope_or_fault c.args.scope.now (script_places xs))) (without_variables c.check_client.new.scope) p.1 p.2
     (over_fails c.args.scope.now c.loop-item.scope (script_places xs) (script_places (drop i xs)) (item_places c.item-item.result) (script_places (drop (i + 1) xs)) c.loop-item.invariant.walk (parts_at item_places xs i c.item-item.result c.loop-item-test.true c.item-item.is) fault h)
 
 pub loop-item-preserved : goal.loop-item-preserved
@@ -29,7 +29,7 @@ loop-item-preserved c =
     let so_far = c.loop-item.invariant in
     elim c.match-item.branch [
       | in-Object+in_ok-check_object-in-Object w ↦
-          let h : met c.loop-item.scope (item_places item) ≡ Ok w.check_object.new.scope = rw w.in-Object.is w.in_ok-check_object-in-Object.ensures.meets in
+          let h : scope_or_fault c.loop-item.scope (item_places item) ≡ Ok w.check_object.new.scope = rw w.in-Object.is w.in_ok-check_object-in-Object.ensures.meets in
           let here : lists_of (item ∷ rest) ≡ lists_of rest = ap (λ x. lists_of (x ∷ rest)) w.in-Object.is in
           record {
             walk = rw w.scope-is (over_goes_on c.args.scope.now c.loop-item.scope (script_places xs) (script_places (drop i xs)) (item_places item) later so_far.walk parts w.check_object.new.scope h);
@@ -37,7 +37,7 @@ loop-item-preserved c =
           }
       | in-Client+in_ok-check_client-in-Client+in_ok-add_variables-in-Client w ↦
           let u = w.check_client.new.scope in
-          let h : met c.loop-item.scope (item_places item) ≡ Ok u = rw w.in-Client.is w.in_ok-check_client-in-Client.ensures.meets in
+          let h : scope_or_fault c.loop-item.scope (item_places item) ≡ Ok u = rw w.in-Client.is w.in_ok-check_client-in-Client.ensures.meets in
           let here : lists_of (item ∷ rest) ≡ variables_of w.in-Client.client ∷ lists_of rest = ap (λ x. lists_of (x ∷ rest)) w.in-Client.is in
           let name_is : w.end_client.result ≡ variables_of w.in-Client.client = w.end_client.ensures.variables ∙ w.in_ok-check_client-in-Client.ensures.variables in
           let added : c.match-item.variables.items ≡ c.loop-item.variables.items ++ variables_of w.in-Client.client ∷ [] =

@@ -2,7 +2,7 @@ use Rattle.std.proofs.Common.{◌≡◌, ap, arith, drop, sym, ◌+◌, ◌∙�
 use Rattle.std.proofs.lemmas.Result.{err_from_is_err_and}
 use Rattle.qs_script.specs.Views.{single, size_of, stmts_of}
 use Rattle.qs_script.proofs.Sizes.{size_at}
-use Rattle.qs_check.specs.Places.{places, call_places, test_places, met, variable}
+use Rattle.qs_check.specs.Places.{places, call_places, test_places, scope_or_fault, variable}
 use Rattle.qs_check.proofs.Walks.{places-drop, walk_fails, walk_goes_on, meets_err, first_fails, other_meets, one_then}
 use Rattle.qs_check.proofs.walk.+check.Goals as goal
 
@@ -20,7 +20,7 @@ check_body-returns-in_err-check_stmt t c =
     let parts : places inside (stmts_of (drop i xs)) ≡ places inside (single c.stmt-item.result) ++ places inside (stmts_of (drop (i + 1) xs)) =
     places-drop inside xs i c.stmt-item.result c.loop-stmt-test.true ∙ ap (λ x. places inside (single x) ++ places inside (stmts_of (drop (i + 1) xs))) (sym c.stmt-item.is) in
     let h = walk_fails c.args.scope.now c.loop-stmt.scope (places inside (stmts_of xs)) (places inside (stmts_of (drop i xs))) (places inside (single c.stmt-item.result)) (places inside (stmts_of (drop (i + 1) xs))) c.loop-stmt.invariant parts fault c.in_err-check_stmt.ensures.meets in
-    record { meets = meets_err c.from_residual.result p.0 fault (met c.args.scope.now (places inside c.args.body.now)) c.check_stmt.new.scope p.1 p.2 (rw c.as_slice-stmt-items.ensures.same h) }
+    record { meets = meets_err c.from_residual.result p.0 fault (scope_or_fault c.args.scope.now (places inside c.args.body.now)) c.check_stmt.new.scope p.1 p.2 (rw c.as_slice-stmt-items.ensures.same h) }
 
 pub check_body-loop-stmt-preserved : goal.check_body-loop-stmt-preserved
 check_body-loop-stmt-preserved t c =

@@ -1,6 +1,6 @@
 use Rattle.std.proofs.Common.{◌≡◌, ◌+◌, ◌*◌, drop}
 use Rattle.qs_script.specs.Views.{single, size_of, stmts_of}
-use Rattle.qs_check.specs.Places.{met, places}
+use Rattle.qs_check.specs.Places.{scope_or_fault, places}
 use Rattle.qs_check.proofs.walk.+check.Given as goal
 
 abbrev pub decreases-check_body : goal.decreases-check_body
@@ -11,4 +11,4 @@ decreases-check_stmt l = 2 * size_of (single l.stmt.now)
 
 abbrev pub invariant-check_body-loop-stmt : goal.invariant-check_body-loop-stmt
 invariant-check_body-loop-stmt l =
-    met l.initial.scope (places l.inside (stmts_of l.stmt-items)) ≡ met l.scope (places l.inside (stmts_of (drop l.stmt-index l.stmt-items)))
+    scope_or_fault l.initial.scope (places l.inside (stmts_of l.stmt-items)) ≡ scope_or_fault l.scope (places l.inside (stmts_of (drop l.stmt-index l.stmt-items)))

@@ -1,6 +1,6 @@
 use Rattle.std.proofs.lemmas.Result.{err_from_is_err_and}
 use Rattle.std.proofs.Common.{false}
-use Rattle.qs_check.specs.Places.{met, separate, listed_places, places, block_places}
+use Rattle.qs_check.specs.Places.{scope_or_fault, separate, listed_places, places, block_places}
 use Rattle.qs_check.proofs.Walks.{fails_after, meets_after, meets_err}
 use Rattle.qs_check.proofs.walk.check_block.Goals as goal
 
@@ -10,7 +10,7 @@ returns-in_err-check_list c =
     let block = c.args.block.now in
     let s = c.args.scope.now in
     let fault = c.in_err-check_list.field-0.0 in
-    record { meets = meets_err c.from_residual-in_err-check_list.result p.0 fault (met s (block_places block)) c.check_list.new.scope p.1 p.2 (fails_after s c.separate.new.self separate (listed_places block.reserved) (places false block.body) c.in_ok-separate.ensures.meets fault (rw c.as_slice.ensures.same at c.in_err-check_list.ensures.meets)) }
+    record { meets = meets_err c.from_residual-in_err-check_list.result p.0 fault (scope_or_fault s (block_places block)) c.check_list.new.scope p.1 p.2 (fails_after s c.separate.new.self separate (listed_places block.reserved) (places false block.body) c.in_ok-separate.ensures.meets fault (rw c.as_slice.ensures.same at c.in_err-check_list.ensures.meets)) }
 
 pub returns : goal.returns
 returns c =

@@ -1,5 +1,5 @@
 use Rattle.std.proofs.Common.{◌≡◌, false, true, [], ◌∷◌, refl, inr, arith, ⊎_elim}
-use Rattle.qs_chunk.specs.LaneExamples.{chunk, deposit_and_ask, held}
+use Rattle.qs_chunk.specs.LaneExamples.{chunk, deposit_and_ask, account_of_100}
 use Rattle.qs_chunk.specs.declared.parcel.Parcel.TheVariants.{Work, Sync}
 use Rattle.qs_chunk.proofs.LaneRuns.{run_of, sent_stands}
 use Rattle.qs_chunk.proofs.laws.lane_run_examples.Goals as goal
@@ -10,8 +10,8 @@ returns c = record {
     begun = run_of 8 [] [] [] [] (record { parcels = ([], refl); form = tt; objects = ([], refl); served = omega arith });
     on_its_way = run_of 8 (Work chunk ∷ Sync ∷ []) (Work chunk ∷ []) [] [] (record { parcels = (Sync ∷ [], refl); form = ((refl, refl), ((refl, tt), tt)); objects = ([], refl); served = omega arith });
     waits = run_of 8 (Work chunk ∷ Sync ∷ []) (Work chunk ∷ Sync ∷ []) [] [] (record { parcels = ([], refl); form = ((refl, refl), ((refl, tt), tt)); objects = ([], refl); served = omega arith });
-    given = run_of 8 (Work chunk ∷ Sync ∷ []) (Work chunk ∷ Sync ∷ []) (held ∷ []) [] (record { parcels = ([], refl); form = ((refl, refl), ((refl, tt), tt)); objects = (held ∷ [], refl); served = omega arith });
-    whole = run_of 8 deposit_and_ask deposit_and_ask (held ∷ []) (held ∷ []) (record { parcels = ([], refl); form = ((refl, refl), ((refl, tt), ((refl, tt), ((refl, tt), tt)))); objects = ([], refl); served = omega arith });
+    given = run_of 8 (Work chunk ∷ Sync ∷ []) (Work chunk ∷ Sync ∷ []) (account_of_100 ∷ []) [] (record { parcels = ([], refl); form = ((refl, refl), ((refl, tt), tt)); objects = (account_of_100 ∷ [], refl); served = omega arith });
+    whole = run_of 8 deposit_and_ask deposit_and_ask (account_of_100 ∷ []) (account_of_100 ∷ []) (record { parcels = ([], refl); form = ((refl, refl), ((refl, tt), ((refl, tt), ((refl, tt), tt)))); objects = ([], refl); served = omega arith });
     unasked = λ run. absurd (cc run.served);
     given_twice = λ run. absurd (cc run.served);
     unsent = λ run. absurd (cc run.parcels.1);

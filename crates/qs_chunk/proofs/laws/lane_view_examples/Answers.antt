@@ -3,7 +3,7 @@ use Rattle.qs_objects.proofs.ObjectLaws.{never_answers}
 use Rattle.qs_objects.specs.Laws.{IsCommand}
 use Rattle.qs_objects.specs.declared.Op.TheVariants.{Deposit}
 use Rattle.qs_chunk.specs.LaneExamples.{deposit}
-use Rattle.qs_chunk.specs.LaneViewExamples.{between, after, asked, ClientExamples, HandlerExamples}
+use Rattle.qs_chunk.specs.LaneViewExamples.{between, after, balance_event, ClientExamples, HandlerExamples}
 use Rattle.qs_chunk.proofs.laws.lane_view_examples.Goals as goal
 
 deposits : IsCommand Deposit
@@ -13,12 +13,12 @@ client : ClientExamples
 client = record {
   begun = (deposit ∷ [], refl, refl, refl, (deposits, tt));
   waiting = ([], refl, (deposits, tt), (refl, refl));
-  holding = (asked (pos 105) ∷ [], refl, (deposits, tt), (after, refl, refl, (refl, refl)));
+  holding = (balance_event (pos 105) ∷ [], refl, (deposits, tt), (after, refl, refl, (refl, refl)));
   ended = (
-    asked (pos 105) ∷ [],
+    balance_event (pos 105) ∷ [],
     refl,
     (deposits, tt),
-    (between, [], asked (pos 105) ∷ [], [], refl, refl, (refl, refl), (refl, refl, refl, refl)),
+    (between, [], balance_event (pos 105) ∷ [], [], refl, refl, (refl, refl), (refl, refl, refl, refl)),
   );
 }
 

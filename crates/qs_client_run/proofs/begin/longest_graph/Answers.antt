@@ -14,7 +14,7 @@ loop-block-preserved c =
     let blocks : List BlockCode = c.args.code.now.blocks in
     let k = c.loop-block.block in
     let inside : k < length blocks = omega arith in
-    let here : c.len.result ≡ length (get_or blocks k no_code).graph = c.len.ensures.value ∙ ap (λ (g : List places.Place). length g) c.graph.ensures.value in
+    let here : c.len.result ≡ length (get_or blocks k no_code).graph = c.len.ensures.value ∙ ap (λ (g : List places.GraphNode). length g) c.graph.ensures.value in
     c.max-most.ensures
     ∙ (λ i. max (here i) (c.loop-block.invariant i))
     ∙ sym (ap longest (take_more blocks k no_code inside) ∙ longest_last (take k blocks) (get_or blocks k no_code))

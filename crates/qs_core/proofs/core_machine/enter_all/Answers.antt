@@ -1,6 +1,6 @@
 use Rattle.std.proofs.Common.{drop, ◌+◌, ap, sym, subst, ◌∙◌}
 use Rattle.qs_played.proofs.Lists.{from_here}
-use Rattle.qs_core_parts.specs.CoreHandlers.{CanEnterAll, entered_all}
+use Rattle.qs_core_parts.specs.CoreHandlers.{CanEnterAll, with_ticket_at_all}
 use Rattle.qs_core.proofs.core_machine.enter_all.Goals as goal
 
 pub loop-object-preserved : goal.loop-object-preserved
@@ -11,6 +11,6 @@ loop-object-preserved c =
     let cut = from_here c.args.objects.now c.loop-object.object-index c.loop-object-test.true in
     let can = subst (CanEnterAll t hs) cut c.loop-object.invariant.can in
     record {
-      value = ap (λ xs. entered_all t xs later) c.enter_at.ensures.entered ∙ sym (ap (entered_all t hs) cut) ∙ c.loop-object.invariant.value;
+      value = ap (λ xs. with_ticket_at_all t xs later) c.enter_at.ensures.entered ∙ sym (ap (with_ticket_at_all t hs) cut) ∙ c.loop-object.invariant.value;
       can = subst (λ xs. CanEnterAll t xs later) (sym c.enter_at.ensures.entered) can.2;
     }

@@ -17,13 +17,13 @@ returns-in-Some-client c =
     let there = object_away c.args.clients.now c.args.handlers.now h c.handler_at-handler.result.now c.handler_at-handler.ensures.seat c.handler_at-handler.ensures.kept c.in-None.ensures.value c.in-Some-client.client c.in-Some-client.ensures.value in
     record {
       value = c.away.ensures.value
-          ∙ (λ k. away_at (lane_at (c.seat.ensures.lanes k) h).up (lane_at (c.seat.ensures.lanes k) h).down ((c.seat.ensures.mind k).client.held h))
+          ∙ (λ k. away_at (lane_at (c.client_at.ensures.lanes k) h).up (lane_at (c.client_at.ensures.lanes k) h).down ((c.client_at.ensures.mind k).client.held h))
           ∙ ap (λ n. away_at (lane_at (side_at cs n).lanes h).up (lane_at (side_at cs n).lanes h).down ((side_at cs n).mind.client.held h)) c.from.ensures
           ∙ sym there;
     }
 
-pub seat-requires : goal.seat-requires
-seat-requires c =
+pub client_at-requires : goal.client_at-requires
+client_at-requires c =
     let inside = turned_inside c.args.clients.now c.args.handlers.now c.args.number c.handler_at-handler.result.now c.handler_at-handler.ensures.seat c.handler_at-handler.ensures.kept c.requires.turns c.in-Some-client.client c.in-Some-client.ensures.value in
     record { number = subst (λ n. n < length c.args.clients.now) (sym c.from.ensures) inside }
 

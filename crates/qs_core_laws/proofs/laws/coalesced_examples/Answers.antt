@@ -1,6 +1,6 @@
 use Rattle.std.proofs.Common.{◌≡◌, ℕ, ℤ, true, List, [], ◌∷◌, Option, refl}
 use Rattle.qs_program.specs.Statements.{Statements}
-use Rattle.qs_graph.specs.Nodes.{Place}
+use Rattle.qs_graph.specs.Nodes.{GraphNode}
 use Rattle.qs_graph.specs.Graphs.{block_graph}
 use Rattle.qs_graph.specs.GraphExamples.{leave_first, query_in_repeat}
 use Rattle.qs_graph.specs.Steps.{limit}
@@ -11,15 +11,15 @@ use Rattle.qs_syncset.specs.declared.mode.Mode.TheVariants.{Plain, Dynamic, Stat
 use Rattle.qs_syncset.specs.HeldExamples.{call_in_repeat, without_inner, without_last}
 use Rattle.qs_syncset.proofs.WorkedGraphs.{held_examples}
 use Rattle.qs_played.specs.ExampleRuns.{answers}
-use Rattle.qs_core_laws.specs.CoalescedExamples.{PlaysAlone, alone, coded, shown_alone}
+use Rattle.qs_core_laws.specs.CoalescedExamples.{PlaysAlone, alone, codes_with, shown_alone}
 use Rattle.qs_core_laws.specs.Core.{AreCodes}
 use Rattle.qs_core_laws.specs.CoreSchedule.{core_scheduled}
 use Rattle.qs_core_laws.proofs.AloneCodes.{alone_codes}
 use Rattle.qs_core_laws.proofs.laws.coalesced_examples.Goals as goal
 
 -- what a block alone shows in a mode: its code, and what its run is computed to show
-plays_alone : {body : Statements} {mode : Mode} {g : List Place} {replies : List (Option ℤ)} {syncs : ℕ}
-    → AreCodes (alone body) mode (coded (is_dynamic mode) body g)
+plays_alone : {body : Statements} {mode : Mode} {g : List GraphNode} {replies : List (Option ℤ)} {syncs : ℕ}
+    → AreCodes (alone body) mode (codes_with (is_dynamic mode) body g)
     → answers (shown_alone mode body g) ≡ replies ∷ [] → (shown_alone mode body g).syncs ≡ syncs → (shown_alone mode body g).finished ≡ true
     → PlaysAlone body mode g replies syncs
 plays_alone codes replies syncs finished = record { codes = codes; replies_are = replies; syncs_are = syncs; finished_is = finished }

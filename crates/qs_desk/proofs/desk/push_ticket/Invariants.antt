@@ -1,11 +1,11 @@
 use Rattle.std.proofs.Common.{◌≡◌, ℕ, ◌<◌, ◌≤◌, length}
-use Rattle.qs_desk.specs.Lines.{line_at, grown}
+use Rattle.qs_desk.specs.TicketQueues.{queue_at, with_ticket}
 use Rattle.qs_desk.proofs.desk.push_ticket.Given as goal
 
 abbrev pub invariant-loop-handler : goal.invariant-loop-handler
 invariant-loop-handler g l =
     record {
-      len : length l.lines.items ≡ length l.initial.lines.items;
-      done : (k : ℕ) → k < l.handler → line_at l.lines.items k ≡ grown g.D.DeskName.program l.ticket k (line_at l.initial.lines.items k);
-      rest : (k : ℕ) → l.handler ≤ k → line_at l.lines.items k ≡ line_at l.initial.lines.items k;
+      len : length l.senders.items ≡ length l.initial.senders.items;
+      done : (k : ℕ) → k < l.handler → queue_at l.senders.items k ≡ with_ticket g.D.DeskName.program l.ticket k (queue_at l.initial.senders.items k);
+      rest : (k : ℕ) → l.handler ≤ k → queue_at l.senders.items k ≡ queue_at l.initial.senders.items k;
     }

@@ -1,14 +1,14 @@
 use Rattle.std.proofs.Common.{◌≡◌, [], ◌∷◌, refl, ap}
 use Rattle.qs_objects.specs.Journals.{HeldState}
 use Rattle.qs_handler.specs.Handler.{free, serves, spares, gives, closed}
-use Rattle.qs_handler.specs.HandlerExamples.{asked, deposited, end, middle, start, ticket}
+use Rattle.qs_handler.specs.HandlerExamples.{balance_entry, deposit_entry, end, middle, start, ticket}
 use Rattle.qs_handler.proofs.laws.handler_turn_examples.Goals as goal
 
 -- the journal at the end has one entry more
 apart : end ≡ middle → ⊥
 apart e = entries (ap (λ (h : HeldState). h.journal) e)
   where
-    entries : deposited ∷ asked ∷ [] ≡ deposited ∷ [] → ⊥
+    entries : deposit_entry ∷ balance_entry ∷ [] ≡ deposit_entry ∷ [] → ⊥
     entries e = cc (e)
 
 pub returns : goal.returns

@@ -4,7 +4,7 @@ use Rattle.std.specs.List.{AllByRecursion}
 use Rattle.std.proofs.lemmas.Map.Keys.{IsDistinct-head, IsDistinct-tail}
 use Rattle.qs_played.proofs.Lists.{get_or-any}
 use Rattle.qs_plain_client.specs.Queues.{QueueState}
-use Rattle.qs_plain.specs.Handlers.{CanEnter, CanEnterAll, entered_all, entered, handler_at, nobody}
+use Rattle.qs_plain.specs.Handlers.{CanEnter, CanEnterAll, entered_all, with_queue, handler_at, nobody}
 use Rattle.qs_plain.specs.Served.{HandlerState}
 use Rattle.qs_plain.proofs.HandlersSteps.{can_after}
 use Rattle.qs_plain.proofs.handlers.enter_all.Goals as goal
@@ -18,13 +18,13 @@ each-preserved c =
     let objects = map (λ (q : ℕ × QueueState). q.0) in
     let (each, distinct) = subst (λ qs. CanEnterAll hs (objects qs)) cut c.each.invariant.can in
     let here : c.index_mut-handler.result.now ≡ handler_at hs h = c.index_mut-handler.ensures.value ∙ ap (λ n. get_or hs n c.index_mut-handler.result.now) c.from.ensures ∙ get_or-any hs h c.index_mut-handler.result.now nobody each.0.0 in
-    let new : c.enter.new.self ≡ entered c.in-Some.queue (handler_at hs h) = c.enter.ensures.entered ∙ ap (entered c.in-Some.queue) here in
-    let now : set hs c.from.result c.enter.new.self ≡ set hs h (entered c.in-Some.queue (handler_at hs h)) = λ k. set hs (c.from.ensures k) (new k) in
+    let new : c.enter.new.self ≡ with_queue c.in-Some.queue (handler_at hs h) = c.enter.ensures.entered ∙ ap (with_queue c.in-Some.queue) here in
+    let now : set hs c.from.result c.enter.new.self ≡ set hs h (with_queue c.in-Some.queue (handler_at hs h)) = λ k. set hs (c.from.ensures k) (new k) in
     record {
       value = ap (λ xs. entered_all xs later) now ∙ sym (ap (entered_all hs) cut) ∙ c.each.invariant.value;
       can = (
         subst (λ xs. AllByRecursion (CanEnter xs) (objects later)) (sym now)
-            (can_after (λ (x : HandlerState). 0 < x.room) hs h (entered c.in-Some.queue (handler_at hs h)) (objects later) each.1 (IsDistinct-head ◌==◌ h (objects later) distinct)),
+            (can_after (λ (x : HandlerState). 0 < x.room) hs h (with_queue c.in-Some.queue (handler_at hs h)) (objects later) each.1 (IsDistinct-head ◌==◌ h (objects later) distinct)),
         IsDistinct-tail ◌==◌ h (objects later) distinct,
       );
     }

@@ -2,7 +2,7 @@ use Rattle.std.proofs.Common.{◌==◌, get_or, drop, ◌+◌, ap, sym, subst, �
 use Rattle.std.specs.List.{AllByRecursion}
 use Rattle.std.proofs.lemmas.Map.Keys.{IsDistinct-head, IsDistinct-tail}
 use Rattle.qs_played.proofs.Lists.{from_here}
-use Rattle.qs_plain.specs.Handlers.{CanLog, CanLogAll, logged_all, logged, handler_at}
+use Rattle.qs_plain.specs.Handlers.{CanLog, CanLogAll, logged_all, with_logged_item, handler_at}
 use Rattle.qs_plain.specs.Served.{HandlerState, IsLoggable}
 use Rattle.qs_plain.proofs.HandlersSteps.{can_after}
 use Rattle.qs_plain.proofs.handlers.log_all.Goals as goal
@@ -20,7 +20,7 @@ loop-object-preserved c =
       value = ap (λ xs. logged_all t item xs later) c.log_at.ensures.logged ∙ sym (ap (logged_all t item hs) cut) ∙ c.loop-object.invariant.value;
       can = (
         subst (λ xs. AllByRecursion (CanLog t xs) later) (sym c.log_at.ensures.logged)
-            (can_after (λ (x : HandlerState). IsLoggable t x.queues) hs h (logged t item (handler_at hs h)) later each.1 (IsDistinct-head ◌==◌ h later distinct)),
+            (can_after (λ (x : HandlerState). IsLoggable t x.queues) hs h (with_logged_item t item (handler_at hs h)) later each.1 (IsDistinct-head ◌==◌ h later distinct)),
         IsDistinct-tail ◌==◌ h later distinct,
       );
     }

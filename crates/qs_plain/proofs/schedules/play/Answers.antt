@@ -6,8 +6,8 @@ use Rattle.qs_played.specs.Isolation.{IsIsolated}
 use Rattle.qs_played.specs.Schedule.{schedule}
 use Rattle.qs_played.specs.Played.{Played}
 use Rattle.qs_played.proofs.ShownRuns.{if_shown}
-use Rattle.qs_plain_laws.specs.PlainIsolation.{queued}
-use Rattle.qs_plain_laws.specs.Plain.{begin, begun}
+use Rattle.qs_plain_laws.specs.PlainIsolation.{commands_in_queue}
+use Rattle.qs_plain_laws.specs.Plain.{begin, begun_blocks}
 use Rattle.qs_plain_laws.specs.PlainSchedule.{played_of, plays, scheduled}
 use Rattle.qs_plain_laws.proofs.Ordering.{IsOrdered, ordered_begin, ordered_plays, tickets_begun}
 use Rattle.qs_plain_laws.specs.PlainSyncSums.{AreQueriesCounted}
@@ -29,7 +29,7 @@ into_played-requires c = λ i d less.
     let all = subst (IsOrdered p) (sym there) (ordered_plays p (begin p) (schedule p c.args.picks.now c.args.rounds) (ordered_begin p)) in
     let found = tickets_begun p (plain_of s) all i d less in (
       omega (arith, found.0, length-map s.clients client_of),
-      subst (λ it. t.index < begun it) (sym (at_client s.clients t.client)) found.1,
+      subst (λ it. t.index < begun_blocks it) (sym (at_client s.clients t.client)) found.1,
     )
 
 of_shown : {E : Type 0} (P : Played → Type 0) (result : Result Played E) (shown : Played) → IfOk result (λ played. played ≡ shown) → P shown → IfOk result P
@@ -48,6 +48,6 @@ returns c =
     record {
       played = shown;
       legal = of_shown (λ (played : Played). IsLegal p played.order) c.into_played.result (played_of p last) shown (ordered_plays p (begin p) actors (ordered_begin p)).legal;
-      isolated = of_shown (λ (played : Played). IsIsolated p played (queued last)) c.into_played.result (played_of p last) shown (runs_isolated p c.is_sound.ensures.sound actors);
+      isolated = of_shown (λ (played : Played). IsIsolated p played (commands_in_queue last)) c.into_played.result (played_of p last) shown (runs_isolated p c.is_sound.ensures.sound actors);
       counted = of_shown (AreQueriesCounted p last) c.into_played.result (played_of p last) shown (plain_syncs_counted p c.is_sound.ensures.sound actors);
     }

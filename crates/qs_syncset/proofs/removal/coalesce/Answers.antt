@@ -3,8 +3,8 @@ use Rattle.std.specs.Prelude.{◌↔◌}
 use Rattle.qs_objects.proofs.Elements.{AllByRecursion-get_or}
 use Rattle.qs_graph.specs.declared.node.Node.TheVariants.{Sync}
 use Rattle.qs_graph.specs.declared.node.Named.{Named}
-use Rattle.qs_graph.specs.Nodes.{ControlGraph, Place, place_at}
-use Rattle.qs_graph.specs.WellFormed.{IsInRange, IsPlace}
+use Rattle.qs_graph.specs.Nodes.{ControlGraph, GraphNode, place_at}
+use Rattle.qs_graph.specs.WellFormed.{IsInRange, IsGraphNode}
 use Rattle.qs_graph.specs.Nodes.{exit}
 use Rattle.qs_program.specs.Limits.{most_handlers}
 use Rattle.qs_syncset.specs.Held.{IsHeld}
@@ -14,7 +14,7 @@ use Rattle.qs_syncset.proofs.removal.coalesce.Goals as goal
 use Rattle.qs_syncset.proofs.removal.coalesce.Goals.{in-Sync+then-holds, in-Sync+else-holds, in_default}
 
 -- so far, with the names as they were
-abbrev IsDoneWith : List Place → List Named → ℕ → ControlGraph → Type 0
+abbrev IsDoneWith : List GraphNode → List Named → ℕ → ControlGraph → Type 0
 IsDoneWith g names n now = record { done : IsDone g now.nodes n; names : now.names ≡ names }
 
 inside : (c : goal.Joined-node) → c.loop-n.n < length c.args.graph.nodes
@@ -22,8 +22,8 @@ inside c = omega (arith, c.loop-n-test.true, c.len-n-end.ensures.value)
 
 handler_known : (c : goal.Joined-node) (h : ℕ) → (place_at c.args.graph.nodes c.loop-n.n).node ≡ Sync h → h < most_handlers
 handler_known c h e =
-    let here : IsPlace (length c.args.graph.nodes) (place_at c.args.graph.nodes c.loop-n.n) =
-    AllByRecursion-get_or (IsPlace (length c.args.graph.nodes)) c.args.graph.nodes c.loop-n.n exit c.is_graph.ensures.graph.places (inside c) in
+    let here : IsGraphNode (length c.args.graph.nodes) (place_at c.args.graph.nodes c.loop-n.n) =
+    AllByRecursion-get_or (IsGraphNode (length c.args.graph.nodes)) c.args.graph.nodes c.loop-n.n exit c.is_graph.ensures.graph.places (inside c) in
     subst IsInRange e here.in_range
 
 exact : (c : goal.Joined-node) (h : ℕ) → (place_at c.args.graph.nodes c.loop-n.n).node ≡ Sync h
@@ -35,7 +35,7 @@ loop-n-preserved c =
     let g = c.args.graph.nodes in
     let n = c.loop-n.n in
     let node_same : (place_at g n).node ≡ c.node.result.now =
-    ap (λ (p : Place). p.node) (sym (c.loop-n.invariant.done.rest n (omega arith))) ∙ sym c.node.ensures.value in
+    ap (λ (p : GraphNode). p.node) (sym (c.loop-n.invariant.done.rest n (omega arith))) ∙ sym c.node.ensures.value in
     let kept = c.loop-n.invariant.names in
     elim c.match-node.branch [
       | in-Sync+then-holds w ↦
@@ -43,7 +43,7 @@ loop-n-preserved c =
           let held : IsHeld g n w.in-Sync.handler = (exact c w.in-Sync.handler is).0 (sym w.holds.ensures.value ∙ w.if-holds.true) in
           subst (IsDoneWith g c.args.graph.names (n + 1)) (sym w.graph-is)
           (record {
-            done = subst (λ (now : List Place). IsDone g now (n + 1)) (sym w.make_local.ensures.change)
+            done = subst (λ (now : List GraphNode). IsDone g now (n + 1)) (sym w.make_local.ensures.change)
                 (done_set g c.loop-n.graph.nodes n (omega (arith, inside c, c.loop-n.invariant.done.count)) c.loop-n.invariant.done
                 (removed (IsHeld g n) w.in-Sync.handler (place_at g n) is held));
             names = w.make_local.ensures.same_names ∙ kept;

@@ -2,7 +2,7 @@ use Rattle.std.proofs.Common.{◌≡◌, ◌+◌, ◌<◌, ◌≤◌, ◌*◌, �
 use Rattle.std.proofs.lemmas.List.{take_at}
 use Rattle.qs_graph.proofs.Inside.{paths_stay_inside}
 use Rattle.qs_syncset.specs.Dataflow.{state, turns_left}
-use Rattle.qs_syncset.proofs.Visits.{begun, begun_left, begun_work, done_sets}
+use Rattle.qs_syncset.proofs.Visits.{first_state, begun_left, begun_work, done_sets}
 use Rattle.qs_syncset.proofs.sets.held_sets_counted.Given as given
 use Rattle.qs_syncset.proofs.sets.held_sets_counted.Goals as goal
 use Rattle.qs_syncset.proofs.sets.held_sets_counted.Goals.{After-deref_mut-2, After-run}
@@ -10,21 +10,21 @@ use Rattle.qs_syncset.proofs.sets.held_sets_counted.Goals.{After-deref_mut-2, Af
 some_node : (g : given.Over) (c : After-deref_mut-2 g) → 0 < c.len-count.result
 some_node g c = omega (arith, paths_stay_inside c.args.graph.now.nodes [] 0 c.is_graph.ensures.graph refl, c.len-count.ensures.value)
 
-reached_is : (g : given.Over) (c : After-deref_mut-2 g) → c.deref_mut.result.now ≡ (begun c.len-count.result).reached
+reached_is : (g : given.Over) (c : After-deref_mut-2 g) → c.deref_mut.result.now ≡ (first_state c.len-count.result).reached
 reached_is g c =
     c.deref_mut.ensures.value ∙ ap (λ (r : List Bool). set r 0 true) (c.in_ok-reached.ensures.items_if_clones_equal (λ x y. y))
 
-bytes_are : (g : given.Over) (c : After-deref_mut-2 g) → c.deref_mut-2.result.now ≡ (begun c.len-count.result).sets
+bytes_are : (g : given.Over) (c : After-deref_mut-2 g) → c.deref_mut-2.result.now ≡ (first_state c.len-count.result).sets
 bytes_are g c =
     c.deref_mut-2.ensures.value ∙ ap (λ (s : List ℕ). set s 0 0) (c.in_ok-bytes.ensures.items_if_clones_equal (λ x y. y))
 
 -- the state in which the pass begins
 is_begun : (g : given.Over) (c : After-deref_mut-2 g)
-    → state c.deref_mut.result.now c.deref_mut-2.result.now c.in_ok-list.list ≡ begun c.len-count.result
+    → state c.deref_mut.result.now c.deref_mut-2.result.now c.in_ok-list.list ≡ first_state c.len-count.result
 is_begun g c = rw (reached_is g c, bytes_are g c, c.in_ok-list.ensures.one) refl
 
 bound : (g : given.Over) (c : After-run g)
-    → state c.deref_mut.result.now c.deref_mut-2.result.now c.in_ok-list.list ≡ begun c.len-count.result → 0 < c.len-count.result
+    → state c.deref_mut.result.now c.deref_mut-2.result.now c.in_ok-list.list ≡ first_state c.len-count.result → 0 < c.len-count.result
     → c.run.new.turns ≤ c.args.turns.now + 9 * length c.args.graph.now.nodes
 bound g c first some =
     omega (arith, c.run.ensures.turns, ap turns_left first, begun_left c.len-count.result some, c.len-count.ensures.value)

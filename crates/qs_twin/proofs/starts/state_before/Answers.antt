@@ -1,5 +1,5 @@
 use Rattle.std.proofs.Common.{None, Some, ap, sym, ◌∙◌}
-use Rattle.qs_objects.specs.Act.{Outcome}
+use Rattle.qs_objects.specs.Act.{ActResult}
 use Rattle.qs_twin.proofs.FirstEntries.{here_at, later_at, none_at}
 use Rattle.qs_twin.proofs.starts.state_before.Goals as goal
 
@@ -17,7 +17,7 @@ pub loop-entry-preserved : goal.loop-entry-preserved
 loop-entry-preserved c = λ found later.
     c.loop-entry.invariant found
     (later_at c.loop-entry.state c.args.ticket c.args.journal.now c.loop-entry.entry-index c.entry-item.result c.loop-entry-test.true c.entry-item.is
-    (sym c.eq.ensures ∙ c.if-eq.false) c.apply-reply.new.self (ap (λ (o : Outcome). o.0) c.apply-reply.ensures.acts) found later)
+    (sym c.eq.ensures ∙ c.if-eq.false) c.apply-reply.new.self (ap (λ (o : ActResult). o.0) c.apply-reply.ensures.acts) found later)
 
 pub returns : goal.returns
 returns c = record {

@@ -35,7 +35,7 @@ use Rattle.core.proofs.slots.Leases.{args, P, uncapped, block_ty, block_size, bl
 use Rattle.core.proofs.slots.Places.{sz}
 use Rattle.std.proofs.raw_atomic.Walks.{proved, leaves}
 use Rattle.qs_chunk.specs.Room.{row_owns}
-use Rattle.qs_chunk.proofs.Rooms.{Place, Rm, Owner, room_val, room_had, to_block}
+use Rattle.qs_chunk.proofs.Rooms.{Cell, Rm, Owner, room_val, room_had, to_block}
 use Rattle.qs_chunk.proofs.cells.Room.TheLaws.{lowers}
 use Rattle.qs_chunk.specs.contracts.cells.Room.free.{ended, clauses}
 use Rattle.qs_chunk.specs.contracts.cells.Room.free.Key.{name as #self}
@@ -62,7 +62,7 @@ free_spec 𝓤 𝓛 𝓜 𝓡 wired X U LX LU g d dd met _ =
     split ! $ split ! $ move ! (2 ∷ []) $ fsplit3 ! $ room_had E Z ! h (room_val E Z p ∷ []) (λ b o lies _ fit.
     let long : length h.places ≡ n = ap length empty ∙ length-replicate n None in
     let small : n * s < 2 ^ 63 = subst (λ (k : ℕ). k * s < 2 ^ 63) long fit in let bytes : n * s < 2 ^ 64 = omega arith in
-    rewrite ! 0 (λ (l : List (Place E 𝓛 b)). ‵ (row_owns (R E) b o l)) empty refl $ use1 𝓛 (‵ (froom (ty_array (elτ E) n) b o)) (to_block E 𝓛 b n o) $ use1 𝓛 (‵ (froom τ b o)) (𝓛.laws.room-raw (ty_array (elτ E) n) b o) $
+    rewrite ! 0 (λ (l : List (Cell E 𝓛 b)). ‵ (row_owns (R E) b o l)) empty refl $ use1 𝓛 (‵ (froom (ty_array (elτ E) n) b o)) (to_block E 𝓛 b n o) $ use1 𝓛 (‵ (froom τ b o)) (𝓛.laws.room-raw (ty_array (elτ E) n) b o) $
     rewrite ! 1 (λ (r : ℕ × U.Denot). ‵ (token Z r.1 (block_ty E r.0) (block_ptr b o))) {x = (n, heap)} {y = (length h.places, h.giver)} (λ i. (long i, given_by i)) refl $
     move ! (3 ∷ []) $ fsplit ! $ keep ! (2 ∷ 3 ∷ 1 ∷ 6 ∷ 7 ∷ []) $
     -- [the block's room; the right to free it; the handle; its token; the other tokens]

@@ -25,9 +25,9 @@ returns-in-Runs c =
       acted = λ settings most standing.
           let w = subst (IsStanding b settings.size k most s) (ap (λ (x : RunState). x.stage) (sym c.self.view_is) ∙ c.in-Runs.is) standing in
           let given : c.act_at_node.result ≡ act_by s.holdings (move b.graph s.position) =
-          c.act_at_node.ensures.act ∙ ap (λ (g : List places.Place). act_by s.holdings (move g s.position)) graph in
+          c.act_at_node.ensures.act ∙ ap (λ (g : List places.GraphNode). act_by s.holdings (move g s.position)) graph in
           let new : c.act_at_node.new.self ≡ with_holdings s (holdings_by s.holdings (move b.graph s.position)) =
-          c.act_at_node.ensures.rest ∙ ap (λ (g : List places.Place). with_holdings s (holdings_by s.holdings (move g s.position))) graph in
+          c.act_at_node.ensures.rest ∙ ap (λ (g : List places.GraphNode). with_holdings s (holdings_by s.holdings (move g s.position))) graph in
           subst (λ (a : Act). HasActed b settings (length c.args.code.now.blocks) k c.args.begun most a s c.act_at_node.new.self) (sym given)
           (
           subst (λ (t : RunState). HasActed b settings (length c.args.code.now.blocks) k c.args.begun most (act_by s.holdings (move b.graph s.position)) s t) (sym new)

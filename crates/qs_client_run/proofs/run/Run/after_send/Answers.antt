@@ -47,7 +47,7 @@ returns-in-Runs-stage c =
       sent = λ settings begun most dynamic standing.
           let w = subst (IsStanding b settings.size c.args.ticket.index most s) (ap (λ (x : RunState). x.stage) (sym c.self-in-Sync.view_is) ∙ c.in-Runs-stage.is) standing in
           let gone = subst (IsOutgoingAt b.graph (outgoings.Sync c.in-Sync.field-0) s) (ap (λ (x : RunState). x.stage) (sym c.self-in-Sync.view_is) ∙ c.in-Runs-stage.is) (subst (λ x. IsOutgoingAt b.graph x s s.stage) c.in-Sync.is c.requires.gone) in
-          let new : c.await_object.new.self ≡ await_object b.graph s = c.await_object.ensures.new ∙ ap (λ (g : List places.Place). await_object g s) graph in
+          let new : c.await_object.new.self ≡ await_object b.graph s = c.await_object.ensures.new ∙ ap (λ (g : List places.GraphNode). await_object g s) graph in
           subst (λ x. HasSent b settings c.args.ticket begun most x s c.await_object.new.self) (sym c.in-Sync.is)
           (
           subst (λ t. HasSent b settings c.args.ticket begun most (outgoings.Sync c.in-Sync.field-0) s t) (sym new)

@@ -1,7 +1,7 @@
 use Rattle.std.proofs.Common.{◌≡◌, ◌==◌, ℕ, sym, ap, ◌∙◌, ◌∷◌, [], ◌++◌, set-set, Some, None, length, if◌then◌else◌, arith}
 use Rattle.std.proofs.lemmas.Bool.{eq-eqb, ne_eqb}
 use Rattle.qs_objects.specs.declared.Request.{Request}
-use Rattle.qs_objects.specs.Parts.{logged}
+use Rattle.qs_objects.specs.Parts.{command_event}
 use Rattle.qs_program.specs.Values.{request_of}
 use Rattle.qs_graph.specs.Walk.{at_node}
 use Rattle.qs_chunk.specs.Batch.{batch}
@@ -35,8 +35,8 @@ returns-clause-new c =
     (none_of _ (sym c.holds.ensures.value ∙ c.if-holds.false)) (sym c.take_chunk.ensures.value ∙ c.in-Some.is) more full holdings
     ∙ ap (λ n. (call c.args.block (to n) (at_node s.position c.args.next) s).0) c.bound-object.ensures.object in
     let position : c.go_to.new.self ≡ at_node s.position c.args.next = c.go_to.ensures.value in
-    let event : c.note.new.self ≡ noted_at s.traces c.args.block (logged r) =
-    c.note.ensures.noted ∙ ap (λ (q : Request). noted_at s.traces c.args.block (logged q)) (c.copied.ensures.same ∙ same) in
+    let event : c.note.new.self ≡ noted_at s.traces c.args.block (command_event r) =
+    c.note.ensures.noted ∙ ap (λ (q : Request). noted_at s.traces c.args.block (command_event q)) (c.copied.ensures.same ∙ same) in
     elim c.if-is_full.branch [
       | then-is_full w ↦
           w.self-is

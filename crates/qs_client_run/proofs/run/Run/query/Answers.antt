@@ -2,7 +2,7 @@ use Rattle.std.proofs.Common.{◌≡◌, arith, refl, sym, ap, ◌∙◌, set-se
 use Rattle.std.specs.Prelude.{unwrap_or}
 use Rattle.std.proofs.lemmas.Int.{to_z-of_z, ints}
 use Rattle.qs_objects.specs.declared.Request.{Request}
-use Rattle.qs_objects.specs.Journals.{ran}
+use Rattle.qs_objects.specs.Journals.{run_one}
 use Rattle.qs_program.specs.Values.{request_of}
 use Rattle.qs_meaning.specs.Solo.{event, value_of}
 use Rattle.qs_graph.specs.Walk.{Spot, at_node, with_value}
@@ -33,8 +33,8 @@ returns c =
     let holdings : c.put_held.new.self ≡ with_held s.holdings h (Some c.run-reply.new.self) =
     c.put_held.ensures.value ∙ ap (λ (x : HoldingsState). with_held x h (Some c.run-reply.new.self)) c.take_held.ensures.rest
     ∙ ap (λ xs. record { held = xs; chunks = s.holdings.chunks }) (set-set s.holdings.held h None (Some c.run-reply.new.self)) in
-    let done : (c.run-reply.new.self, c.run-reply.result) ≡ ran c.in-Some.held u r =
-    c.run-reply.ensures.ran ∙ ap (λ (q : Request). ran c.in-Some.held u q) (c.copied.ensures.same ∙ same) in
+    let done : (c.run-reply.new.self, c.run-reply.result) ≡ run_one c.in-Some.held u r =
+    c.run-reply.ensures.ran ∙ ap (λ (q : Request). run_one c.in-Some.held u q) (c.copied.ensures.same ∙ same) in
     let spot = λ (v : ℤ). at_node (with_value s.position c.args.variable v) c.args.next in
     let kept : to_z w64 (of_z w64 c.unwrap_or.result) ≡ unwrap_or c.run-reply.result (pos 0) = search (arith, ints, to_z-of_z, c.unwrap_or.ensures) in
     let reply : to_z w64 (of_z w64 c.unwrap_or.result) ≡ value_of c.run-reply.result = kept ∙ unwrapped c.run-reply.result in

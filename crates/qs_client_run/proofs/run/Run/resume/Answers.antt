@@ -18,7 +18,7 @@ returns c =
       settled = λ settings begun p n dynamic w.
           settled_at _ _ _ _ settings c.args.ticket begun p n (the_view c.self.inside) c.settle.new.self stages.Runs graph list
           (c.settle.ensures.settled settings begun p n (dynamic ∙ sym c.is_dynamic.ensures.value)
-          (subst (λ (g : List places.Place). IsRunning g settings.size k n (record (the_view c.self.inside) { stage = stages.Runs })) (sym graph)
+          (subst (λ (g : List places.GraphNode). IsRunning g settings.size k n (record (the_view c.self.inside) { stage = stages.Runs })) (sym graph)
           (restaged _ settings.size k n (the_view c.self.inside) stages.Runs w)));
     }
     )

@@ -42,7 +42,7 @@ returns-then-not-step c = record {
       record { stopped = stopped_up c.args.graph.now.nodes c.args.reserved.now settings.size c.args.context.ticket.index on.left n c.step.new.self c.step.new.self.stage on.fewer end.stopped; rows = keeps_both c.args.context.ticket.index _ _ _ on.rows end.rows; counts = end.counts ∙ on.counts; same = on.same ∙ end.same };
 }
 
-spent : (g : List places.Place) (n turn : ℕ) (s : Spot) → n + turn ≤ limit → 3000002 ≤ turn → Within g n s → ⊥
+spent : (g : List places.GraphNode) (n turn : ℕ) (s : Spot) → n + turn ≤ limit → 3000002 ≤ turn → Within g n s → ⊥
 unfolding limit
 spent g n turn s few all w = let none : n ≡ 0 = omega (arith, few, all) in subst (λ m. Within g m s) none w
 

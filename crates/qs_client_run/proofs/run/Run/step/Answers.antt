@@ -59,7 +59,7 @@ returns-in-Sync-clause-on c =
 pub returns-in-Exit-clause-new : goal.returns-in-Exit-clause-new
 returns-in-Exit-clause-new c =
     let s : RunState = c.args.self.now in
-    c.leave.ensures.new ∙
+    c.end_block.ensures.new ∙
     ap (λ (p : RunState × Bool). p.0) (step_at c.args.graph.now.nodes c.args.context c.args.reserved.now s c.node-node.result c.first_target-next.result (second_target (place_at c.args.graph.now.nodes c.node-node.result)) v.Exit (c.node-node.ensures.value ∙ ap (λ (x : RunState). x.position.node) c.self.view_is) c.first_target-next.ensures.value refl (sym c.node.ensures.value ∙ c.in-Exit.is))
 
 pub returns-in-Exit-clause-on : goal.returns-in-Exit-clause-on

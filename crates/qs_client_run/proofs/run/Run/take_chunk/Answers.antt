@@ -24,7 +24,7 @@ node-requires-2 c =
     let graph : c.graph-graph.result.now.nodes ≡ b.graph = c.graph-graph.ensures.value ∙ ap (λ n. (code_at c.args.code.now n).graph) c.from.ensures in
     let at = subst (IsStanding b w.0.size k w.3 s) (at_call b w.0 c.args.ticket w.1 w.2 w.3 s w.4 w.6).stands w.6.standing in
     record {
-      in_range = omega (arith, node_inside b.graph at.0 s.position at.2.within, c.node.ensures.value, ap (λ (g : List places.Place). length g) graph);
+      in_range = omega (arith, node_inside b.graph at.0 s.position at.2.within, c.node.ensures.value, ap (λ (g : List places.GraphNode). length g) graph);
     }
 
 pub unreachable-requires : goal.unreachable-requires

@@ -1,5 +1,5 @@
 use Rattle.std.proofs.Common.{◌≡◌, length, replicate, refl, sym, ap, ◌∙◌, subst, arith}
-use Rattle.qs_objects.specs.Rows.{FillList, cut, rows_state}
+use Rattle.qs_objects.specs.Rows.{FillList, rows_of_lengths, rows_state}
 use Rattle.std.specs.Prelude.{vec_capacity}
 use Rattle.qs_objects.proofs.Cuts.{cut_empty, total_replicate, zero_starts}
 use Rattle.qs_objects.proofs.rows.Rows.new.Goals as goal
@@ -16,6 +16,6 @@ invariant_of-result g c =
     (record { whole = omega (arith, zeros, none); fits = omega (arith, wide, none); many = refl; begin = zero_starts c.args.rows }))
 
 pub returns-clause-fresh : goal.returns-clause-fresh
-returns-clause-fresh g c = ap (λ ns. rows_state (cut ns c.in_ok-items.items.items) c.args.room) c.in_ok-lengths.ensures.value
-    ∙ (ap (λ xs. rows_state (cut (replicate c.args.rows 0) xs) c.args.room) c.in_ok-items.ensures.items
+returns-clause-fresh g c = ap (λ ns. rows_state (rows_of_lengths ns c.in_ok-items.items.items) c.args.room) c.in_ok-lengths.ensures.value
+    ∙ (ap (λ xs. rows_state (rows_of_lengths (replicate c.args.rows 0) xs) c.args.room) c.in_ok-items.ensures.items
     ∙ ap (λ rows. rows_state rows c.args.room) (cut_empty {X = g.row.T.Denot} c.args.rows))

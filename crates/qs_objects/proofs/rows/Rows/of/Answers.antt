@@ -16,8 +16,8 @@ index-requires-2 g c =
     let count = c.self.inside.lengths.ok.0 in
     omega (arith, own, count)
 
-pub part-requires : goal.part-requires
-part-requires g c =
+pub row_slice-requires : goal.row_slice-requires
+row_slice-requires g c =
     let row = subst (λ (s : RowsState g.row.T.Denot). c.args.row < length s.rows) (sym c.self.view_is) c.requires.row in
     let start = c.index.ensures ∙ get_or_default _ c.args.row _ 0 (start_inside _ _ _ _ _ c.self.invariant c.args.row row) in
     let count = c.index-2.ensures ∙ get_or_default _ c.args.row _ 0 (row_inside _ _ _ _ _ c.self.invariant c.args.row row) in
@@ -31,7 +31,7 @@ returns g c =
     let start = c.index.ensures ∙ get_or_default _ c.args.row _ 0 (start_inside _ _ _ _ _ c.self.invariant c.args.row row) in
     let count = c.index-2.ensures ∙ get_or_default _ c.args.row _ 0 (row_inside _ _ _ _ _ c.self.invariant c.args.row row) in
     record {
-      value = c.part.ensures.value ∙ ap (λ xs. take c.index-2.result.now (drop c.index.result.now xs)) c.deref.ensures.value
+      value = c.row_slice.ensures.value ∙ ap (λ xs. take c.index-2.result.now (drop c.index.result.now xs)) c.deref.ensures.value
           ∙ row_is _ _ _ _ _ c.self.invariant c.args.row _ _ row start count
           ∙ ap (λ (s : RowsState g.row.T.Denot). get_or s.rows c.args.row []) c.self.view_is;
     }

@@ -1,7 +1,7 @@
 use Rattle.std.proofs.Common.{◌<◌, ◌+◌, ◌-◌, List, [], ◌∷◌, ◌++◌, length, get_or, set, refl, sym, ap, ◌∙◌, subst, arith}
 use Rattle.std.proofs.lemmas.List.{get_or_default}
 use Rattle.std.specs.Prelude.{vec_capacity}
-use Rattle.qs_objects.specs.Rows.{FillList, IsLast, RowsState, cut, rows_state}
+use Rattle.qs_objects.specs.Rows.{FillList, IsLast, RowsState, rows_of_lengths, rows_state}
 use Rattle.qs_objects.proofs.Cuts.{fill_push, row_inside, row_within, rows_push, start_inside}
 use Rattle.qs_objects.proofs.rows.Rows.push.Goals as goal
 
@@ -42,7 +42,7 @@ pub invariant_of-self : goal.invariant_of-self
 invariant_of-self g c =
     let row = (subst (λ (s : RowsState g.row.T.Denot). c.args.row < length s.rows) (sym c.self.view_is) c.requires.row) in
     let count = c.index-count.ensures ∙ get_or_default _ c.args.row _ 0 (row_inside _ _ _ _ _ c.self.invariant c.args.row row) in
-    let last : IsLast (cut c.self.inside.lengths.items c.self.inside.items.items) c.args.row =
+    let last : IsLast (rows_of_lengths c.self.inside.lengths.items c.self.inside.items.items) c.args.row =
     subst (λ (s : RowsState g.row.T.Denot). IsLast s.rows c.args.row) (sym c.self.view_is) c.requires.last in
     let room : 0 < c.self.inside.room = subst (λ (s : RowsState g.row.T.Denot). 0 < s.room) (sym c.self.view_is) c.requires.room in
     let len = c.len.ensures ∙ c.self.inside.items.ok.0 in
@@ -58,11 +58,11 @@ pub returns : goal.returns
 returns g c =
     let row = (subst (λ (s : RowsState g.row.T.Denot). c.args.row < length s.rows) (sym c.self.view_is) c.requires.row) in
     let count = c.index-count.ensures ∙ get_or_default _ c.args.row _ 0 (row_inside _ _ _ _ _ c.self.invariant c.args.row row) in
-    let last : IsLast (cut c.self.inside.lengths.items c.self.inside.items.items) c.args.row =
+    let last : IsLast (rows_of_lengths c.self.inside.lengths.items c.self.inside.items.items) c.args.row =
     subst (λ (s : RowsState g.row.T.Denot). IsLast s.rows c.args.row) (sym c.self.view_is) c.requires.last in
     let room : 0 < c.self.inside.room = subst (λ (s : RowsState g.row.T.Denot). 0 < s.room) (sym c.self.view_is) c.requires.room in
     record {
-      pushed = ap (λ xs. rows_state (cut (set c.self.inside.lengths.items c.args.row (c.index-count.result.now + 1)) xs) (c.self.inside.room - 1))
+      pushed = ap (λ xs. rows_state (rows_of_lengths (set c.self.inside.lengths.items c.args.row (c.index-count.result.now + 1)) xs) (c.self.inside.room - 1))
           c.push_reserved.ensures.items
           ∙ (ap (λ rows. rows_state rows (c.self.inside.room - 1))
           (rows_push _ _ _ _ _ c.self.invariant c.args.row c.args.item row last room _ count)

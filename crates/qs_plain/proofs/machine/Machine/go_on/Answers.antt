@@ -6,7 +6,7 @@ use Rattle.qs_program.specs.Sound.{IsSound, is_in}
 use Rattle.qs_played.specs.Played.{ticket}
 use Rattle.qs_played.specs.declared.schedule.actor.Actor.TheVariants as actor
 use Rattle.qs_plain_laws.specs.declared.item.QueueItem.TheVariants as item
-use Rattle.qs_plain_client.specs.ClientMoves.{Goes}
+use Rattle.qs_plain_client.specs.ClientMoves.{AsksNext}
 use Rattle.qs_plain_client.specs.Clients.{ClientState, IsClient, client_at, current_block}
 use Rattle.qs_plain_client.specs.Frames.{load_left}
 use Rattle.qs_plain_client.specs.declared.client.Asked.TheVariants as asked
@@ -60,7 +60,7 @@ invariant_of-self c =
     let r = state_of (goal.at.invariant_of-self c).After-begun in
     let request = c.in-Command.request in
     let new = c.ask.new.self in
-    let goes = subst (λ d. Goes (asked.Command request) d new) k.here c.in-Command.ensures.goes in
+    let goes = subst (λ d. AsksNext (asked.Command request) d new) k.here c.in-Command.ensures.goes in
     let member = subst (λ d. is_in (current_block d).reserved request.object ≡ true) k.here c.in-Command.ensures.reserves in
     let load = subst (λ (d : ClientState). (k : ℕ) → (if request.object == k then 1 else 0) + load_left new.frames k ≤ load_left d.frames k) k.here c.in-Command.ensures.load in
     let same = c.log_once.ensures.logged ∙ ap (λ t. logged_at t (item.Command request) c.self.inside.handlers.items request.object) k.now in (
@@ -82,7 +82,7 @@ invariant_of-self-in-Query c =
     let r = state_of (goal.at.invariant_of-self-in-Query c).After-begun in
     let request = c.in-Query.request in
     let new = c.ask.new.self in
-    let goes = subst (λ d. Goes (asked.Query request) d new) k.here c.in-Query.ensures.goes in
+    let goes = subst (λ d. AsksNext (asked.Query request) d new) k.here c.in-Query.ensures.goes in
     let member = subst (λ d. is_in (current_block d).reserved request.object ≡ true) k.here c.in-Query.ensures.reserves in
     let load = subst (λ (d : ClientState). (k : ℕ) → (if request.object == k then 1 else 0) + load_left new.frames k ≤ load_left d.frames k) k.here c.in-Query.ensures.load in
     let same = c.log_once-in-Query.ensures.logged ∙ ap (λ t. logged_at t (item.Query request) c.self.inside.handlers.items request.object) k.now in (
@@ -103,7 +103,7 @@ invariant_of-self-in-End c =
     let r = state_of (goal.at.invariant_of-self-in-End c).After-begun in
     let block = c.reserved.ensures.value ∙ ap (λ (b : BlockShape). b.reserved) (c.block-block.ensures.value ∙ ap (λ (t : Ticket). block_at c.self.inside.program.now c.args.number t.index) k.now) in
     let new = c.ask.new.self in
-    let goes = subst (λ d. Goes asked.End d new) k.here c.in-End.ensures.goes in
+    let goes = subst (λ d. AsksNext asked.End d new) k.here c.in-End.ensures.goes in
     let same = logged_all_of _ _ item.EndMark c.self.inside.handlers.items c.log_all.new.handlers.items _ _ k.now block c.log_all.ensures.logged in (
       made_kept r c.self.inside.order.items c.args.number c.from.result new _ c.log_all.new.handlers.items c.from.ensures same (ended_kept r k.kept k.sound c.args.number k.less k.isc k.stays new.locals new goes.1),
       omega (arith, c.self.invariant.1, moved_to_come r k.kept k.sound c.args.number k.less k.isc k.stays stage.Out new.locals [] _ _ new goes.1, ap (λ n. to_come (set c.self.inside.clients.items n new)) c.from.ensures),
@@ -115,7 +115,7 @@ returns-in-Command c =
     let r = state_of (goal.at.returns-in-Command c).After-begun in
     let request = c.in-Command.request in
     let new = c.ask.new.self in
-    let goes = subst (λ d. Goes (asked.Command request) d new) k.here c.in-Command.ensures.goes in
+    let goes = subst (λ d. AsksNext (asked.Command request) d new) k.here c.in-Command.ensures.goes in
     let same = c.log_once.ensures.logged ∙ ap (λ t. logged_at t (item.Command request) c.self.inside.handlers.items request.object) k.now in
     record {
       steps = (
@@ -130,7 +130,7 @@ returns-in-Query c =
     let r = state_of (goal.at.returns-in-Query c).After-begun in
     let request = c.in-Query.request in
     let new = c.ask.new.self in
-    let goes = subst (λ d. Goes (asked.Query request) d new) k.here c.in-Query.ensures.goes in
+    let goes = subst (λ d. AsksNext (asked.Query request) d new) k.here c.in-Query.ensures.goes in
     let same = c.log_once-in-Query.ensures.logged ∙ ap (λ t. logged_at t (item.Query request) c.self.inside.handlers.items request.object) k.now in
     record {
       steps = (
@@ -145,7 +145,7 @@ returns-in-End c =
     let r = state_of (goal.at.returns-in-End c).After-begun in
     let block = c.reserved.ensures.value ∙ ap (λ (b : BlockShape). b.reserved) (c.block-block.ensures.value ∙ ap (λ (t : Ticket). block_at c.self.inside.program.now c.args.number t.index) k.now) in
     let new = c.ask.new.self in
-    let goes = subst (λ d. Goes asked.End d new) k.here c.in-End.ensures.goes in
+    let goes = subst (λ d. AsksNext asked.End d new) k.here c.in-End.ensures.goes in
     let same = logged_all_of _ _ item.EndMark c.self.inside.handlers.items c.log_all.new.handlers.items _ _ k.now block c.log_all.ensures.logged in
     record {
       steps = (

@@ -10,7 +10,7 @@ use Rattle.qs_meaning.specs.Interaction.{Call, Query}
 use Rattle.qs_meaning.specs.Solo.{event}
 use Rattle.qs_plain_client.specs.Frames.{next_of}
 use Rattle.qs_plain_client.specs.declared.client.Asked.TheVariants as asked
-use Rattle.qs_plain_client.specs.ClientMoves.{Goes, moved}
+use Rattle.qs_plain_client.specs.ClientMoves.{AsksNext, after_moves}
 use Rattle.qs_plain_client.specs.TraceMoves.{no_trace, noted_in}
 use Rattle.qs_plain_client.specs.declared.stage.Stage.TheVariants as stages
 use Rattle.qs_objects.proofs.Arities.{arity_small}
@@ -150,9 +150,9 @@ returns-in-Command-clause-goes c =
     let moves = moved_noted s.program.now s.number s.stage s.locals s.frames.frames s.frames.room s.entries.items s.traces s.counts.rows s.prepared.items c.self.invariant.1 within.some s.stage
     c.settle.new.locals c.settle.new.self.frames c.settle.new.self.room c.note.new.self e c.settle.ensures.room noted in
     let asks = c.in-Command.ensures.asks in
-    subst (λ (d : ClientState). Goes (asked.Command r) d new) c.self.view_is (
+    subst (λ (d : ClientState). AsksNext (asked.Command r) d new) c.self.view_is (
       asks ∙ ap (λ q. Call q (next_of c.settle.new.self.frames c.settle.new.locals)) (sym c.request-request.ensures.value),
-      moves ∙ ap (λ st. moved old st c.settle.new.locals c.settle.new.self.frames (noted_in old.traces e) old.counts) stands,
+      moves ∙ ap (λ st. after_moves old st c.settle.new.locals c.settle.new.self.frames (noted_in old.traces e) old.counts) stands,
     )
 
 pub returns-in-Query-clause-goes : goal.returns-in-Query-clause-goes
@@ -170,5 +170,5 @@ returns-in-Query-clause-goes c =
     let moves = moved_counted s.program.now s.number s.stage s.locals s.frames.frames s.frames.room s.entries.items s.traces s.counts.rows s.prepared.items c.self.invariant.1 within.some (stages.Waiting x)
     c.settle.new.locals c.settle.new.self.frames c.settle.new.self.room c.add.new.self.rows r.object c.settle.ensures.room counted in
     let asks = c.in-Query.ensures.asks in
-    subst (λ (d : ClientState). Goes (asked.Query r) d new) c.self.view_is
+    subst (λ (d : ClientState). AsksNext (asked.Query r) d new) c.self.view_is
     (x, asks ∙ ap (λ q. Query q (λ v. next_of c.settle.new.self.frames (slice_set c.settle.new.locals x v))) (sym c.request-request-in-Query.ensures.value), moves)

@@ -4,7 +4,7 @@ use Rattle.std.proofs.lemmas.Int.{to_z-of_z, ints}
 use Rattle.qs_objects.specs.Traces.{TraceState, noted_at, trace_at}
 use Rattle.qs_objects.specs.declared.held.Event.{Event}
 use Rattle.qs_plain_client.specs.Clients.{AreStored, ClientState, IsClient, client_from}
-use Rattle.qs_plain_client.specs.ClientMoves.{Replies, RepliesAt, moved}
+use Rattle.qs_plain_client.specs.ClientMoves.{Replies, RepliesAt, after_moves}
 use Rattle.qs_meaning.specs.Solo.{value_of}
 use Rattle.qs_plain_client.specs.TraceMoves.{no_trace, noted_in}
 use Rattle.qs_plain_client.specs.declared.stage.Stage.{Stage}
@@ -62,4 +62,4 @@ returns-in-Waiting-clause-replies c =
     let moves = moved_noted s.program.now s.number s.stage s.locals s.frames.frames s.frames.room s.entries.items s.traces s.counts.rows s.prepared.items c.self.invariant.1 within.some stages.Within
     c.store.new.locals s.frames.frames s.frames.room c.note.new.self e refl noted in
     subst (λ (d : ClientState). Replies d c.args.request c.args.reply new) c.self.view_is
-    (subst (λ (st : Stage). RepliesAt st old c.args.request c.args.reply new) (sym c.in-Waiting.is) (moves ∙ ap (λ l. moved old stages.Within l s.frames.frames (noted_in old.traces e) old.counts) stored))
+    (subst (λ (st : Stage). RepliesAt st old c.args.request c.args.reply new) (sym c.in-Waiting.is) (moves ∙ ap (λ l. after_moves old stages.Within l s.frames.frames (noted_in old.traces e) old.counts) stored))

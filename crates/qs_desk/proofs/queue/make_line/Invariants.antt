@@ -1,4 +1,0 @@
-use Rattle.qs_desk.proofs.queue.make_line.Given as goal
-
-abbrev pub ghosts-make_chosen : goal.ghosts-make_chosen
-ghosts-make_chosen a = record { program = a.program.now; handler = a.handler }

@@ -1,6 +1,0 @@
-use Rattle.std.proofs.Common.{◌≡◌, [], replicate}
-use Rattle.qs_chunk.specs.Batch.{batch}
-use Rattle.qs_lane.proofs.ends.fill.Given as goal
-
-abbrev pub invariant-loop-chunk : goal.invariant-loop-chunk
-invariant-loop-chunk g l = l.spare ≡ record l.initial.spare { sent = replicate l._chunk (batch [] l.size) }

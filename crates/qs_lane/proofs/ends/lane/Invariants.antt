@@ -1,4 +1,0 @@
-use Rattle.qs_lane.proofs.ends.lane.Given as goal
-
-abbrev pub ghosts-lane_of : goal.ghosts-lane_of
-ghosts-lane_of g a = record { size = a.size }

@@ -1,0 +1,157 @@
+-- What each client and each handler of a run did: a client one block after another, a handler one turn after another. The laws on one client
+-- and on one handler say so from the deeds and the tasks alone. Beyond the clients and objects of the program nobody does anything, so
+-- that the later lemmas need not ask whether a number is one of them.
+use Rattle.std.proofs.Common.{◌≡◌, ◌<◌, ◌≤◌, arith, ℕ, Bool, true, false, if◌then◌else◌, nat_lt, List, [], ◌∷◌, ◌++◌, map, length, refl, sym, ap, ap₂, ◌∙◌, subst}
+use Rattle.std.specs.List.{AllByRecursion}
+use Rattle.qs_objects.specs.Journals.{HeldState}
+use Rattle.qs_objects.specs.declared.held.Next.TheVariants as nexts
+use Rattle.qs_objects.specs.declared.held.Ticket.{Ticket}
+use Rattle.qs_program.specs.Program.{ProgramShape, blocks_of}
+use Rattle.qs_program.specs.Sound.{IsSound}
+use Rattle.qs_program.specs.Values.{Locals}
+use Rattle.qs_meaning.specs.Following.{reserves, block_tree}
+use Rattle.qs_meaning.proofs.SoundTrees.{blocks_ask_only}
+use Rattle.qs_graph.specs.Synced.{without_syncs}
+use Rattle.qs_syncset.specs.Codes.{BlockCode, ClientCode, code_at}
+use Rattle.qs_syncset.specs.SoundSynced.{IsSoundSynced, IsOnReserved}
+use Rattle.qs_syncset.specs.declared.mode.Mode.{Mode}
+use Rattle.qs_syncset.proofs.CountedSyncs.{code_asks}
+use Rattle.qs_syncset.proofs.SyncTrees.{IsAsking}
+use Rattle.qs_client_run.specs.BlockSizes.{longest}
+use Rattle.qs_client_run.specs.declared.act.Act.TheVariants as acts
+use Rattle.qs_handler.specs.Handler.{free, closed}
+use Rattle.qs_handler.specs.HandlerRuns.{Task, takes, TasksLead, taken_by}
+use Rattle.qs_handler.specs.HandlerTurns.{HasTurns, Turn}
+use Rattle.qs_handler.proofs.RunTurns.{handlers_take_turns}
+use Rattle.qs_client.specs.ClientRuns.{Deed, RunsTo}
+use Rattle.qs_client.specs.ClientModel.{ClientModel, finish, fresh_mind, hands_out, next_act, next_mind, tree_at}
+use Rattle.qs_played.specs.Played.{ticket}
+use Rattle.qs_played.proofs.JournalRooms.{no_block_beyond}
+use Rattle.qs_played.proofs.ReservedObjects.{reserved_inside}
+use Rattle.qs_played.proofs.SyncLists.{legal_blocks}
+use Rattle.qs_protocol.proofs.ClientInvariants.{objects_of_block}
+use Rattle.qs_protocol.proofs.ClientHistories.{told}
+use Rattle.qs_protocol.specs.ClientHistories.{ClientHistory}
+use Rattle.qs_protocol.proofs.HistoryCounts.{HistoryCounts, in_counts, told_counts}
+use Rattle.qs_played.specs.JournalRooms.{fresh_held}
+use Rattle.qs_core_laws.specs.Core.{AreCodes}
+use Rattle.qs_protocol.proofs.ReservedLists.{lined}
+use Rattle.qs_client_run.proofs.CodeBounds.{longest_covers}
+use Rattle.qs_core_laws.proofs.CoreCodes.{block_walk, blocks_are, reserved_is}
+use Rattle.qs_desk.specs.Tickets.{of_handler}
+use Rattle.qs_run_laws.specs.ThreadRuns.{IsThreadRun, ThreadRun}
+
+-- the tickets of turns, by what was taken up to the closing mark
+turned_tickets : (us : List Turn) (ts : List Ticket)
+    → map (λ (u : Turn). nexts.Ticket u.ticket) us ++ nexts.Closed ∷ [] ≡ map nexts.Ticket ts ++ nexts.Closed ∷ [] → map (λ (u : Turn). u.ticket) us ≡ ts
+turned_tickets [] [] e = refl
+turned_tickets [] (t ∷ ts) e = absurd (cc)
+turned_tickets (u ∷ us) [] e = absurd (cc)
+turned_tickets (u ∷ us) (t ∷ ts) e =
+    let here : u.ticket ≡ t = cc in
+    let more : map (λ (u : Turn). nexts.Ticket u.ticket) us ++ nexts.Closed ∷ [] ≡ map nexts.Ticket ts ++ nexts.Closed ∷ [] = cc in
+    ap₂ (λ (t : Ticket) ts. t ∷ ts) here (turned_tickets us ts more)
+
+-- no block reserves what is no object
+none_reserve : (p : ProgramShape) → IsSound p → (h : ℕ) → length p.objects ≤ h → (ts : List Ticket) → of_handler p h ts ≡ []
+none_reserve p sound h out [] = refl
+none_reserve p sound h out (t ∷ ts) = by_case (reserves p t h) refl (none_reserve p sound h out ts)
+  where
+    by_case : (b : Bool) → reserves p t h ≡ b → of_handler p h ts ≡ [] → (if b then t ∷ of_handler p h ts else of_handler p h ts) ≡ []
+    by_case true own ih = absurd (let own_object = reserved_inside p sound t h own in omega (arith, own_object, out))
+    by_case false other ih = ih
+
+module _ (p : ProgramShape) (sound : IsSound p) (mode : Mode) (code : ℕ → ClientCode) (codes : AreCodes p mode code) (size : ℕ) (r : ThreadRun)
+    (run : IsThreadRun p code size r) where
+  -- what client c did, and came to
+  abbrev pub deeds_of : ℕ → List Deed
+  deeds_of c = if nat_lt c (length p.clients) then r.deeds c else []
+
+  abbrev pub mind_of : ℕ → ClientModel
+  mind_of c = if nat_lt c (length p.clients) then r.mind c else next_mind (fresh_mind (code c) size)
+
+  -- a client without blocks has finished
+  idle_act : (c : ℕ) → (code c).blocks ≡ [] → next_act (fresh_mind (code c) size) ≡ acts.Finished
+  idle_act c none = subst (λ (bs : List BlockCode). (if nat_lt 0 (length bs) then acts.Reserve else acts.Finished) ≡ acts.Finished) (sym none) refl
+
+  client_runs : (c : ℕ) → RunsTo c (fresh_mind (code c) size) (deeds_of c) (mind_of c)
+  client_runs c = by_test (nat_lt c (length p.clients)) refl
+    where
+      by_test : (b : Bool) → nat_lt c (length p.clients) ≡ b
+          → RunsTo c (fresh_mind (code c) size) (if b then r.deeds c else []) (if b then r.mind c else next_mind (fresh_mind (code c) size))
+      by_test true e = run.clients c (grind (arith, e))
+      by_test false e = record { last = fresh_mind (code c) size; deeds_lead = refl; finished = idle_act c (codes.none c (grind (arith, e))); end_is = refl }
+
+  abbrev pub count_of : ℕ → ℕ
+  count_of c = length (code c).blocks
+
+  pub count_is : (c : ℕ) → count_of c ≡ blocks_of p c
+  count_is c = blocks_are p sound mode code codes size c
+
+  own_list : (c k : ℕ) → k < count_of c → (code_at (code c) k).reserved ≡ objects_of_block p (ticket c k)
+  own_list c k few = reserved_is p sound mode code codes size (ticket c k)
+
+  own_walk : (c k : ℕ) (l : Locals) → k < count_of c
+      → (without_syncs (tree_at (code c) k l) ≡ block_tree p (ticket c k) l) × IsSoundSynced (λ h. false) (tree_at (code c) k l) × IsOnReserved (objects_of_block p (ticket c k)) (tree_at (code c) k l)
+  own_walk c k l few = block_walk p sound mode code codes size (ticket c k) l (let n = count_is c in omega (arith, few, n))
+
+  own_asks : (c k : ℕ) (l : Locals) → k < count_of c → IsAsking (tree_at (code c) k l)
+  own_asks c k l few =
+      let n = count_is c in
+      let inside : k < blocks_of p c = omega (arith, few, n) in
+      let own = no_block_beyond p c (omega (arith, inside)) in
+      code_asks p mode c (code c) sound (codes.own c own) k (longest (code c).blocks) l inside (longest_covers (code c).blocks k)
+
+  pub tale : (c : ℕ) → ClientHistory p c (code c) (deeds_of c) (mind_of c)
+  tale c = told p (blocks_ask_only p sound) (lined p sound) c (code c) size (own_list c) (own_walk c) (deeds_of c) (mind_of c) (client_runs c)
+
+  pub tale_counts : (c : ℕ) → HistoryCounts p c (code c) size (deeds_of c) (mind_of c) (tale c)
+  tale_counts c =
+      told_counts p (blocks_ask_only p sound) (lined p sound) c (code c) size (own_list c) (own_walk c) (own_asks c) (deeds_of c) (mind_of c) (client_runs c) (tale c)
+
+  -- what handler h did, and its object at the end
+  abbrev pub tasks_of : ℕ → List Task
+  tasks_of h = if nat_lt h (length p.objects) then r.tasks h else takes nexts.Closed ∷ []
+
+  abbrev pub held_of : ℕ → HeldState
+  held_of h = if nat_lt h (length p.objects) then r.held h else fresh_held p h
+
+  handler_runs : (h : ℕ) → TasksLead (free (fresh_held p h)) (tasks_of h) (closed (held_of h))
+  handler_runs h = by_test (nat_lt h (length p.objects)) refl
+    where
+      by_test : (b : Bool) → nat_lt h (length p.objects) ≡ b
+          → TasksLead (free (fresh_held p h)) (if b then r.tasks h else takes nexts.Closed ∷ []) (closed (if b then r.held h else fresh_held p h))
+      by_test true e = run.handlers h (grind (arith, e))
+      by_test false e = (closed (fresh_held p h), refl, refl)
+
+  pub turned : (h : ℕ) → HasTurns (fresh_held p h) (tasks_of h) (held_of h)
+  turned h = handlers_take_turns (fresh_held p h) (held_of h) (tasks_of h) (handler_runs h)
+
+  all_taken : (h : ℕ) → taken_by (tasks_of h) ≡ map nexts.Ticket (of_handler p h r.order) ++ nexts.Closed ∷ []
+  all_taken h = by_test (nat_lt h (length p.objects)) refl
+    where
+      by_test : (b : Bool) → nat_lt h (length p.objects) ≡ b
+          → taken_by (if b then r.tasks h else takes nexts.Closed ∷ []) ≡ map nexts.Ticket (of_handler p h r.order) ++ nexts.Closed ∷ []
+      by_test true e = sym (run.taken h (grind (arith, e)))
+      by_test false e = ap (λ ts. map nexts.Ticket ts ++ nexts.Closed ∷ []) (sym (none_reserve p sound h (grind (arith, e)) r.order))
+
+  -- each handler served the tickets of the order that reserve it, in that order
+  pub turns_are : (h : ℕ) → map (λ (u : Turn). u.ticket) (turned h).turns ≡ of_handler p h r.order
+  turns_are h = turned_tickets (turned h).turns (of_handler p h r.order) (sym (turned h).taken ∙ all_taken h)
+
+  pub inside : AllByRecursion (λ (t : Ticket). t.index < blocks_of p t.client) r.order
+  inside = legal_blocks p (λ _. 0) r.order run.legal
+
+  pub block_told : (t : Ticket) → t.index < blocks_of p t.client → t.index < count_of t.client
+  block_told t few = let n = count_is t.client in omega (arith, few, n)
+
+  -- a client's mind ends with a row for each of its blocks
+  pub rows_end : (c : ℕ) → (length (mind_of c).entries ≡ count_of c) × (length (mind_of c).traces ≡ count_of c) × (length (mind_of c).counts ≡ count_of c)
+  rows_end c =
+      let run = client_runs c in
+      let both = in_counts p (blocks_ask_only p sound) (lined p sound) c (code c) size (own_list c) (own_walk c) (own_asks c) (deeds_of c) run.last run.deeds_lead in
+      let is : mind_of c ≡ hands_out (finish run.last) acts.Finished = run.end_is ∙ ap (hands_out (finish run.last)) run.finished in (
+        ap (λ (m : ClientModel). length m.entries) is ∙ (both.0.entry_count ∙ (sym (ap (λ (m : ClientModel). m.client.begun) is) ∙ (tale c).begun)),
+        ap (λ (m : ClientModel). length m.traces) is ∙ both.0.trace_count,
+        ap (λ (m : ClientModel). length m.counts) is ∙ both.1.row_count,
+      )
