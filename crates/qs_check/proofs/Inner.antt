@@ -1,4 +1,6 @@
--- Places that tell nothing but variables.
+-- The places in a block's body, such as a call's operation or a variable, change nothing of what the check knows but the
+-- variables. The proofs that a script with no fault is sound need this to carry what they know of objects and lists past a
+-- statement. It goes by induction on the statements, and `parted` cuts a walk at the scope between two lists of places.
 use Rattle.std.proofs.Common.{◌≡◌, Bool, true, false, List, [], ◌∷◌, ◌++◌, ap, sym, ◌∙◌, Ok}
 use Rattle.qs_script.specs.declared.tree.Atom.{Atom}
 use Rattle.qs_script.specs.declared.tree.Atom.TheVariants.{Variable, Number}

@@ -1,4 +1,6 @@
--- Items one after another.
+-- After each client the check forgets that client's variables, and this changes neither the faults that it meets later nor what
+-- it knows of the rest. The loop of `check_items` over the items of a script stands on it. Its main lemma, `forget`, goes by
+-- induction on the items: an object looks at no variables, and a client begins with none.
 use Rattle.std.proofs.Common.{◌≡◌, ℕ, suc, ◌+◌, ◌<◌, Bool, true, false, ◌||◌, nat_lt, List, [], ◌∷◌, ◌++◌, length, get_or, drop, refl, ap, sym, ◌∙◌, add-one, append_assoc, Ok, Err, if◌then◌else◌}
 use Rattle.std.proofs.Math.Seq.{drop-cons}
 use Rattle.qs_script.specs.declared.tree.KindText.{KindText}

@@ -1,4 +1,6 @@
--- Lists of statements by number, one after another, and how deep they are nested.
+-- A loop over a list of statements that replaces names by numbers gives what the definition `body_of` says, and the result is
+-- nested as deep as the text. The proof of the function that does this stands on it. The invariant is that the statements made so
+-- far, joined with what the rest of the text stands for, are what the whole text stands for.
 use Rattle.std.proofs.Common.{◌≡◌, ℕ, zero, suc, ◌+◌, ◌<◌, ◌≤◌, max, List, [], ◌∷◌, length, get_or, drop, refl, ap, sym, ◌∙◌, add-one, arith}
 use Rattle.std.proofs.Math.Seq.{drop-cons}
 use Rattle.qs_objects.specs.declared.object.Kind.{Kind}

@@ -1,4 +1,6 @@
--- What the places of a block keep.
+-- The places of a block leave the objects and the clients as they are, add one block, and keep the number of variables within its
+-- limit. The proofs that a script with no fault is well formed and sound use this to know the scope after each client. It goes by
+-- induction on the places, and then on a client's blocks.
 use Rattle.std.proofs.Common.{◌≡◌, ℕ, ◌+◌, ◌<◌, ◌≤◌, false, List, [], ◌∷◌, ◌++◌, length, refl, ap, sym, ◌∙◌, subst, arith, Ok}
 use Rattle.qs_script.specs.declared.tree.Block.{Block}
 use Rattle.qs_program.specs.Numbering.{Name}

@@ -1,4 +1,6 @@
--- What a script with no fault declares.
+-- When a script is walked with no fault, the scope at the end has its objects and kinds in order, their numbers are within the
+-- limits, and each object has a starting state. The proofs that such a script is well formed and makes a sound program begin from
+-- this. It goes by induction on the items, with a case for an object and a case for a client.
 use Rattle.std.proofs.Common.{◌≡◌, ℕ, ◌+◌, ◌<◌, ◌≤◌, Bool, true, false, ◌&&◌, nat_le, List, [], ◌∷◌, ◌++◌, length, IsSome, Some, None, refl, ap, sym, ◌∙◌, subst, arith, append_assoc, append-nil, length-append, Ok, if◌then◌else◌}
 use Rattle.std.proofs.lemmas.Bool.Decides.{nat_tests}
 use Rattle.std.specs.List.{AllByRecursion}

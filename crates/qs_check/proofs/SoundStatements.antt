@@ -1,4 +1,6 @@
--- Why a script with no fault makes a sound program: requests and statements.
+-- In a script with no fault each request names an object of the block's list, with an operation of that object's kind and the
+-- right number of arguments, so the statements by number are sound. The soundness of blocks and of whole programs stands on
+-- `sound_body`. It goes by induction on the statements, and reads each fact off the place that was passed without a fault.
 use Rattle.std.proofs.Common.{◌≡◌, ℕ, zero, suc, codes, ◌≤◌, Bool, true, false, List, [], ◌∷◌, ◌++◌, length, map, slice_index_or, Option, Some, None, refl, ap, sym, ◌∙◌, subst, arith, Ok, pos, if◌then◌else◌}
 use Rattle.std.proofs.lemmas.Bool.Decides.{nat_tests}
 use Rattle.std.proofs.lemmas.List.{length-map}

@@ -1,4 +1,6 @@
--- Why a script with no fault makes a sound program: blocks, clients and the whole.
+-- A script that is walked with no fault, and whose load and weight are within their limits, makes a sound program. The promise of
+-- the check that whatever it accepts is sound stands on `sound`. The proof goes from a block's list up to its client, and then by
+-- induction on the items, where the objects known so far are a front of all that are declared.
 use Rattle.std.proofs.Common.{◌≡◌, ℕ, suc, ◌+◌, ◌<◌, ◌≤◌, Bool, true, false, ◌||◌, ◌==◌, List, [], ◌∷◌, ◌++◌, length, map, slice_index_or, refl, ap, sym, ◌∙◌, subst, arith, append_assoc, append-nil, length-append, Ok, Err, pos}
 use Rattle.std.proofs.Math.ListN.{get_or-append}
 use Rattle.std.proofs.lemmas.List.{length-map}

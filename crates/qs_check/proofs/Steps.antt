@@ -1,4 +1,6 @@
--- What each place has told where it is no fault.
+-- A place that is passed without a fault tells something: a name is new, a number is in its range, or an operation is known.
+-- Almost every proof about a check without a fault reads its facts with `stepped`, which says what each place tells, and with
+-- `split`, which cuts off the first place. Both go by cases on the place.
 use Rattle.std.proofs.Common.{◌≡◌, ℕ, ◌<◌, ◌≤◌, Bool, true, false, ◌||◌, nat_lt, List, [], ◌∷◌, ◌++◌, length, refl, ap, ◌∙◌, arith, length-append, Result, Ok, Err, OnOk, if◌then◌else◌}
 use Rattle.std.proofs.lemmas.Bool.Decides.{nat_tests}
 use Rattle.qs_check.specs.declared.fault.CheckFault.{CheckFault}

@@ -1,4 +1,6 @@
--- A client's variables by number are the names that its blocks assign or read, each once.
+-- The list of a client's variables has each name that its blocks assign or read, and has it once. The proofs that a script has no
+-- fault exactly where it is well formed use it to count the variables. It shows by induction on the statements that their places
+-- name just these variables, and that adding a name only where it is new keeps the names distinct.
 use Rattle.std.proofs.Common.{◌≡◌, Bool, true, false, ◌||◌, List, [], ◌∷◌, ◌++◌, length, refl, ap, sym, ◌∙◌, subst, if◌then◌else◌}
 use Rattle.std.proofs.lemmas.Cmp.{nat_list_eq_equiv}
 use Rattle.std.proofs.lemmas.List.Folds.{list_any-append}

@@ -1,4 +1,6 @@
--- The places of a block's statements are fine exactly where its requests, numbers and leaves are right.
+-- The places of a block's statements are fine exactly where each request is on a listed object with an operation that it has,
+-- each repeat's count is in range, and each leave stands in a repeat. The proof that well-formed scripts are those without a
+-- fault needs both directions. Each goes by induction on the statements, and uses that no two objects have the same name.
 use Rattle.std.proofs.Common.{◌≡◌, ℕ, zero, suc, ◌+◌, ◌<◌, Bool, true, false, not, ◌||◌, cond, List, [], ◌∷◌, ◌++◌, length, get_or, slice_index_or, Option, Some, None, refl, ap, sym, ◌∙◌, arith, pos}
 use Rattle.std.proofs.lemmas.Bool.Decides.{nat_tests}
 use Rattle.std.proofs.lemmas.Cmp.{nat_list_eq_equiv}

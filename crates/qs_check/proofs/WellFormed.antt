@@ -1,4 +1,6 @@
--- A script has no fault exactly where it is well formed: item by item, and then its load and its weight.
+-- A script has no fault exactly where it is well formed, so the check refuses nothing that is right. The contract of `check` and
+-- the law on faultless scripts stand on it. One direction reads the facts off a walk without a fault, the other leads a walk
+-- through a well-formed script, both by induction on the items; then the load and the weight are compared.
 use Rattle.std.proofs.Common.{◌≡◌, ℕ, suc, ◌+◌, ◌<◌, ◌≤◌, Bool, true, false, nat_lt, List, [], ◌∷◌, ◌++◌, length, map, Option, Some, None, refl, ap, sym, ◌∙◌, subst, arith, append_assoc, Result, Ok, Err, if◌then◌else◌, sum_by}
 use Rattle.std.proofs.lemmas.Bool.Decides.{nat_tests}
 use Rattle.std.proofs.lemmas.List.{length-map}

@@ -1,4 +1,6 @@
--- Lists in which each parcel may follow those before it are the beginnings of lists of the form.
+-- A list in which each parcel may follow those before it is the beginning of a list of the lane's form, and the other way round.
+-- The two ends of a lane look at one parcel at a time, and they promise the form of the whole lane by this. One direction
+-- completes the last block by induction on the parcels, the other goes by induction on the blocks and their rounds.
 use Rattle.std.proofs.Common.{◌≡◌, ℕ, Bool, true, false, pos, List, [], ◌∷◌, ◌++◌, map, flat_map, refl, sym, ap, ◌∙◌, subst, append_assoc}
 use Rattle.std.specs.List.{AllByRecursion}
 use Rattle.qs_objects.specs.Act.{account}

@@ -1,4 +1,6 @@
--- What the code of a client does is a step of the machine.
+-- What a client does at one of its lanes is the step that the optimised machine defines, and where it can't act there the machine
+-- has no step. The lemmas on the code's lists (`client_steps` and `client_rests`) stand on this. The machine is made of functions
+-- of numbers, so the proof compares it field by field, by cases on the act that is due.
 use Rattle.std.proofs.Common.{◌≡◌, ◌<◌, ℕ, Bool, true, false, nat_lt, List, [], ◌∷◌, ◌++◌, length, get_or, refl, sym, ap, subst, ◌∙◌, arith, Option, Some, None, add-zero}
 use Rattle.std.proofs.Math.ListN.{set}
 use Rattle.qs_objects.specs.Journals.{HeldState}

@@ -1,4 +1,7 @@
--- A reservation, and a ticket that is taken, in the lists that the code holds.
+-- After a client has reserved a block, or a handler has taken a ticket, the code's lists are the optimised machine after that
+-- step, and what the code keeps still holds. The code's calls that reserve a block and take a ticket promise this. The step is
+-- known for functions of numbers, and the changed lists are read as these functions; there is room, as no order has more tickets
+-- than the program has blocks.
 use Rattle.std.proofs.Common.{◌≡◌, ◌<◌, ◌≤◌, ℕ, ◌+◌, ◌==◌, ◌||◌, Bool, true, false, nat_lt, if◌then◌else◌, List, [], ◌∷◌, ◌++◌, length, filter, get_or, Option, Some, None, refl, sym, ap, subst, ◌∙◌, arith}
 use Rattle.std.specs.List.{AllByRecursion}
 use Rattle.std.proofs.Math.ListN.{set}

@@ -1,4 +1,6 @@
--- A ticket comes to each handler of a list.
+-- A ticket that is added to the queues of a list of handlers, one after another, is then at the end of exactly these queues, and
+-- the handlers' minds stay as they were. The lemma on reservations in the code needs this, and that each queue and the order have
+-- room. The proofs go by induction on the list, whose members differ, and for the room by a sum over the clients.
 use Rattle.std.proofs.Common.{◌≡◌, ◌<◌, ◌≤◌, ℕ, zero, suc, ◌+◌, ◌==◌, ◌||◌, Bool, true, false, nat_lt, if◌then◌else◌, List, [], ◌∷◌, ◌++◌, length, filter, sum_by, refl, sym, ap, subst, ◌∙◌, arith}
 use Rattle.std.specs.List.{AllByRecursion, IsDistinct, range_with_len}
 use Rattle.std.proofs.lemmas.List.{length-set, get_or-set_other}

@@ -1,4 +1,6 @@
--- From the fields of the code to what the lemmas on steps speak of.
+-- The lemmas on a client's step are stated here in the words that the proofs of `reserve` and `go_on` have at hand. There the
+-- machine's fields, the client's number and the client itself are read out of the code and only equal to those of the lemmas. The
+-- proofs rewrite along these equations, and look at both cases, that a step was made and that none was.
 use Rattle.std.proofs.Common.{◌≡◌, ◌<◌, ℕ, Bool, true, false, List, [], ◌∷◌, ◌++◌, length, get_or, Option, Some, None, refl, sym, ap, subst, ◌∙◌, arith}
 use Rattle.std.specs.Bool.{OnTrue}
 use Rattle.std.proofs.Math.ListN.{set}

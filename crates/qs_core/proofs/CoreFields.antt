@@ -1,4 +1,6 @@
--- The machine's fields after a change of one client, at one of its lanes.
+-- Where one client changes at one of its lanes, each field of the optimised machine, as a function of numbers, changes at that
+-- place alone, or not at all. The lemmas that show a client's or a handler's step field by field use this for each field. Two
+-- functions are compared at each number, by whether it is the one that was changed.
 use Rattle.std.proofs.Common.{◌≡◌, ◌<◌, ℕ, Bool, true, false, if◌then◌else◌, ◌==◌, ◌&&◌, List, length, refl, sym, ap, subst, ◌∙◌, arith}
 use Rattle.std.proofs.Math.ListN.{set}
 use Rattle.std.proofs.Math.Path.{fun_ext}

@@ -1,4 +1,6 @@
--- The optimised machine before its first step.
+-- The lists that `new` builds are the optimised machine before its first step, and all that the code keeps holds of them. The
+-- contract of `new` promises both. The machine's fields are compared at each number: within the lists every client and every
+-- handler is a fresh one, and beyond them nobody has begun anything.
 use Rattle.std.proofs.Common.{◌≡◌, ◌<◌, ◌≤◌, ℕ, zero, suc, ◌+◌, Bool, true, false, nat_lt, List, [], ◌∷◌, map, length, replicate, get_or, sum_by, refl, sym, ap, subst, ◌∙◌, arith, ◌⊎◌, inl, inr, None}
 use Rattle.std.specs.List.{AllByRecursion, range_with_len}
 use Rattle.std.proofs.Math.Path.{fun_ext}

@@ -1,4 +1,6 @@
--- Lists of clients and handlers as functions of their numbers.
+-- A list in which one member was replaced is, read as a function of numbers, the old function with a new value at that number.
+-- The code replaces one client or one handler in a step, while the machine is defined by functions, so all lemmas that lead from
+-- one to the other use this. The proofs go by induction on the list.
 use Rattle.std.proofs.Common.{◌≡◌, ◌<◌, ℕ, zero, suc, Bool, true, false, ◌==◌, if◌then◌else◌, List, [], ◌∷◌, length, map, get_or, refl, sym, ap, subst, ◌∙◌, arith}
 use Rattle.std.specs.List.{AllByRecursion}
 use Rattle.std.proofs.Math.ListN.{set}

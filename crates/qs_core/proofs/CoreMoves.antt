@@ -1,4 +1,6 @@
--- A client's or a handler's step at a lane, in the lists that the code holds.
+-- After a client or a handler has made its step at a lane, the code's lists are the optimised machine after that step, and what
+-- the code keeps still holds; where the lane allows no step, the machine has none. The code's calls that make these steps promise
+-- it. The step is known for functions of numbers, and the lists with one member replaced are read as these functions.
 use Rattle.std.proofs.Common.{◌≡◌, ◌<◌, ◌≤◌, ℕ, ◌-◌, ◌==◌, Bool, true, false, if◌then◌else◌, List, [], length, Option, Some, None, refl, sym, ap, subst, ◌∙◌, arith}
 use Rattle.std.specs.List.{AllByRecursion}
 use Rattle.std.proofs.Math.ListN.{set}

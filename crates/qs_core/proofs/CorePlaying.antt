@@ -1,4 +1,6 @@
--- Schedules of the optimised machine, a step at a time.
+-- These lemmas play a schedule of the optimised machine one actor at a time, and say what is shown at its end. The loops of
+-- `play_core`, `play_rounds` and `round` keep that their state is where the actors so far lead (`IsPlayedOn`). An actor adds its
+-- step or nothing, and where a round changes nothing, further rounds change nothing, by induction on their number.
 use Rattle.std.proofs.Common.{◌≡◌, ◌<◌, ℕ, zero, suc, ◌+◌, Bool, true, false, length, get_or, take, arith, List, [], ◌∷◌, ◌++◌, map, None, refl, ap, sym, subst, ◌∙◌, add-one, zero-add, append_assoc}
 use Rattle.std.specs.Bool.{OnTrue}
 use Rattle.std.specs.List.{range_with_len}

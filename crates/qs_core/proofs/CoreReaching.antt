@@ -1,4 +1,6 @@
--- What a list of actors leads to in the optimised machine, and where one more step leads.
+-- A list of actors with one more at its end leads the optimised machine to that actor's step, or leaves it where the list led. So
+-- each state that `step` leads to is again one that can be reached, and the contracts of `step`, `is_isolated` and `into_played`
+-- promise of it what the laws say of every list of actors: that it is isolated, and what else holds after each list.
 use Rattle.std.proofs.Common.{◌≡◌, ℕ, Bool, true, false, List, [], ◌∷◌, ◌++◌, Some, refl, ap, sym, subst, ◌∙◌}
 use Rattle.std.specs.Bool.{OnTrue}
 use Rattle.qs_program.specs.Sound.{IsSound}

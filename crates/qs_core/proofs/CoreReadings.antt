@@ -1,4 +1,6 @@
--- What is read off the lists is what the machine shows.
+-- What is read off the code's lists of clients and handlers is what the optimised machine shows, and all of it is there to be
+-- read. The contract of `into_played` promises it. What is shown is compared part by part: a client or a handler of the program
+-- is in its list, and an object is where its handler's state says, by cases on that state.
 use Rattle.std.proofs.Common.{◌≡◌, ◌<◌, ℕ, zero, suc, ◌+◌, Bool, ◌&&◌, [], ◌∷◌, length, map, get_or, sum_by, nat_eq, Some, IsSome, refl, ap, sym, subst, ◌∙◌, arith}
 use Rattle.std.specs.List.{range_with_len}
 use Rattle.qs_objects.specs.Journals.{HeldState}

@@ -1,4 +1,6 @@
--- A client's reservation is a step of the machine.
+-- A client's reservation is a step of the optimised machine: the order and the queue of each handler of the block's list have one
+-- ticket more, and the client stands at its block's beginning. The lemma that says so of the code's lists stands on this one. The
+-- machine is compared field by field; the client's values at entry, added at the end of a list, are one more place of a function.
 use Rattle.std.proofs.Common.{◌≡◌, ◌<◌, ℕ, zero, suc, false, ◌==◌, arith, if◌then◌else◌, List, [], ◌∷◌, ◌++◌, length, get_or, refl, sym, ap, ◌∙◌, Some}
 use Rattle.std.proofs.Math.Path.{fun_ext}
 use Rattle.qs_objects.specs.declared.held.Event.{Event}

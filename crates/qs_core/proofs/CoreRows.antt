@@ -1,4 +1,6 @@
--- The clients' rows, read off their minds.
+-- The rows that the clients' minds are turned into have a place for each ticket of the order, and with them exactly what the
+-- machine shows is shown. The code's `shown` gives the clients' lists away by move, so its contract is about rows. The proof
+-- finds a client's row by induction on the list of clients, and a ticket's place by what holds of every mind.
 use Rattle.std.proofs.Common.{◌≡◌, ◌<◌, ℕ, zero, suc, List, [], ◌∷◌, length, get_or, map, refl, sym, ap, ◌∙◌, subst, arith}
 use Rattle.std.proofs.Math.Path.{fun_ext}
 use Rattle.std.proofs.lemmas.List.{length-map}

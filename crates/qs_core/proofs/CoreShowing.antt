@@ -1,4 +1,6 @@
--- What is read off the lists of the optimised machine.
+-- An object is with its handler, or else where the client to which the handler turns has left it: in their lane or in the
+-- client's hands. The code's `object` looks for an object in this way; beside it stands that the Syncs of a client are few enough
+-- for `syncs_of` to add up. The proofs go by cases on the handler's state.
 use Rattle.std.proofs.Common.{◌≡◌, ◌<◌, ◌≤◌, ℕ, ◌+◌, Bool, true, false, ◌&&◌, List, [], ◌∷◌, ◌++◌, length, Some, None, refl, ap, sym, ◌∙◌, arith, add-one, zero-add}
 use Rattle.std.specs.List.{range_with_len}
 use Rattle.qs_objects.specs.Journals.{HeldState}

@@ -1,4 +1,6 @@
--- What the code of a handler does is a step of the machine.
+-- What a handler does is the step that the optimised machine defines: it takes a ticket or a parcel, gives its object, or gives
+-- back an empty chunk; where queue and lane don't allow it, the machine has no step. The lemmas on the code's lists stand on
+-- this. The machine is compared field by field, by cases on the handler's act and on what lies in the lane.
 use Rattle.std.proofs.Common.{◌≡◌, ◌<◌, ℕ, Bool, true, false, nat_lt, List, [], ◌∷◌, ◌++◌, length, refl, sym, ap, subst, ◌∙◌, suc, Option, Some, None}
 use Rattle.std.proofs.Math.ListN.{set}
 use Rattle.qs_objects.specs.Journals.{HeldState}

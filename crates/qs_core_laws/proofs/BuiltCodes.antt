@@ -1,4 +1,6 @@
--- The graphs as they are built are codes of the modes that remove no synchronisations.
+-- The graphs of a program as they are built, with every synchronisation in them, are the codes of its clients in each mode that
+-- removes none. The worked runs of the law `core_examples`, and the worked run of threads, begin with these codes. In such a mode
+-- the definition of a code asks for the built graph itself, so each client and each block is looked up in the mapped lists.
 use Rattle.std.proofs.Common.{◌≡◌, Bool, false, map, refl, sym, ap, subst, arith}
 use Rattle.std.proofs.lemmas.List.{get_or-map, get_or_past, length-map}
 use Rattle.std.proofs.lemmas.List.FromFn.{get_or-map-range_with_len}

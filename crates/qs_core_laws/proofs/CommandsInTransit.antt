@@ -1,4 +1,7 @@
--- What is on the way to an object, ticket by ticket.
+-- The commands that are on their way to an object for a ticket are those of the ticket's own parcels in the lane, and then those
+-- in its client's open chunk. The proof that journals follow the order of reservations needs this for each ticket. A lane's
+-- parcels are cut into the tickets that the handler has still to serve, by induction on its queue; a ticket that was served has
+-- none left.
 use Rattle.std.proofs.Common.{◌≡◌, ◌<◌, ◌≤◌, arith, ℕ, suc, Bool, true, false, true≢false, if◌then◌else◌, ◌==◌, List, [], ◌∷◌, ◌++◌, map, filter, refl, sym, ap, ap₂, ◌∙◌, subst, ◌⊎◌, inl, inr, ⊎_elim, append-nil, Option, Some, None}
 use Rattle.std.specs.List.{AllByRecursion}
 use Rattle.qs_objects.specs.Journals.{HeldState}

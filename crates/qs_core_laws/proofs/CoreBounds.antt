@@ -1,4 +1,6 @@
--- Chunks keep their size, clients beyond the program rest, and nothing is known of blocks that were not begun.
+-- In each state that the optimised machine comes to, chunks have the machine's size, clients beyond the program do nothing, and a
+-- block that was not begun has neither values at entry nor a trace. What the code may rely on in such states (`CoreReached`)
+-- takes these facts from here. They are one invariant, `CoreBounded`, which each step keeps, by cases on the actor and its act.
 use Rattle.std.proofs.Common.{◌≡◌, ◌<◌, ◌≤◌, ◌-◌, ℕ, zero, suc, nat_lt, ◌==◌, Bool, true, false, if◌then◌else◌, List, [], ◌∷◌, ◌++◌, length, refl, sym, ap, ◌∙◌, subst, ⊎_elim, Option, Some, None, arith}
 use Rattle.std.specs.List.{AllByRecursion}
 use Rattle.qs_sync_counts.specs.declared.sync_counts.SyncCount.{SyncCount}

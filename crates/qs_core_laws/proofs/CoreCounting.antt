@@ -1,4 +1,6 @@
--- Each step of the optimised machine keeps the counts of Syncs.
+-- Each step of the optimised machine keeps, for each block and object, how many Syncs the block has sent, and the counts in the
+-- machine say these numbers. The exact counts at the end (`CoreSyncs`) are read off this. The proof goes by cases on the actor
+-- and its act: only a client that sends a Sync changes a number, by one, and then induction on the list of actors.
 use Rattle.std.proofs.Common.{◌≡◌, ◌<◌, ◌≤◌, ℕ, zero, suc, ◌-◌, ◌==◌, nat_lt, Bool, true, false, if◌then◌else◌, is_some, List, [], ◌∷◌, ◌++◌, length, map, refl, sym, ap, ◌∙◌, subst, ⊎_elim, Option, Some, None, arith}
 use Rattle.std.specs.Prelude.{sum_by}
 use Rattle.std.specs.List.{IsDistinct, range_with_len}

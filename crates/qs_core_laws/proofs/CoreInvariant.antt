@@ -1,4 +1,7 @@
--- The invariant of the optimised machine: a history of its lanes that its state goes on with.
+-- This file defines the invariant of the optimised machine: for each ticket its page, for each ticket and object what was sent
+-- and got, and how the machine's state goes on with this history. The proof of isolation keeps it through each step and reads the
+-- journals off it. A client's history and an object's are kept apart, each by its own records, and meet in what lies in the
+-- lanes.
 use Rattle.std.proofs.Common.{◌≡◌, ◌<◌, ◌≤◌, ℕ, suc, true, false, List, [], filter}
 use Rattle.std.specs.List.{AllByRecursion}
 use Rattle.qs_objects.specs.Journals.{HeldState}

@@ -1,4 +1,6 @@
--- Each object is somewhere.
+-- Each object can be found in each state that the optimised machine comes to: its handler has it, or it lies in a lane, or the
+-- client to which it was given has it. The states that a run shows are taken from there, and isolation speaks of them. Where the
+-- handler gave the object away, both ends of the lane are compared, by induction on what the handler received.
 use Rattle.std.proofs.Common.{◌≡◌, ◌≤◌, arith, ℕ, suc, Bool, true, false, true≢false, if◌then◌else◌, ◌==◌, ◌&&◌, List, [], ◌∷◌, ◌++◌, filter, flat_map, refl, sym, ap, ap₂, ◌∙◌, subst, ◌⊎◌, inl, inr, ⊎_elim, Option, Some, None}
 use Rattle.std.specs.List.{AllByRecursion}
 use Rattle.qs_objects.specs.Journals.{HeldState}

@@ -1,4 +1,7 @@
--- What every run of the optimised machine comes to, for those who run it.
+-- In each state that the optimised machine comes to, the next parcel of a lane may stand there, acts name clients and objects of
+-- the program, tickets come once, and each object can be found. The code relies on this for each of its steps, by
+-- `reached_keeps`. It is read off the invariant and the bounds that every run keeps; the order is no longer than the program has
+-- blocks, since it is legal.
 use Rattle.std.proofs.Common.{◌≡◌, ◌≢◌, ◌<◌, ◌≤◌, ◌+◌, ◌-◌, arith, ℕ, suc, ◌==◌, Bool, true, false, if◌then◌else◌, List, [], ◌∷◌, ◌++◌, length, filter, sum_by, refl, sym, ap, ◌∙◌, subst, ⊎_elim, IsSome, IsTrue}
 use Rattle.std.specs.List.{AllByRecursion, range_with_len}
 use Rattle.std.proofs.lemmas.List.{length-append}

@@ -1,4 +1,6 @@
--- Each step of the optimised machine keeps the invariant, so every list of actors does.
+-- Each step of the optimised machine keeps its invariant, so every list of actors does, from the beginning on. Isolation is read
+-- off the invariant (`run_kept`), and the bounds and the counts are kept along the same steps. The proof goes by cases on the
+-- actor and on its act, where each kind of step has its own lemma in another file, and then by induction on the list.
 use Rattle.std.proofs.Common.{◌≡◌, ◌<◌, ◌-◌, ℕ, zero, suc, nat_lt, Bool, true, false, if◌then◌else◌, List, [], ◌∷◌, ◌++◌, length, refl, sym, ap, ◌∙◌, subst, Option, Some, None, arith}
 use Rattle.qs_objects.specs.Journals.{HeldState}
 use Rattle.qs_objects.specs.declared.held.Ticket.{Ticket}

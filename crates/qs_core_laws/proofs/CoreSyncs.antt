@@ -1,4 +1,6 @@
--- The Syncs of the optimised machine, counted by the traces.
+-- What the optimised machine shows of the Syncs of each block is the exact count of its mode for the block's trace, or one more
+-- at one object while the block is open, and their sum is what it shows as its syncs. The law `core_syncs_are_counted` is this.
+-- The count was kept step by step; here it is read off, by cases on where the client stands in its block.
 use Rattle.std.proofs.Common.{◌≡◌, ◌<◌, ◌≤◌, ℕ, suc, ◌+◌, ◌==◌, ◌&&◌, nat_lt, nat_eq, Bool, true, false, if◌then◌else◌, List, [], ◌∷◌, length, map, refl, sym, ap, ap₂, ◌∙◌, subst, inl, inr, arith}
 use Rattle.std.specs.Prelude.{sum_by}
 use Rattle.std.specs.List.{AllByRecursion}

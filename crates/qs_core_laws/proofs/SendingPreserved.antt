@@ -1,4 +1,6 @@
--- A client's steps within a block keep the invariant: only its own ticket and the lanes that it sends to move.
+-- A client's steps within its block keep the invariant of the optimised machine: it sends a parcel, gets an object, or takes an
+-- empty chunk. The proof that every step does (`CoreSteps`) stands on it. Only the client's newest ticket and the lane that it
+-- uses move; as no later ticket of this client is in that object's queue, a parcel more is the last of its lane.
 use Rattle.std.proofs.Common.{◌≡◌, ◌≢◌, ◌<◌, ◌≤◌, arith, ℕ, suc, Bool, true, false, true≢false, if◌then◌else◌, ◌==◌, List, [], ◌∷◌, ◌++◌, filter, refl, sym, ap, ◌∙◌, subst, ◌⊎◌, inl, inr, ⊎_elim, Option, Some, None}
 use Rattle.std.specs.List.{AllByRecursion}
 use Rattle.std.proofs.Math.Path.{fun_ext}

@@ -1,4 +1,6 @@
--- What a client's step keeps of its mind and its lane.
+-- A client's step at a lane keeps its mind's code, chunk size and ticket, and that the lane's spare chunks are empty ones of one
+-- size; a client that turns to a lane has begun a block. The lemmas on the steps of the code's lists (`client_kept`) need these
+-- facts. They are shown by cases on the act, and then on whether the lane has room, an object or a chunk.
 use Rattle.std.proofs.Common.{◌≡◌, ◌<◌, ◌≤◌, ℕ, zero, suc, ◌*◌, Bool, true, false, nat_lt, if◌then◌else◌, List, [], ◌∷◌, length, Option, Some, None, refl, sym, ap, subst, ◌∙◌, arith}
 use Rattle.std.specs.List.{AllByRecursion}
 use Rattle.qs_objects.specs.Journals.{HeldState}

@@ -1,4 +1,6 @@
--- A handler whose act carries nothing may be handed what comes.
+-- The parcel that lies first in a lane may be handed to the mind of a handler that wants one. The code's call `take_parcel` hands
+-- it on, and the mind asks for this. What is known speaks of the mind together with what its act carries; an act that takes a
+-- parcel carries nothing, so this is the mind itself, by cases on its state.
 use Rattle.std.proofs.Common.{◌≡◌, ℕ, refl, ap, ◌∙◌, subst, ◌∷◌, List}
 use Rattle.std.specs.Prelude.{IsTrue}
 use Rattle.qs_chunk.specs.Lanes.{may_stand}

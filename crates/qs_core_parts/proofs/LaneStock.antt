@@ -1,4 +1,6 @@
--- A handler's step at a lane leaves empty chunks of one size there.
+-- After a handler's step at a lane the lane's spare chunks are still empty ones of one size. What the code keeps of its lists
+-- (`handler_kept`) has this as a part, and clients take their chunks from there. The proof goes by cases on the act: only one
+-- that gives a chunk back adds to them, and that chunk is empty and of the size.
 use Rattle.std.proofs.Common.{◌≡◌, ℕ, Bool, true, false, nat_lt, List, [], ◌∷◌, ◌++◌, length, Option, Some, None, refl, ap, subst}
 use Rattle.std.specs.List.{AllByRecursion}
 use Rattle.qs_objects.specs.Journals.{HeldState}

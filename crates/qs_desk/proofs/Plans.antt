@@ -1,4 +1,6 @@
--- The lists of a program's blocks.
+-- The plan that a desk keeps has, at each client and each of its blocks, the list of handlers which that block reserves in the
+-- program. The functions that look up a ticket's block in the plan are proved with it. The plan is made by mapping over the
+-- clients and their blocks, so the proof goes by induction on a mapped list.
 use Rattle.std.proofs.Common.{◌≡◌, ℕ, zero, suc, List, [], ◌∷◌, map, length, slice_index_or, refl, ap, ◌∙◌}
 use Rattle.qs_objects.specs.declared.held.Ticket.{Ticket}
 use Rattle.qs_program.specs.Program.{ProgramShape, no_block, no_client, client_at, blocks_of, text_of}

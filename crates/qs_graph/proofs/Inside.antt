@@ -1,4 +1,5 @@
--- Edges and paths stay in the graph.
+-- Each edge of a graph leads to a node of the graph, so a path never leaves it. The computation of the held sets uses this for
+-- its indexes. It goes by induction on the path.
 use Rattle.std.proofs.Common.{◌≡◌, ℕ, ◌<◌, inl, inr, List, [], ◌∷◌, length, arith, subst, sym}
 use Rattle.std.specs.List.{AllByRecursion}
 use Rattle.qs_graph.specs.declared.node.Node.TheVariants.{Entry}

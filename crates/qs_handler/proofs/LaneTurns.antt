@@ -1,4 +1,6 @@
--- A handler at its lanes, step by step: by cases on its state.
+-- Whatever a handler does, it goes on standing to each client's lane as it should: it asks only for parcels that may follow
+-- there, and gives its object only for a Sync that is not served yet. The proofs on a handler's whole run and on its thread stand
+-- on these laws. Each goes by cases on the handler's state and on the parcel.
 use Rattle.std.proofs.Common.{◌≡◌, ◌+◌, if◌then◌else◌, false, List, [], ◌∷◌, ◌++◌, length, Some, refl, sym, ap, ◌∙◌, subst, arith, length-append}
 use Rattle.std.proofs.lemmas.List.Sums.{sum_by-append}
 use Rattle.qs_objects.specs.Journals.{HeldState}

@@ -1,4 +1,6 @@
--- A handler's run at one client's lane: by induction over its tasks, each of which keeps how it stands there.
+-- After any run from its first ticket on, a handler stands to each client's lane as it should: it gives its object only for a
+-- Sync that is not served yet, and gives back empty chunks of the lane's size. The proof of the loop in a handler's thread stands
+-- on it. It goes by induction on the tasks of the run, with cases on whether a task is with this client or with another.
 use Rattle.std.proofs.Common.{◌≡◌, ℕ, true, false, ◌==◌, if◌then◌else◌, List, [], ◌∷◌, ◌++◌, refl, sym, subst, ⊎_elim, append_assoc, append-nil}
 use Rattle.std.specs.List.{AllByRecursion}
 use Rattle.qs_objects.specs.Journals.{HeldState}

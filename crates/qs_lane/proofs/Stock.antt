@@ -1,4 +1,5 @@
--- The stock of empty chunks that a lane begins with.
+-- The chunks with which a lane begins are all empty and have the lane's size, and this stays so with one more of them. The loop
+-- of `fill`, which makes these chunks, stands on it. It goes by induction on how many chunks there are.
 use Rattle.std.proofs.Common.{◌≡◌, ℕ, zero, suc, List, [], ◌∷◌, ◌++◌, replicate, refl, sym, ap, ◌∙◌, subst}
 use Rattle.qs_objects.specs.declared.Request.{Request}
 use Rattle.qs_chunk.specs.Batch.{Batch, batch}

@@ -1,4 +1,6 @@
--- What `parse` reads of a text is the number that the settings name.
+-- When the text of a setting is parsed, the number is the one that the settings name, in the range of a chunk's size or of a
+-- number of rounds, and a text that is refused names none. The proofs of `chunk_of` and `rounds_of` stand on it. It goes by cases
+-- on the result of parsing, whose range is compared with that of the setting.
 use Rattle.std.proofs.Common.{◌≡◌, ◌≤◌, ◌^◌, ◌<◌, ℕ, Bool, List, true, false, Option, Some, None, Result, Ok, Err, refl, sym, ap, ◌∙◌, arith, ◌↔◌, IfSome}
 use Rattle.std.specs.Prelude.{if◌then◌else◌, IsSome, unwrap_or}
 use Rattle.std.specs.Result.{result_ok}

@@ -1,4 +1,6 @@
--- One more actor of a list of picks.
+-- The picks read so far, followed by those of the texts that are left, are the picks of the whole list, and one text that names
+-- no actor spoils the list. The loop of `picks_of` has this as its invariant, `picks_with`. It goes by cases on what the next
+-- text names.
 use Rattle.std.proofs.Common.{◌≡◌, ℕ, List, [], ◌∷◌, ◌++◌, Option, Some, None, refl, sym, ap, append_assoc, option_map}
 use Rattle.qs_played.specs.declared.schedule.actor.Actor.{Actor}
 use Rattle.qs_line.specs.Picks.{actor_in, actors_in}

@@ -1,4 +1,6 @@
--- The laws on what an object does, as lemmas.
+-- A command never answers, a query answers, a request that does not fit does nothing, and objects keep their kind and their
+-- range. The proofs on journals, lanes and private queues use these laws as lemmas. Each goes by cases on the object and the
+-- operation, which the proof search or arithmetic finds.
 use Rattle.std.proofs.Common.{arith, rules}
 use Rattle.std.proofs.lemmas.Grind.{common_steps}
 use Rattle.qs_objects.specs.Laws.{CommandsNeverAnswer, QueriesAnswer, MisfitsDoNothing, ShapesStay, RangesBegin, RangesStay}

@@ -1,4 +1,6 @@
--- What becomes of each handler.
+-- Where an item is logged at each handler of a list, or a private queue comes to each, a handler has then got exactly that, or it
+-- is as it was. The lemmas on a step in a block and on the beginning of one (`RulesGo`, `RulesBegin`) need it to say what holds
+-- of all handlers afterwards. The proof goes by induction on the list, which names each handler once.
 use Rattle.std.proofs.Common.{◌≡◌, ◌≢◌, ◌<◌, ℕ, ◌==◌, Bool, true, false, ◌⊎◌, inl, inr, List, [], ◌∷◌, map, length, refl, ap, sym, subst, ◌∙◌, arith, length-set, get_or-set_other, get_or-set_same}
 use Rattle.std.specs.List.{AllByRecursion, IsDistinct}
 use Rattle.std.proofs.lemmas.Map.Keys.{IsDistinct-head, IsDistinct-tail}

@@ -1,4 +1,6 @@
--- Handlers, one after another.
+-- What is asked of each handler of a list still holds of all of them after a change at a handler that is not in the list. The
+-- loops of `enter_all` and `log_all` change the handlers of a block's list one after another, and what the rest of them must
+-- fulfil has to last. The proof goes by induction on the list.
 use Rattle.std.proofs.Common.{◌≡◌, ◌<◌, ℕ, ◌==◌, false, List, [], ◌∷◌, length, sym, subst, length-set, get_or-set_other}
 use Rattle.std.specs.List.{AllByRecursion}
 use Rattle.std.proofs.Math.ListN.{set}

@@ -1,4 +1,6 @@
--- Wherever the plain rules have come, what they have shown is isolated and counted.
+-- Whatever state the plain rules can be stepped to, what it has shown is isolated and its synchronisations are counted, and one
+-- step more leads to such a state again. The contracts of `step`, `is_isolated` and `is_counted` promise it. A state that was
+-- reached is where a list of actors leads, and the laws speak of every such list; a step is one more actor at its end.
 use Rattle.std.proofs.Common.{sym, subst, ◌≡◌, Bool, true, false, List, [], ◌∷◌, ◌++◌, refl, ap, ◌∙◌}
 use Rattle.std.specs.Bool.{OnTrue}
 use Rattle.qs_program.specs.Sound.{IsSound}

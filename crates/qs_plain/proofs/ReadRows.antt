@@ -1,4 +1,6 @@
--- What a client's rows say of its blocks that were begun.
+-- The rows that the clients leave behind have a place for each ticket of the order, and there the ticket's values at entry, its
+-- trace and its counts. The contract of `into_played` needs this, since it gives the clients' lists away by move and shows them
+-- through the rows. The proofs go by induction on the list of clients, and on the order.
 use Rattle.std.proofs.Common.{◌≡◌, ◌<◌, ℕ, zero, suc, List, [], ◌∷◌, ◌++◌, length, get_or, get_or-take, map, refl, sym, ap, ◌∙◌, arith}
 use Rattle.qs_objects.specs.declared.held.Ticket.{Ticket}
 use Rattle.qs_played.specs.Played.{ClientRows, HaveRows, counts_in, entry_in, rows_at, trace_in}

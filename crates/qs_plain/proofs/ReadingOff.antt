@@ -1,4 +1,6 @@
--- What is read off the code is what the plain rules show.
+-- What is read off the code's lists of clients and handlers is what the plain rules show: syncs, journals, states, and whether
+-- all blocks are done. The contracts of `into_played`, `are_done` and `play` need it. The code's lists are mapped to those of the
+-- rules, and each reading is compared by induction on the list.
 use Rattle.std.proofs.Common.{◌≡◌, ◌<◌, ℕ, zero, suc, ◌+◌, ◌&&◌, List, [], ◌∷◌, map, drop, length, get_or, sum_by, refl, ap, sym, ◌∙◌, add-one}
 use Rattle.std.proofs.Math.Seq.{drop-cons}
 use Rattle.std.proofs.lemmas.List.Sums.{sum_by-cons}

@@ -1,4 +1,6 @@
--- What the code keeps as a block begins.
+-- As a client begins a block, what the code keeps still holds, and the step is that of the plain rules. The contract of
+-- `separate` promises both. What was prepared for the block has the room that it needs; each handler either got one new private
+-- queue or is as it was, and the blocks still to come are one fewer, so each handler has room for the rest.
 use Rattle.std.proofs.Common.{◌≡◌, ◌<◌, ◌≤◌, ℕ, ◌+◌, ◌-◌, ◌==◌, ◌&&◌, Bool, true, false, ◌⊎◌, inl, inr, List, [], ◌∷◌, ◌++◌, map, length, get_or, ap, sym, subst, ◌∙◌, arith, length-set, add-zero, Some, nat_lt}
 use Rattle.std.specs.List.{AllByRecursion, IsDistinct}
 use Rattle.std.proofs.Math.ListN.{set}

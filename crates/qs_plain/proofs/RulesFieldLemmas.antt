@@ -1,4 +1,6 @@
--- From the fields of the code to what the lemmas speak of.
+-- The lemmas on the steps of the plain rules are stated here in the words that the proofs of `separate`, `go_on`, `step_client`
+-- and `step_handler` have at hand. There the machine's fields, the numbers, and the client or handler are read out of the code
+-- and only equal to those of the lemmas. The proofs rewrite along these equations.
 use Rattle.std.proofs.Common.{◌≡◌, ◌<◌, ℕ, List, [], ◌∷◌, ◌++◌, Some, length, get_or, ap, ◌∙◌, sym, subst}
 use Rattle.std.proofs.Math.ListN.{set}
 use Rattle.qs_objects.specs.declared.held.Ticket.{Ticket}

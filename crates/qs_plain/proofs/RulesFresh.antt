@@ -1,4 +1,6 @@
--- Before the first step.
+-- The lists that `new` builds are the plain rules before their first step, and what the code keeps holds of them. The contract of
+-- `new` promises both. Each client and each handler is a fresh one by its number, so two lists that have the same element at each
+-- place are equal, by induction; and the blocks to come are all blocks of the program.
 use Rattle.std.proofs.Common.{◌≡◌, ◌<◌, ℕ, suc, ◌+◌, List, [], ◌∷◌, map, length, get_or, sum_by, refl, ap, ◌∙◌, arith}
 use Rattle.std.specs.List.{range_with_len}
 use Rattle.std.proofs.lemmas.List.Sums.{sum_by-cons}

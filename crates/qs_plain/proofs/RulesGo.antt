@@ -1,4 +1,6 @@
--- A client goes on in its block.
+-- As a client goes on in its block, by a command, a query or the block's end, what the code keeps still holds, and the step is
+-- that of the plain rules. The contract of `go_on` promises both. An item more in a private queue is met by a request less in the
+-- load that is left of the block, so the queues' room suffices; the end mark has its own place.
 use Rattle.std.proofs.Common.{◌≡◌, ◌≢◌, ◌<◌, ◌≤◌, ℕ, ◌+◌, ◌-◌, ◌==◌, if◌then◌else◌, Bool, true, false, ◌||◌, ◌⊎◌, inl, inr, List, [], ◌∷◌, ◌++◌, map, length, get_or, refl, ap, sym, subst, ◌∙◌, arith, Some, None, nat_lt, ℤ, get_or-set_other, get_or-set_same, length-set}
 use Rattle.std.specs.List.{AllByRecursion, list_any}
 use Rattle.std.proofs.Math.ListN.{set, get_or-map}

@@ -1,4 +1,6 @@
--- What the code keeps through its steps.
+-- What the code keeps of all its clients and handlers still holds where one client goes on, an item is logged at some handlers,
+-- or one handler serves. The lemmas on the three kinds of steps (`RulesBegin`, `RulesGo`, `RulesServe`) use this for all that
+-- such a step leaves alone. A client or handler is either the one that changed or as it was.
 use Rattle.std.proofs.Common.{◌≡◌, ◌≢◌, ◌<◌, ◌≤◌, ℕ, ◌+◌, ◌-◌, ◌==◌, ◌&&◌, if◌then◌else◌, Bool, true, false, ◌⊎◌, inl, inr, ⊎_elim, List, [], ◌∷◌, map, length, refl, ap, sym, subst, ◌∙◌, arith, length-set, get_or-set_other, get_or-set_same}
 use Rattle.std.specs.List.{AllByRecursion}
 use Rattle.std.proofs.Math.ListN.{set}

@@ -1,4 +1,6 @@
--- A handler serves, and a client has no block left.
+-- What a handler of the code serves is the step of the plain rules, and what the code keeps still holds after it; a client
+-- between blocks with none left has no step. The contracts of `step_handler` and `step_client` promise this. The proof goes by
+-- cases on what lies first in the handler's first private queue: nothing, a command, a query or the end mark.
 use Rattle.std.proofs.Common.{◌≡◌, ◌<◌, ◌≤◌, ℕ, ◌+◌, ◌-◌, Bool, true, false, ◌⊎◌, inl, inr, ⊎_elim, List, [], ◌∷◌, ◌++◌, map, length, get_or, refl, ap, sym, subst, ◌∙◌, arith, Option, Some, None, nat_lt, ℤ}
 use Rattle.std.specs.List.{AllByRecursion}
 use Rattle.std.proofs.Math.ListN.{set, get_or-map}

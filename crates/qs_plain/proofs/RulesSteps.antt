@@ -1,4 +1,6 @@
--- What the code does to clients and handlers is what the plain rules do.
+-- What the code does to its lists of clients and handlers is what the plain rules do to theirs: an item is logged at each handler
+-- of a list, or an empty private queue comes to each. The lemmas on the three kinds of steps use this to read the code's state
+-- after a step. The proofs go by induction on the list of handlers.
 use Rattle.std.proofs.Common.{◌≡◌, ℕ, List, [], ◌∷◌, ◌++◌, map, get_or, refl, ap, sym, ◌∙◌}
 use Rattle.std.specs.List.{AllByRecursion}
 use Rattle.std.proofs.Math.ListN.{set, get_or-map}

@@ -1,4 +1,6 @@
--- A client stays one through its moves.
+-- After a command, a query, a reply, the end of a block or the beginning of the next one, a client of the code still keeps what
+-- its type asks of it (`IsClient`). The contracts of `begin`, `ask` and `reply` need it. A request takes one from the load that
+-- is left of its block, so the trace has room for its event; all other parts stay as they were.
 use Rattle.std.proofs.Common.{◌≡◌, ◌<◌, ◌≤◌, ℕ, suc, ◌+◌, ◌-◌, ◌==◌, if◌then◌else◌, Bool, true, false, ◌||◌, List, [], ◌∷◌, ◌++◌, length, get_or, set, sum_by, refl, ap, sym, subst, ◌∙◌, arith, ℤ, length-set, get_or-set_same, add-zero}
 use Rattle.std.specs.List.{list_any}
 use Rattle.std.proofs.lemmas.List.Sums.{sum_by-cons}

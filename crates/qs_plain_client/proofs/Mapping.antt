@@ -1,4 +1,6 @@
--- A list that is being mapped in place.
+-- A list of which the first places have been mapped and the others have not is read and written place by place. The loop of `log`
+-- goes over a handler's private queues in this way, and its invariant is such a list. The proofs go by induction on the list and
+-- on the place.
 use Rattle.std.proofs.Common.{◌≡◌, ◌<◌, ◌≤◌, ℕ, zero, suc, ◌+◌, List, [], ◌∷◌, ◌++◌, map, take, drop, length, get_or, refl, ap, sym, ◌∙◌, arith, add-one}
 use Rattle.std.proofs.Math.ListN.{set}
 

@@ -1,4 +1,6 @@
--- The order of reservations is legal after every schedule.
+-- The order of reservations is legal after every list of actors, and each of its tickets names a block that its client has begun.
+-- The contract of `play` promises it, and what is shown of a ticket is found by it. Over the plain rules alone it is kept that
+-- each client has begun as many blocks as it has tickets in the order, by cases on the step and induction on the actors.
 use Rattle.std.proofs.Common.{◌≡◌, ◌<◌, ℕ, zero, suc, ◌==◌, Bool, true, false, if◌then◌else◌, nat_lt, List, [], ◌∷◌, ◌++◌, map, length, get_or, Some, None, refl, ap, sym, subst, ◌∙◌, arith, add-one, get_or-set_same, get_or-set_other}
 use Rattle.std.proofs.Math.ListN.{set}
 use Rattle.std.proofs.Math.Seq.{map-set_same}

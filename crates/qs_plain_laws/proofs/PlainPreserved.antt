@@ -1,4 +1,7 @@
--- Each step of the plain rules, seen by functions, is a move of the served run.
+-- Each step of the plain rules keeps that their state, read as functions of numbers, goes on with a sound served run
+-- (`RunInvariant`). Isolation and the counts under the plain rules are read off this. A list with one place changed is read as a
+-- function changed at one place, so each step is one for which `Simulation` has a lemma; then the proof goes by induction on the
+-- list of actors.
 use Rattle.std.proofs.Common.{◌≡◌, ◌≢◌, ◌<◌, ◌≤◌, ℕ, zero, suc, ◌+◌, ◌-◌, ◌==◌, ◌||◌, Bool, true, false, true≢false, if◌then◌else◌, nat_lt, List, [], ◌∷◌, ◌++◌, map, length, get_or, Option, Some, None, ℤ, refl, ap, sym, subst, ◌∙◌, arith, ⊎_elim, get_or-set_same, get_or-set_other, length-set}
 use Rattle.std.proofs.Math.ListN.{set}
 use Rattle.std.proofs.Math.Path.{fun_ext}

@@ -1,4 +1,6 @@
--- Which acts a client's hands and place can lead to.
+-- What a client has in hand of an object decides which kinds of act it can be due: on its way to a command or a synchronisation
+-- it sends only to that object, and never awaits an object or reserves. The lemmas on acts by the client's place (`ActObjects`,
+-- `ClientLogs`) rule out with these the acts that can't be. The proofs go by cases on the object and the chunk in hand.
 use Rattle.std.proofs.Common.{◌≡◌, ◌≢◌, ℕ, Bool, true, false, if◌then◌else◌, List, Option, Some, None}
 use Rattle.qs_objects.specs.Journals.{HeldState}
 use Rattle.qs_objects.specs.declared.Request.{Request}

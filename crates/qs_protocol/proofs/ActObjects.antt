@@ -1,4 +1,6 @@
--- What an act of a client says of its object, and that no block begins by it.
+-- Whatever a client sends, awaits or needs a chunk for in its block is of an object that the block reserves; only between blocks
+-- does it reserve; and nothing that it does to its own values begins a block. The proofs on steps of the machine and of threads
+-- need this. They go by cases on where the client stands (`PlaceOk`), and for its quiet moves by induction on its block's tree.
 use Rattle.std.proofs.Common.{◌≡◌, ℕ, nat_lt, Bool, true, false, if◌then◌else◌, ◌==◌, ◌&&◌, is_some, List, [], ◌∷◌, ◌++◌, length, refl, sym, ap, ◌∙◌, subst, Option, Some, None, ℤ}
 use Rattle.qs_objects.specs.Journals.{HeldState, run_one}
 use Rattle.qs_objects.specs.declared.held.Ticket.{Ticket}

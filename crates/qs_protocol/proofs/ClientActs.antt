@@ -1,4 +1,6 @@
--- Each act of a client keeps what its lanes tell.
+-- Each single act of a client keeps what its lanes say of its trace: it sends the object home, a chunk, a Sync or an End, or
+-- takes an object or an empty chunk. The lemmas on whole acts with the quiet work after them (`ClientLogs`) stand on this. Only
+-- one object's lane goes on, by one of the moves of a lane; all others stay as they were.
 use Rattle.std.proofs.Common.{◌≡◌, ℕ, Bool, true, false, true≢false, if◌then◌else◌, ◌==◌, is_some, List, [], ◌∷◌, ◌++◌, refl, sym, ap, ap₂, ◌∙◌, subst, ◌⊎◌, inl, inr, ⊎_elim, append-nil, Option, Some, None}
 use Rattle.qs_objects.specs.Journals.{HeldState}
 use Rattle.qs_objects.specs.Parts.{part}

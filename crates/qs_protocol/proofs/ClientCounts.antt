@@ -1,4 +1,7 @@
--- What a client sent in its block so far, and what it will send still, counted by its tree.
+-- In a block the Syncs that a client has sent for an object, with those that its tree still asks for, are always the count of the
+-- whole trace, whatever replies come. The exact counts of the machine and of threads (`CoreCounting`, `HistoryCounts`) keep this
+-- with each act. What holds at each place is `CountAt`; each act keeps it, by cases on the place, and so does quiet work, by
+-- induction on the tree.
 use Rattle.std.proofs.Common.{◌≡◌, ℕ, suc, ◌+◌, nat_lt, Bool, true, false, if◌then◌else◌, ◌==◌, ◌&&◌, is_some, List, [], ◌∷◌, ◌++◌, length, refl, sym, ap, ◌∙◌, subst, ⊎_elim, append_assoc, append-nil, Option, Some, None, ℤ, arith}
 use Rattle.qs_objects.specs.Journals.{HeldState, run_one}
 use Rattle.qs_objects.specs.Parts.{command_event}

@@ -1,4 +1,7 @@
--- How a client stands in its block, and what its lanes tell of its trace.
+-- This file defines how a client stands in its block (`PlaceOk`, by its stage): what is left of its tree, what it has in hand,
+-- and what its lanes say of its trace. The proofs about clients, of the optimised machine and of threads, keep this with each
+-- act. For each object, all that was sent and got is a lane as its client sees it, which ends where the client stands to the
+-- object now.
 use Rattle.std.proofs.Common.{◌≡◌, ◌⊎◌, ℕ, Bool, true, false, if◌then◌else◌, ◌==◌, is_some, List, [], ◌∷◌, Option, Some, None}
 use Rattle.qs_objects.specs.Journals.{HeldState}
 use Rattle.qs_objects.specs.Parts.{part}

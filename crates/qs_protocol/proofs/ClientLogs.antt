@@ -1,4 +1,7 @@
--- A client that has done its act, with what it then did to its own values, keeps what its lanes tell.
+-- After each act of a client, and all the quiet work that follows it, the client still stands in its block as its lanes say. The
+-- machine's invariant and the tale of a client's whole run take this from here (`sends_ok`, `gets_ok`, `chunks_ok`, and
+-- `books_ok` where a block begins). The proof goes by cases on the client's stage and on what it has in hand: first the act, then
+-- the quiet work.
 use Rattle.std.proofs.Common.{◌≡◌, ℕ, suc, nat_lt, false, true≢false, List, [], ◌∷◌, ◌++◌, refl, sym, ap₂, subst, inl, Option, Some, None}
 use Rattle.qs_objects.specs.Journals.{HeldState}
 use Rattle.qs_objects.specs.declared.held.Ticket.{Ticket}

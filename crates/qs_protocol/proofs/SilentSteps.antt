@@ -1,4 +1,6 @@
--- All that a client does to its own values keeps what its lanes tell.
+-- All quiet work of a client keeps what its lanes say of its trace: it puts a command into the open chunk, runs a query on the
+-- object in hand, and passes a synchronisation that it may skip. The lemmas on acts with the quiet work after them (`ClientLogs`)
+-- stand on this. The proof is an induction on the block's tree, where each event is a move of one object's lane.
 use Rattle.std.proofs.Common.{◌≡◌, ℕ, Bool, true, false, true≢false, if◌then◌else◌, ◌==◌, ◌&&◌, is_some, List, [], ◌∷◌, ◌++◌, length, refl, sym, ap, ap₂, ◌∙◌, subst, ◌⊎◌, inl, inr, ⊎_elim, append_assoc, append-nil, Option, Some, None, ℤ}
 use Rattle.qs_objects.specs.Journals.{HeldState, run_one}
 use Rattle.qs_objects.specs.Laws.{IsCommand}

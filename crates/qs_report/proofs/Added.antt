@@ -1,4 +1,6 @@
--- The texts of graphs, part by part.
+-- When the text of one more block or client is added at the end, the whole is the text of those before it and of this one. The
+-- functions that write the graphs of a program, `put_block`, `put_blocks` and `graph_text`, stand on it. It takes the definition
+-- of the texts up to a number one number further, and joins what each step has added.
 use Rattle.std.proofs.Common.{◌≡◌, ℕ, ◌+◌, ◌<◌, List, [], ◌∷◌, ◌++◌, codes, length, flat_map, refl, ap, subst, ◌∙◌, append_assoc, add-one, arith}
 use Rattle.qs_program.specs.Program.{ProgramShape, block_at}
 use Rattle.qs_graph.specs.Graphs.{block_graph}

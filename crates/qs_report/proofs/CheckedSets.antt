@@ -1,4 +1,6 @@
--- What is held in a worked graph, by rows that are checked by computation.
+-- Whether a list of rows says rightly what is held at each node of a worked graph can be computed, when for each node a path is
+-- given that shows what is missing there. The worked texts of graphs stand on `checked_sets`. What a row says is held follows
+-- from a table that fits each edge, and what it says is missing follows from the path.
 use Rattle.std.proofs.Common.{◌≡◌, ℕ, Bool, true, false, inl, inr, List, [], ◌∷◌, length, map, get_or, Option, Some, None, refl, ◌∙◌}
 use Rattle.std.specs.Prelude.{◌&&◌, ◌||◌, ◌==◌, ◌↔◌, not}
 use Rattle.std.proofs.lemmas.Bool.{eqb-true, and_parts, or_cases, not-true, both_ways}

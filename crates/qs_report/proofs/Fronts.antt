@@ -1,4 +1,6 @@
--- Fronts of texts that are written in parts.
+-- When writing stops at a fault, what was written is a front of the whole text, also where the text is written in parts. The
+-- functions `write_text` and `write_texts` promise this. The parts that were written whole are joined with the front of the part
+-- at which the writing stopped.
 use Rattle.std.proofs.Common.{◌≡◌, ℕ, suc, ◌<◌, ◌-◌, List, ◌∷◌, ◌++◌, length, take, drop, get_or, Option, sym, ap, subst, ◌∙◌, append_assoc, take-append-drop, flat_map}
 use Rattle.std.proofs.Math.Seq.{split_at}
 use Rattle.std.proofs.lemmas.List.{take_rest}

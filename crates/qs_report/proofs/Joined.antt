@@ -1,4 +1,6 @@
--- Texts by their places.
+-- A text that is written piece by piece is, after one more piece, the text of the pieces up to there, also where a space stands
+-- between two values. The loops that write nodes, states, orders and traces stand on it. The list of pieces is taken one further,
+-- and for values with spaces it goes by induction on their number.
 use Rattle.std.proofs.Common.{◌≡◌, ℕ, zero, suc, ◌+◌, ◌<◌, ◌≤◌, List, [], ◌∷◌, ◌++◌, codes, length, take, get_or, flat_map, refl, sym, ap, ◌∙◌, append_assoc, append-nil, add-one, arith, ℤ, pos, false, nat_eq}
 use Rattle.std.proofs.lemmas.Bool.Decides.{nat_tests}
 use Rattle.std.specs.Fmt.{signed_decimal}

@@ -1,4 +1,6 @@
--- The lines of a block's synchronisations, by their objects and their counts.
+-- When the line of one more object with its count of synchronisations is written, the text has the lines of the objects up to
+-- there. The loop of `put_syncs`, which goes through the objects and their counts side by side, stands on it. The object and its
+-- count stand at one index of the rows, and then one more piece of the text is done.
 use Rattle.std.proofs.Common.{◌≡◌, ℕ, ◌<◌, ◌+◌, List, [], ◌∷◌, ◌++◌, flat_map, length, map, take, ap, ap₂, ◌∙◌, get_or, sym, arith}
 use Rattle.std.proofs.lemmas.List.{get_or-map, length-append, length-map}
 use Rattle.qs_program.specs.Program.{ProgramShape}

@@ -1,4 +1,6 @@
--- A program has one text of its graphs.
+-- A sound program has just one text of its graphs, although the definition lets the held sets be any that fit. The law on graph
+-- texts, `GraphTextsAreUnique`, is proved here. What is held at a node is fixed by the graph, so each line is fixed, and then it
+-- goes by induction on the lines, the blocks and the clients.
 use Rattle.std.proofs.Common.{◌≡◌, ℕ, zero, suc, ◌<◌, Bool, true, false, if◌then◌else◌, List, [], ◌∷◌, ◌++◌, codes, decimal, length, refl, sym, ap, ap₂, ◌∙◌, arith}
 use Rattle.std.specs.List.{AllByRecursion, filter}
 use Rattle.qs_objects.proofs.Elements.{AllByRecursion-get_or}

@@ -1,4 +1,6 @@
--- Worked texts of graphs, by what is held at each node.
+-- The texts of graphs that were worked out by hand for some small programs are those of the definition. The law on these
+-- examples, `GraphTextExamples`, is proved here. For each graph it gives what is held at each node, with paths that show what is
+-- missing; this is checked by computing, and so are the texts.
 use Rattle.std.proofs.Common.{◌≡◌, ℕ, zero, suc, List, [], ◌∷◌, ◌++◌, Bool, true, false, Option, Some, None, refl}
 use Rattle.std.specs.Fmt.{digits}
 use Rattle.qs_program.specs.Program.{BlockShape, ProgramShape}

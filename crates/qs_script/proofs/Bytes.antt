@@ -1,4 +1,6 @@
--- A text has no more tokens than bytes.
+-- A text has at least a byte for each of its tokens, so a script has fewer statements than its text has bytes. The law that
+-- bounds the statements of a script is proved here. It goes by induction on the bytes, each of which adds at most one token,
+-- where a token that has begun and is not over is counted already.
 use Rattle.std.proofs.Common.{◌≡◌, ℕ, ◌≤◌, ◌<◌, ◌+◌, Bool, true, false, if◌then◌else◌, List, [], ◌∷◌, ◌++◌, length, ap, arith, Option, Some, None, Result, Ok, Err, length-append, nat_eq, nat_lt}
 use Rattle.qs_script.specs.declared.token.Token.{Token}
 use Rattle.qs_script.specs.declared.tree.Item.{Item}

@@ -1,4 +1,6 @@
--- Whatever is in the grammar is read.
+-- Whatever is a script by the grammar is read, and so a list of tokens has at most one tree. The promise of the reader that it
+-- refuses no script stands on it. It goes by induction on the tree; the first token of each part tells it from all others, and
+-- each part takes a token, so that the loops have steps enough.
 use Rattle.std.proofs.Common.{◌≡◌, ℕ, zero, suc, ◌<◌, inl, inr, List, [], ◌∷◌, length, refl, ap, sym, ◌∙◌, arith, Option, Some, None}
 use Rattle.qs_script.specs.declared.token.Token.{Token}
 use Rattle.qs_script.specs.declared.token.Token.TheVariants as t

@@ -1,4 +1,6 @@
--- How many tokens a tree takes: at least one for each of its statements.
+-- A tree takes at least one token for each of its statements, and what follows a part of it is shorter than what the part began
+-- with. The proof that all scripts are read needs this for the end of its loops, and so does the bound on statements by bytes. It
+-- goes by induction on the tree.
 use Rattle.std.proofs.Common.{ℕ, zero, suc, ◌<◌, ◌≤◌, ◌+◌, inl, inr, List, [], ◌∷◌, length, arith}
 use Rattle.qs_script.specs.declared.token.Token.{Token}
 use Rattle.qs_script.specs.declared.token.Token.TheVariants as t

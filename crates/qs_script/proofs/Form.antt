@@ -1,4 +1,6 @@
--- What the grammar has is formed: each body stands one level deeper than its statement.
+-- Whatever is a script by the grammar has its form: each block reserves at least one object, and its statements are nested no
+-- deeper than the limit. The function `script` promises this of the items that it reads. It goes by induction on the statements,
+-- since the grammar counts one level less for each body.
 use Rattle.std.proofs.Common.{ℕ, zero, suc, ◌<◌, ◌≤◌, List, [], ◌∷◌, length, arith}
 use Rattle.std.specs.List.{AllByRecursion}
 use Rattle.qs_script.specs.declared.token.Token.{Token}

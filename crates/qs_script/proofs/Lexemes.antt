@@ -1,4 +1,6 @@
--- What stands at the front of a text.
+-- The first token of a text is what stands at its front, a name, digits, a comment or a sign, and the other tokens are those of
+-- the rest of the text. The functions that cut off one token, such as `front_word` and `front_number`, stand on it. The
+-- definition goes byte by byte, so the proof goes by induction on the bytes that belong to the token.
 use Rattle.std.proofs.Common.{◌≡◌, ◌≢◌, ℕ, ◌+◌, ◌<◌, get_or, ◌||◌, nat_eq, not, ◌≤◌, Bool, true, false, if◌then◌else◌, List, [], ◌∷◌, ◌++◌, length, take, drop, refl, ap, sym, ◌∙◌, append_assoc, append-nil, one-add, All, IsTrue, Option, Some, None, Result, Ok, Err, arith}
 use Rattle.std.proofs.lemmas.List.Elements.{All-cons, All-nil}
 use Rattle.qs_script.specs.declared.token.Token.{Token}

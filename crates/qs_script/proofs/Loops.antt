@@ -1,4 +1,6 @@
--- Lists that are read element by element.
+-- A loop that reads one element after another, up to a token that stops it, reads what the definition of the list says. The
+-- functions that read arguments, names, blocks, statements and items stand on it. Their invariant is `Continues`: what is done,
+-- joined with what the rest is read as, is what the whole is read as.
 use Rattle.std.proofs.Common.{◌≡◌, ℕ, zero, suc, ◌<◌, List, [], ◌∷◌, ◌++◌, length, refl, ap, sym, ◌∙◌, arith, append_assoc, append-nil, Option, Some, None}
 use Rattle.qs_script.specs.declared.token.Token.{Token}
 use Rattle.qs_script.specs.declared.fault.Fault.{Fault}

@@ -1,4 +1,6 @@
--- What is read of a text.
+-- A text belongs to at most one script, and a text that belongs to one is refused only where memory runs out. The contract of
+-- `read` and the worked examples stand on it. It joins the two directions that are proved of the grammar: whatever is read is a
+-- script, and every script is read.
 use Rattle.std.proofs.Common.{◌≡◌, ℕ, ◌≤◌, List, [], length, refl, sym, subst, arith, Option, Some, None, Result, Ok, Err, true}
 use Rattle.qs_script.specs.declared.token.Token.{Token}
 use Rattle.qs_script.specs.declared.tree.Item.{Item}

@@ -1,4 +1,6 @@
--- Sizes and suffixes of lists of statements, for recursions over their slices.
+-- A list of statements is the statement at an index joined with those after it, and no statement is larger than its list. By this
+-- the check's functions that go down into bodies come to an end, and their loops keep what they have so far. It goes by induction
+-- on the list.
 use Rattle.std.proofs.Common.{◌≡◌, ℕ, zero, suc, ◌+◌, ◌<◌, ◌≤◌, List, [], ◌∷◌, length, get_or, drop, refl, ap, arith, add-one, sym, ◌∙◌}
 use Rattle.std.proofs.Math.Seq.{drop-cons}
 use Rattle.qs_script.specs.declared.tree.Stmt.{Stmt}

@@ -1,4 +1,6 @@
--- Whatever is read is in the grammar.
+-- Whatever the definition of the reader makes of a list of tokens is a script by the grammar. The promise of the reader that its
+-- result belongs to the text stands on `items_sound`. There is a lemma for each construct of the language; the lists go by
+-- induction on the steps of their loop, and bodies by induction on the levels that are left.
 use Rattle.std.proofs.Common.{◌≡◌, ℕ, zero, suc, inl, inr, List, [], ◌∷◌, ◌++◌, length, refl, ap, sym, ◌∙◌, Option, Some, None, subst, neg_ℤ, pos}
 use Rattle.qs_script.specs.declared.token.Token.{Token}
 use Rattle.qs_script.specs.declared.token.Token.TheVariants as t

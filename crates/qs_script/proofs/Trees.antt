@@ -1,4 +1,6 @@
--- Lists of statements, one after another.
+-- Lists of statements can be joined in any grouping, the empty list changes nothing, and a statement that is pushed to a list is
+-- joined to its end. The loops of the reader stand on the first two, and the proof of `push` on the third. Each goes by induction
+-- on the list.
 use Rattle.std.proofs.Common.{◌≡◌, List, [], ◌∷◌, ◌++◌, refl, ap}
 use Rattle.qs_script.specs.declared.tree.Stmt.{Stmt}
 use Rattle.qs_script.specs.declared.tree.Stmt.TheVariants.{Command, Query, Assign, If, IfElse, Repeat, Leave}

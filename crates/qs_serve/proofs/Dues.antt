@@ -1,4 +1,6 @@
--- What is due where memory runs out, and where the status is that of a failed read.
+-- Out of memory is always a due answer, the status 4 is due only after a read has failed, and the report of a run is due where
+-- the line asked for that run. The function `serve` and those that find what is due stand on it. Each goes by cases on what the
+-- line asks for and on the answer.
 use Rattle.std.proofs.Common.{◌≡◌, ◌⊎◌, ℕ, Bool, List, Option, Ok, true, false, refl, sym, subst, inl, inr}
 use Rattle.qs_program.specs.Program.{ProgramShape}
 use Rattle.qs_core_laws.specs.CoreSchedule.{IsPlayedIn}

@@ -1,4 +1,6 @@
--- Bits of a byte that stands for a set of handlers.
+-- A byte stands for a set of handlers: setting a bit adds one, clearing it removes one, and a set that shrinks has fewer. The
+-- computation of held sets works on such bytes, and it comes to an end because the sets shrink. It goes by cases on whether two
+-- bits are the same, and counts the eight bits by induction.
 use Rattle.std.proofs.Common.{◌≡◌, ◌≢◌, ℕ, zero, suc, ◌-◌, ◌*◌, ◌%◌, ◌<◌, ◌≤◌, ◌^◌, ◌⊎◌, inl, inr, true, false, get_or, refl, sym, ap, subst, ◌∙◌, arith, bit_and, bit_or, min, w8}
 use Rattle.std.specs.Prelude.{◌&&◌, ◌==◌}
 use Rattle.std.specs.Int.{bit_at}

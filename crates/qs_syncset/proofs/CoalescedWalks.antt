@@ -1,4 +1,6 @@
--- Walks through a graph whose held synchronisations are removed.
+-- A walk through a coalesced graph ends within as many nodes, says the same but for synchronisations, and each query in it is
+-- still on an object that is held. The proofs on a client's code stand on `reduced`. It goes by induction on the nodes that the
+-- walk may take, and the path behind it shows that a removed synchronisation was not needed.
 use Rattle.std.proofs.Common.{◌≡◌, ◌⊎◌, inl, inr, ℕ, zero, suc, ◌<◌, true, List, ◌∷◌, length, refl, sym, ap, ◌∙◌, subst}
 use Rattle.std.proofs.Math.Path.{fun_ext}
 use Rattle.std.proofs.lemmas.Bool.{cases_eq}

@@ -1,4 +1,6 @@
--- Walks through the graphs of a code.
+-- Walks through the graphs of a client's code end within the limit, say the block's tree but for synchronisations, and make each
+-- query on an object that is held. The proofs on clients, on their threads and on the optimised machine begin from it. It goes by
+-- cases on whether the mode coalesces, since then the graph is the coalesced one.
 use Rattle.std.proofs.Common.{◌≡◌, inl, inr, ℕ, suc, ◌<◌, ◌≤◌, Bool, true, false, List, [], ◌∷◌, length, get_or, refl, sym, ap, ◌∙◌, subst, arith}
 use Rattle.std.specs.List.{AllByRecursion}
 use Rattle.qs_objects.proofs.Elements.{AllByRecursion-get_or}

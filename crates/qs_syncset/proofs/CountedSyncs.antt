@@ -1,4 +1,6 @@
--- What a client sends along the tree of a code, counted by the trace and by the graph.
+-- In each mode, the number of Syncs that a client sends for an object in a block is the one that the trace and the graph say. The
+-- proofs that machines and threads count rightly stand on it. It goes by cases on the mode, of which each begins from the block's
+-- tree with all its synchronisations; and counts at nodes outside the graph make no difference.
 use Rattle.std.proofs.Common.{◌≡◌, ◌⊎◌, inl, inr, ℕ, zero, suc, ◌+◌, ◌<◌, ◌≤◌, Bool, true, false, ◌==◌, ◌&&◌, if◌then◌else◌, List, [], ◌∷◌, length, map, replicate, slice_index_or, slice_set, refl, sym, ap, ◌∙◌, subst, arith}
 use Rattle.std.specs.Prelude.{◌↔◌, nat_lt, not}
 use Rattle.std.specs.List.{range_with_len}

@@ -1,4 +1,5 @@
--- What a move of a walk does to what is held, and what is said after it.
+-- A move of a walk changes what is held just as its node does, and what is said after it depends only on what is said from the
+-- next spots. The proofs on walks through coalesced graphs go one move on by these lemmas. Each goes by cases on the move.
 use Rattle.std.proofs.Common.{◌≡◌, ℕ, true, false, List, refl, ap}
 use Rattle.std.proofs.Math.Path.{fun_ext}
 use Rattle.qs_meaning.specs.Solo.{put}

@@ -1,4 +1,6 @@
--- What is held along a path, and what all paths agree on.
+-- An object is held along a path exactly where a synchronisation with it stands on the path and no call of it comes after that.
+-- The proofs on the computed sets and on worked graphs stand on it, and on `held_is`: what is passed on along all edges, and
+-- missing only where some path shows it, is what is held. Both go by induction on the path.
 use Rattle.std.proofs.Common.{◌≡◌, ◌≢◌, ℕ, ◌<◌, inl, inr, Bool, true, false, ◌==◌, List, [], ◌∷◌, ◌++◌, refl, sym, ap, ◌∙◌, subst}
 use Rattle.std.proofs.lemmas.Bool.{cases_eq, eq-eqb, ne_eqb}
 use Rattle.std.specs.List.{AllByRecursion}

@@ -1,4 +1,6 @@
--- Syncs along a tree with synchronisations are queries, or runs of queries.
+-- In a block's tree each synchronisation stands directly before a query of its object, so the Syncs sent along a trace are its
+-- queries, or its runs of queries where the client tests what it holds. The counts of all modes begin from this. It goes by
+-- induction on the statements for the form of the tree, and on the tree along the trace for the counts.
 use Rattle.std.proofs.Common.{◌≡◌, ◌≤◌, ◌+◌, arith, ℕ, zero, suc, ℤ, Bool, true, false, if◌then◌else◌, ◌==◌, ◌&&◌, List, [], ◌∷◌, filter, length, slice_set, refl, sym, ap, ◌∙◌, subst}
 use Rattle.qs_objects.specs.Operations.{is_query}
 use Rattle.qs_objects.specs.Parts.{part}

@@ -1,4 +1,6 @@
--- What is held at the nodes of a worked graph, by a table.
+-- A table that says for each node whether a handler is held there is right where it fits each edge of the graph. The worked
+-- examples of graphs stand on it, because such a fit can be computed while the paths are without end. It goes by induction on the
+-- path: what the table says is held at a node is held along each path to it.
 use Rattle.std.proofs.Common.{◌≡◌, ℕ, zero, suc, ◌+◌, ◌<◌, inl, inr, Bool, true, false, List, [], ◌∷◌, length, get_or, Option, Some, None, refl, sym, ap, ◌∙◌, subst, arith}
 use Rattle.std.specs.Prelude.{◌&&◌, ◌||◌, not}
 use Rattle.qs_graph.specs.Nodes.{GraphNode, place_at, exit}

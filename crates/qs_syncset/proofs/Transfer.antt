@@ -1,4 +1,6 @@
--- What passing on along an edge keeps of what is known of the nodes.
+-- When a set is passed along an edge, all that was known of the nodes stays true: what is reached has a path, and what is missing
+-- at a node is missing along some path to it. The proofs on a visit of a node stand on it. It goes by cases on whether a node is
+-- the one at which the set arrives.
 use Rattle.std.proofs.Common.{◌≡◌, ◌≢◌, ℕ, ◌<◌, ◌/◌, ◌^◌, inl, inr, Bool, true, false, List, [], length, get_or, set, sym, ap, subst, ◌∙◌, arith, bit_and}
 use Rattle.std.specs.Prelude.{◌&&◌, ◌==◌}
 use Rattle.std.proofs.lemmas.Bool.{and_cases, and_parts, cases_eq, cases_lt}

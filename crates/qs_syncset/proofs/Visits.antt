@@ -1,4 +1,6 @@
--- What a visit of a node keeps of what is known, and what it costs; and how the pass begins and ends.
+-- A visit passes a node's set on along its edges, keeps what is known true, leaves every other node settled, and uses up at most
+-- its share of the turns. The proofs of `visit`, `run` and `held_sets_counted` stand on it, from the beginning of the computation
+-- to its end. It goes edge by edge, with cases on whether the set that arrives changes anything.
 use Rattle.std.proofs.Common.{◌≡◌, ◌≢◌, ℕ, zero, suc, ◌+◌, ◌*◌, ◌<◌, ◌≤◌, ◌^◌, ◌⊎◌, inl, inr, Bool, true, false, List, [], ◌∷◌, ◌++◌, length, get_or, set, take, replicate, Some, refl, sym, ap, subst, ◌∙◌, arith, bit_and}
 use Rattle.std.specs.Prelude.{◌==◌, All, Contains}
 use Rattle.std.proofs.lemmas.Bool.{cases_eq, cases_lt}

@@ -1,4 +1,6 @@
--- What is held in worked graphs.
+-- In some small graphs it is known by hand which handlers are held at which nodes, and the definition says the same. The law on
+-- these examples, `HeldExamples`, is proved here, and the examples on Syncs use it too. A table that is checked by computing
+-- shows what is held, and a single path shows what is not.
 use Rattle.std.proofs.Common.{◌≡◌, inl, inr, true, false, [], ◌∷◌, Some, None, refl}
 use Rattle.qs_graph.specs.Graphs.{block_graph}
 use Rattle.qs_graph.specs.GraphExamples.{query_in_repeat, leave_first, two_bodies}

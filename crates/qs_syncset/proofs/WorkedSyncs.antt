@@ -1,4 +1,6 @@
--- The Syncs of worked blocks.
+-- In some small blocks the Syncs were counted by hand for each mode, and the definitions give the same numbers. The law on these
+-- examples, `SyncExamples`, is proved here. Each coalesced graph is found node by node, with a table for what is held and a path
+-- for what is not; then the walks are computed.
 use Rattle.std.proofs.Common.{inl, inr, true, false, [], ◌∷◌, Some, refl}
 use Rattle.qs_graph.specs.Graphs.{block_graph}
 use Rattle.qs_graph.specs.Steps.{limit}
