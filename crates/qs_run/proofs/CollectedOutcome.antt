@@ -24,15 +24,15 @@ use Rattle.qs_run.proofs.ShownOutcome.{have_rows, outcome, short}
 use Rattle.qs_run.proofs.CollectedRun.{IsCollected}
 
 -- what these lists show is an outcome, and it can be shown
-pub record IsShowable (p : ProgramShape) (mode : Mode) (order : List Ticket) (rows : List ClientRows) (journals : List (List Entry)) (states : List State) : Type 0 where
+pub record IsShowable (p : ProgramShape) (mode : Mode) (size : ℕ) (order : List Ticket) (rows : List ClientRows) (journals : List (List Entry)) (states : List State) : Type 0 where
   pub few : length order ≤ most_tickets
   pub rows_there : HaveRows rows order
   pub short_rows : AreCountsShort rows order
-  pub is_outcome : IsOutcome p mode (shown_when_over order rows journals states)
+  pub is_outcome : IsOutcome p mode size (shown_when_over order rows journals states)
 
 module _ {D : Type 0} (p : ProgramShape) (sound : IsSound p) (mode : Mode) (size : ℕ) (handlers : List (HandlerWorker D)) (clients : List (ClientWorker D))
     (ran : HaveRun p mode size handlers clients) where
-  by_collected : (order : List Ticket) → IsCollected p order handlers clients → IsShowable p mode order (map worker_rows clients) (map worker_journal handlers) (map worker_state handlers)
+  by_collected : (order : List Ticket) → IsCollected p order handlers clients → IsShowable p mode size order (map worker_rows clients) (map worker_journal handlers) (map worker_state handlers)
   by_collected order joined = record {
     few = orders.short p order sound joined.legal;
     rows_there = have_rows p sound mode size order handlers clients ran joined;
@@ -46,7 +46,7 @@ module _ {D : Type 0} (p : ProgramShape) (sound : IsSound p) (mode : Mode) (size
       → old ≡ handlers → after ≡ before → last ≡ after → left ≡ map (without_lanes_below n) old
       → AllByRecursion (IsBooked before.history) clients → AreAllJoined old clients → AllByRecursion (HasTakenAll p after.history) left
       → order ≡ last.history → IsLegal p last.history → rows ≡ map worker_rows clients → journals ≡ map worker_journal left → states ≡ map worker_state left
-      → IsShowable p mode order rows journals states
+      → IsShowable p mode size order rows journals states
   all_showable before after last old left n order rows journals states old_is after_is last_is left_is booked joined taken_all order_is legal rows_are journals_are states_are =
       let desk : last ≡ before = last_is ∙ after_is in
       let left_of : left ≡ map (without_lanes_below n) handlers = left_is ∙ ap (map (without_lanes_below n)) old_is in
@@ -55,5 +55,5 @@ module _ {D : Type 0} (p : ProgramShape) (sound : IsSound p) (mode : Mode) (size
       let orders_are : order ≡ before.history = order_is ∙ ap (λ (d : DeskView). d.history) desk in
       let journals_of : journals ≡ map worker_journal handlers = journals_are ∙ (ap (map worker_journal) left_of ∙ journals_still n handlers) in
       let states_of : states ≡ map worker_state handlers = states_are ∙ (ap (map worker_state) left_of ∙ states_still n handlers) in
-      subst (λ (q : List Ticket × (List ClientRows × (List (List Entry) × List State))). IsShowable p mode q.0 q.1.0 q.1.1.0 q.1.1.1)
+      subst (λ (q : List Ticket × (List ClientRows × (List (List Entry) × List State))). IsShowable p mode size q.0 q.1.0 q.1.1.0 q.1.1.1)
       (λ i. (sym orders_are i, (sym rows_are i, (sym journals_of i, sym states_of i)))) (by_collected before.history all)

@@ -80,13 +80,13 @@ module _ {D : Type 0} (p : ProgramShape) (sound : IsSound p) (mode : Mode) (size
         finished = true;
       }
 
-  law : IsOutcome p mode (shown_by p r)
+  law : IsOutcome p mode size (shown_by p r)
   law =
       runs_have_outcomes p sound mode (code p sound mode size order handlers clients ran joined) (codes p sound mode size order handlers clients ran joined) size r
       (threads_run p sound mode size order handlers clients ran joined)
 
-  pub outcome : IsOutcome p mode (shown_when_over order rows (map worker_journal handlers) (map worker_state handlers))
-  outcome = subst (IsOutcome p mode) (sym shown_are) law
+  pub outcome : IsOutcome p mode size (shown_when_over order rows (map worker_journal handlers) (map worker_state handlers))
+  outcome = subst (IsOutcome p mode size) (sym shown_are) law
 
   pub have_rows : HaveRows rows order
   have_rows i d few =

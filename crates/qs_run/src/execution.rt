@@ -35,7 +35,7 @@ fn run_ready_workers<D: DeskName + Send + Sync, G: Gate, R: Threads + Wait + Syn
     requires sound { IsSound D.program }
     requires unclosed { desk.closed ≡ false }
     requires ready { AreReady D.program mode size handlers.items clients.items }
-    ensures outcome { IfOk result (IsOutcome D.program mode) }
+    ensures outcome { IfOk result (IsOutcome D.program mode size) }
 {
     let room = OutcomeRoom::new(alloc)?;
     let handlers_room = Vec::with_capacity(alloc, handlers.len())?;
@@ -68,7 +68,7 @@ fn run_parts<D: DeskName + Send + Sync, G: Gate, R: Threads + Wait + Sync>(
     requires name { (D.program ≡ raw.program) × (D.queues ≡ raw.queues) × (D.ledgers ≡ raw.ledgers) }
     requires sound { IsSound raw.program }
     requires parts { AreRunParts raw.program mode size parts }
-    ensures outcome { IfOk result (IsOutcome raw.program mode) }
+    ensures outcome { IfOk result (IsOutcome raw.program mode size) }
 {
     let DeskParts {
         desk,
@@ -93,7 +93,8 @@ fn run_parts<D: DeskName + Send + Sync, G: Gate, R: Threads + Wait + Sync>(
 /// gate is passed on a handler's own thread as the handler begins each ticket. Waits for all threads, so it returns only if each of them
 /// ends.
 ///
-/// Whatever the threads did at once, the outcome shows what the blocks do alone, one after another along the order of reservations.
+/// Whatever the threads did at once, the outcome shows what the blocks do alone, one after another along the order of reservations. It is
+/// the outcome of threads that were compiled in this mode and whose chunks have this size.
 pub fn execute<G: Gate, R: Threads + Wait + Sync>(
     rt: &R,
     alloc: Global,
@@ -102,7 +103,7 @@ pub fn execute<G: Gate, R: Threads + Wait + Sync>(
     size: ChunkSize,
     gate: &G,
 ) -> Result<Outcome, RunFault>
-    ensures outcome { IfOk result (IsOutcome program.now mode) }
+    ensures outcome { IfOk result (IsOutcome program.now mode size) }
 {
     program.is_sound();
     let raw = RawDesk::new(alloc, program)?;

@@ -200,7 +200,7 @@ bank_is_run = record {
 bank_codes : AreCodes bank modes.Plain (example_code false bank)
 bank_codes = built_codes bank false modes.Plain refl refl
 
-bank_outcome : IsOutcome bank modes.Plain (shown_by bank bank_run)
+bank_outcome : IsOutcome bank modes.Plain 8 (shown_by bank bank_run)
 bank_outcome = runs_have_outcomes bank bank_sound modes.Plain (example_code false bank) bank_codes 8 bank_run bank_is_run
 
 pub bank_example : OutcomeExamples

@@ -163,8 +163,9 @@ module _ (p : ProgramShape) (sound : IsSound p) (mode : Mode) (code : ℕ → Cl
   unfolding AreSyncsCounted
   counted = record { all = refl; each = reservation_counted }
 
-  pub has_outcome : IsOutcome p mode (shown_by p r)
+  pub has_outcome : IsOutcome p mode size (shown_by p r)
   has_outcome = record {
+    by_threads = (code, r, codes, run, refl);
     legal = run.legal;
     once = λ t few. among_once t r.order (legal_apart p (λ _. 0) r.order run.legal) (every p sound mode code codes size r run t few);
     entries = entries;

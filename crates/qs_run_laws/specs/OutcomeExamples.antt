@@ -171,7 +171,7 @@ pub record OutcomeExamples : Type 0 where
   pub codes : AreCodes bank modes.Plain (example_code false bank)
   pub run : IsThreadRun bank (example_code false bank) 8 bank_run
   -- and what it says, computed
-  pub outcome : IsOutcome bank modes.Plain (shown_by bank bank_run)
+  pub outcome : IsOutcome bank modes.Plain 8 (shown_by bank bank_run)
   pub replies : map (map (λ (e : Event). e.reply)) (map (trace_by bank_run) bank_run.order)
       ≡ (None ∷ None ∷ some 70 ∷ some 130 ∷ []) ∷ (None ∷ []) ∷ (None ∷ some 131 ∷ []) ∷ []
   pub syncs : map (counts_by bank_run) bank_run.order ≡ (sync_count 0 1 ∷ sync_count 1 1 ∷ []) ∷ (sync_count 0 0 ∷ []) ∷ (sync_count 1 1 ∷ []) ∷ []

@@ -20,11 +20,18 @@ use Rattle.qs_run_laws.specs.ThreadRuns.{IsThreadRun, ThreadRun, shown_by}
 abbrev pub part_at : ℕ → SerialBlock → List Entry
 part_at h q = map (stamp q.ticket) (part h q.trace)
 
+-- What is shown is what threads have shown that ran this program, compiled in this mode, with chunks of this size.
+abbrev pub IsShownByThreads : ProgramShape → Mode → ℕ → Played → Type 0
+IsShownByThreads p mode size o =
+    (code : ℕ → ClientCode) × (r : ThreadRun) × AreCodes p mode code × IsThreadRun p code size r × (o ≡ shown_by p r)
+
+-- Threads that were compiled in this mode and had chunks of this size have shown it.
 -- The order is legal, and each block of the program stands in it exactly once. The variables at entry and the traces are those of the serial
 -- run of that order; each object's journal is the serial run's requests on it, one ticket after another, and its state is the one that
 -- the serial run leaves. Each block has ended, and the run is finished; so it is isolated with nothing on its way, and its
 -- synchronisations are the exact counts of its mode.
-pub record IsOutcome (p : ProgramShape) (mode : Mode) (o : Played) : Type 0 where
+pub record IsOutcome (p : ProgramShape) (mode : Mode) (size : ℕ) (o : Played) : Type 0 where
+  pub by_threads : IsShownByThreads p mode size o
   pub legal : IsLegal p o.order
   pub once : (t : Ticket) → t.index < blocks_of p t.client → length (filter (same t) o.order) ≡ 1
   pub entries : o.entries ≡ map (λ (q : SerialBlock). q.entry) (serial p o.order).places
@@ -41,4 +48,4 @@ pub record IsOutcome (p : ProgramShape) (mode : Mode) (o : Played) : Type 0 wher
 abbrev pub ThreadRunsHaveOutcomes : Type 0
 ThreadRunsHaveOutcomes =
     (p : ProgramShape) → IsSound p → (mode : Mode) (code : ℕ → ClientCode) → AreCodes p mode code → (size : ℕ) (r : ThreadRun)
-    → IsThreadRun p code size r → IsOutcome p mode (shown_by p r)
+    → IsThreadRun p code size r → IsOutcome p mode size (shown_by p r)

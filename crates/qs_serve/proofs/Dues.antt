@@ -66,7 +66,7 @@ due_by_play counts p mode size picks rounds played (Text bytes) shows is = inr (
 due_by_play counts p mode size picks rounds played (Refused f) shows is = inl (subst (λ g. IsOutOfMemory (Refused g)) (sym is) tt)
 
 pub due_by_run : (counts : Bool) (p : ProgramShape) (mode : Mode) (size : ℕ) (outcome : Played) (due : Due)
-    → IsOutcome p mode outcome → IsReportOf counts p outcome due → IsOutOfMemory due ⊎ IsDueOfProgram (run counts mode size) p due
+    → IsOutcome p mode size outcome → IsReportOf counts p outcome due → IsOutOfMemory due ⊎ IsDueOfProgram (run counts mode size) p due
 due_by_run counts p mode size outcome (Text bytes) shows is = inr (outcome, shows, is)
 due_by_run counts p mode size outcome (Refused f) shows is = inl (subst (λ g. IsOutOfMemory (Refused g)) (sym is) tt)
 

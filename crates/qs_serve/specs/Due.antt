@@ -66,7 +66,7 @@ IsTextBy (rules counts rounds picks) p text =
     (played : Played) × IsPlayed p picks rounds (Ok played) × (text ≡ run_text counts p played)
 IsTextBy (play counts mode size rounds picks) p text =
     (played : Played) × IsPlayedIn p mode size picks rounds (Ok played) × (text ≡ run_text counts p played)
-IsTextBy (run counts mode size) p text = (outcome : Played) × IsOutcome p mode outcome × (text ≡ run_text counts p outcome)
+IsTextBy (run counts mode size) p text = (outcome : Played) × IsOutcome p mode size outcome × (text ≡ run_text counts p outcome)
 
 -- why what a request asks for is not played
 abbrev pub IsUnplayedBy : Request → ProgramShape → PlayFault → Type 0

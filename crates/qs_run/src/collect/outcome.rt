@@ -27,7 +27,7 @@ pub(crate) fn collect_outcome<D: DeskName>(
     requires closed { results.desk.closed ≡ true }
     requires sound { IsSound D.program }
     requires ran { HaveRun D.program mode size results.handlers.items results.clients.items }
-    ensures outcome { IsOutcome D.program mode result }
+    ensures outcome { IsOutcome D.program mode size result }
 {
     let _ = mode;
     let _ = size;

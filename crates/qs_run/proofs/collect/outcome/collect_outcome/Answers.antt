@@ -35,7 +35,7 @@ handlers_left g c =
     with_items_is c.args.results.handlers c.collect_clients-rows.new.handlers (many ∙ sym c.args.results.handlers.ok.0) ∙ taken
 
 what_is_shown : (g : Over) (c : goal.After-into_order g)
-    → IsShowable g.D.DeskName.program c.args.mode c.into_order.result.items c.collect_clients-rows.result.items c.collect_handlers-journals.result.0.items
+    → IsShowable g.D.DeskName.program c.args.mode c.args.size c.into_order.result.items c.collect_clients-rows.result.items c.collect_handlers-journals.result.0.items
     c.collect_handlers-journals.result.1.items
 what_is_shown g c =
     all_showable g.D.DeskName.program c.requires.sound c.args.mode c.args.size c.args.results.handlers.items c.args.results.clients.items c.requires.ran
@@ -58,5 +58,5 @@ shown_outcome-requires-clause-short g c = (what_is_shown g c).short_rows
 
 pub returns : goal.returns
 returns g c = record {
-  outcome = subst (IsOutcome g.D.DeskName.program c.args.mode) (sym c.shown_outcome.ensures.shown) (what_is_shown g c.before).is_outcome;
+  outcome = subst (IsOutcome g.D.DeskName.program c.args.mode c.args.size) (sym c.shown_outcome.ensures.shown) (what_is_shown g c.before).is_outcome;
 }
