@@ -9,3 +9,5 @@ pub mod CollectedWorkers
 pub mod CollectedRun
 pub mod ShownOutcome
 pub mod CollectedOutcome
+pub mod StartAnswers
+pub mod ReversedPairs

@@ -1,3 +1,4 @@
 pub mod Workers
 pub mod Prepared
 pub mod Collected
+pub mod Starts

@@ -1,7 +1,7 @@
 -- What a worker begins with and what it gives back, and all workers of a program before and after a run. A worker is a client or a handler with
 -- what its thread needs: a client has its mind and its share of the desk, a handler its object and its queue of tickets, and both have
 -- their ends of lanes.
-use Rattle.std.specs.Prelude.{◌≡◌, ◌<◌, ℕ, true, List, [], length, Option, Some, None, IsSome, slice_get}
+use Rattle.std.specs.Prelude.{◌≡◌, ◌<◌, ℕ, Bool, true, false, List, [], length, Option, Some, None, IsSome, Result, Ok, Err, slice_get}
 use Rattle.std.specs.List.{AllZip}
 use Rattle.qs_objects.specs.Journals.{HeldState}
 use Rattle.qs_objects.specs.declared.held.Ticket.{Ticket}
@@ -23,6 +23,11 @@ use Rattle.qs_desk.specs.Tickets.{ticket}
 use Rattle.qs_lane.specs.Views.{InView, OutView}
 use Rattle.qs_run.specs.declared.worker.ClientWorker.{ClientWorker}
 use Rattle.qs_run.specs.declared.worker.HandlerWorker.{HandlerWorker}
+
+-- A worker's thread that was let go has done its work, and one that was not gives its worker back as it was.
+abbrev pub HasFollowed : {W : Type 0} → (W → W → Type 0) → (go : Bool) → W → Result W W → Type 0
+HasFollowed HasWorked go before (Ok after) = (go ≡ true) × HasWorked before after
+HasFollowed HasWorked go before (Err after) = (go ≡ false) × (after ≡ before)
 
 -- The list has n members, and P holds of each at its place.
 pub record IsListOf {X : Type 0} (n : ℕ) (P : ℕ → X → Type 0) (xs : List X) : Type 0 where

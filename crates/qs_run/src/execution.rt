@@ -1,14 +1,16 @@
 //! The public call, `execute`: a program's run on threads.
 
-ghost use Rattle.std.specs.Prelude.{◌≡◌, false, IfOk};
+ghost use Rattle.std.specs.Prelude.{◌≡◌, false, IfErr, IfOk};
 ghost use Rattle.qs_program.specs.Sound.{IsSound};
 ghost use Rattle.qs_run.specs.Prepared.{AreRunParts};
+ghost use Rattle.qs_run.specs.Starts.{IsRefusal, LetAllStart, worker_count};
 ghost use Rattle.qs_run.specs.Workers.{AreReady};
 ghost use Rattle.qs_run_laws.specs.Outcomes.{IsOutcome};
 
 use crate::collect::{OutcomeRoom, collect_outcome};
 use crate::prepare::{RunParts, make_parts, make_workers};
 use crate::start::run_workers;
+use crate::starter::{FreeStart, LentStarter, Starter};
 use crate::worker::{ReadyClient, ReadyHandler};
 use qs_chunk::ChunkSize;
 use qs_desk::{Desk, DeskName, DeskParts, Front, RawDesk};
@@ -22,53 +24,72 @@ use std::sync::Wait;
 use std::thread::Threads;
 
 // Runs the workers at a desk that is not closed, and collects the outcome.
-fn run_ready_workers<D: DeskName + Send + Sync, G: Gate, R: Threads + Wait + Sync>(
+fn run_ready_workers<
+    D: DeskName + Send + Sync,
+    G: Gate,
+    S: Starter + Drop,
+    R: Threads + Wait + Sync,
+>(
     rt: &R,
     alloc: Global,
     gate: &G,
+    starter: S,
     mode: Mode,
     size: ChunkSize,
     desk: Desk<D>,
     handlers: Vec<ReadyHandler<D>>,
     clients: Vec<ReadyClient<D>>,
-) -> Result<Outcome, RunFault>
+) -> (S, Result<Outcome, RunFault>)
     requires sound { IsSound D.program }
     requires unclosed { desk.closed ≡ false }
     requires ready { AreReady D.program mode size handlers.items clients.items }
-    ensures outcome { IfOk result (IsOutcome D.program mode size) }
+    ensures outcome { IfOk result.1 (IsOutcome D.program mode size) }
+    ensures started { IfOk result.1 (λ _. LetAllStart S.answers 0 (worker_count D.program) starter result.0) }
+    ensures refused { IfErr result.1 (λ fault. IsRefusal S.answers (worker_count D.program) fault starter result.0) }
 {
-    let room = OutcomeRoom::new(alloc)?;
-    let handlers_room = Vec::with_capacity(alloc, handlers.len())?;
-    let clients_room = Vec::with_capacity(alloc, clients.len())?;
+    let Ok(room) = OutcomeRoom::new(alloc) else {
+        return (starter, Err(RunFault::Memory));
+    };
+    let Ok(handlers_room) = Vec::with_capacity(alloc, handlers.len()) else {
+        return (starter, Err(RunFault::Memory));
+    };
+    let Ok(clients_room) = Vec::with_capacity(alloc, clients.len()) else {
+        return (starter, Err(RunFault::Memory));
+    };
     let front = Front::new(desk);
-    match run_workers(
+    let (starter, results) = run_workers(
         rt,
         gate,
+        starter,
         handlers,
         handlers_room,
         clients,
         clients_room,
         front,
-    ) {
-        Some(results) => Ok(collect_outcome(results, room, mode, size)),
-        None => Err(RunFault::Threads),
+    );
+    match results {
+        Ok(results) => (starter, Ok(collect_outcome(results, room, mode, size))),
+        Err(_held) => (starter, Err(RunFault::Threads)),
     }
 }
 
 // Opens the desk under its name, makes the workers, and runs them.
-fn run_parts<D: DeskName + Send + Sync, G: Gate, R: Threads + Wait + Sync>(
+fn run_parts<D: DeskName + Send + Sync, G: Gate, S: Starter + Drop, R: Threads + Wait + Sync>(
     rt: &R,
     alloc: Global,
     gate: &G,
+    starter: S,
     mode: Mode,
     size: ChunkSize,
     raw: RawDesk,
     parts: RunParts,
-) -> Result<Outcome, RunFault>
+) -> (S, Result<Outcome, RunFault>)
     requires name { (D.program ≡ raw.program) × (D.queues ≡ raw.queues) × (D.ledgers ≡ raw.ledgers) }
     requires sound { IsSound raw.program }
     requires parts { AreRunParts raw.program mode size parts }
-    ensures outcome { IfOk result (IsOutcome raw.program mode size) }
+    ensures outcome { IfOk result.1 (IsOutcome raw.program mode size) }
+    ensures started { IfOk result.1 (λ _. LetAllStart S.answers 0 (worker_count raw.program) starter result.0) }
+    ensures refused { IfErr result.1 (λ fault. IsRefusal S.answers (worker_count raw.program) fault starter result.0) }
 {
     let DeskParts {
         desk,
@@ -76,25 +97,99 @@ fn run_parts<D: DeskName + Send + Sync, G: Gate, R: Threads + Wait + Sync>(
         tickets,
     } = raw.open::<D>();
     match make_workers(alloc, parts, shares, tickets, mode, size) {
-        Ok((handlers, clients)) => {
-            run_ready_workers(rt, alloc, gate, mode, size, desk, handlers, clients)
-        }
+        Ok((handlers, clients)) => run_ready_workers(
+            rt, alloc, gate, starter, mode, size, desk, handlers, clients,
+        ),
         Err(_) => {
             drop(desk);
-            Err(RunFault::Memory)
+            (starter, Err(RunFault::Memory))
         }
     }
 }
 
-/// Runs a program in a mode and with chunks of a size, each client and each handler on a thread of its own.
+// A run whose starter is given back.
+fn run_program<G: Gate, S: Starter + Drop, R: Threads + Wait + Sync>(
+    rt: &R,
+    alloc: Global,
+    program: &Program,
+    mode: Mode,
+    size: ChunkSize,
+    gate: &G,
+    starter: S,
+) -> (S, Result<Outcome, RunFault>)
+    ensures outcome { IfOk result.1 (IsOutcome program.now mode size) }
+    ensures started { IfOk result.1 (λ _. LetAllStart S.answers 0 (worker_count program.now) starter result.0) }
+    ensures refused { IfErr result.1 (λ fault. IsRefusal S.answers (worker_count program.now) fault starter result.0) }
+{
+    program.is_sound();
+    let Ok(raw) = RawDesk::new(alloc, program) else {
+        return (starter, Err(RunFault::Memory));
+    };
+    match make_parts(rt, alloc, program, mode, size) {
+        Ok(parts) => run_parts::<Brand, G, S, R>(rt, alloc, gate, starter, mode, size, raw, parts),
+        Err(_) => {
+            drop(raw);
+            (starter, Err(RunFault::Memory))
+        }
+    }
+}
+
+// A run whose starter is lent to it.
+fn run_lent<'a, G: Gate, S: Starter, R: Threads + Wait + Sync>(
+    rt: &R,
+    alloc: Global,
+    program: &Program,
+    mode: Mode,
+    size: ChunkSize,
+    gate: &G,
+    starter: &'a mut S,
+) -> (&'a mut S, Result<Outcome, RunFault>)
+    ensures same { result.0.ghost_name ≡ starter.entry.ghost_name }
+    ensures outcome { IfOk result.1 (IsOutcome program.now mode size) }
+    ensures started { IfOk result.1 (λ _. LetAllStart S.answers 0 (worker_count program.now) starter.entry.now result.0.now) }
+    ensures refused { IfErr result.1 (λ fault. IsRefusal S.answers (worker_count program.now) fault starter.entry.now result.0.now) }
+{
+    let lent = LentStarter { starter };
+    let (LentStarter { starter }, result) = run_program(rt, alloc, program, mode, size, gate, lent);
+    (starter, result)
+}
+
+// It does nothing, but by its use of the reference the starter is known to be what the run left.
+fn take_back<S>(starter: &mut S)
+    ensures same { starter.new ≡ starter.old }
+{}
+
+/// Runs a program in a mode and with chunks of a size, each client and each handler on a thread of its own, if the starter lets all of them
+/// start.
 ///
-/// `Memory` says that an allocation failed, `Threads` that a thread could not be started. Both come before the first step, though no contract
-/// says so: all memory is taken before the first thread is started, and all threads are started before any of them does anything. The
-/// gate is passed on a handler's own thread as the handler begins each ticket. Waits for all threads, so it returns only if each of them
-/// ends.
+/// The starter is asked once before each start, by the worker's number: the handlers are 0, 1, 2, .. in text order, and then come the
+/// clients. `Threads` says that the starter answered false, or that the system could not start a thread; it is not asked again, the threads
+/// that were started are told to end, and all workers are as they were. `Memory` says that an allocation failed; the starter was not asked
+/// then, as all memory is taken before the first start. So no fault comes after a first step. The gate is passed on a handler's own
+/// thread as the handler begins each ticket. Waits for all threads, so it returns only if each of them ends.
 ///
 /// Whatever the threads did at once, the outcome shows what the blocks do alone, one after another along the order of reservations. It is
 /// the outcome of threads that were compiled in this mode and whose chunks have this size.
+pub fn execute_with<G: Gate, S: Starter, R: Threads + Wait + Sync>(
+    rt: &R,
+    alloc: Global,
+    program: &Program,
+    mode: Mode,
+    size: ChunkSize,
+    gate: &G,
+    starter: &mut S,
+) -> Result<Outcome, RunFault>
+    ensures outcome { IfOk result (IsOutcome program.now mode size) }
+    ensures started { IfOk result (λ _. LetAllStart S.answers 0 (worker_count program.now) starter.old starter.new) }
+    ensures refused { IfErr result (λ fault. IsRefusal S.answers (worker_count program.now) fault starter.old starter.new) }
+{
+    let (starter, result) = run_lent(rt, alloc, program, mode, size, gate, starter);
+    take_back(starter);
+    result
+}
+
+/// Runs a program in a mode and with chunks of a size, each client and each handler on a thread of its own: `execute_with`, with a starter
+/// that lets every worker start. So `Threads` says that the system could not start a thread.
 pub fn execute<G: Gate, R: Threads + Wait + Sync>(
     rt: &R,
     alloc: Global,
@@ -105,13 +200,5 @@ pub fn execute<G: Gate, R: Threads + Wait + Sync>(
 ) -> Result<Outcome, RunFault>
     ensures outcome { IfOk result (IsOutcome program.now mode size) }
 {
-    program.is_sound();
-    let raw = RawDesk::new(alloc, program)?;
-    match make_parts(rt, alloc, program, mode, size) {
-        Ok(parts) => run_parts::<Brand, G, R>(rt, alloc, gate, mode, size, raw, parts),
-        Err(_) => {
-            drop(raw);
-            Err(RunFault::Memory)
-        }
-    }
+    run_program(rt, alloc, program, mode, size, gate, FreeStart).1
 }

@@ -9,8 +9,10 @@ mod execution;
 pub mod laws;
 mod prepare;
 mod start;
+mod starter;
 mod worker;
 
-pub use execution::execute;
+pub use execution::{execute, execute_with};
 pub use qs_handler_thread::{FreeGate, Gate};
 pub use qs_played::{Outcome, RunFault};
+pub use starter::{FreeStart, Starter};

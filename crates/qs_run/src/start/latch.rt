@@ -1,35 +1,66 @@
-//! A latch: it holds the workers back until all of them are started.
+//! The latch, which holds the workers back until it is decided whether they go.
 
-use std::sync::{Condvar, Mutex, Wait};
+ghost use Rattle.std.specs.Prelude.{◌≡◌};
 
-/// Holds the workers until it is known whether all could be started. If so it lets them go; if one could not be, it tells the others to end.
+use std::marker::Model;
+use std::sync::{OnceLock, OnceToken, Wait};
+
+/// Holds the workers until it is decided whether they go: they go once all of them are started, and end if one could not be.
 #[derive(Drop)]
 pub(crate) struct Latch {
-    go: Mutex<Option<bool>>,
-    moved: Condvar,
+    go: OnceLock<bool>,
 }
 
+impl Model for Latch {
+    ghost use Rattle.std.specs.Prelude.{ℕ};
+
+    ghost Value = { ℕ };
+
+    ghost view = { λ l. l.go.id };
+}
+
+/// What was decided at a latch. Two decisions of one latch are the same.
+pub(crate) type Decision<'l> = OnceToken<'l, bool>;
+
 impl Latch {
-    /// A latch that holds all workers.
+    /// A latch at which nothing is decided.
     pub(crate) fn new() -> Latch {
         Latch {
-            go: Mutex::new(None),
-            moved: Condvar::new(),
+            go: OnceLock::new(),
         }
     }
 
-    /// Lets the workers go, or tells them to end.
-    pub(crate) fn open<R: Wait>(&self, rt: &R, go: bool) {
-        let mut state = self.go.lock(rt);
-        *state = Some(go);
-        self.moved.notify_all();
+    /// Decides whether the workers go. It has to be the first decision: after another one this waits for ever.
+    pub(crate) fn decide<R: Wait>(&self, rt: &R, go: bool) -> Decision<'_>
+        ensures latch { result.of ≡ self.now }
+        ensures decided { result.value ≡ go }
+    {
+        for _ in rt.forever() {
+            if let Ok(decision) = self.go.set(rt, go) {
+                return decision;
+            }
+        }
+        unreachable!()
     }
 
-    /// Whether the worker may go. Waits until that is known.
-    pub(crate) fn wait<R: Wait>(&self, rt: &R) -> bool {
-        let state = self
-            .moved
-            .wait_while(rt, self.go.lock(rt), |state| state.is_none());
-        *state == Some(true)
+    /// What was decided. Waits until something is.
+    pub(crate) fn wait<R: Wait>(&self, rt: &R) -> Decision<'_>
+        ensures latch { result.of ≡ self.now }
+    {
+        for _ in rt.forever() {
+            let _ = self.go.wait(rt);
+            if let Some(decision) = self.go.witness() {
+                return decision;
+            }
+        }
+        unreachable!()
+    }
+
+    /// Whether the workers go, by this latch's decision.
+    pub(crate) fn lets_go<'l>(&'l self, decision: &Decision<'l>) -> bool
+        requires latch { decision.now.of ≡ self.now }
+        ensures value { result ≡ decision.now.value }
+    {
+        *self.go.value(decision)
     }
 }

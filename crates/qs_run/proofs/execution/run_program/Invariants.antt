@@ -1,5 +1,5 @@
 -- The name of the desk is that of the desk which was made.
-use Rattle.qs_run.proofs.execution.execute.Given as goal
+use Rattle.qs_run.proofs.execution.run_program.Given as goal
 
 abbrev pub ghosts-run_parts : goal.ghosts-run_parts
 ghosts-run_parts g a = record { program = a.raw.program; queues = a.raw.queues; ledgers = a.raw.ledgers }

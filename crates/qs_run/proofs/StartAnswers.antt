@@ -1,0 +1,64 @@
+-- How the answers of a starter add up: its answer for the next worker, and then its answers for those after it. They are wanted at each turn of
+-- the recursion that starts the workers. And what a lent starter has answered is what the starter itself has.
+use Rattle.std.proofs.Common.{◌≡◌, ◌+◌, ◌<◌, ℕ, suc, Bool, true, List, [], ◌∷◌, ◌++◌, Result, Ok, Err, refl, ap, ◌∙◌, subst, arith}
+use Rattle.std.specs.Prelude.{IfErr, IfOk, replicate}
+use Rattle.qs_played.specs.declared.fault.RunFault.{RunFault}
+use Rattle.qs_played.specs.declared.fault.RunFault.TheVariants.{Memory, Threads}
+use Rattle.qs_run.specs.Starts.{AreAnswers, IsRefusal, IsRefusedAStart, LetAllStart}
+
+module _ {S : Type 0} (Answers : S → ℕ → Bool → S → Type 0) where
+  -- the start of the next worker was refused
+  pub refused_here : (n many : ℕ) (b : Bool) (before after : S) → Answers before n b after → 0 < many → IsRefusedAStart Answers n many before after
+  refused_here n many b before after answer some = (0, b, some, (after, answer, refl))
+
+  -- the next worker may start, and so may all after it
+  pub one_more_starts : (n many all : ℕ) (b : Bool) (before next after : S) → all ≡ many + 1 → b ≡ true → Answers before n b next
+      → LetAllStart Answers (n + 1) many next after → LetAllStart Answers n all before after
+  one_more_starts n many all b before next after count granted answer rest =
+      let later : n + 1 ≡ suc n = omega arith in
+      let whole : suc many ≡ all = omega (arith, count) in
+      let answers : AreAnswers Answers n (replicate (suc many) true) before after =
+      (next, subst (λ it. Answers before n it next) granted answer, subst (λ m. AreAnswers Answers m (replicate many true) next after) later rest) in
+      subst (λ m. AreAnswers Answers n (replicate m true) before after) whole answers
+
+  -- the next worker may start, and the start of one after it was refused
+  pub refused_later : (n many all : ℕ) (b : Bool) (before next after : S) → all ≡ many + 1 → b ≡ true → Answers before n b next
+      → IsRefusedAStart Answers (n + 1) many next after → IsRefusedAStart Answers n all before after
+  refused_later n many all b before next after count granted answer rest =
+      let later : n + 1 ≡ suc n = omega arith in
+      let answers : AreAnswers Answers (suc n) (replicate rest.0 true ++ rest.1 ∷ []) next after =
+      subst (λ m. AreAnswers Answers m (replicate rest.0 true ++ rest.1 ∷ []) next after) later rest.3 in
+      (suc rest.0, rest.1, omega (arith, count, rest.2), (next, subst (λ it. Answers before n it next) granted answer, answers))
+
+-- What is lent has the starter as it is now, and the answers are those of the starter; N is some name that stays.
+module _ {S L N : Type 0} (Answers : S → ℕ → Bool → S → Type 0) (now : L → S) (name : L → N) where
+  -- what a lent starter answers
+  abbrev pub LentAnswers : L → ℕ → Bool → L → Type 0
+  LentAnswers before n b after = (name after ≡ name before) × Answers (now before) n b (now after)
+
+  lent_chain : (n : ℕ) (bs : List Bool) (before after : L) → AreAnswers LentAnswers n bs before after
+      → (name after ≡ name before) × AreAnswers Answers n bs (now before) (now after)
+  lent_chain n [] before after same = (ap name same, ap now same)
+  lent_chain n (b ∷ bs) before after (next, answer, rest) =
+      let later = lent_chain (suc n) bs next after rest in
+      (later.0 ∙ answer.0, (now next, answer.1, later.1))
+
+  -- all may start
+  pub lent_all : (many : ℕ) (before after : L) → LetAllStart LentAnswers 0 many before after
+      → (name after ≡ name before) × LetAllStart Answers 0 many (now before) (now after)
+  lent_all many before after answers = lent_chain 0 (replicate many true) before after answers
+
+  -- the run is refused
+  pub lent_refusal : (many : ℕ) (fault : RunFault) (before after : L) → IsRefusal LentAnswers many fault before after
+      → (name after ≡ name before) × IsRefusal Answers many fault (now before) (now after)
+  lent_refusal many Memory before after same = (ap name same, ap now same)
+  lent_refusal many Threads before after (k, last, less, answers) =
+      let chain = lent_chain 0 (replicate k true ++ last ∷ []) before after answers in
+      (chain.0, (k, last, less, chain.1))
+
+  -- of a run that may be refused
+  pub lent_run : {R : Type 0} (many : ℕ) (r : Result R RunFault) (before after : L) → IfOk r (λ _. LetAllStart LentAnswers 0 many before after)
+      → IfErr r (λ fault. IsRefusal LentAnswers many fault before after)
+      → (name after ≡ name before) × IfOk r (λ _. LetAllStart Answers 0 many (now before) (now after)) × IfErr r (λ fault. IsRefusal Answers many fault (now before) (now after))
+  lent_run many (Ok x) before after all none = let it = lent_all many before after all in (it.0, it.1, tt)
+  lent_run many (Err fault) before after none refused = let it = lent_refusal many fault before after refused in (it.0, tt, it.1)
