@@ -1,14 +1,14 @@
 -- A run of a lane, by its lists and by its steps. The one fact to count with: along parcels that stand in order a Sync is followed by
 -- its Home, so there are as many of both, or one Sync more where it is the last parcel.
-use Rattle.std.proofs.Common.{◌≡◌, ◌<◌, ◌≤◌, ◌+◌, ⊎_elim, ℕ, suc, Bool, true, false, if◌then◌else◌, List, [], ◌∷◌, ◌++◌, length, refl, sym, ap, ◌∙◌, subst, append_assoc, arith, inl, inr, length-append}
+use Rattle.std.proofs.Common.{◌≡◌, ◌<◌, ◌≤◌, ◌+◌, ⊎_elim, ℕ, Bool, true, false, if◌then◌else◌, List, [], ◌∷◌, ◌++◌, length, refl, sym, ◌∙◌, subst, append_assoc, arith, inl, inr, length-append}
 use Rattle.std.specs.Prelude.{count_by}
 use Rattle.std.specs.List.{AllByRecursion}
 use Rattle.std.proofs.Math.Nat.{eq-or-lt_of_le}
 use Rattle.std.proofs.lemmas.List.Sums.{sum_by-append, sum_by-cons}
 use Rattle.qs_objects.specs.Journals.{HeldState}
 use Rattle.qs_chunk.specs.Lanes.{HasSize, StandsFrom, IsLane, is_asked, is_sync}
-use Rattle.qs_chunk.specs.LaneRun.{IsLaneRun, AreServed, homes, is_home, syncs, syncs_served}
-use Rattle.qs_chunk.specs.LaneRunLaws.{IsRunByParcels, RunsByParcels, ChunksHaveSize, NextMayStand, SyncsAreServed, LaneRunLaws}
+use Rattle.qs_chunk.specs.LaneRun.{IsLaneRun, AreServed, homes, is_home, syncs}
+use Rattle.qs_chunk.specs.LaneRunLaws.{IsRunByParcels, RunsByParcels, ChunksHaveSize, NextMayStand, LaneRunLaws}
 use Rattle.qs_chunk.proofs.LaneFronts.{MayFollow-last, StandsFrom-front, front_of_lane, lane_of_front}
 use Rattle.qs_chunk.specs.declared.parcel.Parcel.{Parcel}
 use Rattle.qs_chunk.specs.declared.parcel.Parcel.TheVariants.{Work, Sync, Home, End}
@@ -22,24 +22,6 @@ module _ (p : Parcel → Bool) where
 
   count-front : (ps qs : List Parcel) → count_by p ps ≤ count_by p (ps ++ qs)
   count-front ps qs = let parted = sum_by-append (λ r. one_if (p r)) ps qs in omega arith
-
--- no more are served than were received
-pub served_within : (received : List Parcel) (given : List HeldState) → syncs_served received given ≤ syncs received
-served_within [] given = omega arith
-served_within (Work chunk ∷ received) given = served_within received given
-served_within (Home held ∷ received) given = served_within received given
-served_within (End ∷ received) given = served_within received given
-served_within (Sync ∷ received) [] = omega arith
-served_within (Sync ∷ received) (held ∷ given) = let r = served_within received given in let n = count-cons is_sync Sync received in omega arith
-
--- each object serves a Sync, while there are no more objects than Syncs
-pub all_serve : (received : List Parcel) (given : List HeldState) → length given ≤ syncs received → length given ≡ syncs_served received given
-all_serve [] given few = omega arith
-all_serve (Work chunk ∷ received) given few = all_serve received given few
-all_serve (Home held ∷ received) given few = all_serve received given few
-all_serve (End ∷ received) given few = all_serve received given few
-all_serve (Sync ∷ received) [] few = refl
-all_serve (Sync ∷ received) (held ∷ given) few = let n = count-cons is_sync Sync received in ap suc (all_serve received given (omega arith))
 
 -- each Sync comes home, but for the last parcel
 pub come_home : (size : ℕ) (asked : Bool) (ps : List Parcel) → StandsFrom size asked ps
@@ -69,6 +51,25 @@ received_stands size sent received given got run =
     let p = run.parcels in
     StandsFrom-front size false received p.0 (subst (IsLane size) (sym p.1) (sent_stands size sent received given got run))
 
+-- by whether the last parcel is a Sync
+served_by : (received : List Parcel) (given : List HeldState) (last : Bool) → is_asked false received ≡ last
+    → length given ≤ syncs received → syncs received ≤ length given + one_if last → AreServed received given
+served_by received given false is few most = inl (omega arith)
+served_by received given true is few most =
+    ⊎_elim (λ (all : length given ≡ syncs received). inl all) (λ (less : length given < syncs received). inr (is, omega arith))
+    (eq-or-lt_of_le few)
+
+-- along parcels that stand in order, what went home says how many were given
+served_where_home : (size : ℕ) (sent received : List Parcel) (given got : List HeldState) → IsRunByParcels size sent received given got
+    → homes sent ≤ length got → AreServed received given
+served_where_home size sent received given got r home =
+    let stands : IsLane size received = StandsFrom-front size false received r.parcels.0 (subst (IsLane size) r.parcels.1 r.form) in
+    let count = come_home size false received stands in
+    let sent_home : homes received ≤ homes sent = subst (λ qs. homes received ≤ homes qs) (sym r.parcels.1) (count-front is_home received r.parcels.0) in
+    let objects : length got ≤ length given = subst (λ gs. length got ≤ length gs) (sym r.objects.1) (omega (arith, length-append got r.objects.0)) in
+    let few = r.served in
+    served_by received given (is_asked false received) refl few (omega arith)
+
 -- a run, from what its steps keep
 pub run_of : (size : ℕ) (sent received : List Parcel) (given got : List HeldState) → IsRunByParcels size sent received given got
     → IsLaneRun size sent received given got
@@ -77,7 +78,8 @@ run_of size sent received given got r =
       parcels = (r.parcels.0, sym r.parcels.1);
       form = (sent ++ f.0, (f.0, refl), f.1);
       objects = (r.objects.0, sym r.objects.1);
-      served = all_serve received given r.served;
+      asked = r.served;
+      served = served_where_home size sent received given got r;
     }
 
 steps_of : (size : ℕ) (sent received : List Parcel) (given got : List HeldState) → IsLaneRun size sent received given got
@@ -86,7 +88,7 @@ steps_of size sent received given got run = record {
   parcels = (run.parcels.0, sym run.parcels.1);
   form = sent_stands size sent received given got run;
   objects = (run.objects.0, sym run.objects.1);
-  served = let s = run.served in let w = served_within received given in omega arith;
+  served = run.asked;
 }
 
 by_parcels : RunsByParcels
@@ -113,22 +115,5 @@ next_may_stand size received rest next given got run =
       }),
     )
 
--- by whether the last parcel is a Sync
-served_by : (received : List Parcel) (given : List HeldState) (last : Bool) → is_asked false received ≡ last
-    → length given ≤ syncs received → syncs received ≤ length given + one_if last → AreServed received given
-served_by received given false is few most = inl (omega arith)
-served_by received given true is few most =
-    ⊎_elim (λ (all : length given ≡ syncs received). inl all) (λ (less : length given < syncs received). inr (is, omega arith))
-    (eq-or-lt_of_le few)
-
-syncs_are_served : SyncsAreServed
-syncs_are_served size sent received given got run home =
-    let s = steps_of size sent received given got run in
-    let count = come_home size false received (received_stands size sent received given got run) in
-    let sent_home : homes received ≤ homes sent = subst (λ qs. homes received ≤ homes qs) (sym s.parcels.1) (count-front is_home received s.parcels.0) in
-    let objects : length got ≤ length given = subst (λ gs. length got ≤ length gs) (sym s.objects.1) (omega (arith, length-append got s.objects.0)) in
-    let few = s.served in
-    served_by received given (is_asked false received) refl few (omega arith)
-
 pub lane_run_laws : LaneRunLaws
-lane_run_laws = record { by_parcels = by_parcels; sizes = sizes; next = next_may_stand; syncs = syncs_are_served }
+lane_run_laws = record { by_parcels = by_parcels; sizes = sizes; next = next_may_stand }

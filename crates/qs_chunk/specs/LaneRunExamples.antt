@@ -1,7 +1,7 @@
 -- Runs of a lane that were worked out by hand: a command and a query.
-use Rattle.std.specs.Prelude.{◌≡◌, [], ◌∷◌}
+use Rattle.std.specs.Prelude.{[], ◌∷◌}
 use Rattle.qs_chunk.specs.LaneExamples.{chunk, deposit_and_ask, account_of_100, two_blocks}
-use Rattle.qs_chunk.specs.LaneRun.{IsLaneRun, AreServed, syncs_served}
+use Rattle.qs_chunk.specs.LaneRun.{IsLaneRun, AreServed}
 use Rattle.qs_chunk.specs.declared.parcel.Parcel.TheVariants.{Work, Sync, Home}
 
 pub record LaneRunExamples : Type 0 where
@@ -15,8 +15,8 @@ pub record LaneRunExamples : Type 0 where
   pub unsent : ¬ IsLaneRun 8 (Work chunk ∷ []) (Sync ∷ []) [] []
   pub from_nowhere : ¬ IsLaneRun 8 (Sync ∷ []) (Sync ∷ []) [] (account_of_100 ∷ [])
   pub other_size : ¬ IsLaneRun 7 (Work chunk ∷ []) [] [] []
-  pub none_served : syncs_served two_blocks [] ≡ 0
-  pub one_served : syncs_served two_blocks (account_of_100 ∷ []) ≡ 1
-  pub both_served : syncs_served two_blocks (account_of_100 ∷ account_of_100 ∷ []) ≡ 2
+  pub both_served : AreServed two_blocks (account_of_100 ∷ account_of_100 ∷ [])
+  pub one_of_two : ¬ AreServed two_blocks (account_of_100 ∷ [])
+  pub none_of_two : ¬ AreServed two_blocks []
   pub last_waits : AreServed (Work chunk ∷ Sync ∷ []) []
   pub passed_over : ¬ AreServed (Sync ∷ Home account_of_100 ∷ []) []

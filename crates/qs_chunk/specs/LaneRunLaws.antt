@@ -3,7 +3,7 @@ use Rattle.std.specs.Prelude.{◌≡◌, ◌≤◌, ◌↔◌, ℕ, false, List,
 use Rattle.std.specs.List.{AllByRecursion}
 use Rattle.qs_objects.specs.Journals.{HeldState}
 use Rattle.qs_chunk.specs.Lanes.{HasSize, IsLane, MayFollow, is_asked}
-use Rattle.qs_chunk.specs.LaneRun.{IsLaneRun, AreServed, homes, syncs}
+use Rattle.qs_chunk.specs.LaneRun.{IsLaneRun, syncs}
 use Rattle.qs_chunk.specs.declared.parcel.Parcel.{Parcel}
 
 -- the same by steps: each parcel that was sent may follow those before it, and no more objects were given than asked for
@@ -33,15 +33,7 @@ NextMayStand =
     → MayFollow size (is_asked false received) next
     × IsLaneRun size (received ++ next ∷ rest) (received ++ next ∷ []) given got
 
--- where a client sent home no more objects than it got, what was received says how many were given: one for each Sync, but that the
--- last parcel may be a Sync that is not served yet
-abbrev pub SyncsAreServed : Type 0
-SyncsAreServed =
-    (size : ℕ) (sent received : List Parcel) (given got : List HeldState)
-    → IsLaneRun size sent received given got → homes sent ≤ length got → AreServed received given
-
 pub record LaneRunLaws : Type 0 where
   pub by_parcels : RunsByParcels
   pub sizes : ChunksHaveSize
   pub next : NextMayStand
-  pub syncs : SyncsAreServed

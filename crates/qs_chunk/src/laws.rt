@@ -13,9 +13,9 @@ pub fn lanes_keep_their_form()
     ensures form { LaneLaws }
 {}
 
-/// What one lane's two ends say together: what lies first in a lane may follow what was received; chunks have the lane's size; and where
-/// a client sends home only what it got, each Sync that was received is served, but that the last parcel may still wait. It does
-/// nothing.
+/// What one lane's two ends say together: lists are a run of a lane exactly where each parcel may follow those before it and no more
+/// objects are given than asked for, so that where the client sends home only what it got each Sync is served, but that the last parcel
+/// may still wait; what lies first in a lane may follow what was received; and chunks have the lane's size. It does nothing.
 pub fn lane_runs_go_on()
     ensures runs { LaneRunLaws }
 {}

@@ -3,7 +3,7 @@
 ghost use Rattle.std.specs.Prelude.{◌≡◌, ◌+◌, ◌≤◌, ◌⊎◌, List, [], ◌∷◌, ◌++◌, length, replicate, true, false, IfOk, IfErr, IfSome, IfNone};
 ghost use Rattle.qs_objects.specs.Journals.{HeldState};
 ghost use Rattle.qs_chunk.specs.Batch.{batch};
-ghost use Rattle.qs_chunk.specs.LaneRun.{IsLaneRun, syncs};
+ghost use Rattle.qs_chunk.specs.LaneRun.{AreServed, IsLaneRun, homes, syncs};
 ghost use Rattle.qs_chunk.specs.Lanes.{IsLane, MayFollow, is_asked};
 ghost use Rattle.qs_chunk.specs.declared.parcel.Parcel.{Parcel};
 ghost use Rattle.qs_chunk.specs.Limits.{lane_room};
@@ -231,8 +231,9 @@ impl LaneIn {
 }
 
 /// What the two ends of one lane know together: what was received is a front of what was sent, each parcel of which may follow those
-/// before it; what was got is a front of what was given, one for each Sync that was served; and the client took no more empty chunks
-/// than were put there.
+/// before it; what was got is a front of what was given; no more objects are given than were asked for, and where the client sent home
+/// only what it got, one was given for each Sync, but that the last parcel may be a Sync that waits; and the client took no more empty
+/// chunks than were put there.
 pub fn agree(out: LaneOut, inside: LaneIn)
     requires lane { out.name ≡ inside.name }
     ensures run { IsLaneRun out.size out.sent inside.received inside.given out.got }
@@ -240,7 +241,8 @@ pub fn agree(out: LaneOut, inside: LaneIn)
     ensures down { (rest : List Parcel) × (out.sent ≡ inside.received ++ rest) }
     ensures form { IsLane out.size out.sent }
     ensures up { (rest : List HeldState) × (inside.given ≡ out.got ++ rest) }
-    ensures served { length inside.given ≤ syncs inside.received }
+    ensures asked { length inside.given ≤ syncs inside.received }
+    ensures served { homes out.sent ≤ length out.got → AreServed inside.received inside.given }
 {
     let LaneOut {
         mut down,

@@ -15,3 +15,6 @@ returns-clause-run c =
     let objects : (rest : List HeldState) × (i.given ≡ o.got ++ rest) = search rules in
     let served : length i.given ≤ syncs i.received = search rules in
     run_of o.size o.sent i.received i.given o.got (record { parcels = parcels; form = form; objects = objects; served = served })
+
+pub returns-clause-served : goal.returns-clause-served
+returns-clause-served c = (returns-clause-run c).served
