@@ -160,12 +160,12 @@ pub fn lane<R: Wait>(
 
 impl LaneOut {
     /// Sends a parcel that may follow what was sent; a chunk in it has the lane's size. The parcel comes back, and nothing changes, only
-    /// where sixteen parcels lay in the lane.
+    /// where sixteen parcels lie in the lane; so sixteen at least were sent before.
     pub fn try_send<R: Wait>(&mut self, rt: &R, parcel: Parcel) -> Result<(), Parcel>
         requires follows { MayFollow self.old.size (is_asked false self.old.sent) parcel }
         ensures ok { IfOk result (λ _. self.new ≡ record self.old { sent = self.old.sent ++ parcel ∷ [] }) }
         ensures back { IfErr result (λ back. (back ≡ parcel) × (self.new ≡ self.old)) }
-        ensures full { IfErr result (λ _. (received parcels : List Parcel) × (length parcels ≡ lane_room) × (self.old.sent ≡ received ++ parcels)) }
+        ensures full { IfErr result (λ _. lane_room ≤ length self.old.sent) }
     {
         self.down.try_send(rt, parcel)
     }

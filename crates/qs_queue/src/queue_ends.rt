@@ -1,6 +1,6 @@
 //! The two ends of a queue.
 
-ghost use Rattle.std.specs.Prelude.{◌≡◌, ◌<◌, List, [], ◌∷◌, ◌++◌, length, IfOk, IfSome, IfNone, IfErr};
+ghost use Rattle.std.specs.Prelude.{◌≡◌, ◌<◌, ◌≤◌, List, [], ◌∷◌, ◌++◌, length, IfOk, IfSome, IfNone, IfErr};
 ghost use Rattle.crossbeam_queue.specs.Passes.{view, IsPassOf, ruled_capacity};
 
 use crate::protocol::{Key, Protocol};
@@ -85,12 +85,13 @@ pub fn make_ends<T: Drop, K, P: Protocol<T, K>, N: Key<K>>(
 }
 
 impl<T: Drop, K, P: Protocol<T, K>> Sender<T, K, P> {
-    /// Sends a value, where what was sent stays good by it. The value comes back, and nothing changes, only where the queue was full.
+    /// Sends a value, where what was sent stays good by it. The value comes back, and nothing changes, only where the queue is full; so as
+    /// many values at least were sent before as there is room for.
     pub fn try_send<R: Wait>(&mut self, rt: &R, value: T) -> Result<(), T>
         requires good { P.good self.old.key (self.old.sent ++ value ∷ []) }
         ensures ok { IfOk result (λ _. self.new ≡ record self.old { sent = self.old.sent ++ value ∷ [] }) }
         ensures back { IfErr result (λ back. (back ≡ value) × (self.new ≡ self.old)) }
-        ensures full { IfErr result (λ _. (received items : List T) × (length items ≡ self.old.room) × (self.old.sent ≡ received ++ items)) }
+        ensures full { IfErr result (λ _. self.old.room ≤ length self.old.sent) }
     {
         self.queue.push_as::<Sends, R>(rt, &mut self.pass, value)
     }
