@@ -1,5 +1,5 @@
 -- What each act of a handler's thread keeps: its tasks grow by one, and its ends of lanes and of its queue show it.
-use Rattle.std.proofs.Common.{◌≡◌, ◌<◌, ◌+◌, ◌⊎◌, ℕ, zero, suc, true, false, true≢false, ◌==◌, List, [], ◌∷◌, ◌++◌, length, refl, sym, ap, ◌∙◌, subst, inl, inr, ⊎_elim, append-nil, Option, Some, None}
+use Rattle.std.proofs.Common.{◌≡◌, ◌<◌, ◌≤◌, ◌+◌, ◌⊎◌, arith, ℕ, zero, suc, true, false, true≢false, ◌==◌, List, [], ◌∷◌, ◌++◌, length, refl, sym, ap, ◌∙◌, subst, inl, inr, ⊎_elim, append-nil, Option, Some, None}
 use Rattle.std.specs.Prelude.{IsSome, IsTrue, slice_set}
 use Rattle.std.specs.List.{AllByRecursion}
 use Rattle.std.proofs.lemmas.List.{get_or-set_other}
@@ -29,8 +29,8 @@ use Rattle.qs_handler.proofs.Runs.{handler_run_laws}
 use Rattle.qs_desk.specs.Tickets.{IsFor}
 use Rattle.qs_desk.specs.Views.{TicketsView}
 use Rattle.qs_lane.specs.Views.{InView}
-use Rattle.qs_handler_thread.specs.HandlerThreads.{HasServed, IsFresh, IsServing, lane_at}
-use Rattle.qs_handler_thread.proofs.Tasks.{given_more, received_more, taken_more, tasks_lead}
+use Rattle.qs_handler_thread.specs.HandlerThreads.{HasServed, IsAllServed, IsFresh, IsServing, lane_at, spared_to}
+use Rattle.qs_handler_thread.proofs.Tasks.{given_more, received_more, spared_more, taken_more, tasks_lead}
 use Rattle.qs_meaning.proofs.Each.{each_snoc}
 
 -- the end of a lane after tasks, and as it was before them
@@ -42,6 +42,8 @@ record Between (c : ℕ) (done : List Task) (before : Option InView) (after : In
   pub received : after.received ≡ received_from c done
   pub given : after.given ≡ given_to c done
   pub sizes : AllByRecursion (HasSize was.size) (received_from c done)
+  pub kept : was.spared ≤ after.spared
+  pub few : after.spared ≤ was.spared + spared_to c done
 
 between : (c : ℕ) (done : List Task) (a b : Option InView) (k : InView) → HasServed c done a b → b ≡ Some k → Between c done a k
 between c done None None k served is = absurd (cc)
@@ -50,7 +52,7 @@ between c done (Some l) None k served is = absurd served
 between c done (Some l) (Some y) k served is =
     let same : y ≡ k = cc in
     subst (Between c done (Some l)) same
-    (record { was = l; before_is = refl; name = served.0; size = served.1; received = served.2; given = served.3; sizes = served.4 })
+    (record { was = l; before_is = refl; name = served.0; size = served.1; received = served.2; given = served.3; sizes = served.4; kept = served.5; few = served.6 })
 
 -- where there was a lane there is one
 still_there : (c : ℕ) (done : List Task) (a b : Option InView) → HasServed c done a b → IsSome a → IsSome b
@@ -78,7 +80,15 @@ unchanged c done d (Some l) (Some k) none_received none_given served =
     received_more c done (d ∷ []) ∙ (ap (λ ps. received_from c done ++ ps) none_received ∙ append-nil (received_from c done)) in
     let given_same : given_to c (done ++ d ∷ []) ≡ given_to c done =
     given_more c done (d ∷ []) ∙ (ap (λ xs. given_to c done ++ xs) none_given ∙ append-nil (given_to c done)) in
-    (served.0, served.1, served.2 ∙ sym received_same, served.3 ∙ sym given_same, subst (AllByRecursion (HasSize l.size)) (sym received_same) served.4)
+    let more = spared_more c done (d ∷ []) in let few = served.6 in (
+      served.0,
+      served.1,
+      served.2 ∙ sym received_same,
+      served.3 ∙ sym given_same,
+      subst (AllByRecursion (HasSize l.size)) (sym received_same) served.4,
+      served.5,
+      omega (arith, more, few),
+    )
 
 -- what a handler that does this serves
 record Serves (m : Handler) (c : ℕ) : Type 0 where
@@ -166,7 +176,7 @@ module _ (p : ProgramShape) (h : ℕ) where
 
         at_lane : (c : ℕ) (o : Option InView) → IsFresh o → HasServed c [] o o
         at_lane c None f = tt
-        at_lane c (Some k) f = (refl, refl, f.0, f.1, tt)
+        at_lane c (Some k) f = (refl, refl, f.0, f.1, tt, omega arith, omega arith)
 
     -- the act of a handler that takes a ticket, and its ends after it
     pub took_ticket : (m n m' : Handler) (next : Next) (tickets tickets' : TicketsView) (lanes : List (Option InView)) → HasTasks m tickets lanes
@@ -262,6 +272,8 @@ module _ (p : ProgramShape) (h : ℕ) where
                 ap (λ ps. ps ++ parcel ∷ []) b.received ∙ sym more_received,
                 b.given ∙ sym same_given,
                 subst (AllByRecursion (HasSize b.was.size)) (sym more_received) (each_snoc (HasSize b.was.size) (received_from c k.0) parcel b.sizes (subst (λ n. HasSize n parcel) b.size follows.1)),
+                b.kept,
+                (let more = spared_more c k.0 (tasks.receives c parcel ∷ []) in let few = b.few in omega (arith, more, few)),
               ))
 
       -- it gives its object only where that was asked for
@@ -306,6 +318,8 @@ module _ (p : ProgramShape) (h : ℕ) where
                 b.received ∙ sym same_received,
                 ap (λ xs. xs ++ y ∷ []) b.given ∙ sym more_given,
                 subst (AllByRecursion (HasSize b.was.size)) (sym same_received) b.sizes,
+                b.kept,
+                (let more = spared_more c k.0 (tasks.gives c y ∷ []) in let few = b.few in omega (arith, more, few)),
               ))
 
       -- a chunk that it gives back is empty and has the lane's size
@@ -321,20 +335,39 @@ module _ (p : ProgramShape) (h : ℕ) where
             record {
               lead = tasks_lead done (d ∷ []) (free x) m n k.1.lead (asks, sym at);
               queue = k.1.queue ∙ ap (λ xs. record { handler = h; taken = xs }) (sym (taken_more done (d ∷ []) ∙ append-nil (taken_by done)));
-              ends = λ a. unchanged a done d (lane_at start a) (lane_at lanes' a) refl refl (kept a more);
+              ends = λ a. kept a more;
               own = subst (λ m. AllByRecursion (λ t. reserves p t h ≡ true) (serving m)) (sym at) (serving_gave (λ t. reserves p t h ≡ true) m k.1.own);
             },
           )
         where
-          kept : (a : ℕ) → (lanes' ≡ slice_set lanes c (Some (record lane { spared = lane.spared + 1 }))) ⊎ (lanes' ≡ lanes) → HasServed a k.0 (lane_at start a) (lane_at lanes' a)
-          kept a (inr same) = subst (λ ls. HasServed a k.0 (lane_at start a) (lane_at ls a)) (sym same) (k.1.ends a)
-          kept a (inl one) = subst (λ ls. HasServed a k.0 (lane_at start a) (lane_at ls a)) (sym one) (⊎_elim
-              (λ (own : c ≡ a). subst (λ a. HasServed a k.0 (lane_at start a) (lane_at (slice_set lanes c (Some (record lane { spared = lane.spared + 1 }))) a)) own
-              (let b = lane_is c lane is in
-              subst (λ o. HasServed c k.0 (lane_at start c) o) (sym (set_here lanes c lane (Some (record lane { spared = lane.spared + 1 })) is))
-              (subst (λ o. HasServed c k.0 o (Some (record lane { spared = lane.spared + 1 }))) (sym b.before_is) (b.name, b.size, b.received, b.given, b.sizes))))
+          d : Task
+          d = tasks.spares c chunk
+
+          now_here : Between c k.0 (lane_at start c) lane
+              → HasServed c (k.0 ++ d ∷ []) (lane_at start c) (lane_at (slice_set lanes c (Some (record lane { spared = lane.spared + 1 }))) c)
+          now_here b =
+              let same_received : received_from c (k.0 ++ d ∷ []) ≡ received_from c k.0 = received_more c k.0 (d ∷ []) ∙ append-nil (received_from c k.0) in
+              let same_given : given_to c (k.0 ++ d ∷ []) ≡ given_to c k.0 = given_more c k.0 (d ∷ []) ∙ append-nil (given_to c k.0) in
+              let more_spared : spared_to c (k.0 ++ d ∷ []) ≡ spared_to c k.0 + 1 = spared_more c k.0 (d ∷ []) ∙ ap (λ n. spared_to c k.0 + n) (rw (eqb_self c) refl) in
+              subst (λ o. HasServed c (k.0 ++ d ∷ []) (lane_at start c) o) (sym (set_here lanes c lane (Some (record lane { spared = lane.spared + 1 })) is))
+              (subst (λ o. HasServed c (k.0 ++ d ∷ []) o (Some (record lane { spared = lane.spared + 1 }))) (sym b.before_is) (
+                b.name,
+                b.size,
+                b.received ∙ sym same_received,
+                b.given ∙ sym same_given,
+                subst (AllByRecursion (HasSize b.was.size)) (sym same_received) b.sizes,
+                (let kept = b.kept in omega (arith, kept)),
+                (let few = b.few in omega (arith, more_spared, few)),
+              ))
+
+          kept : (a : ℕ) → (lanes' ≡ slice_set lanes c (Some (record lane { spared = lane.spared + 1 }))) ⊎ (lanes' ≡ lanes) → HasServed a (k.0 ++ d ∷ []) (lane_at start a) (lane_at lanes' a)
+          kept a (inr same) = subst (λ ls. HasServed a (k.0 ++ d ∷ []) (lane_at start a) (lane_at ls a)) (sym same) (unchanged a k.0 d (lane_at start a) (lane_at lanes a) refl refl (k.1.ends a))
+          kept a (inl one) = subst (λ ls. HasServed a (k.0 ++ d ∷ []) (lane_at start a) (lane_at ls a)) (sym one) (⊎_elim
+              (λ (own : c ≡ a). subst (λ a. HasServed a (k.0 ++ d ∷ []) (lane_at start a) (lane_at (slice_set lanes c (Some (record lane { spared = lane.spared + 1 }))) a)) own
+              (now_here (lane_is c lane is)))
               (λ (other : (c == a) ≡ false).
-              subst (HasServed a k.0 (lane_at start a)) (sym (get_or-set_other lanes c a (Some (record lane { spared = lane.spared + 1 })) None (λ is. apart_eqb c a other (sym is)))) (k.1.ends a))
+              subst (HasServed a (k.0 ++ d ∷ []) (lane_at start a)) (sym (get_or-set_other lanes c a (Some (record lane { spared = lane.spared + 1 })) None (λ is. apart_eqb c a other (sym is))))
+              (unchanged a k.0 d (lane_at start a) (lane_at lanes a) refl refl (k.1.ends a)))
               (num_cases c a))
 
       -- by what the calls on a lane's end say of the lane that is there
@@ -380,3 +413,17 @@ module _ (p : ProgramShape) (h : ℕ) where
         stays (gives t x) e = absurd (cc)
         stays (away t) e = refl
         stays (closed x) e = refl
+
+    -- a handler that has ended has given as many objects as it received Syncs
+    pub all_served : (y : HeldState) (tickets : TicketsView) (lanes : List (Option InView)) → HasTasks (closed y) tickets lanes
+        → (c : ℕ) → IsAllServed (lane_at lanes c)
+    all_served y tickets lanes k c = at_lane (lane_at start c) (lane_at lanes c) (k.1.ends c)
+      where
+        at_lane : (a b : Option InView) → HasServed c k.0 a b → IsAllServed b
+        at_lane None None served = tt
+        at_lane None (Some b) served = absurd served
+        at_lane (Some a) None served = tt
+        at_lane (Some a) (Some b) served =
+            ap length served.3
+            ∙ (handler_lane_laws.ends a.size c (closed y) (received_from c k.0) (given_to c k.0) refl (handler_run_laws.lanes a.size c x k.0 (closed y) k.1.lead served.4)
+            ∙ ap syncs (sym served.2))

@@ -1,9 +1,10 @@
 -- When more tasks are added at the end of a run, it leads to where they lead, and what it took, received and gave is what both
 -- parts did, one after the other. The loop of a handler's thread adds one task at a time, and its invariant stands on this. It
 -- goes by induction on the tasks of the first part.
-use Rattle.std.proofs.Common.{◌≡◌, ℕ, Bool, true, false, if◌then◌else◌, ◌==◌, List, [], ◌∷◌, ◌++◌, refl, sym, ap, subst}
+use Rattle.std.proofs.Common.{◌≡◌, ◌+◌, arith, ℕ, suc, Bool, true, false, if◌then◌else◌, ◌==◌, List, [], ◌∷◌, ◌++◌, refl, sym, ap, subst}
 use Rattle.qs_handler.specs.Handler.{Handler, gave}
 use Rattle.qs_handler.specs.HandlerRuns.{Task, takes, receives, gives, spares, TasksLead, given_to, received_from, taken_by}
+use Rattle.qs_handler_thread.specs.HandlerThreads.{spared_to}
 
 pub tasks_lead : (tasks more : List Task) (h m end : Handler) → TasksLead h tasks m → TasksLead m more end → TasksLead h (tasks ++ more) end
 tasks_lead [] more h m end lead next = subst (λ h. TasksLead h more end) (sym lead) next
@@ -42,3 +43,15 @@ given_more c (gives d x ∷ tasks) more = by_test (d == c) (given_more c tasks m
     by_test true ih = ap (λ xs. x ∷ xs) ih
     by_test false ih = ih
 given_more c (spares d x ∷ tasks) more = given_more c tasks more
+
+pub spared_more : (c : ℕ) (tasks more : List Task) → spared_to c (tasks ++ more) ≡ spared_to c tasks + spared_to c more
+spared_more c [] more = omega arith
+spared_more c (takes x ∷ tasks) more = spared_more c tasks more
+spared_more c (receives d p ∷ tasks) more = spared_more c tasks more
+spared_more c (gives d x ∷ tasks) more = spared_more c tasks more
+spared_more c (spares d x ∷ tasks) more = by_test (d == c) (spared_more c tasks more)
+  where
+    by_test : (b : Bool) → spared_to c (tasks ++ more) ≡ spared_to c tasks + spared_to c more
+        → (if b then suc (spared_to c (tasks ++ more)) else spared_to c (tasks ++ more)) ≡ (if b then suc (spared_to c tasks) else spared_to c tasks) + spared_to c more
+    by_test true ih = omega (arith, ih)
+    by_test false ih = ih

@@ -1,1 +1,2 @@
 pub mod HandlerThreads
+pub mod Passes

@@ -5,6 +5,6 @@ mod gate;
 mod handler_lanes;
 mod serving;
 
-pub use gate::{FreeGate, Gate};
+pub use gate::{FreeGate, Gate, Passage};
 pub use handler_lanes::Lanes;
 pub use serving::serve;

@@ -1,31 +1,35 @@
 //! A handler's whole run.
 
-ghost use Rattle.std.specs.Prelude.{◌≡◌, ◌<◌, ℕ, [], List, IsSome, true};
+ghost use Rattle.std.specs.Prelude.{◌≡◌, ◌<◌, ℕ, [], ◌∷◌, List, IsSome, true};
 ghost use Rattle.qs_program.specs.Limits.{most_clients};
 ghost use Rattle.qs_handler.specs.Handler.{closed};
 ghost use Rattle.qs_handler.specs.HandlerRuns.{Task};
-ghost use Rattle.qs_handler_thread.specs.HandlerThreads.{IsFresh, IsServing, lane_at};
+ghost use Rattle.qs_handler_thread.specs.HandlerThreads.{IsAllServed, IsFresh, IsServing, lane_at};
+ghost use Rattle.qs_handler_thread.specs.Passes.{ArePassed};
 ghost use Rattle.qs_meaning.specs.Following.{reserves};
 
-use crate::gate::Gate;
+use crate::gate::Passage;
 use crate::handler_lanes::{Lanes, give, spare, take_parcel};
 use qs_desk::{DeskName, Tickets};
 use qs_handler::{Act, Mind};
 use qs_objects::{Held, Next, Ticket};
 use std::sync::Wait;
 
-// The gate is passed as a ticket is begun.
-fn announce<G: Gate>(gate: &G, next: Next, object: u8) {
+// The gate is passed as a ticket is begun, and not at the closing mark.
+fn announce<L, G: Passage<L>>(gate: &G, log: &mut L, next: Next, object: u8)
+    ensures passed { ArePassed (G.moves gate.now) object log.old (next ∷ []) log.new }
+{
     if let Next::Ticket(ticket) = next {
-        gate.pass(ticket, object);
+        gate.go(log, ticket, object);
     }
 }
 
 /// Serves tickets at their clients' lanes until no further one comes: what the handler was told to do, one thing after another, from its
-/// object as it was. The gate is passed as each ticket is begun. Waits for tickets and for parcels.
-pub fn serve<D: DeskName, G: Gate, R: Wait>(
+/// object as it was. The gate is passed once as each ticket is begun, with the object's number. Waits for tickets and for parcels.
+pub fn serve<D: DeskName, L, G: Passage<L>, R: Wait>(
     rt: &R,
     gate: &G,
+    log: &mut L,
     held: Held,
     tickets: Tickets<D>,
     lanes: Lanes,
@@ -35,6 +39,8 @@ pub fn serve<D: DeskName, G: Gate, R: Wait>(
     requires reached { (t : Ticket) → reserves D.program t tickets.handler ≡ true → (t.client < most_clients) × IsSome (lane_at lanes t.client) }
     ensures served { (tasks : List Task)
         × IsServing D.program tickets.handler held lanes tasks (closed result.0) result.1 result.2 }
+    ensures given { (c : ℕ) → IsAllServed (lane_at result.2 c) }
+    ensures passed { ArePassed (G.moves gate.now) tickets.handler log.old result.1.taken log.new }
 {
     let object = tickets.handler();
     let mut tickets = tickets;
@@ -44,7 +50,7 @@ pub fn serve<D: DeskName, G: Gate, R: Wait>(
         match mind.next() {
             Act::TakeTicket => {
                 let next = tickets.take(rt);
-                announce(gate, next, object);
+                announce(gate, log, next, object);
                 mind.ticket(next);
             }
             Act::TakeParcel(client) => mind.parcel(take_parcel(rt, &mut lanes, client)),

@@ -76,7 +76,7 @@ fn handler_work<'l, D: DeskName, G: Gate, R: Wait>(
         tickets,
         lanes,
     } = ready.into_worker();
-    let (held, tickets, lanes) = serve(rt, gate, held, tickets, lanes);
+    let (held, tickets, lanes) = serve(rt, gate, &mut (), held, tickets, lanes);
     (Ok(HandlerWorker { held, tickets, lanes }), decision)
 }
 
