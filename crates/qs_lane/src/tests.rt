@@ -120,9 +120,11 @@ fn take_ends<R: Wait>(rt: &R, inside: &mut LaneIn, tries: u8) -> u8
 }
 
 // Sends an empty chunk of the lane with one request; whether there was room for it.
+#[tactic(auto, using(qs_chunk::proofs::LaneFronts::asked_last))]
 fn send_chunk<R: Wait>(rt: &R, out: &mut LaneOut, request: Request) -> bool
     requires { is_asked false out.old.sent ≡ false }
     ensures lane { (out.new.name ≡ out.old.name) × (out.new.size ≡ out.old.size) }
+    ensures quiet { is_asked false out.new.sent ≡ false }
 {
     let mut chunk = out.empty(rt);
     let pushed = chunk.push(request);
@@ -239,6 +241,63 @@ fn leave_parcels<R: Wait>(rt: &R, alloc: Global, size: ChunkSize) -> Option<bool
     Some(fits)
 }
 
+// Takes the parcel that lies in the lane by one try, and gives its chunk back; whether it was a chunk of one request, at this object.
+fn take_and_give_back<R: Wait>(rt: &R, inside: &mut LaneIn, object: u8) -> bool
+    ensures lane { (inside.new.name ≡ inside.old.name) × (inside.new.size ≡ inside.old.size) }
+{
+    let Some(Parcel::Work(chunk)) = inside.try_take(rt) else {
+        return false;
+    };
+    let mut chunk = chunk;
+    let first = chunk.take_front();
+    let is_own = first
+        .as_ref()
+        .is_some_and(|request| request.object == object);
+    drop(first);
+    let second = chunk.take_front();
+    if second.is_some() {
+        drop(second);
+        drop(chunk);
+        return false;
+    }
+    inside.spare(rt, chunk);
+    is_own
+}
+
+// A thousand turns of one chunk: nothing lies in the lane, a chunk with one request is sent, it is taken by the first try, and goes back. In
+// how many turns it was so.
+fn turn_round<R: Wait>(rt: &R, alloc: Global, out: &mut LaneOut, inside: &mut LaneIn) -> u16
+    requires quiet { is_asked false out.old.sent ≡ false }
+    ensures names { (out.new.name ≡ out.old.name) × (inside.new.name ≡ inside.old.name) }
+{
+    let mut turns = 0;
+    for turn in 0..1000u16 {
+        let before = inside.try_take(rt);
+        let object = (turn % 7) as u8;
+        let request = Request {
+            object,
+            op: Op::Refused,
+            args: Args::new(alloc),
+        };
+        let fits = send_chunk(rt, out, request);
+        if take_and_give_back(rt, inside, object) && fits && before.is_none() {
+            turns += 1;
+        }
+        drop(before);
+    }
+    turns
+}
+
+// How many turns there are in a new lane; none where memory is refused.
+fn turns_of<R: Wait>(rt: &R, alloc: Global, size: ChunkSize) -> Option<u16> {
+    let Ok((mut out, mut inside)) = lane(rt, alloc, size) else {
+        return None;
+    };
+    let turns = turn_round(rt, alloc, &mut out, &mut inside);
+    agree(out, inside);
+    Some(turns)
+}
+
 fn is_all(carried: Carried) -> bool {
     carried.value == 7
         && carried.ends == 16
@@ -254,5 +313,10 @@ fn a_lane_carries_what_is_sent(rt: HostRuntime) -> Result<(), Fail> {
     let carried = carry_through(&rt, rt.alloc(), size).ok_or("out of memory")?;
     assert!(rt; carried.is_some_and(is_all));
     assert!(rt; leave_parcels(&rt, rt.alloc(), size).ok_or("out of memory")?);
+    for size in [1, 32] {
+        let size = ChunkSize::new(size).ok_or("no size")?;
+        let turns = turns_of(&rt, rt.alloc(), size).ok_or("out of memory")?;
+        assert_eq!(rt; turns, 1000);
+    }
     Ok(())
 }
