@@ -1,156 +1,129 @@
-//! Runs on threads in which a gate holds handlers, in each mode. What is printed depends on no schedule: a run that is not made by threads
-//! at once, or whose answer is not the threads', prints something else.
+//! Runs on threads in which a gate holds handlers, in each mode, with chunks of 1 and of 32. What is printed depends on no schedule: a run
+//! that is not made by threads at once, or whose answer is not the threads', prints something else.
 #![tactic(auto)]
 
-use qs_chunk::ChunkSize;
-use qs_objects::Ticket;
-use qs_program::Program;
-use qs_run::{Gate, Outcome, execute};
+mod alone;
+mod apart;
+mod crowd;
+mod gates;
+mod scripts;
+
+use crate::crowd::Held;
+use crate::gates::Until;
 use qs_syncset::Mode;
 use std::alloc::Global;
+use std::fmt::Display;
 use std::io;
 use std::io::Write;
 use std::process::ExitCode;
 use std::sync::Wait;
-use std::sync::atomic::AtomicBool;
-use std::sync::atomic::Ordering::SeqCst;
-use std::thread::{Threads, yield_now};
+use std::thread::Threads;
 
-// Each handler has a block of its own.
-const APART: &str = "object a account 0 object b account 0
-    client ann { separate a { a.deposit(1); x = a.balance(); } }
-    client bob { separate b { b.deposit(2); y = b.balance(); } }";
+const MODES: [Mode; 4] = [Mode::Plain, Mode::Dynamic, Mode::Static, Mode::Both];
 
-// Which client is first at c is decided by who is held at a or at b.
-const DECIDED: &str = "object a account 0 object b account 0 object c account 0
-    client ann { separate a { x = a.balance(); } separate c { c.deposit(1); x = c.balance(); } }
-    client bob { separate b { y = b.balance(); } separate c { c.deposit(2); y = c.balance(); } }";
+const SIZES: [u8; 2] = [1, 32];
 
-const TURNS: u32 = 100_000_000;
-
-// Holds a handler until another has begun a ticket, for at most `TURNS` turns.
-#[derive(Drop)]
-struct Holding {
-    begun: [AtomicBool; 3],
-    until: [Option<u8>; 3],
-    is_late: AtomicBool,
+// One handler is held at its tickets, and the others are not.
+fn one_held(object: usize, until: Until) -> [Until; 8] {
+    let mut all = [Until::Now; 8];
+    if let Some(place) = all.get_mut(object) {
+        *place = until;
+    }
+    all
 }
 
-impl Holding {
-    fn new(until: [Option<u8>; 3]) -> Holding {
-        Holding {
-            begun: [
-                AtomicBool::new(false),
-                AtomicBool::new(false),
-                AtomicBool::new(false),
-            ],
-            until,
-            is_late: AtomicBool::new(false),
-        }
-    }
-
-    fn begin(&self, object: u8) {
-        if let Some(begun) = self.begun.get(usize::from(object)) {
-            begun.store(true, SeqCst);
-        }
-    }
-
-    fn has_begun(&self, object: u8) -> bool {
-        match self.begun.get(usize::from(object)) {
-            Some(begun) => begun.load(SeqCst),
-            None => true,
-        }
-    }
-
-    fn hold(&self, until: u8) {
-        for _turn in 0..TURNS {
-            if self.has_begun(until) {
-                return;
-            }
-            yield_now();
-        }
-        self.is_late.store(true, SeqCst);
+fn put<W: Write, D: Display + Drop>(out: &mut W, what: &str, shown: Option<D>) -> io::Result<()> {
+    match shown {
+        Some(shown) => writeln!(out, "{what}: {shown}"),
+        None => writeln!(out, "{what}: late, or refused"),
     }
 }
 
-impl Gate for Holding {
-    fn pass(&self, _ticket: Ticket, object: u8) {
-        self.begin(object);
-        if let Some(Some(until)) = self.until.get(usize::from(object)) {
-            self.hold(*until);
-        }
-    }
+fn put_replies<W: Write>(out: &mut W, what: &str, replies: Option<[u8; 8]>) -> io::Result<()> {
+    put(
+        out,
+        what,
+        replies
+            .as_ref()
+            .and_then(|replies| str::from_utf8(replies).ok())
+            .map(|text| text.trim_end()),
+    )
 }
 
-fn program(alloc: Global, text: &str) -> Option<Program> {
-    let script = qs_script::read(alloc, text.as_bytes()).ok()?;
-    qs_check::check(alloc, script).ok()
-}
-
-// The last reply of each client's last block, where it is a digit: that of ann, and that of bob.
-fn replies(outcome: &Outcome) -> [u8; 2] {
-    let mut replies = [b'?'; 2];
-    for (place, ticket) in outcome.order().iter().enumerate() {
-        let Some(event) = outcome.trace(place).last() else {
-            continue;
-        };
-        if let Some(reply @ 0..=9) = event.reply {
-            if let Some(shown) = replies.get_mut(usize::from(ticket.client)) {
-                *shown = b'0' + reply as u8;
-            }
-        }
-    }
-    replies
-}
-
-// What a run shows: `late` where a handler was held too long, else the replies.
-fn shown<R: Threads + Wait + Sync>(
+// Clients apart, whose blocks run at the same time, or are held in turn.
+fn run_apart<R: Threads + Wait + Sync, W: Write>(
     rt: &R,
     alloc: Global,
-    text: &str,
     mode: Mode,
-    until: [Option<u8>; 3],
-) -> Option<[u8; 2]> {
-    let program = program(alloc, text)?;
-    let size = ChunkSize::new(8)?;
-    let gate = Holding::new(until);
-    let outcome = execute(rt, alloc, &program, mode, size, &gate);
-    let replies = replies(&outcome.ok()?);
-    if gate.is_late.load(SeqCst) {
-        return None;
-    }
-    Some(replies)
+    size: u8,
+    out: &mut W,
+) -> io::Result<()> {
+    let both = [
+        Until::Begun(1),
+        Until::Begun(0),
+        Until::Now,
+        Until::Now,
+        Until::Now,
+        Until::Now,
+        Until::Now,
+        Until::Now,
+    ];
+    let two = apart::run(rt, alloc, apart::TWO, mode, size, both);
+    put_replies(out, "two blocks at once", two)?;
+    let a_held = one_held(0, Until::Begun(2));
+    let first = apart::run(rt, alloc, apart::DECIDED, mode, size, a_held);
+    put_replies(out, "a is held", first)?;
+    let b_held = one_held(1, Until::Begun(2));
+    let second = apart::run(rt, alloc, apart::DECIDED, mode, size, b_held);
+    put_replies(out, "b is held", second)?;
+    let all = [Until::AllBegun; 8];
+    let eight = apart::run(rt, alloc, apart::EIGHT, mode, size, all);
+    put_replies(out, "eight blocks at once", eight)
 }
 
-fn put<W: Write>(out: &mut W, what: &[u8], shown: Option<[u8; 2]>) {
-    let _ = out.write_all(what);
-    let _ = match shown {
-        Some(replies) => out.write_all(replies.as_slice()),
-        None => out.write_all(b"late"),
-    };
-    let _ = out.write_all(b"\n");
+// Clients who meet, and one alone.
+fn run_together<R: Threads + Wait + Sync, W: Write>(
+    rt: &R,
+    alloc: Global,
+    mode: Mode,
+    size: u8,
+    out: &mut W,
+) -> io::Result<()> {
+    let free = crowd::run(rt, alloc, mode, size, Held::Free);
+    put(out, "eight clients", free)?;
+    let slow = crowd::run(rt, alloc, mode, size, Held::Slow);
+    put(out, "eight clients, slow handlers", slow)?;
+    let first = crowd::run(rt, alloc, mode, size, Held::First);
+    put(out, "eight clients, a0 is held", first)?;
+    let chunks = alone::run(rt, alloc, alone::TWENTY_CHUNKS, mode, size);
+    put(out, "twenty chunks", chunks)?;
+    let blocks = alone::run(rt, alloc, alone::TWENTY_BLOCKS, mode, size);
+    put(out, "twenty blocks", blocks)
+}
+
+fn run_all<R: Threads + Wait + Sync, W: Write>(
+    rt: &R,
+    alloc: Global,
+    out: &mut W,
+) -> io::Result<()> {
+    for mode in MODES {
+        for size in SIZES {
+            run_apart(rt, alloc, mode, size, out)?;
+            run_together(rt, alloc, mode, size, out)?;
+        }
+    }
+    for mode in [Mode::Plain, Mode::Both] {
+        let many = alone::run(rt, alloc, alone::MANY_COMMANDS, mode, 32);
+        put(out, "many commands", many)?;
+    }
+    out.flush()
 }
 
 fn main(rt: HostRuntime) -> ExitCode {
     let alloc = rt.alloc();
     let mut out = io::writer(&rt);
-    for mode in [Mode::Plain, Mode::Dynamic, Mode::Static, Mode::Both] {
-        put(
-            &mut out,
-            b"two blocks at once: ",
-            shown(&rt, alloc, APART, mode, [Some(1), Some(0), None]),
-        );
-        put(
-            &mut out,
-            b"a is held: ",
-            shown(&rt, alloc, DECIDED, mode, [Some(2), None, None]),
-        );
-        put(
-            &mut out,
-            b"b is held: ",
-            shown(&rt, alloc, DECIDED, mode, [None, Some(2), None]),
-        );
+    match run_all(&rt, alloc, &mut out) {
+        Ok(()) => ExitCode::SUCCESS,
+        Err(_) => ExitCode::FAILURE,
     }
-    let _ = out.flush();
-    ExitCode::SUCCESS
 }
