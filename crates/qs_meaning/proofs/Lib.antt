@@ -10,3 +10,4 @@ pub mod EqualTexts
 pub mod AlikeTraces
 pub mod StateKinds
 pub mod ExampleBlocks
+pub mod Orders

@@ -9,3 +9,5 @@ pub mod StateKinds
 pub mod MeaningExamples
 pub mod AlikeExamples
 pub mod BlockRecords
+pub mod Configurations
+pub mod ConfigurationExamples

@@ -2,6 +2,8 @@
 
 ghost use Rattle.qs_meaning.specs.Alike.{BlocksAlike, PlacesAlike, ValuesByName};
 ghost use Rattle.qs_meaning.specs.AlikeExamples.{AlikeExamples};
+ghost use Rattle.qs_meaning.specs.ConfigurationExamples.{ConfigurationExamples};
+ghost use Rattle.qs_meaning.specs.Configurations.{CompleteOrdersLeaveNone, ConfigurationsFollowOrders};
 ghost use Rattle.qs_meaning.specs.Following.{BlocksAskOnly, HonestTracesRun};
 ghost use Rattle.qs_meaning.specs.Interaction.{TreesAgree};
 ghost use Rattle.qs_meaning.specs.MeaningExamples.{MeaningExamples};
@@ -66,4 +68,17 @@ pub fn alike_examples()
 /// has the operations of its kind, and no others. It does nothing.
 pub fn serial_keeps_kinds()
     ensures kinds { SerialKeepsKinds }
+{}
+
+/// Along a legal order each client's next block leads from a configuration to the next one. The configuration at the end has the variables
+/// and the states of the serial run; and the order is complete exactly where each client has begun all its blocks. It does nothing.
+pub fn configurations()
+    ensures follow { ConfigurationsFollowOrders }
+    ensures complete { CompleteOrdersLeaveNone }
+{}
+
+/// The two orders of two clients that withdraw from one account, with the configurations to which they lead, computed by the
+/// definitions; it does nothing.
+pub fn configuration_examples()
+    ensures examples { ConfigurationExamples }
 {}
