@@ -1,0 +1,49 @@
+-- What the search for all configurations has seen, what it has yet to see, and what it has found.
+use Rattle.std.specs.Prelude.{◌≡◌, ℕ, List, [], ◌∷◌, ℤ, ◌⊎◌, ◌≤◌, length}
+use Rattle.std.specs.List.{AllByRecursion}
+use Rattle.qs_program.specs.Program.{ProgramShape}
+use Rattle.qs_outcomes.specs.Standings.{HasNext, IsFirst, IsNext, IsStanding, StandingShape, configuration_in, row_of}
+
+-- one of a list has the property
+abbrev pub HasOne : {X : Type 0} → (X → Type 0) → List X → Type 0
+HasOne P [] = ⊥
+HasOne P (x ∷ xs) = P x ⊎ HasOne P xs
+
+-- no two of a list are in this relation
+abbrev pub NoTwo : {X : Type 0} → (X → X → Type 0) → List X → Type 0
+NoTwo R [] = Unit {0}
+NoTwo R (x ∷ xs) = AllByRecursion (λ y. R x y → ⊥) xs × NoTwo R xs
+
+abbrev pub NoneNext : ProgramShape → StandingShape → Type 0
+NoneNext p s = (c : ℕ) → HasNext p s c → ⊥
+
+-- one with the property stands on the stack, or its row was seen
+abbrev pub IsReached : (StandingShape → Type 0) → List (List ℤ) → List StandingShape → Type 0
+IsReached Q rows stack = HasOne Q stack ⊎ HasOne (λ r. (n : StandingShape) × Q n × (row_of n ≡ r)) rows
+
+-- A row that was seen is that of a configuration; wherever a block leads from there is reached, and it is found where no block is left.
+pub record IsSeen (p : ProgramShape) (rows : List (List ℤ)) (ahead results : List StandingShape) (r : List ℤ) (s : StandingShape) : Type 0 where
+  pub standing : IsStanding p s
+  pub row : row_of s ≡ r
+  pub closed : (c : ℕ) → HasNext p s c → IsReached (IsNext p s c) rows ahead
+  pub found : NoneNext p s → HasOne (λ x. configuration_in x ≡ configuration_in s) results
+
+-- found where no block is left, and seen
+pub record IsFound (p : ProgramShape) (rows : List (List ℤ)) (s : StandingShape) : Type 0 where
+  pub standing : IsStanding p s
+  pub over : NoneNext p s
+  pub seen : HasOne (λ r. row_of s ≡ r) rows
+
+pub record IsExplored (p : ProgramShape) (rows : List (List ℤ)) (ahead results : List StandingShape) : Type 0 where
+  pub stack : AllByRecursion (IsStanding p) ahead
+  pub first : IsReached (IsFirst p) rows ahead
+  pub seen : AllByRecursion (λ r. (s : StandingShape) × IsSeen p rows ahead results r s) rows
+  pub once : NoTwo ◌≡◌ rows
+  pub found : AllByRecursion (IsFound p rows) results
+  pub apart : NoTwo (λ x y. row_of x ≡ row_of y) results
+
+-- these were added: one for each client that has a block left, and nothing else
+pub record AreNext (p : ProgramShape) (s : StandingShape) (added : List StandingShape) : Type 0 where
+  pub standing : AllByRecursion (IsStanding p) added
+  pub each : (c : ℕ) → HasNext p s c → HasOne (IsNext p s c) added
+  pub few : length added ≤ length p.clients

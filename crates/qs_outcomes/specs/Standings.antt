@@ -1,0 +1,63 @@
+-- Configurations as they are kept: in lists, with an order that leads there, and as one flat row of numbers.
+use Rattle.std.specs.Prelude.{◌≡◌, ℕ, List, [], ◌∷◌, ◌++◌, length, map, slice_index_or, ℤ, pos, flat_map}
+use Rattle.qs_objects.specs.Act.{State, Content, account, buffer, grid}
+use Rattle.qs_objects.specs.declared.held.Ticket.{Ticket}
+use Rattle.qs_program.specs.Program.{ProgramShape}
+use Rattle.qs_program.specs.Values.{Locals}
+use Rattle.qs_meaning.specs.Configurations.{Configuration, HasBlockLeft, configuration_after, first_configuration, one_block_on}
+use Rattle.qs_meaning.specs.Serial.{IsLegal, zeros}
+use Rattle.qs_outcomes.specs.Alone.{states_in}
+
+-- an order, how many blocks each client has begun along it, the clients' variables, and the objects
+pub record StandingShape : Type 0 where
+  pub order : List Ticket
+  pub begun : List ℕ
+  pub locals : List Locals
+  pub states : List State
+
+abbrev pub configuration_in : StandingShape → Configuration
+configuration_in s = record {
+  begun = λ c. slice_index_or s.begun c 0;
+  locals = λ c. slice_index_or s.locals c zeros;
+  states = states_in s.states;
+}
+
+-- The lists have a place for each client and each object, the order is legal, and it leads to the configuration.
+pub record IsStanding (p : ProgramShape) (s : StandingShape) : Type 0 where
+  pub begun : length s.begun ≡ length p.clients
+  pub locals : length s.locals ≡ length p.clients
+  pub states : length s.states ≡ length p.objects
+  pub legal : IsLegal p s.order
+  pub stands : configuration_in s ≡ configuration_after p s.order
+
+-- where no block was begun
+pub record IsFirst (p : ProgramShape) (s : StandingShape) : Type 0 where
+  pub standing : IsStanding p s
+  pub first : configuration_in s ≡ first_configuration p
+
+abbrev pub HasNext : ProgramShape → StandingShape → ℕ → Type 0
+HasNext p s c = HasBlockLeft p (configuration_in s) c
+
+-- where the client's next block has run
+pub record IsNext (p : ProgramShape) (s : StandingShape) (c : ℕ) (n : StandingShape) : Type 0 where
+  pub standing : IsStanding p n
+  pub next : configuration_in n ≡ one_block_on p c (configuration_in s)
+
+-- a list of numbers with its length before it
+abbrev pub counted : List ℤ → List ℤ
+counted xs = pos (length xs) ∷ xs
+
+abbrev pub content_row : Content → List ℤ
+content_row (account b) = pos 0 ∷ b ∷ []
+content_row (buffer k xs) = pos 1 ∷ pos k ∷ counted xs
+content_row (grid n k cells) = pos 2 ∷ pos n ∷ pos k ∷ counted cells
+
+abbrev pub state_row : State → List ℤ
+state_row s = s.refused ∷ content_row s.content
+
+-- the numbers of a configuration, from which it can be read again
+abbrev pub row_of : StandingShape → List ℤ
+row_of s =
+    counted (map pos s.begun)
+    ++ (pos (length s.locals) ∷ flat_map counted s.locals)
+    ++ (pos (length s.states) ∷ flat_map state_row s.states)

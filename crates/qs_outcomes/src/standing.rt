@@ -1,0 +1,219 @@
+//! Configurations with the orders that lead there.
+
+ghost use Rattle.std.specs.Prelude.{◌≡◌, ◌<◌, ◌↔◌, true, ℕ, IfOk, OnOk, [], ◌∷◌, ◌++◌, length, replicate, slice_index_or, slice_set};
+ghost use Rattle.qs_meaning.specs.Serial.{declared_states, no_state, zeros};
+ghost use Rattle.qs_meaning.specs.Solo.{solo};
+ghost use Rattle.qs_outcomes.specs.Alone.{AreCallsWithin, states_in};
+ghost use Rattle.qs_program.specs.Program.{blocks_of};
+
+use crate::alone::run_body;
+use crate::rows::{add_begun, add_locals, add_objects};
+use qs_objects::{Object, ObjectFault, Ticket};
+use qs_program::{Block, Locals, MOST_VARIABLES, Program};
+use std::alloc::{AllocError, Global};
+use std::marker::Model;
+
+/// Where a program stands after an order of whole blocks: the order, how many blocks each client has begun, the clients' variables, and
+/// the objects.
+pub struct Standing {
+    order: Vec<Ticket>,
+    begun: Vec<u8>,
+    locals: Vec<Locals>,
+    objects: Vec<Object>,
+}
+
+impl Drop for Standing {
+    fn drop(self) {
+        let Standing {
+            order: _,
+            begun: _,
+            locals: _,
+            objects: _,
+        } = self;
+    }
+}
+
+impl Model for Standing {
+    ghost use Rattle.qs_outcomes.specs.Standings.{StandingShape};
+
+    ghost Value = { StandingShape };
+
+    ghost view = { λ s. record { order = s.order.items; begun = s.begun.items; locals = s.locals.items; states = s.objects.items } };
+}
+
+// An object as declared.
+fn declared_object(alloc: Global, program: &Program, object: u8) -> Result<Object, AllocError>
+    requires { object < length program.now.objects }
+    ensures value { IfOk result (λ state. state ≡ declared_states program.now object) }
+{
+    program.is_sound();
+    match Object::new(alloc, program.kind(object)) {
+        Ok(state) => Ok(state),
+        Err(ObjectFault::Memory) => Err(AllocError),
+        Err(ObjectFault::Range) => unreachable!(),
+    }
+}
+
+// All objects as declared.
+fn declared_objects(alloc: Global, program: &Program) -> Result<Vec<Object>, AllocError>
+    ensures count { IfOk result (λ objects. length objects.items ≡ length program.now.objects) }
+    ensures values { IfOk result (λ objects. (h : ℕ) → h < length program.now.objects
+        → slice_index_or objects.items h no_state ≡ declared_states program.now h) }
+{
+    program.is_sound();
+    let mut objects = Vec::with_capacity(alloc, program.objects())?;
+    for object in 0..program.objects() as u8 {
+        objects.push(declared_object(alloc, program, object)?)?;
+    }
+    Ok(objects)
+}
+
+// The same objects once more.
+fn copied_objects(alloc: Global, objects: &[Object]) -> Result<Vec<Object>, AllocError>
+    ensures same { IfOk result (λ copy. copy.items ≡ objects.now) }
+{
+    let mut copy = Vec::with_capacity(alloc, objects.len())?;
+    for object in objects {
+        copy.push(object.copied(alloc)?)?;
+    }
+    Ok(copy)
+}
+
+// Runs a block alone, on objects of its own. An error says that memory was refused.
+fn run_block(
+    alloc: Global,
+    block: &Block,
+    locals: &mut Locals,
+    objects: &[Object],
+) -> Result<Vec<Object>, AllocError>
+    requires within { AreCallsWithin (length objects.now) block.now.body }
+    ensures locals { OnOk result (locals.new ≡ (solo block.now.body locals.old (states_in objects.now)).locals) }
+    ensures states { IfOk result (λ left. states_in left.items ≡ (solo block.now.body locals.old (states_in objects.now)).states) }
+    ensures count { IfOk result (λ left. length left.items ≡ length objects.now) }
+{
+    let mut left = copied_objects(alloc, objects)?;
+    let _leave = run_body(alloc, block.body(), locals, left.as_mut_slice());
+    Ok(left)
+}
+
+// An order with one more ticket.
+fn longer(alloc: Global, order: &[Ticket], ticket: Ticket) -> Result<Vec<Ticket>, AllocError>
+    ensures longer { IfOk result (λ longer. longer.items ≡ order.now ++ ticket ∷ []) }
+{
+    let mut longer = Vec::with_capacity(alloc, order.len())?;
+    longer.extend_from_slice(order)?;
+    longer.push(ticket)?;
+    Ok(longer)
+}
+
+// The same counts but for one.
+fn with_count(alloc: Global, begun: &[u8], place: usize, count: u8) -> Result<Vec<u8>, AllocError>
+    requires { place < length begun.now }
+    ensures set { IfOk result (λ counts. counts.items ≡ slice_set begun.now place count) }
+{
+    let mut counts = Vec::with_capacity(alloc, begun.len())?;
+    counts.extend_from_slice(begun)?;
+    counts[place] = count;
+    Ok(counts)
+}
+
+// The same variables but for one client's.
+fn with_locals(
+    alloc: Global,
+    locals: &[Locals],
+    place: usize,
+    values: &Locals,
+) -> Result<Vec<Locals>, AllocError>
+    requires { place < length locals.now }
+    ensures set { IfOk result (λ changed. changed.items ≡ slice_set locals.now place values.now) }
+{
+    let mut changed = Vec::with_capacity(alloc, locals.len())?;
+    changed.extend_from_slice(locals)?;
+    changed[place] = *values;
+    Ok(changed)
+}
+
+// No block was begun.
+fn fresh_counts(alloc: Global, clients: usize) -> Result<Vec<u8>, AllocError>
+    ensures fresh { IfOk result (λ counts. counts.items ≡ replicate clients 0) }
+{
+    Ok(vec![in alloc; 0; clients]?)
+}
+
+// No variable has another value than 0.
+fn fresh_locals(alloc: Global, clients: usize) -> Result<Vec<Locals>, AllocError>
+    ensures fresh { IfOk result (λ locals. locals.items ≡ replicate clients zeros) }
+{
+    let mut locals = Vec::with_capacity(alloc, clients)?;
+    for _client in 0..clients {
+        locals.push([0; MOST_VARIABLES])?;
+    }
+    Ok(locals)
+}
+
+impl Standing {
+    ghost use Rattle.qs_outcomes.specs.Standings.{HasNext, IsFirst, IsNext, IsStanding, row_of};
+
+    /// Where the program stands before its first block. An error says that memory was refused.
+    pub(crate) fn first(alloc: Global, program: &Program) -> Result<Standing, AllocError>
+        ensures first { IfOk result (IsFirst program.now) }
+    {
+        program.is_sound();
+        let clients = program.clients();
+        Ok(Standing {
+            order: Vec::new(alloc),
+            begun: fresh_counts(alloc, clients)?,
+            locals: fresh_locals(alloc, clients)?,
+            objects: declared_objects(alloc, program)?,
+        })
+    }
+
+    // Whether a client has a block left.
+    pub(crate) fn has_next(&self, program: &Program, client: u8) -> bool
+        requires client { client < length program.now.clients }
+        requires standing { IsStanding program.now self.now }
+        ensures next { (result ≡ true) ↔ HasNext program.now self.now client }
+    {
+        usize::from(self.begun[usize::from(client)]) < program.blocks_of(client)
+    }
+
+    // Where the program stands after the next block of a client. An error says that memory was refused.
+    pub(crate) fn next(
+        &self,
+        alloc: Global,
+        program: &Program,
+        client: u8,
+    ) -> Result<Standing, AllocError>
+        requires client { client < length program.now.clients }
+        requires standing { IsStanding program.now self.now }
+        requires left { HasNext program.now self.now client }
+        ensures next { IfOk result (IsNext program.now self.now client) }
+    {
+        program.is_sound();
+        let place = usize::from(client);
+        let index = self.begun[place];
+        let mut values = self.locals[place];
+        let block = program.block(client, index);
+        let objects = run_block(alloc, block, &mut values, self.objects.as_slice())?;
+        let order = longer(alloc, self.order.as_slice(), Ticket { client, index })?;
+        let begun = with_count(alloc, self.begun.as_slice(), place, index + 1)?;
+        let locals = with_locals(alloc, self.locals.as_slice(), place, &values)?;
+        Ok(Standing {
+            order,
+            begun,
+            locals,
+            objects,
+        })
+    }
+
+    // Its numbers as one row. An error says that memory was refused.
+    pub(crate) fn row(&self, alloc: Global) -> Result<Vec<i64>, AllocError>
+        ensures row { IfOk result (λ row. row.items ≡ row_of self.now) }
+    {
+        let mut row = Vec::new(alloc);
+        add_begun(&mut row, self.begun.as_slice())?;
+        add_locals(&mut row, self.locals.as_slice())?;
+        add_objects(&mut row, self.objects.as_slice())?;
+        Ok(row)
+    }
+}
