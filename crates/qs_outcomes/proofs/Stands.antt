@@ -37,7 +37,7 @@ lookup-set xs i v d within = λ k j. at j k
         get_or-set_other xs i j v d (λ e. apart (sym e)) ∙ sym (put_there (λ j. get_or xs j d) i v j other))
         (num_cases i j)
 
-below_or_past : (h n : ℕ) → (h < n) ⊎ (n ≤ h)
+pub below_or_past : (h n : ℕ) → (h < n) ⊎ (n ≤ h)
 below_or_past h zero = inr (omega arith)
 below_or_past zero (suc n) = inl (omega arith)
 below_or_past (suc h) (suc n) = elim (below_or_past h n) [ inl l ↦ inl (omega (arith, l)) | inr g ↦ inr (omega (arith, g)) ]
@@ -47,7 +47,7 @@ lookup-replicate zero i a = refl
 lookup-replicate (suc n) zero a = refl
 lookup-replicate (suc n) (suc i) a = lookup-replicate n i a
 
-past_end : {X : Type 0} (xs : List X) (i : ℕ) (d : X) → length xs ≤ i → get_or xs i d ≡ d
+pub past_end : {X : Type 0} (xs : List X) (i : ℕ) (d : X) → length xs ≤ i → get_or xs i d ≡ d
 past_end [] i d past = refl
 past_end (x ∷ xs) zero d past = absurd (omega (arith, past))
 past_end (x ∷ xs) (suc i) d past = past_end xs i d (omega (arith, past))

@@ -1,3 +1,5 @@
 pub mod Alone
 pub mod Standings
 pub mod Search
+pub mod Rows
+pub mod Outcomes

@@ -1,5 +1,5 @@
 -- What the search for all configurations has seen, what it has yet to see, and what it has found.
-use Rattle.std.specs.Prelude.{◌≡◌, ℕ, List, [], ◌∷◌, ℤ, ◌⊎◌, ◌≤◌, length}
+use Rattle.std.specs.Prelude.{◌≡◌, ℕ, List, [], ◌∷◌, ◌++◌, ℤ, ◌⊎◌, ◌<◌, ◌≤◌, ◌+◌, ◌-◌, ◌*◌, Bool, true, false, length}
 use Rattle.std.specs.List.{AllByRecursion}
 use Rattle.qs_program.specs.Program.{ProgramShape}
 use Rattle.qs_outcomes.specs.Standings.{HasNext, IsFirst, IsNext, IsStanding, StandingShape, configuration_in, row_of}
@@ -42,8 +42,32 @@ pub record IsExplored (p : ProgramShape) (rows : List (List ℤ)) (ahead results
   pub found : AllByRecursion (IsFound p rows) results
   pub apart : NoTwo (λ x y. row_of x ≡ row_of y) results
 
--- these were added: one for each client that has a block left, and nothing else
-pub record AreNext (p : ProgramShape) (s : StandingShape) (added : List StandingShape) : Type 0 where
+-- these were added: one for each client from a number on that has a block left, and nothing else
+pub record AreNextFrom (p : ProgramShape) (s : StandingShape) (from : ℕ) (added : List StandingShape) : Type 0 where
   pub standing : AllByRecursion (IsStanding p) added
-  pub each : (c : ℕ) → HasNext p s c → HasOne (IsNext p s c) added
-  pub few : length added ≤ length p.clients
+  pub each : (c : ℕ) → from ≤ c → c < length p.clients → HasNext p s c → HasOne (IsNext p s c) added
+  pub few : length added + from ≤ length p.clients
+  pub none : NoneNext p s → length added ≡ 0
+
+-- a list with these after it
+abbrev pub IsLonger : ProgramShape → StandingShape → ℕ → List StandingShape → List StandingShape → Type 0
+IsLonger p s from before after = (added : List StandingShape) × (after ≡ before ++ added) × AreNextFrom p s from added
+
+-- one more where the client has a block left
+abbrev pub IsPushed : ProgramShape → StandingShape → ℕ → List StandingShape → List StandingShape → Type 0
+IsPushed p s c before after =
+    (HasNext p s c × ((n : StandingShape) × IsNext p s c n × (after ≡ before ++ n ∷ [])))
+    ⊎ ((HasNext p s c → ⊥) × (after ≡ before))
+
+-- whether a row is new, and the rows with it
+abbrev pub IsInserted : List (List ℤ) → List ℤ → Bool → List (List ℤ) → Type 0
+IsInserted before r true after = (after ≡ before ++ r ∷ []) × (HasOne (λ x. r ≡ x) before → ⊥)
+IsInserted before r false after = (after ≡ before) × HasOne (λ x. r ≡ x) before
+
+-- and no more rows than the limit
+abbrev pub IsNoted : List (List ℤ) → List ℤ → ℕ → Bool → List (List ℤ) → Type 0
+IsNoted before r limit new after = IsInserted before r new after × (length after ≤ limit)
+
+-- what is left to do falls with each standing that is taken off the stack
+abbrev pub work_left : ℕ → List (List ℤ) → List StandingShape → ℕ
+work_left limit rows ahead = 9 * (limit - length rows) + length ahead

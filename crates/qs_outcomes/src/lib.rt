@@ -4,7 +4,9 @@
 mod alone;
 mod fault;
 mod rows;
+mod search;
 mod standing;
 
 pub use fault::OutcomesFault;
+pub use search::{AllOutcomes, outcomes};
 pub use standing::Standing;

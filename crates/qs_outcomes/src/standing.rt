@@ -154,6 +154,29 @@ fn fresh_locals(alloc: Global, clients: usize) -> Result<Vec<Locals>, AllocError
 impl Standing {
     ghost use Rattle.qs_outcomes.specs.Standings.{HasNext, IsFirst, IsNext, IsStanding, row_of};
 
+    /// The order of blocks that leads there.
+    pub fn order(&self) -> &[Ticket]
+        ensures order { result.now ≡ self.now.order }
+    {
+        self.order.as_slice()
+    }
+
+    /// A client's variables.
+    pub fn locals(&self, client: u8) -> &Locals
+        requires { client < length self.now.locals }
+        ensures locals { result.now ≡ slice_index_or self.now.locals client zeros }
+    {
+        &self.locals[usize::from(client)]
+    }
+
+    /// An object.
+    pub fn object(&self, object: u8) -> &Object
+        requires { object < length self.now.states }
+        ensures object { result.now ≡ slice_index_or self.now.states object no_state }
+    {
+        &self.objects[usize::from(object)]
+    }
+
     /// Where the program stands before its first block. An error says that memory was refused.
     pub(crate) fn first(alloc: Global, program: &Program) -> Result<Standing, AllocError>
         ensures first { IfOk result (IsFirst program.now) }

@@ -1,0 +1,183 @@
+//! The search over configurations.
+
+ghost use Rattle.std.specs.Prelude.{◌≡◌, ◌<◌, ◌≤◌, ◌+◌, ℕ, true, false, IfOk, OnOk, IsErrOf, [], ◌∷◌, ◌++◌, length};
+ghost use Rattle.std.specs.List.{AllByRecursion};
+ghost use Rattle.qs_outcomes.specs.Outcomes.{AreAllOutcomes, AreApart, HasConfigurations, HasMoreThan, IsListed};
+ghost use Rattle.qs_outcomes.specs.Rows.{rows_in};
+ghost use Rattle.qs_outcomes.specs.Search.{HasOne, IsExplored, IsInserted, IsLonger, IsNoted, IsPushed, work_left};
+ghost use Rattle.qs_outcomes.specs.Standings.{IsStanding, row_of};
+
+use crate::fault::OutcomesFault;
+use crate::standing::Standing;
+use indexmap::IndexSet;
+use qs_program::Program;
+use std::alloc::{AllocError, Global};
+use std::marker::Model;
+
+/// All outcomes of a program, and how many configurations there are.
+pub struct AllOutcomes {
+    found: Vec<Standing>,
+    configurations: usize,
+}
+
+impl Drop for AllOutcomes {
+    fn drop(self) {
+        let AllOutcomes {
+            found: _,
+            configurations: _,
+        } = self;
+    }
+}
+
+impl Model for AllOutcomes {
+    ghost use Rattle.qs_outcomes.specs.Outcomes.{OutcomesShape};
+
+    ghost Value = { OutcomesShape };
+
+    ghost view = { λ o. record { found = o.found.items; configurations = o.configurations } };
+}
+
+impl AllOutcomes {
+    /// Where the program stands at the end of complete orders: one standing for each outcome.
+    pub fn found(&self) -> &[Standing]
+        ensures found { result.now ≡ self.now.found }
+    {
+        self.found.as_slice()
+    }
+
+    /// How many configurations there are.
+    pub fn configurations(&self) -> usize
+        ensures configurations { result ≡ self.now.configurations }
+    {
+        self.configurations
+    }
+}
+
+// Adds a row: whether it is new.
+fn insert(seen: &mut IndexSet<Vec<i64>>, row: Vec<i64>) -> Result<bool, AllocError>
+    ensures inserted { IfOk result (λ new. IsInserted (rows_in seen.old.keys) row.items new (rows_in seen.new.keys)) }
+{
+    let Ok((_, new)) = seen.insert_full(row) else {
+        return Err(AllocError);
+    };
+    Ok(new)
+}
+
+// Notes a standing's row: whether it is new.
+fn note(
+    alloc: Global,
+    limit: u32,
+    standing: &Standing,
+    seen: &mut IndexSet<Vec<i64>>,
+) -> Result<bool, OutcomesFault>
+    requires small { length (rows_in seen.old.keys) ≤ limit }
+    ensures noted { IfOk result (λ new. IsNoted (rows_in seen.old.keys) (row_of standing.now) limit new (rows_in seen.new.keys)) }
+    ensures full { IsErrOf result OutcomesFault.Limit → (length (rows_in seen.old.keys) ≡ limit)
+        × (HasOne (λ r. row_of standing.now ≡ r) (rows_in seen.old.keys) → ⊥) }
+{
+    let row = standing.row(alloc)?;
+    let new = insert(seen, row)?;
+    if new && seen.len() > limit as usize {
+        return Err(OutcomesFault::Limit);
+    }
+    Ok(new)
+}
+
+// Adds where a client's next block leads, if it has one left.
+fn push_one(
+    alloc: Global,
+    program: &Program,
+    standing: &Standing,
+    client: u8,
+    stack: &mut Vec<Standing>,
+) -> Result<(), AllocError>
+    requires client { client < length program.now.clients }
+    requires standing { IsStanding program.now standing.now }
+    ensures pushed { OnOk result (IsPushed program.now standing.now client stack.old.items stack.new.items) }
+{
+    if standing.has_next(program, client) {
+        stack.push(standing.next(alloc, program, client)?)?;
+    }
+    Ok(())
+}
+
+// Adds where the next blocks lead, the first client's last.
+fn push_next(
+    alloc: Global,
+    program: &Program,
+    standing: &Standing,
+    stack: &mut Vec<Standing>,
+) -> Result<(), AllocError>
+    requires standing { IsStanding program.now standing.now }
+    ensures longer { OnOk result (IsLonger program.now standing.now 0 stack.old.items stack.new.items) }
+{
+    program.is_sound();
+    let clients = program.clients() as u8;
+    for back in 0..clients {
+        push_one(alloc, program, standing, clients - 1 - back, stack)?;
+    }
+    Ok(())
+}
+
+fn add(list: &mut Vec<Standing>, standing: Standing) -> Result<(), AllocError>
+    ensures added { OnOk result (list.new.items ≡ list.old.items ++ standing ∷ []) }
+{
+    list.push(standing)?;
+    Ok(())
+}
+
+// Takes up a standing: nothing where its row was seen, else what its next blocks lead to, or an outcome where no block is left.
+fn visit(
+    alloc: Global,
+    program: &Program,
+    limit: u32,
+    standing: Standing,
+    seen: &mut IndexSet<Vec<i64>>,
+    stack: &mut Vec<Standing>,
+    found: &mut Vec<Standing>,
+) -> Result<(), OutcomesFault>
+    requires small { length (rows_in seen.old.keys) ≤ limit }
+    requires explored { IsExplored program.now (rows_in seen.old.keys) (stack.old.items ++ standing ∷ []) found.old.items }
+    ensures explored { OnOk result (IsExplored program.now (rows_in seen.new.keys) stack.new.items found.new.items) }
+    ensures small { OnOk result (length (rows_in seen.new.keys) ≤ limit) }
+    ensures less { OnOk result (work_left limit (rows_in seen.new.keys) stack.new.items
+        < work_left limit (rows_in seen.old.keys) stack.old.items + 1) }
+    ensures limit { IsErrOf result OutcomesFault.Limit → HasMoreThan program.now limit }
+{
+    program.is_sound();
+    match note(alloc, limit, &standing, seen) {
+        Err(fault) => return Err(fault),
+        Ok(false) => return Ok(()),
+        Ok(true) => {}
+    }
+    let before = stack.len();
+    push_next(alloc, program, &standing, stack)?;
+    if stack.len() == before {
+        add(found, standing)?;
+    }
+    Ok(())
+}
+
+/// All outcomes of a program, each once, with a complete order that comes to it, and how many different configurations legal orders lead to.
+/// `Limit` comes only where there are more configurations than the limit, `Memory` where memory was refused.
+pub fn outcomes(alloc: Global, program: &Program, limit: u32) -> Result<AllOutcomes, OutcomesFault>
+    ensures sound { IfOk result (λ all. AllByRecursion (IsListed program.now) all.found) }
+    ensures complete { IfOk result (λ all. AreAllOutcomes program.now all.found) }
+    ensures once { IfOk result (λ all. AreApart all.found) }
+    ensures counted { IfOk result (λ all. HasConfigurations program.now all.configurations) }
+    ensures limit { IsErrOf result OutcomesFault.Limit → HasMoreThan program.now limit }
+{
+    let mut seen = IndexSet::new(alloc);
+    let mut found = Vec::new(alloc);
+    let mut stack = Vec::new(alloc);
+    add(&mut stack, Standing::first(alloc, program)?)?;
+    while let Some(standing) = stack.pop() {
+        visit(
+            alloc, program, limit, standing, &mut seen, &mut stack, &mut found,
+        )?;
+    }
+    Ok(AllOutcomes {
+        found,
+        configurations: seen.len(),
+    })
+}
