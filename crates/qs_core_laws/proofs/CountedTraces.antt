@@ -7,6 +7,7 @@ use Rattle.qs_program.specs.Sound.{IsSound}
 use Rattle.qs_program.specs.Values.{Locals}
 use Rattle.qs_meaning.specs.Following.{Leads, block_tree}
 use Rattle.qs_meaning.specs.Interaction.{Interaction}
+use Rattle.qs_graph.specs.Names.{graph_of}
 use Rattle.qs_syncset.specs.declared.mode.Mode.{Mode}
 use Rattle.qs_syncset.specs.Codes.{ClientCode, code_at}
 use Rattle.qs_syncset.specs.Modes.{is_dynamic}
@@ -42,7 +43,7 @@ module _ (program : ProgramShape) (sound : IsSound program) (mode : Mode) (code 
     own_client : t.client < length program.clients
     own_client = let own = own_block in no_block_beyond program t.client (omega (arith, own))
 
-    by_mode : (h : ℕ) → IsSentBy mode (text_of program t).body (code_at (code t.client) t.index).graph (longest (code t.client).blocks) (entry_of r i) (trace_of r i) h
+    by_mode : (h : ℕ) → IsSentBy mode (graph_of program t.client t.index) (text_of program t).body (code_at (code t.client) t.index).graph (longest (code t.client).blocks) (entry_of r i) (trace_of r i) h
     by_mode h =
         syncs_are_counted program mode t.client (code t.client) sound (codes.own t.client own_client) t.index (longest (code t.client).blocks) (entry_of r i)
         (trace_of r i) rest h own_block (longest_covers (code t.client).blocks t.index) leads

@@ -11,3 +11,4 @@ pub mod Along
 pub mod Limits
 pub mod Inside
 pub mod Removing
+pub mod Bindings

@@ -1,7 +1,8 @@
 pub mod Nodes
-pub mod Names
 pub mod Shapes
 pub mod Graphs
+pub mod Names
+pub mod Bound
 pub mod Drawn
 pub mod Paths
 pub mod WellFormed

@@ -1,5 +1,5 @@
 -- The places of a control-flow graph: nodes by number, each with its edges.
-use Rattle.std.specs.Prelude.{ℕ, List, [], ◌∷◌, slice_index_or}
+use Rattle.std.specs.Prelude.{ℕ, Bool, false, List, [], ◌∷◌, slice_index_or}
 use Rattle.qs_graph.specs.declared.node.Named.{Named}
 use Rattle.qs_graph.specs.declared.node.Node.{Node}
 use Rattle.qs_graph.specs.declared.node.Node.TheVariants.{Local, Sync, Exit}
@@ -10,10 +10,16 @@ pub record GraphNode : Type 0 where
   pub node : Node
   pub edges : List ℕ
 
--- a block's graph: its nodes by number, and the names of the block's list with their kinds
+-- a block's graph: its nodes by number, the names of the block's list with their kinds, and whether two names may be aliases: stand for
+-- one object, as the formal names of a template may
 pub record ControlGraph : Type 0 where
   pub nodes : List GraphNode
   pub names : List Named
+  pub aliases : Bool
+
+-- a graph whose nodes name objects by their numbers
+abbrev pub over_objects : List GraphNode → ControlGraph
+over_objects g = record { nodes = g; names = []; aliases = false }
 
 -- a node with one edge
 abbrev pub to : Node → ℕ → GraphNode

@@ -7,6 +7,8 @@ use Rattle.qs_meaning.specs.Interaction.{tree_of}
 use Rattle.qs_program.specs.Loads.{weight_of}
 use Rattle.qs_program.specs.Program.{ProgramShape, block_at}
 use Rattle.qs_program.specs.Sound.{IsSound}
+use Rattle.qs_program.specs.Binding.{bound_statements}
+use Rattle.qs_graph.specs.Bound.{bound_nodes}
 use Rattle.qs_graph.specs.Nodes.{GraphNode}
 use Rattle.qs_graph.specs.Graphs.{block_graph}
 use Rattle.qs_graph.specs.Paths.{IsPath}
@@ -70,3 +72,7 @@ pub record HasGraph (p : ProgramShape) (c k : ℕ) : Type 0 where
 
 abbrev pub BlocksHaveGraphs : Type 0
 BlocksHaveGraphs = (p : ProgramShape) (c k : ℕ) → IsSound p → HasGraph p c k
+
+-- each name of a text stands for an object: the graph of the text with its names replaced is the graph with its names replaced
+abbrev pub GraphsAreBound : Type 0
+GraphsAreBound = (binding : List ℕ) (body : Statements) → block_graph (bound_statements binding body) ≡ bound_nodes binding (block_graph body)

@@ -4,7 +4,7 @@ ghost use Rattle.std.specs.Prelude.{◌≡◌, ◌<◌, ◌≤◌, ◌+◌, ◌+
 ghost use Rattle.qs_program.specs.Program.{block_at, blocks_of};
 ghost use Rattle.qs_program.specs.Views.{single};
 ghost use Rattle.qs_graph.specs.declared.node.Node.TheVariants.{Branch, Call, Query, Sync};
-ghost use Rattle.qs_graph.specs.Names.{names_of};
+ghost use Rattle.qs_graph.specs.Names.{graph_of, names_of};
 ghost use Rattle.qs_graph.specs.Nodes.{to, to_either};
 ghost use Rattle.std.specs.List.{AllByRecursion};
 ghost use Rattle.qs_graph.specs.Drawn.{IsDrawing};
@@ -21,14 +21,13 @@ use std::alloc::{AllocError, Global};
 pub fn graph(alloc: Global, program: &Program, client: u8, block: u8) -> Result<Graph, AllocError>
     requires client { client < length program.now.clients }
     requires block { block < blocks_of program.now client }
-    ensures graph_of { IfOk result (λ graph. graph.nodes ≡ block_graph (block_at program.now client block).body) }
+    ensures graph_of { IfOk result (λ graph. graph ≡ graph_of program.now client block) }
     ensures drawn { IfOk result (λ graph. IsDrawing graph.nodes (block_at program.now client block).body) }
-    ensures names { IfOk result (λ graph. graph.names ≡ names_of program.now (block_at program.now client block)) }
 {
     let names = block_names(alloc, program, client, block)?;
     program.is_sound();
     match block_places(alloc, program.block(client, block).body()) {
-        Ok(places) => Ok(Graph::of(places, names)),
+        Ok(places) => Ok(Graph::of(places, names, false)),
         Err(error) => {
             drop(names);
             Err(error)

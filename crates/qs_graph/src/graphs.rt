@@ -1,10 +1,16 @@
 //! Graphs as they are kept.
 
 ghost use Rattle.std.specs.Prelude.{◌≡◌, ◌<◌, length, slice_set};
+ghost use Rattle.std.specs.List.{list_any};
+ghost use Rattle.std.specs.Prelude.{◌==◌, ◌&&◌};
+ghost use Rattle.qs_program.specs.Kinds.{same_kind as are_alike};
+ghost use Rattle.qs_graph.specs.Names.{may_be_one, are_of_one_kind};
 ghost use Rattle.qs_graph.specs.Nodes.{to, to_either, exit, place_at, first_target, second_target, made_local, IsSync};
 ghost use Rattle.qs_graph.specs.WellFormed.{IsGraph};
 
 use crate::node::{Action, Named, Node};
+use qs_objects::Kind;
+use qs_program::same_kind;
 use std::marker::Model;
 use std::mem;
 
@@ -76,10 +82,12 @@ impl GraphNode {
     }
 }
 
-/// The control-flow graph of a block: nodes by number, each with its edges in order, and the names of the block's list.
+/// The control-flow graph of a block: nodes by number, each with its edges in order, the names of the block's list, and whether two of
+/// these may stand for one object.
 pub struct Graph {
     places: Vec<GraphNode>,
     names: Vec<Named>,
+    aliases: bool,
 }
 
 impl Drop for Graph {
@@ -87,6 +95,7 @@ impl Drop for Graph {
         let Graph {
             places: _,
             names: _,
+            aliases: _,
         } = self;
     }
 }
@@ -97,19 +106,24 @@ impl Model for Graph {
 
     ghost Value = { ControlGraph };
 
-    ghost view = { λ g. record { nodes = g.places.items; names = g.names.items } };
+    ghost view = { λ g. record { nodes = g.places.items; names = g.names.items; aliases = g.aliases } };
 
     ghost invariant = { λ g. IsGraph g.places.items };
 }
 
 impl Graph {
-    /// A graph of places that are known to be one.
-    pub(crate) fn of(places: Vec<GraphNode>, names: Vec<Named>) -> Graph
+    /// A graph of places that are known to be one, of names, and of whether names may be aliases.
+    pub(crate) fn of(places: Vec<GraphNode>, names: Vec<Named>, aliases: bool) -> Graph
         requires graph { IsGraph places.items }
         ensures value { result.nodes ≡ places.items }
         ensures names { result.names ≡ names.items }
+        ensures aliases { result.aliases ≡ aliases }
     {
-        Graph { places, names }
+        Graph {
+            places,
+            names,
+            aliases,
+        }
     }
 
     /// What holds of every graph: node 0 is Entry, edges lead to nodes, and numbers are in range. It does nothing.
@@ -131,6 +145,21 @@ impl Graph {
         ensures value { result.now ≡ self.now.names }
     {
         self.names.as_slice()
+    }
+
+    /// Whether two names may stand for one object, as the formal names of a template may.
+    pub fn has_aliases(&self) -> bool
+        ensures value { result ≡ self.now.aliases }
+    {
+        self.aliases
+    }
+
+    /// Whether a call of one name may be a call of another name's object: it is the same name, or names may stand for one object and both
+    /// are of one kind.
+    pub fn may_be_one(&self, name: u8, other: u8) -> bool
+        ensures value { result ≡ may_be_one self.now name other }
+    {
+        name == other || (self.aliases && are_of_one_kind(&self.names, name, other))
     }
 
     /// A node by its number.
@@ -171,7 +200,24 @@ impl Graph {
         requires sync { IsSync (place_at self.old.nodes n).node }
         ensures change { self.new.nodes ≡ slice_set self.old.nodes n (made_local (place_at self.old.nodes n)) }
         ensures same_names { self.new.names ≡ self.old.names }
+        ensures same_aliases { self.new.aliases ≡ self.old.aliases }
     {
         drop(mem::replace(&mut self.places[n].node, Node::Local(Action::Nothing)));
     }
+}
+
+// Whether two names stand in a list, with one kind.
+fn are_of_one_kind(names: &[Named], one: u8, other: u8) -> bool
+    ensures value { result ≡ are_of_one_kind names.now one other }
+{
+    names.iter().any(|named| named.name == one && has_of_kind(names, other, named.kind))
+}
+
+// Whether a name stands in a list, with this kind.
+fn has_of_kind(names: &[Named], name: u8, kind: Kind) -> bool
+    ensures value { result ≡ list_any (λ n. (n.name == name) && are_alike kind n.kind) names.now }
+{
+    names
+        .iter()
+        .any(|named| named.name == name && same_kind(kind, named.kind))
 }

@@ -6,6 +6,7 @@ ghost use Rattle.qs_graph.specs.Removal.{RemovalsKeepWalks};
 ghost use Rattle.qs_graph.specs.SyncedExamples.{SyncedExamples};
 ghost use Rattle.qs_graph.specs.WalkLaws.{
   BlocksHaveGraphs,
+  GraphsAreBound,
   PathsStayInside,
   StepsWithinWeight,
   SyncsErased,
@@ -76,4 +77,9 @@ pub fn walks_go_along_paths()
 /// Where some synchronisations of a graph are removed, its walks take as many nodes and say the same but for these; it does nothing.
 pub fn removals_keep_walks()
     ensures keep { RemovalsKeepWalks }
+{}
+
+/// The graph of a text in which names were replaced by their objects is the text's graph with its names replaced; it does nothing.
+pub fn graphs_are_bound()
+    ensures law { GraphsAreBound }
 {}

@@ -2,7 +2,8 @@
 use Rattle.std.specs.Prelude.{◌≡◌, ◌<◌, ◌≤◌, ◌⊎◌, ℕ, ◌+◌, Bool, true, false, ◌==◌, if◌then◌else◌, List, [], map, slice_index_or, sum_by, length}
 use Rattle.qs_program.specs.Program.{ProgramShape, text_of}
 use Rattle.qs_program.specs.Statements.{Statements}
-use Rattle.qs_graph.specs.Graphs.{block_graph}
+use Rattle.qs_graph.specs.Names.{graph_of}
+use Rattle.qs_graph.specs.Nodes.{ControlGraph}
 use Rattle.qs_syncset.specs.declared.mode.Mode.{Mode}
 use Rattle.qs_syncset.specs.declared.mode.Mode.TheVariants.{Plain, Static}
 use Rattle.qs_syncset.specs.Modes.{is_dynamic, is_static}
@@ -36,6 +37,10 @@ AreListed p r i = map object_of (counts_at r i) ≡ (text_of p (ticket_at r i)).
 abbrev pub body_of : ProgramShape → Played → ℕ → Statements
 body_of p r i = (text_of p (ticket_at r i)).body
 
+-- the graph of its block as it is built, in the block's own names
+abbrev pub built_of : ProgramShape → Played → ℕ → ControlGraph
+built_of p r i = graph_of p (ticket_at r i).client (ticket_at r i).index
+
 -- The i-th reservation in a mode of the optimised machine, by its trace so far: without coalescing it has sent a Sync for each query, with
 -- the dynamic test for each query that comes first on its object or directly after a command there, and with static removal alone for
 -- each that comes to a synchronisation at which its object is not held, by any test of that; in the static modes there is one. These
@@ -44,10 +49,10 @@ pub record IsCounted (p : ProgramShape) (mode : Mode) (r : Played) (i : ℕ) : T
   pub listed : AreListed p r i
   pub plain : mode ≡ Plain → AreSent (ended_of r i) (syncs_at r i) (λ h. queries h (trace_of r i))
   pub dynamic : is_dynamic mode ≡ true → AreSent (ended_of r i) (syncs_at r i) (λ h. runs h (trace_of r i))
-  pub static : mode ≡ Static → (held : ℕ → ℕ → Bool) → Decides (block_graph (body_of p r i)) held
+  pub static : mode ≡ Static → (held : ℕ → Bool) → Decides (built_of p r i) held
       → AreSent (ended_of r i) (syncs_at r i) (λ h. kept (body_of p r i) held (entry_of r i) h (trace_of r i))
-  pub tested : is_static mode ≡ true → HasTest (block_graph (body_of p r i))
-  pub ordered : (held : ℕ → ℕ → Bool) → Decides (block_graph (body_of p r i)) held
+  pub tested : is_static mode ≡ true → HasTest (built_of p r i)
+  pub ordered : (held : ℕ → Bool) → Decides (built_of p r i) held
       → (h : ℕ) → AreOrdered (body_of p r i) (entry_of r i) (trace_of r i) h held
   pub few : (h : ℕ) → runs h (trace_of r i) ≤ queries h (trace_of r i)
 

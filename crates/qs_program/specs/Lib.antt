@@ -5,7 +5,9 @@ pub mod SizeDecreases
 pub mod Values
 pub mod Loads
 pub mod Limits
+pub mod Kinds
 pub mod Numbering
 pub mod Program
+pub mod Binding
 pub mod Shapes
 pub mod Sound

@@ -2,6 +2,7 @@
 #![tactic(auto)]
 
 mod code;
+mod kinds;
 mod limits;
 mod names;
 mod program;
@@ -9,6 +10,7 @@ mod totals;
 mod values;
 
 pub use code::{Atom, Atoms, Body, Call, Expr, Stmt, Test};
+pub use kinds::same_kind;
 pub use limits::{
     MOST_BLOCKS, MOST_CLIENTS, MOST_HANDLERS, MOST_OBJECTS, MOST_REQUESTS, MOST_STEPS,
     MOST_TICKETS, MOST_TURNS, MOST_VARIABLES,

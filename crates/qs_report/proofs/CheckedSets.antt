@@ -6,7 +6,7 @@ use Rattle.std.specs.Prelude.{◌&&◌, ◌||◌, ◌==◌, ◌↔◌, not}
 use Rattle.std.proofs.lemmas.Bool.{eqb-true, and_parts, or_cases, not-true, both_ways}
 use Rattle.std.proofs.lemmas.Bool.{agree_below, agree_below_at}
 use Rattle.std.proofs.lemmas.List.{length-map}
-use Rattle.qs_graph.specs.Nodes.{GraphNode, place_at}
+use Rattle.qs_graph.specs.Nodes.{ControlGraph, GraphNode, place_at}
 use Rattle.qs_graph.specs.Paths.{IsAmong, IsPath}
 use Rattle.qs_syncset.specs.Flow.{held_along}
 use Rattle.qs_syncset.specs.Held.{IsHeld}
@@ -50,13 +50,13 @@ path g (m ∷ before) n e =
     (among n (place_at g m).edges both.0, path g before m both.1)
 
 -- this is a path to n, at whose end h is not held
-abbrev pub is_missed_by : List GraphNode → (before : List ℕ) → (n h : ℕ) → Bool
-is_missed_by g before n h = is_path g before n && not (held_along g before h)
+abbrev pub is_missed_by : ControlGraph → (before : List ℕ) → (n h : ℕ) → Bool
+is_missed_by g before n h = is_path g.nodes before n && not (held_along g before h)
 
-missed_by : (g : List GraphNode) (before : List ℕ) (n h : ℕ) → is_missed_by g before n h ≡ true → IsHeld g n h → ⊥
+missed_by : (g : ControlGraph) (before : List ℕ) (n h : ℕ) → is_missed_by g before n h ≡ true → IsHeld g n h → ⊥
 missed_by g before n h e =
-    let both = and_parts (is_path g before n) (not (held_along g before h)) e in
-    missed g n h before (path g before n both.0) (not-true (held_along g before h) both.1)
+    let both = and_parts (is_path g.nodes before n) (not (held_along g before h)) e in
+    missed g n h before (path g.nodes before n both.0) (not-true (held_along g before h) both.1)
 
 -- what is said of a node and an object fits its cell
 abbrev is_said : Option Bool → (said missed : Bool) → Bool
@@ -73,7 +73,7 @@ begins (Some false) e = refl
 begins (Some true) e = absurd (let f : false ≡ true = e in cc)
 begins None e = absurd (let f : false ≡ true = e in cc)
 
-said_at : (g : List GraphNode) (h : ℕ) (t : Table) → fits t h 0 g ≡ true → get_or t 0 None ≡ Some false
+said_at : (g : ControlGraph) (h : ℕ) (t : Table) → fits g t h 0 g.nodes ≡ true → get_or t 0 None ≡ Some false
     → (before : List ℕ) (n : ℕ) (said : Bool) (x : Option Bool) → get_or t n None ≡ x
     → is_said x said (is_missed_by g before n h) ≡ true → (said ≡ true) ↔ IsHeld g n h
 said_at g h t right start before n said None is e = (λ u. held_where_no_path g h t right start n is, λ held. e)
@@ -83,23 +83,23 @@ said_at g h t right start before n said (Some false) is e =
     (λ u. absurd (both_ways said (not-true said both.0) u), λ held. absurd (missed_by g before n h both.1 held))
 
 -- for each node a path there, which shows what is missed
-module _ (g : List GraphNode) (rows : Rows) (paths : List (List ℕ)) where
+module _ (g : ControlGraph) (rows : Rows) (paths : List (List ℕ)) where
   abbrev fits_node : (h n : ℕ) → Bool
   fits_node h n = is_said (get_or (table_of rows h) n None) (has (sets_in rows) n h) (is_missed_by g (get_or paths n []) n h)
 
   abbrev fits_object : ℕ → Bool
   fits_object h =
-      (fits (table_of rows h) h 0 g && begins_without (get_or (table_of rows h) 0 None))
-      && agree_below (fits_node h) (λ n. true) (length g)
+      (fits g (table_of rows h) h 0 g.nodes && begins_without (get_or (table_of rows h) 0 None))
+      && agree_below (fits_node h) (λ n. true) (length g.nodes)
 
-  pub checked_sets : length rows ≡ length g → agree_below fits_object (λ h. true) 8 ≡ true → AreSetsOf g (sets_in rows)
+  pub checked_sets : length rows ≡ length g.nodes → agree_below fits_object (λ h. true) 8 ≡ true → AreSetsOf g (sets_in rows)
   checked_sets count e = record {
     nodes = length-map rows row_of ∙ count;
     exact = λ n h inside below.
         let t = table_of rows h in
         let whole : fits_object h ≡ true = agree_below_at fits_object (λ h. true) 8 h e below in
-        let parts = and_parts (fits t h 0 g && begins_without (get_or t 0 None)) (agree_below (fits_node h) (λ n. true) (length g)) whole in
-        let firsts = and_parts (fits t h 0 g) (begins_without (get_or t 0 None)) parts.0 in
-        let here : fits_node h n ≡ true = agree_below_at (fits_node h) (λ n. true) (length g) n parts.1 inside in
+        let parts = and_parts (fits g t h 0 g.nodes && begins_without (get_or t 0 None)) (agree_below (fits_node h) (λ n. true) (length g.nodes)) whole in
+        let firsts = and_parts (fits g t h 0 g.nodes) (begins_without (get_or t 0 None)) parts.0 in
+        let here : fits_node h n ≡ true = agree_below_at (fits_node h) (λ n. true) (length g.nodes) n parts.1 inside in
         said_at g h t firsts.0 (begins (get_or t 0 None) firsts.1) (get_or paths n []) n (has (sets_in rows) n h) (get_or t n None) refl here;
   }

@@ -10,8 +10,8 @@ use Rattle.qs_program.proofs.Bounds.{sound_block}
 use Rattle.qs_meaning.proofs.Each.{each_map}
 use Rattle.qs_graph.specs.declared.node.Node.{Node}
 use Rattle.qs_graph.specs.declared.node.Node.TheVariants.{Entry, Local, Branch, Sync, Query, Call, Exit}
-use Rattle.qs_graph.specs.Graphs.{block_graph}
-use Rattle.qs_graph.specs.Nodes.{GraphNode, place_at, exit}
+use Rattle.qs_graph.specs.Names.{graph_of}
+use Rattle.qs_graph.specs.Nodes.{ControlGraph, place_at, exit}
 use Rattle.qs_graph.specs.WellFormed.{IsGraph, IsGraphNode, IsInRange}
 use Rattle.qs_graph.proofs.Ranges.{blocks_have_graphs}
 use Rattle.qs_syncset.specs.Flow.{Holding}
@@ -24,8 +24,8 @@ same_truth true b there back = sym (there refl)
 same_truth false true there back = back refl
 same_truth false false there back = refl
 
-same_sets : (g : List GraphNode) (one other : List (List Bool)) → AreSetsOf g one → AreSetsOf g other
-    → (n : ℕ) → n < length g → (h : ℕ) → h < 8 → has one n h ≡ has other n h
+same_sets : (g : ControlGraph) (one other : List (List Bool)) → AreSetsOf g one → AreSetsOf g other
+    → (n : ℕ) → n < length g.nodes → (h : ℕ) → h < 8 → has one n h ≡ has other n h
 same_sets g one other a b n inside h below =
     let x = a.exact n h inside below in
     let y = b.exact n h inside below in
@@ -44,14 +44,16 @@ same_filter : (f g : Holding) (hs : List ℕ) → AllByRecursion (λ h. f h ≡ 
 same_filter f g [] each = refl
 same_filter f g (h ∷ hs) each = ap₂ (λ b l. if b then h ∷ l else l) each.0 (same_filter f g hs each.1)
 
-same_line : (p : ProgramShape) (reserved : List ℕ) (g : List GraphNode) (one other : List (List Bool)) → AllByRecursion (λ h. h < 8) reserved
-    → IsGraph g → AreSetsOf g one → AreSetsOf g other → (n : ℕ) → n < length g → node_line p reserved g one n ≡ node_line p reserved g other n
+same_line : (p : ProgramShape) (reserved : List ℕ) (g : ControlGraph) (one other : List (List Bool)) → AllByRecursion (λ h. h < 8) reserved
+    → IsGraph g.nodes → AreSetsOf g one → AreSetsOf g other → (n : ℕ) → n < length g.nodes
+    → node_line p reserved g.nodes one n ≡ node_line p reserved g.nodes other n
 same_line p reserved g one other below is a b n inside =
     let same = same_sets g one other a b n inside in
-    let place : IsGraphNode (length g) (place_at g n) = AllByRecursion-get_or (IsGraphNode (length g)) g n exit is.places inside in
-    ap₂ (λ label held. decimal n ++ codes " " ++ label ++ codes " ->" ++ list_text decimal (place_at g n).edges
+    let place : IsGraphNode (length g.nodes) (place_at g.nodes n) =
+    AllByRecursion-get_or (IsGraphNode (length g.nodes)) g.nodes n exit is.places inside in
+    ap₂ (λ label held. decimal n ++ codes " " ++ label ++ codes " ->" ++ list_text decimal (place_at g.nodes n).edges
     ++ codes " held" ++ list_text (name_of p) held ++ codes "\n")
-    (same_label p (has one n) (has other n) (place_at g n).node place.in_range same)
+    (same_label p (has one n) (has other n) (place_at g.nodes n).node place.in_range same)
     (same_filter (has one n) (has other n) reserved (each_map same reserved below))
 
 same_texts : (text other : ℕ → List ℕ) (n : ℕ) → ((k : ℕ) → k < n → text k ≡ other k) → texts_up_to n text ≡ texts_up_to n other
@@ -62,12 +64,12 @@ one_block : (p : ProgramShape) (c k : ℕ) → IsSound p → c < length p.client
     → (one other : List ℕ) → IsBlockText p c k one → IsBlockText p c k other → one ≡ other
 one_block p c k sound client block one other a b =
     let own = block_at p c k in
-    let g = block_graph own.body in
+    let g = graph_of p c k in
     let below : AllByRecursion (λ h. h < 8) own.reserved =
     each_map (λ h l. omega (arith, l, sound.objects)) own.reserved (sound_block p c k sound client block).reserved in
     let line = same_line p own.reserved g a.sets b.sets below (blocks_have_graphs p c k sound).graph a.held b.held in
     a.lines
-    ∙ ap (λ l. block_line p c k ++ l) (same_texts (node_line p own.reserved g a.sets) (node_line p own.reserved g b.sets) (length g) line)
+    ∙ ap (λ l. block_line p c k ++ l) (same_texts (node_line p own.reserved g.nodes a.sets) (node_line p own.reserved g.nodes b.sets) (length g.nodes) line)
     ∙ sym b.lines
 
 one_up_to : (IsText : ℕ → List ℕ → Type 0) (n : ℕ) → ((k : ℕ) → k < n → (one other : List ℕ) → IsText k one → IsText k other → one ≡ other)

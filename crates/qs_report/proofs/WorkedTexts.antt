@@ -7,6 +7,7 @@ use Rattle.qs_program.specs.Program.{BlockShape, ProgramShape}
 use Rattle.qs_program.specs.Statements.{end}
 use Rattle.qs_graph.specs.GraphExamples.{query_in_repeat, empty_bodies, leave_first, two_bodies}
 use Rattle.qs_graph.specs.Graphs.{block_graph}
+use Rattle.qs_graph.specs.Names.{graph_of}
 use Rattle.qs_syncset.specs.Table.{AreSetsOf}
 use Rattle.qs_report.specs.GraphText.{block_line, nodes_text, IsBlockText, IsGraphText}
 use Rattle.qs_report.specs.GraphTextExamples.{GraphTextExamples, by_ann, on_a, on_b_and_a}
@@ -39,15 +40,15 @@ to_4 = 3 ∷ 2 ∷ 1 ∷ 0 ∷ []
 abbrev in_repeat : Rows
 in_repeat = none ∷ none ∷ a ∷ a ∷ a ∷ a ∷ a ∷ a ∷ []
 
-in_repeat_sets : AreSetsOf (block_graph query_in_repeat) (sets_in in_repeat)
-in_repeat_sets = checked_sets (block_graph query_in_repeat) in_repeat (straight 7 ++ (4 ∷ to_4) ∷ []) refl refl
+in_repeat_sets : AreSetsOf (graph_of (by_ann (on_a query_in_repeat ∷ [])) 0 0) (sets_in in_repeat)
+in_repeat_sets = checked_sets (graph_of (by_ann (on_a query_in_repeat ∷ [])) 0 0) in_repeat (straight 7 ++ (4 ∷ to_4) ∷ []) refl refl
 
 abbrev sets_left : Rows
 sets_left = none ∷ none ∷ a ∷ a ∷ a ∷ a ∷ None ∷ a ∷ a ∷ a ∷ []
 
-left_sets : AreSetsOf (block_graph leave_first) (sets_in sets_left)
+left_sets : AreSetsOf (graph_of (by_ann (on_a leave_first ∷ [])) 0 0) (sets_in sets_left)
 left_sets =
-    checked_sets (block_graph leave_first) sets_left
+    checked_sets (graph_of (by_ann (on_a leave_first ∷ [])) 0 0) sets_left
     (straight 6 ++ [] ∷ (4 ∷ to_4) ∷ (7 ∷ 4 ∷ to_4) ∷ (8 ∷ 7 ∷ 4 ∷ to_4) ∷ []) refl refl
 
 abbrev sets_met : Rows
@@ -56,31 +57,34 @@ sets_met = none ∷ none ∷ none ∷ none ∷ a ∷ none ∷ a ∷ a ∷ []
 abbrev to_5 : List ℕ
 to_5 = 2 ∷ 1 ∷ 0 ∷ []
 
-met_sets : AreSetsOf (block_graph two_bodies) (sets_in sets_met)
+met_sets : AreSetsOf (graph_of (by_ann (on_a two_bodies ∷ [])) 0 0) (sets_in sets_met)
 met_sets =
-    checked_sets (block_graph two_bodies) sets_met
+    checked_sets (graph_of (by_ann (on_a two_bodies ∷ [])) 0 0) sets_met
     (straight 3 ++ (1 ∷ 0 ∷ []) ∷ (3 ∷ 1 ∷ 0 ∷ []) ∷ to_5 ∷ (5 ∷ to_5) ∷ (6 ∷ 5 ∷ to_5) ∷ []) refl refl
 
 abbrev nowhere : Rows
 nowhere = none ∷ none ∷ none ∷ none ∷ none ∷ []
 
-nowhere_sets : AreSetsOf (block_graph empty_bodies) (sets_in nowhere)
-nowhere_sets = checked_sets (block_graph empty_bodies) nowhere (straight 5) refl refl
+nowhere_sets : AreSetsOf (graph_of (by_ann (on_a empty_bodies ∷ [])) 0 0) (sets_in nowhere)
+nowhere_sets = checked_sets (graph_of (by_ann (on_a empty_bodies ∷ [])) 0 0) nowhere (straight 5) refl refl
 
 abbrev neither : Rows
 neither = none ∷ none ∷ []
 
-neither_sets : AreSetsOf (block_graph end) (sets_in neither)
-neither_sets = checked_sets (block_graph end) neither (straight 2) refl refl
+neither_sets : AreSetsOf (graph_of (by_ann (on_a end ∷ [])) 0 0) (sets_in neither)
+neither_sets = checked_sets (graph_of (by_ann (on_a end ∷ [])) 0 0) neither (straight 2) refl refl
 
 abbrev either : Rows
 either = none ∷ none ∷ a ∷ a ∷ both ∷ both ∷ b ∷ b ∷ b ∷ []
 
-either_sets : AreSetsOf (block_graph on_b_and_a.body) (sets_in either)
-either_sets = checked_sets (block_graph on_b_and_a.body) either (straight 9) refl refl
+abbrev ann_twice : ProgramShape
+ann_twice = by_ann (on_a end ∷ on_b_and_a ∷ [])
+
+either_sets : AreSetsOf (graph_of ann_twice 0 1) (sets_in either)
+either_sets = checked_sets (graph_of ann_twice 0 1) either (straight 9) refl refl
 
 -- the text of one block alone
-alone : (s : BlockShape) (sets : List (List Bool)) (text : List ℕ) → AreSetsOf (block_graph s.body) sets
+alone : (s : BlockShape) (sets : List (List Bool)) (text : List ℕ) → AreSetsOf (graph_of (by_ann (s ∷ [])) 0 0) sets
     → text ≡ block_line (by_ann (s ∷ [])) 0 0 ++ nodes_text (by_ann (s ∷ [])) s.reserved (block_graph s.body) sets
     → IsGraphText (by_ann (s ∷ [])) text
 unfolding IsGraphText
@@ -96,9 +100,6 @@ two : (s t : BlockShape) (first second : List ℕ) → IsBlockText (by_ann (s �
     → IsGraphText (by_ann (s ∷ t ∷ [])) (first ++ second)
 unfolding IsGraphText
 two s t first second is is2 = ([], first ++ second, refl, (first, second, ([], first, refl, is, refl), is2, refl), refl)
-
-abbrev ann_twice : ProgramShape
-ann_twice = by_ann (on_a end ∷ on_b_and_a ∷ [])
 
 pub graph_text_examples : GraphTextExamples
 unfolding digits

@@ -5,8 +5,8 @@ use Rattle.qs_program.specs.Program.{ProgramShape, object_at, client_at, block_a
 use Rattle.qs_program.specs.Sound.{IsSound}
 use Rattle.qs_graph.specs.declared.node.Node.{Node}
 use Rattle.qs_graph.specs.declared.node.Node.TheVariants.{Entry, Local, Branch, Sync, Query, Call, Exit}
-use Rattle.qs_graph.specs.Graphs.{block_graph}
-use Rattle.qs_graph.specs.Nodes.{GraphNode, place_at}
+use Rattle.qs_graph.specs.Names.{graph_of}
+use Rattle.qs_graph.specs.Nodes.{ControlGraph, GraphNode, place_at}
 use Rattle.qs_syncset.specs.Flow.{Holding}
 use Rattle.qs_syncset.specs.Table.{AreSetsOf, has}
 use Rattle.qs_report.specs.Texts.{texts_up_to}
@@ -49,8 +49,8 @@ abbrev pub nodes_text : ProgramShape → (reserved : List ℕ) → List GraphNod
 nodes_text p reserved g sets = texts_up_to (length g) (node_line p reserved g sets)
 
 -- the nodes of a graph, with what is held at each on every path
-abbrev pub AreNodesText : ProgramShape → (reserved : List ℕ) → List GraphNode → List ℕ → Type 0
-AreNodesText p reserved g text = (sets : List (List Bool)) × AreSetsOf g sets × (text ≡ nodes_text p reserved g sets)
+abbrev pub AreNodesText : ProgramShape → (reserved : List ℕ) → ControlGraph → List ℕ → Type 0
+AreNodesText p reserved g text = (sets : List (List Bool)) × AreSetsOf g sets × (text ≡ nodes_text p reserved g.nodes sets)
 
 abbrev pub block_line : ProgramShape → (c k : ℕ) → List ℕ
 block_line p c k = codes "block " ++ (client_at p c).name ++ codes " " ++ decimal k ++ codes "\n"
@@ -58,8 +58,8 @@ block_line p c k = codes "block " ++ (client_at p c).name ++ codes " " ++ decima
 -- block k of client c: the nodes of its graph as it is built, with what is held at each on every path
 pub record IsBlockText (p : ProgramShape) (c k : ℕ) (text : List ℕ) : Type 0 where
   pub sets : List (List Bool)
-  pub held : AreSetsOf (block_graph (block_at p c k).body) sets
-  pub lines : text ≡ block_line p c k ++ nodes_text p (block_at p c k).reserved (block_graph (block_at p c k).body) sets
+  pub held : AreSetsOf (graph_of p c k) sets
+  pub lines : text ≡ block_line p c k ++ nodes_text p (block_at p c k).reserved (graph_of p c k).nodes sets
 
 -- texts of the places from 0 up to n, one after another
 abbrev pub AreTextsUpTo : ℕ → (ℕ → List ℕ → Type 0) → List ℕ → Type 0

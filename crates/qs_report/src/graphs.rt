@@ -217,7 +217,7 @@ fn put_graph(
     graph: &Graph,
 ) -> Result<(), AllocError>
     requires handlers { AllByRecursion (λ h. h < most_handlers) reserved.now }
-    ensures ok { OnOk result (IsAdded (AreNodesText program.now reserved.now graph.now.nodes) out.old.items out.new.items) }
+    ensures ok { OnOk result (IsAdded (AreNodesText program.now reserved.now graph.now) out.old.items out.new.items) }
 {
     let sets = held_sets(alloc, graph)?;
     let put = put_nodes(alloc, out, program, reserved, graph, &sets);

@@ -1,7 +1,7 @@
 -- A byte stands for a set of handlers: setting a bit adds one, clearing it removes one, and a set that shrinks has fewer. The
 -- computation of held sets works on such bytes, and it comes to an end because the sets shrink. It goes by cases on whether two
 -- bits are the same, and counts the eight bits by induction.
-use Rattle.std.proofs.Common.{◌≡◌, ◌≢◌, ℕ, zero, suc, ◌-◌, ◌*◌, ◌%◌, ◌<◌, ◌≤◌, ◌^◌, ◌⊎◌, inl, inr, true, false, get_or, refl, sym, ap, subst, ◌∙◌, arith, bit_and, bit_or, min, w8}
+use Rattle.std.proofs.Common.{◌≡◌, ◌≢◌, ℕ, Bool, zero, suc, ◌+◌, ◌-◌, ◌*◌, ◌%◌, ◌<◌, ◌≤◌, ◌^◌, ◌⊎◌, inl, inr, true, false, get_or, refl, sym, ap, subst, ◌∙◌, arith, bit_and, bit_or, min, w8}
 use Rattle.std.specs.Prelude.{◌&&◌, ◌==◌}
 use Rattle.std.specs.Int.{bit_at}
 use Rattle.std.proofs.lemmas.Bool.{cases_eq, cases_lt}
@@ -9,7 +9,8 @@ use Rattle.std.proofs.lemmas.Nat.Bits.{bit_at_and, bit_at-lt, bit_at_set_same, b
 use Rattle.qs_program.specs.Limits.{most_handlers}
 use Rattle.qs_meaning.specs.Solo.{put}
 use Rattle.qs_syncset.specs.Bytes.{in_set, size, total_below, truths}
-use Rattle.qs_syncset.proofs.Paths.{put_same, put_other}
+use Rattle.qs_syncset.specs.Flow.{without}
+use Rattle.qs_syncset.proofs.Paths.{put_same, put_other, without_called, without_other}
 
 zero_or_one : (x : ℕ) → x < 2 → (x ≡ 0) ⊎ (x ≡ 1)
 zero_or_one x small = elim (cases_eq x 0) [ inl e ↦ inl e | inr ne ↦ inr (omega arith) ]
@@ -41,6 +42,41 @@ without_handler s h k below small = elim (cases_eq h k) [
       (ap (λ x. x == 1) (bit_at_clear_same w8 s h below) ∙ sym (put_same (in_set s) h false))
   | inr other ↦ ap (λ x. x == 1) (bit_at_clear_other w8 s h below k small (λ e. other (sym e))) ∙ sym (put_other (in_set s) h k false other)
 ]
+
+-- ---- a call takes names out one after another
+
+-- of the names before n those that are called are out, and all others are as they were
+pub record AreOutBelow (called : ℕ → Bool) (set left n : ℕ) : Type 0 where
+  pub before : (h : ℕ) → h < n → in_set left h ≡ without called (in_set set) h
+  pub rest : (h : ℕ) → n ≤ h → h < most_handlers → in_set left h ≡ in_set set h
+
+module _ (called : ℕ → Bool) (set left n : ℕ) (inside : n < most_handlers) (out : AreOutBelow called set left n) where
+  -- the next name is called
+  pub out_next : called n ≡ true → AreOutBelow called set (bit_and left (255 - 1 * 2 ^ n % 256)) (n + 1)
+  out_next is = record {
+    before = λ h below. elim (cases_eq n h) [
+      | inl same ↦
+          subst (λ k. in_set (bit_and left (255 - 1 * 2 ^ n % 256)) k ≡ without called (in_set set) k) same
+          (without_handler left n n inside inside ∙ (put_same (in_set left) n false ∙ sym (without_called called (in_set set) n is)))
+      | inr other ↦
+          without_handler left n h inside (omega (arith, inside, below)) ∙ (put_other (in_set left) n h false other ∙ out.before h (omega (arith, below)))
+    ];
+    rest = λ h least small.
+        let other : n ≢ h = λ e. omega arith in
+        without_handler left n h inside small ∙ (put_other (in_set left) n h false other ∙ out.rest h (omega (arith, least)) small);
+  }
+
+  -- the next name is not
+  pub kept_next : called n ≡ false → AreOutBelow called set left (n + 1)
+  kept_next is = record {
+    before = λ h below. elim (cases_eq n h) [
+      | inl same ↦
+          subst (λ k. in_set left k ≡ without called (in_set set) k) same
+          (out.rest n (omega arith) inside ∙ sym (without_other called (in_set set) n is))
+      | inr other ↦ out.before h (omega (arith, below, other))
+    ];
+    rest = λ h least small. out.rest h (omega (arith, least)) small;
+  }
 
 pub truths_at : (s h : ℕ) → h < most_handlers → get_or (truths s) h true ≡ in_set s h
 truths_at s zero below = refl

@@ -1,49 +1,28 @@
 -- A walk through a coalesced graph ends within as many nodes, says the same but for synchronisations, and each query in it is
 -- still on an object that is held. The proofs on a client's code stand on `reduced`. It goes by induction on the nodes that the
 -- walk may take, and the path behind it shows that a removed synchronisation was not needed.
-use Rattle.std.proofs.Common.{◌≡◌, ◌⊎◌, inl, inr, ℕ, zero, suc, ◌<◌, true, List, ◌∷◌, length, refl, sym, ap, ◌∙◌, subst}
+use Rattle.std.proofs.Common.{◌≡◌, inl, inr, ℕ, zero, suc, ◌<◌, true, List, ◌∷◌, length, refl, sym, ap, ◌∙◌, subst}
 use Rattle.std.proofs.Math.Path.{fun_ext}
 use Rattle.std.proofs.lemmas.Bool.{cases_eq}
 use Rattle.qs_meaning.specs.Solo.{put}
 use Rattle.qs_graph.specs.declared.node.Node.{Node}
 use Rattle.qs_graph.specs.declared.node.Node.TheVariants.{Entry, Local, Branch, Sync, Query, Call, Exit}
 use Rattle.std.proofs.lemmas.List.{ext_get_or}
-use Rattle.qs_graph.specs.Nodes.{GraphNode, place_at, exit, made_local, first_target}
+use Rattle.qs_graph.specs.Nodes.{GraphNode, over_objects, place_at, exit, made_local, first_target}
 use Rattle.qs_graph.specs.Paths.{IsPath}
 use Rattle.qs_graph.specs.Synced.{without_syncs}
 use Rattle.qs_graph.specs.Walk.{Spot, Goes, Syncs, at_node, move, tree_of_move, walk, EachNext, Within}
 use Rattle.qs_graph.specs.WellFormed.{IsGraph}
 use Rattle.qs_graph.proofs.Along.{walks_go_along_paths}
 use Rattle.qs_graph.proofs.Saying.{next_up}
-use Rattle.qs_syncset.specs.Coalesced.{IsRemovedIfHeld, IsCoalesced}
+use Rattle.qs_syncset.specs.Coalesced.{IsRemovedIfHeld}
 use Rattle.qs_syncset.specs.CodeLaws.{CoalescingIsUnique}
 use Rattle.qs_syncset.specs.Flow.{Holding, held_along}
 use Rattle.qs_syncset.specs.Held.{IsHeld}
 use Rattle.qs_syncset.specs.SoundSynced.{IsSoundSynced}
 use Rattle.qs_syncset.proofs.Paths.{put_same, put_other, synced_along}
+use Rattle.qs_syncset.proofs.Removals.{IsSoundRemoval}
 use Rattle.qs_syncset.proofs.Moves.{after_move, after_is, move_same, move_here, next_three, sound_next, sound_said, erased_said}
-
--- a synchronisation that is removed
-pub record IsRemovedHere (g new : List GraphNode) (n : ℕ) : Type 0 where
-  pub handler : ℕ
-  pub sync : (place_at g n).node ≡ Sync handler
-  pub held : IsHeld g n handler
-  pub place : place_at new n ≡ made_local (place_at g n)
-
-place_by : (g new : List GraphNode) (n : ℕ) (v : Node) → (place_at g n).node ≡ v
-    → IsRemovedIfHeld (IsHeld g n) v (place_at g n) (place_at new n) → (place_at new n ≡ place_at g n) ⊎ IsRemovedHere g new n
-place_by g new n Entry e r = inl r
-place_by g new n (Local a) e r = inl r
-place_by g new n (Branch c) e r = inl r
-place_by g new n (Sync h) e (inl w) = inr (record { handler = h; sync = e; held = w.0; place = w.1 })
-place_by g new n (Sync h) e (inr w) = inl w.1
-place_by g new n (Query x c) e r = inl r
-place_by g new n (Call c) e r = inl r
-place_by g new n Exit e r = inl r
-
--- each place is as it was, or its synchronisation is removed
-pub place_is : (g new : List GraphNode) → IsCoalesced g new → (n : ℕ) → n < length g → (place_at new n ≡ place_at g n) ⊎ IsRemovedHere g new n
-place_is g new c n inside = place_by g new n (place_at g n).node refl (c.places n inside)
 
 -- what is held already is held as before
 put_again : (held : Holding) (h : ℕ) → held h ≡ true → put held h true ≡ held
@@ -65,7 +44,7 @@ pub record IsReduced (g new : List GraphNode) (n : ℕ) (s : Spot) (held : Holdi
   pub tree : without_syncs (walk new n s) ≡ without_syncs (walk g n s)
   pub sound : IsSoundSynced held (walk new n s)
 
-module _ (g new : List GraphNode) (ok : IsGraph g) (c : IsCoalesced g new) where
+module _ (g new : List GraphNode) (ok : IsGraph g) (c : IsSoundRemoval g new) where
   -- the place is as it was
   kept_step : (n : ℕ) (s : Spot) (held : Holding) → place_at new s.node ≡ place_at g s.node → s.node < length new
       → IsSoundSynced held (walk g (suc n) s)
@@ -98,29 +77,29 @@ module _ (g new : List GraphNode) (ok : IsGraph g) (c : IsCoalesced g new) where
   }
 
   pub reduced : (n : ℕ) (s : Spot) (before : List ℕ) → IsPath g before s.node → Within g n s
-      → IsSoundSynced (held_along g before) (walk g n s) → IsReduced g new n s (held_along g before)
+      → IsSoundSynced (held_along (over_objects g) before) (walk g n s) → IsReduced g new n s (held_along (over_objects g) before)
   reduced zero s before path within sound = absurd within
   reduced (suc n) s before path within sound =
-      let held = held_along g before in
+      let held = held_along (over_objects g) before in
       let m = move g s in
       let inside : s.node < length new = rw c.count within.0 in
       let paths : EachNext (λ t. IsPath g (s.node ∷ before) t.node) m = walks_go_along_paths g s before ok within.0 path in
       let nexts : EachNext (λ t. IsSoundSynced (after_move m held) (walk g n t)) m = sound_next m held (walk g n) s.locals sound in
-      let after : after_move m held ≡ held_along g (s.node ∷ before) = after_is g s held in
+      let after : after_move m held ≡ held_along (over_objects g) (s.node ∷ before) = after_is g s held in
       let each : EachNext (λ t. IsReduced g new n t (after_move m held)) m =
       next_three (λ t. IsPath g (s.node ∷ before) t.node) (Within g n) (λ t. IsSoundSynced (after_move m held) (walk g n t))
       (λ t. IsReduced g new n t (after_move m held))
       (λ t p w q. subst (λ k. IsReduced g new n t k) (sym after)
       (reduced n t (s.node ∷ before) p w (subst (λ k. IsSoundSynced k (walk g n t)) after q)))
       m paths within.1 nexts in
-      elim (place_is g new c s.node within.0) [
+      elim (c.places s.node within.0) [
         | inl same ↦ kept_step n s held same inside sound each
         | inr r ↦
             let t = at_node s (first_target (place_at g s.node)) in
             let old : m ≡ Syncs r.handler t = sync_moves g s r.handler r.sync in
             let now : move new s ≡ Goes t = move_here new s (made_local (place_at g s.node)) r.place in
             let stays : after_move m held ≡ held =
-            ap (λ k. after_move k held) old ∙ put_again held r.handler (synced_along g r.handler before (r.held before path)) in
+            ap (λ k. after_move k held) old ∙ put_again held r.handler (synced_along (over_objects g) r.handler before (r.held before path)) in
             let next : IsReduced g new n t (after_move m held) =
             subst (EachNext (λ u. IsReduced g new n u (after_move m held))) old each in
             removed_step n s held r.handler t old now inside (subst (λ k. IsReduced g new n t k) stays next)
@@ -145,5 +124,5 @@ pub coalescing_is_unique : CoalescingIsUnique
 coalescing_is_unique g one other w u =
     ext_get_or exit one other (w.count ∙ sym u.count)
     (λ n inside.
-    let within : n < length g = rw (← w.count) inside in
-    one_place (IsHeld g n) (place_at g n).node (place_at g n) (place_at one n) (place_at other n) (w.places n within) (u.places n within))
+    let within : n < length g.nodes = rw (← w.count) inside in
+    one_place (IsHeld g n) (place_at g.nodes n).node (place_at g.nodes n) (place_at one n) (place_at other n) (w.places n within) (u.places n within))

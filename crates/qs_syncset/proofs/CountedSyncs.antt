@@ -22,7 +22,8 @@ use Rattle.qs_graph.specs.declared.node.Node.TheVariants.{Entry, Local, Branch, 
 use Rattle.qs_graph.specs.declared.node.Action.TheVariants.{Assign, SetCount, Nothing}
 use Rattle.qs_graph.specs.declared.node.Choice.TheVariants.{If, Repeat}
 use Rattle.qs_graph.specs.Graphs.{block_graph}
-use Rattle.qs_graph.specs.Nodes.{GraphNode, place_at, exit, made_local, first_target, second_target}
+use Rattle.qs_graph.specs.Names.{graph_of}
+use Rattle.qs_graph.specs.Nodes.{ControlGraph, GraphNode, place_at, exit, made_local, first_target, second_target}
 use Rattle.qs_graph.specs.Steps.{limit}
 use Rattle.qs_graph.specs.Synced.{Synced, without_syncs}
 use Rattle.qs_graph.specs.Walk.{Spot, move, move_by, after_repeat, walk, EachNext, Within}
@@ -38,8 +39,9 @@ use Rattle.qs_syncset.specs.Flow.{nothing}
 use Rattle.qs_syncset.specs.Held.{IsHeld}
 use Rattle.qs_syncset.specs.Modes.{is_dynamic, is_static}
 use Rattle.qs_syncset.specs.SoundSynced.{IsSoundSynced}
-use Rattle.qs_syncset.specs.SyncCounts.{AreOrdered, Decides, HasTest, SetsDecide, SyncsAreCounted, entry_with, kept, kept_along, kept_by, queries, runs, syncs_along}
-use Rattle.qs_syncset.proofs.CodeWalks.{built_walk, graph_length}
+use Rattle.qs_syncset.specs.SyncCounts.{AreOrdered, Decides, HasTest, SetsDecide, SyncsAreCounted, entry_with, has_synced, kept, kept_along, kept_by, queries, runs, syncs_along}
+use Rattle.qs_syncset.proofs.CodeWalks.{left_walk, removal_of, told_of}
+use Rattle.qs_syncset.proofs.Removals.{IsSoundRemoval, none_removed}
 use Rattle.qs_syncset.proofs.SyncTrees.{AreAllSynced, IsAsking, block_asks, fewer_is, most_is, plain_is, runs_is}
 use Rattle.qs_syncset.proofs.SyncWalks.{asking, in_range, kept_is}
 
@@ -55,46 +57,49 @@ inside_at g n h e = by_case (nat_lt n (length g)) refl
 
 -- ---- a graph coalesced by a test
 
-coalesced_node : (ℕ → Bool) → Node → GraphNode → GraphNode
+coalesced_node : Bool → Node → GraphNode → GraphNode
 coalesced_node holds Entry p = p
 coalesced_node holds (Local a) p = p
 coalesced_node holds (Branch c) p = p
-coalesced_node holds (Sync h) p = if holds h then made_local p else p
+coalesced_node holds (Sync h) p = if holds then made_local p else p
 coalesced_node holds (Query x c) p = p
 coalesced_node holds (Call c) p = p
 coalesced_node holds Exit p = p
 
-coalesced_by : (ℕ → ℕ → Bool) → List GraphNode → List GraphNode
+coalesced_by : (ℕ → Bool) → List GraphNode → List GraphNode
 coalesced_by held g = map (λ n. coalesced_node (held n) (place_at g n).node (place_at g n)) (range_with_len 0 (length g))
 
-module _ (g : List GraphNode) (held : ℕ → ℕ → Bool) (decides : Decides g held) where
-  removed_by : (n : ℕ) (v : Node) → (place_at g n).node ≡ v
-      → IsRemovedIfHeld (IsHeld g n) v (place_at g n) (coalesced_node (held n) v (place_at g n))
+module _ (g : ControlGraph) (held : ℕ → Bool) (decides : Decides g held) where
+  removed_by : (n : ℕ) (v : Node) → (place_at g.nodes n).node ≡ v
+      → IsRemovedIfHeld (IsHeld g n) v (place_at g.nodes n) (coalesced_node (held n) v (place_at g.nodes n))
   unfolding coalesced_node
   removed_by n Entry e = refl
   removed_by n (Local a) e = refl
   removed_by n (Branch c) e = refl
-  removed_by n (Sync h) e = by_test (held n h) refl
+  removed_by n (Sync h) e = by_test (held n) refl
     where
-      exact : (held n h ≡ true → IsHeld g n h) × (IsHeld g n h → held n h ≡ true)
+      exact : (held n ≡ true → IsHeld g n h) × (IsHeld g n h → held n ≡ true)
       exact = decides n h e
 
-      by_test : (b : Bool) → held n h ≡ b → IsRemovedIfHeld (IsHeld g n) (Sync h) (place_at g n) (if b then made_local (place_at g n) else place_at g n)
+      by_test : (b : Bool) → held n ≡ b
+          → IsRemovedIfHeld (IsHeld g n) (Sync h) (place_at g.nodes n) (if b then made_local (place_at g.nodes n) else place_at g.nodes n)
       by_test true t = inl (exact.0 t, refl)
       by_test false f = inr (λ is. (let never : false ≡ true = sym f ∙ exact.1 is in cc), refl)
   removed_by n (Query x c) e = refl
   removed_by n (Call c) e = refl
   removed_by n Exit e = refl
 
-  is_coalesced_by : IsCoalesced g (coalesced_by held g)
+  is_coalesced_by : IsCoalesced g (coalesced_by held g.nodes)
   unfolding coalesced_by
-  is_coalesced_by = record {
-    count = length-map (range_with_len 0 (length g)) (λ n. coalesced_node (held n) (place_at g n).node (place_at g n)) ∙ length-range_with_len 0 (length g);
-    places = λ n inside.
-        subst (λ p. IsRemovedIfHeld (IsHeld g n) (place_at g n).node (place_at g n) p)
-        (sym (get_or-map-range_with_len (λ n. coalesced_node (held n) (place_at g n).node (place_at g n)) 0 (length g) n n exit inside (omega arith)))
-        (removed_by n (place_at g n).node refl);
-  }
+  is_coalesced_by =
+      let go = λ (n : ℕ). coalesced_node (held n) (place_at g.nodes n).node (place_at g.nodes n) in
+      record {
+        count = length-map (range_with_len 0 (length g.nodes)) go ∙ length-range_with_len 0 (length g.nodes);
+        places = λ n inside.
+            subst (λ p. IsRemovedIfHeld (IsHeld g n) (place_at g.nodes n).node (place_at g.nodes n) p)
+            (sym (get_or-map-range_with_len go 0 (length g.nodes) n n exit inside (omega arith)))
+            (removed_by n (place_at g.nodes n).node refl);
+      }
 
 -- ---- where there is a test
 
@@ -103,16 +108,16 @@ is_sync (Sync h) = true
 is_sync _ = false
 
 -- a coalesced graph tells of each synchronisation
-coalesced_tests : (g new : List GraphNode) → IsCoalesced g new → HasTest g
+coalesced_tests : (g : ControlGraph) (new : List GraphNode) → IsCoalesced g new → HasTest g
 unfolding is_sync
 coalesced_tests g new c = (
-  (λ n h. not (is_sync (place_at new n).node)),
+  (λ n. not (is_sync (place_at new n).node)),
   λ n h e. by_place n h e
-      (subst (λ v. IsRemovedIfHeld (IsHeld g n) v (place_at g n) (place_at new n)) e (c.places n (inside_at g n h e))),
+      (subst (λ v. IsRemovedIfHeld (IsHeld g n) v (place_at g.nodes n) (place_at new n)) e (c.places n (inside_at g.nodes n h e))),
 )
   where
-    by_place : (n h : ℕ) → (place_at g n).node ≡ Sync h → (IsHeld g n h × (place_at new n ≡ made_local (place_at g n))) ⊎
-        ((IsHeld g n h → ⊥) × (place_at new n ≡ place_at g n))
+    by_place : (n h : ℕ) → (place_at g.nodes n).node ≡ Sync h → (IsHeld g n h × (place_at new n ≡ made_local (place_at g.nodes n))) ⊎
+        ((IsHeld g n h → ⊥) × (place_at new n ≡ place_at g.nodes n))
         → (not (is_sync (place_at new n).node) ≡ true) ↔ IsHeld g n h
     by_place n h e (inl w) = ((λ t. w.0), λ t. ap (λ (p : GraphNode). not (is_sync p.node)) w.1)
     by_place n h e (inr w) = (
@@ -121,7 +126,9 @@ coalesced_tests g new c = (
     )
 
 pub sets_decide : SetsDecide
-sets_decide g sets ok all n h e = let inside = inside_at g n h e in all.exact n h inside (in_range g ok n inside h e)
+sets_decide g sets ok all n h e =
+    let inside = inside_at g.nodes n h e in
+    subst (λ v. (has_synced sets n v ≡ true) ↔ IsHeld g n h) (sym e) (all.exact n h inside (in_range g.nodes ok n inside h e))
 
 -- ---- counts beyond the graph are of no matter
 
@@ -147,7 +154,7 @@ alike_set m c d a branch k = record {
   ];
 }
 
-module _ (g : List GraphNode) (held : ℕ → ℕ → Bool) (h : ℕ) where
+module _ (g : List GraphNode) (held : ℕ → Bool) (h : ℕ) where
   abbrev Alike : ℕ → Type 0
   Alike n = (x : ℕ) (l : Locals) (c d : List ℕ) (es : List Event) → AreAlike (length g) c d → Within g n (spot x l c)
       → kept_along g held h n (spot x l d) es ≡ kept_along g held h n (spot x l c) es
@@ -171,7 +178,7 @@ module _ (g : List GraphNode) (held : ℕ → ℕ → Bool) (h : ℕ) where
       (sym (alike.same x inside)) (turned_alike n later (slice_index_or c x 0) x a b l c d es alike within)
   alike_by n later (Sync j) x a b l c d [] alike inside within = refl
   alike_by n later (Sync j) x a b l c d (e ∷ es) alike inside within =
-      ap (λ k. (if (j == h) && not (held x h) then 1 else 0) + k) (later a l c d (e ∷ es) alike within)
+      ap (λ k. (if (j == h) && not (held x) then 1 else 0) + k) (later a l c d (e ∷ es) alike within)
   alike_by n later (Query y q) x a b l c d [] alike inside within = refl
   alike_by n later (Query y q) x a b l c d (e ∷ es) alike inside within =
       later a (slice_set l y (value_of e.reply)) c d es alike (within (value_of e.reply))
@@ -204,6 +211,9 @@ module _ (program : ProgramShape) (sound : IsSound program) (client index : ℕ)
   abbrev built_graph : List GraphNode
   built_graph = block_graph body
 
+  abbrev names_graph : ControlGraph
+  names_graph = graph_of program client index
+
   abbrev may : ℕ → Bool
   may = reserves program (record { client = client; index = index })
 
@@ -216,25 +226,21 @@ module _ (program : ProgramShape) (sound : IsSound program) (client index : ℕ)
   asks_built : (n : ℕ) → length built_graph ≤ n → IsAsking (walk built_graph limit (entry_with n l)) × AreAllSynced false (walk built_graph limit (entry_with n l))
   asks_built n room = subst (λ t. IsAsking t × AreAllSynced false t) (sym (follows n room).tree) (block_asks body l)
 
-  -- the tree of a graph of the block, as it is built or coalesced
+  -- the tree of a graph of the block, as it is built or with some synchronisations removed
   record IsTree (tree : Synced) : Type 0 where
     erases : without_syncs tree ≡ tree_of body l
     asks : IsAsking tree
     holds : IsSoundSynced nothing tree
 
-  is_tree : (n : ℕ) → length built_graph ≤ n → (static : Bool) (g : List GraphNode) → IsGraphOf static body g → IsTree (walk g limit (entry_with n l))
-  is_tree n room static g is =
+  is_tree : (n : ℕ) → length built_graph ≤ n → (g : List GraphNode) → IsSoundRemoval built_graph g → IsTree (walk g limit (entry_with n l))
+  is_tree n room g left =
       let f = follows n room in
-      let w = built_walk body l (replicate n 0) f ok static g is in
+      let w = left_walk body l (replicate n 0) f ok g left in
       record {
         erases = w.tree ∙ (ap without_syncs f.tree ∙ syncs_erased body l);
-        asks = by_static static g is;
+        asks = asking built_graph g left limit (entry_with n l) (follows n room).ends (asks_built n room).0;
         holds = w.sound;
       }
-    where
-      by_static : (static : Bool) (g : List GraphNode) → IsGraphOf static body g → IsAsking (walk g limit (entry_with n l))
-      by_static false g same = subst (λ g. IsAsking (walk g limit (entry_with n l))) (sym same) (asks_built n room).0
-      by_static true g c = asking built_graph g c limit (entry_with n l) (follows n room).ends (asks_built n room).0
 
   module _ (es : List Event) (rest : Interaction) (leads : Leads (tree_of body l) es rest) (h : ℕ) where
     only : (tree : Synced) → IsTree tree → AsksOnly may (without_syncs tree)
@@ -249,23 +255,24 @@ module _ (program : ProgramShape) (sound : IsSound program) (client index : ℕ)
     sent_queries : (n : ℕ) → length built_graph ≤ n → syncs_along false h false (walk built_graph limit (entry_with n l)) es ≡ queries h es
     sent_queries n room =
         let tree = walk built_graph limit (entry_with n l) in
-        let is = is_tree n room false built_graph refl in
+        let is = is_tree n room built_graph (none_removed built_graph) in
         plain_is h may tree es false rest is.asks (asks_built n room).1 (only tree is) (leads_along tree is)
 
-    module _ (held : ℕ → ℕ → Bool) (decides : Decides built_graph held) where
-      sent_kept : (n : ℕ) → length built_graph ≤ n → (g : List GraphNode) → IsCoalesced built_graph g → syncs_along false h false
+    module _ (held : ℕ → Bool) (decides : Decides names_graph held) where
+      sent_kept : (n : ℕ) → length built_graph ≤ n → (g : List GraphNode) → IsCoalesced names_graph g → syncs_along false h false
           (walk g limit (entry_with n l)) es ≡ kept body held l h es
       sent_kept n room g c =
-          kept_is built_graph g c held decides h limit (entry_with n l) (follows n room).ends es false
+          kept_is built_graph g (removal_of program client index true g c) held (told_of program client index g c held decides) h limit
+          (entry_with n l) (follows n room).ends es false
           ∙ sym (kept_alike built_graph held h limit 0 l (replicate n 0) (replicate (length built_graph) 0) es (zeros_alike (length built_graph) n room) (follows n room).ends)
 
       are_ordered : AreOrdered body l es h held
       are_ordered =
           let n = length built_graph in
           let g = coalesced_by held built_graph in
-          let c = is_coalesced_by built_graph held decides in
+          let c = is_coalesced_by names_graph held decides in
           let tree = walk g limit (entry_with n l) in
-          let is = is_tree n (omega arith) true g c in
+          let is = is_tree n (omega arith) g (removal_of program client index true g c) in
           let same = sent_kept n (omega arith) g c in
           let more = fewer_is h tree es false false in
           let most = most_is h may tree es false rest is.asks (only tree is) (leads_along tree is) in
@@ -277,27 +284,28 @@ pub code_asks : (program : ProgramShape) (mode : Mode) (client : ℕ) (code : Cl
     → IsAsking (walk (code_at code k).graph limit (entry_with n l))
 code_asks program mode client code sound of k n l inside room =
     let g = (code_at code k).graph in
-    let is = (of.blocks k inside).graph in
-    let b = (block_at program client k).body in
-    (is_tree program sound client k l n (omega (arith, graph_length b (is_static mode) g is, room)) (is_static mode) g is).asks
+    let left = removal_of program client k (is_static mode) g (of.blocks k inside).graph in
+    (is_tree program sound client k l n (omega (arith, left.count, room)) g left).asks
 
 pub syncs_are_counted : SyncsAreCounted
 syncs_are_counted program mode client code sound of k n l es rest h inside room leads =
     let g = (code_at code k).graph in
     let is = (of.blocks k inside).graph in
+    let names = graph_of program client k in
     let b = (block_at program client k).body in
-    let long : length (block_graph b) ≤ n = omega (arith, graph_length b (is_static mode) g is, room) in
+    let left = removal_of program client k (is_static mode) g is in
+    let long : length (block_graph b) ≤ n = omega (arith, left.count, room) in
     let sent = λ (dynamic : Bool). syncs_along dynamic h false (walk g limit (entry_with n l)) es in
     record {
       plain = λ e.
-          let same : g ≡ block_graph b = subst (λ m. IsGraphOf (is_static m) b g) e is in
+          let same : g ≡ block_graph b = subst (λ m. IsGraphOf (is_static m) names g) e is in
           ap sent (ap is_dynamic e) ∙ (ap (λ g. syncs_along false h false (walk g limit (entry_with n l)) es) same
           ∙ sent_queries program sound client k l es rest leads h n long);
       dynamic = λ e. ap sent e ∙ sent_runs program sound client k l es rest leads h (walk g limit (entry_with n l))
-          (is_tree program sound client k l n long (is_static mode) g is);
+          (is_tree program sound client k l n long g left);
       static = λ e held decides.
-          let c : IsCoalesced (block_graph b) g = subst (λ m. IsGraphOf (is_static m) b g) e is in
+          let c : IsCoalesced names g = subst (λ m. IsGraphOf (is_static m) names g) e is in
           ap sent (ap is_dynamic e) ∙ sent_kept program sound client k l es rest leads h held decides n long g c;
-      tested = λ e. coalesced_tests (block_graph b) g (subst (λ static. IsGraphOf static b g) e is);
+      tested = λ e. coalesced_tests names g (subst (λ static. IsGraphOf static names g) e is);
       ordered = λ held decides. are_ordered program sound client k l es rest leads h held decides;
     }

@@ -5,6 +5,7 @@ pub mod Visits
 pub mod Removing
 pub mod Moves
 pub mod SoundTrees
+pub mod Removals
 pub mod CoalescedWalks
 pub mod CodeWalks
 pub mod SyncTrees
@@ -15,3 +16,4 @@ pub mod WorkedGraphs
 pub mod WorkedSyncs
 pub mod QueryRuns
 pub mod ShortLists
+pub mod Unaliased

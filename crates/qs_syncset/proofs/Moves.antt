@@ -7,7 +7,7 @@ use Rattle.qs_meaning.specs.Interaction as tree
 use Rattle.qs_program.specs.Values.{Locals}
 use Rattle.qs_graph.specs.declared.node.Node.{Node}
 use Rattle.qs_graph.specs.declared.node.Node.TheVariants.{Entry, Local, Branch, Sync, Query, Call, Exit}
-use Rattle.qs_graph.specs.Nodes.{GraphNode, place_at}
+use Rattle.qs_graph.specs.Nodes.{GraphNode, over_objects, place_at}
 use Rattle.qs_graph.specs.Synced.{Synced, without_syncs}
 use Rattle.qs_graph.specs.Walk.{Spot, Move, Ends, Goes, Calls, Syncs, Queries, move, move_by, move_at, tree_of_move, EachNext}
 use Rattle.qs_syncset.specs.Flow.{Holding, held_after}
@@ -18,19 +18,19 @@ after_move (Calls r s) held = put held r.object false
 after_move (Syncs h s) held = put held h true
 after_move _ held = held
 
-after_by : (v : Node) (s : Spot) (n m : ℕ) (held : Holding) → after_move (move_by v s n m) held ≡ held_after v held
-after_by Entry s n m held = refl
-after_by (Local a) s n m held = refl
-after_by (Branch c) s n m held = refl
-after_by (Sync h) s n m held = refl
-after_by (Query x c) s n m held = refl
-after_by (Call c) s n m held = refl
-after_by Exit s n m held = refl
+after_by : (g : List GraphNode) (v : Node) (s : Spot) (n m : ℕ) (held : Holding) → after_move (move_by v s n m) held ≡ held_after (over_objects g) v held
+after_by g Entry s n m held = refl
+after_by g (Local a) s n m held = refl
+after_by g (Branch c) s n m held = refl
+after_by g (Sync h) s n m held = refl
+after_by g (Query x c) s n m held = refl
+after_by g (Call c) s n m held = refl
+after_by g Exit s n m held = refl
 
 -- a move does to what is held what its node does
-pub after_is : (g : List GraphNode) (s : Spot) (held : Holding) → after_move (move g s) held ≡ held_after (place_at g s.node).node held
+pub after_is : (g : List GraphNode) (s : Spot) (held : Holding) → after_move (move g s) held ≡ held_after (over_objects g) (place_at g s.node).node held
 unfolding move
-after_is g s held = after_by (place_at g s.node).node s _ _ held
+after_is g s held = after_by g (place_at g s.node).node s _ _ held
 
 -- where two graphs have the same place, a walk moves alike
 pub move_same : (g new : List GraphNode) (s : Spot) → place_at new s.node ≡ place_at g s.node → move new s ≡ move g s

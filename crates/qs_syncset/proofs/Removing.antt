@@ -5,24 +5,24 @@ use Rattle.std.proofs.Common.{◌≡◌, ℕ, ◌+◌, ◌<◌, ◌≤◌, inl, 
 use Rattle.std.proofs.lemmas.List.{length-set, get_or-set_same, get_or-set_other}
 use Rattle.qs_graph.specs.declared.node.Node.{Node}
 use Rattle.qs_graph.specs.declared.node.Node.TheVariants.{Entry, Local, Branch, Sync, Query, Call, Exit}
-use Rattle.qs_graph.specs.Nodes.{GraphNode, place_at, exit, made_local}
+use Rattle.qs_graph.specs.Nodes.{ControlGraph, GraphNode, place_at, exit, made_local}
 use Rattle.qs_syncset.specs.Held.{IsHeld}
 use Rattle.qs_syncset.specs.Coalesced.{IsRemovedIfHeld, IsCoalesced}
 
 -- what becomes of a node's place
-abbrev pub IsRemovedAt : List GraphNode → ℕ → GraphNode → Type 0
-IsRemovedAt g n new = IsRemovedIfHeld (IsHeld g n) (place_at g n).node (place_at g n) new
+abbrev pub IsRemovedAt : ControlGraph → ℕ → GraphNode → Type 0
+IsRemovedAt g n new = IsRemovedIfHeld (IsHeld g n) (place_at g.nodes n).node (place_at g.nodes n) new
 
 -- the places before n are done, and the others as they were
-pub record IsDone (g now : List GraphNode) (n : ℕ) : Type 0 where
-  pub count : length now ≡ length g
+pub record IsDone (g : ControlGraph) (now : List GraphNode) (n : ℕ) : Type 0 where
+  pub count : length now ≡ length g.nodes
   pub done : (k : ℕ) → k < n → IsRemovedAt g k (place_at now k)
-  pub rest : (k : ℕ) → n ≤ k → place_at now k ≡ place_at g k
+  pub rest : (k : ℕ) → n ≤ k → place_at now k ≡ place_at g.nodes k
 
-pub done_at_first : (g : List GraphNode) → IsDone g g 0
+pub done_at_first : (g : ControlGraph) → IsDone g g.nodes 0
 done_at_first g = record { count = refl; done = λ k l. absurd (omega arith); rest = λ k l. refl }
 
-pub all_done : (g now : List GraphNode) → IsDone g now (length g) → IsCoalesced g now
+pub all_done : (g : ControlGraph) (now : List GraphNode) → IsDone g now (length g.nodes) → IsCoalesced g now
 all_done g now d = record { count = d.count; places = d.done }
 
 pub removed : (held : ℕ → Type 0) (h : ℕ) (old : GraphNode) → old.node ≡ Sync h → held h → IsRemovedIfHeld held old.node old (made_local old)
@@ -44,7 +44,7 @@ pub no_sync : (held : ℕ → Type 0) (old : GraphNode) → ((h : ℕ) → old.n
 no_sync held old other = no_sync_by held old.node old other
 
 -- the place of n stays
-pub done_kept : (g now : List GraphNode) (n : ℕ) → IsDone g now n → IsRemovedAt g n (place_at g n) → IsDone g now (n + 1)
+pub done_kept : (g : ControlGraph) (now : List GraphNode) (n : ℕ) → IsDone g now n → IsRemovedAt g n (place_at g.nodes n) → IsDone g now (n + 1)
 done_kept g now n d stays = record {
   count = d.count;
   done = below_more (λ k. IsRemovedAt g k (place_at now k)) _ d.done
@@ -53,11 +53,11 @@ done_kept g now n d stays = record {
 }
 
 -- the place of n is removed
-pub done_set : (g now : List GraphNode) (n : ℕ) → n < length now → IsDone g now n → IsRemovedAt g n (made_local (place_at g n))
+pub done_set : (g : ControlGraph) (now : List GraphNode) (n : ℕ) → n < length now → IsDone g now n → IsRemovedAt g n (made_local (place_at g.nodes n))
     → IsDone g (set now n (made_local (place_at now n))) (n + 1)
 done_set g now n inside d goes =
     let new = made_local (place_at now n) in
-    let same : place_at now n ≡ place_at g n = d.rest n (omega arith) in
+    let same : place_at now n ≡ place_at g.nodes n = d.rest n (omega arith) in
     let here : place_at (set now n new) n ≡ new = get_or-set_same now n new exit inside in
     record {
       count = length-set now n new ∙ d.count;

@@ -1,5 +1,5 @@
--- Along a walk through a coalesced graph the synchronisations are those of the graph as it is built, but for those at which the
--- object is held. The count of Syncs in the static mode stands on `kept_is`. It goes by induction on the nodes that the walk may
+-- Along a walk through a coalesced graph the synchronisations are those of the graph as it is built, but for those that a test of
+-- what is held tells. The count of Syncs in the static mode stands on `kept_is`. It goes by induction on the nodes that the walk may
 -- take, with cases on whether the node's synchronisation was removed.
 use Rattle.std.proofs.Common.{◌≡◌, inl, inr, ℕ, zero, suc, ◌+◌, ◌<◌, Bool, true, false, ◌==◌, ◌&&◌, if◌then◌else◌, List, [], ◌∷◌, length, refl, sym, ap, ◌∙◌, subst, arith}
 use Rattle.std.specs.Prelude.{not}
@@ -10,16 +10,14 @@ use Rattle.qs_program.specs.Values.{Locals}
 use Rattle.qs_program.specs.Limits.{most_handlers}
 use Rattle.qs_graph.specs.declared.node.Node.{Node}
 use Rattle.qs_graph.specs.declared.node.Node.TheVariants.{Entry, Local, Branch, Sync, Query, Call, Exit}
-use Rattle.qs_graph.specs.declared.node.Action.TheVariants.{Nothing}
 use Rattle.qs_graph.specs.Nodes.{GraphNode, place_at, exit, first_target, made_local}
 use Rattle.qs_graph.specs.Synced.{Synced}
 use Rattle.qs_graph.specs.Walk.{Spot, Move, Ends, Goes, Calls, Syncs, Queries, at_node, move, move_by, tree_of_move, walk, EachNext, Within}
 use Rattle.qs_graph.specs.WellFormed.{IsGraph, IsGraphNode, IsInRange}
-use Rattle.qs_syncset.specs.Coalesced.{IsRemovedIfHeld, IsCoalesced}
-use Rattle.qs_syncset.specs.Held.{IsHeld}
-use Rattle.qs_syncset.specs.SyncCounts.{Decides, kept_along, kept_by, syncs_along}
+use Rattle.qs_syncset.specs.SyncCounts.{kept_along, kept_by, syncs_along}
 use Rattle.qs_syncset.proofs.Moves.{move_same, move_here}
-use Rattle.qs_syncset.proofs.CoalescedWalks.{IsRemovedHere, place_is, sync_moves}
+use Rattle.qs_syncset.proofs.Removals.{IsRemovedHere, IsSoundRemoval, IsToldBy}
+use Rattle.qs_syncset.proofs.CoalescedWalks.{sync_moves}
 use Rattle.qs_syncset.proofs.SyncTrees.{IsAsking, IsQueryOf}
 
 -- where a synchronisation leads
@@ -56,10 +54,10 @@ next_both P Q f (Calls r s) p = f s p
 next_both P Q f (Syncs h s) p = f s p
 next_both P Q f (Queries r s) p = λ v. f (s v) (p v)
 
-module _ (g new : List GraphNode) (c : IsCoalesced g new) where
+module _ (g new : List GraphNode) (c : IsSoundRemoval g new) where
   query_here : (h n : ℕ) (s : Spot) → Within g n s → IsQueryOf h (walk g n s) → IsQueryOf h (walk new n s)
   query_here h zero s within q = absurd within
-  query_here h (suc n) s within q = elim (place_is g new c s.node within.0) [
+  query_here h (suc n) s within q = elim (c.places s.node within.0) [
     | inl same ↦
         subst (λ m. IsQueryOf h (tree_of_move (walk new n) s.locals m)) (sym (move_same g new s same))
         (query_said h (walk g n) (walk new n) s.locals (move g s)
@@ -78,7 +76,7 @@ module _ (g new : List GraphNode) (c : IsCoalesced g new) where
   -- a synchronisation that is left stands before a query as it did
   pub asking : (n : ℕ) (s : Spot) → Within g n s → IsAsking (walk g n s) → IsAsking (walk new n s)
   asking zero s within a = absurd within
-  asking (suc n) s within a = elim (place_is g new c s.node within.0) [
+  asking (suc n) s within a = elim (c.places s.node within.0) [
     | inl same ↦
         subst (λ m. IsAsking (tree_of_move (walk new n) s.locals m)) (sym (move_same g new s same))
         (asking_said n s.locals (move g s) within.1
@@ -99,7 +97,7 @@ in_range g ok n inside j e =
     let here : IsGraphNode (length g) (place_at g n) = AllByRecursion-get_or (IsGraphNode (length g)) g n exit ok.places inside in
     subst IsInRange e here.in_range
 
-module _ (g new : List GraphNode) (c : IsCoalesced g new) (held : ℕ → ℕ → Bool) (decides : Decides g held) (h : ℕ) where
+module _ (g new : List GraphNode) (c : IsSoundRemoval g new) (held : ℕ → Bool) (told : IsToldBy g new held) (h : ℕ) where
   -- of no trace there are none
   kept_none : (n : ℕ) (s : Spot) → kept_along g held h n s [] ≡ 0
   kept_none zero s = refl
@@ -112,28 +110,11 @@ module _ (g new : List GraphNode) (c : IsCoalesced g new) (held : ℕ → ℕ �
       by_move (Syncs j t) later = refl
       by_move (Queries r t) later = refl
 
-  to_false : (b : Bool) → (b ≡ true → ⊥) → b ≡ false
-  to_false true never = absurd (never refl)
-  to_false false never = refl
-
-  -- a synchronisation that is left is not held
-  left_here : (n j : ℕ) → n < length g → (place_at g n).node ≡ Sync j → place_at new n ≡ place_at g n → held n j ≡ false
-  left_here n j inside e same =
-      elim (subst (λ v. IsRemovedIfHeld (IsHeld g n) v (place_at g n) (place_at new n)) e (c.places n inside)) [
-        | inl w ↦
-            let never : Local Nothing ≡ Sync j = sym (ap (λ (p : GraphNode). p.node) w.1) ∙ (ap (λ (p : GraphNode). p.node) same ∙ e) in
-            absurd (cc)
-        | inr w ↦ to_false (held n j) (λ t. w.0 ((decides n j e).0 t))
-      ]
-
-  removed_here : (r n : ℕ) → (place_at g n).node ≡ Sync r → IsHeld g n r → held n r ≡ true
-  removed_here r n e is = (decides n r e).1 is
-
   abbrev pub Same : ℕ → Spot → Type 0
   Same n t = (es : List Event) (b : Bool) → syncs_along false h b (walk new n t) es ≡ kept_along g held h n t es
 
   -- the place is as it was
-  same_step : (n : ℕ) (s : Spot) (m : Move) → ((j : ℕ) (t : Spot) → m ≡ Syncs j t → held s.node j ≡ false) → EachNext (Same n) m
+  same_step : (n : ℕ) (s : Spot) (m : Move) → ((j : ℕ) (t : Spot) → m ≡ Syncs j t → held s.node ≡ false) → EachNext (Same n) m
       → (es : List Event) (b : Bool) → syncs_along false h b (tree_of_move (walk new n) s.locals m) es ≡ kept_by g held h (kept_along g held h n) s.node m es
   same_step n s Ends left each es b = refl
   same_step n s (Goes t) left each es b = each es b
@@ -144,10 +125,9 @@ module _ (g new : List GraphNode) (c : IsCoalesced g new) (held : ℕ → ℕ �
     where
       by_case : (x : Bool) → (j == h) ≡ x
           → (if x then 1 + syncs_along false h true (walk new n t) (e ∷ es) else syncs_along false h b (walk new n t) (e ∷ es))
-          ≡ (if x && not (held s.node h) then 1 else 0) + kept_along g held h n t (e ∷ es)
+          ≡ (if x && not (held s.node) then 1 else 0) + kept_along g held h n t (e ∷ es)
       by_case true is =
-          let same : j ≡ h = grind (arith, is) in
-          let not_held : held s.node h ≡ false = subst (λ k. held s.node k ≡ false) same (left j t refl) in
+          let not_held : held s.node ≡ false = left j t refl in
           rw not_held (ap (λ k. 1 + k) (each (e ∷ es) true))
       by_case false is = let i = each (e ∷ es) b in omega (arith, i)
   same_step n s (Queries r t) left each [] b = refl
@@ -158,10 +138,10 @@ module _ (g new : List GraphNode) (c : IsCoalesced g new) (held : ℕ → ℕ �
   kept_is zero s within es b = absurd within
   kept_is (suc n) s within es b =
       let each : EachNext (Same n) (move g s) = next_both (Within g n) (Same n) (kept_is n) (move g s) within.1 in
-      elim (place_is g new c s.node within.0) [
+      elim (c.places s.node within.0) [
         | inl same ↦
             subst (λ m. syncs_along false h b (tree_of_move (walk new n) s.locals m) es ≡ kept_along g held h (suc n) s es) (sym (move_same g new s same))
-            (same_step n s (move g s) (λ j t e. left_here s.node j within.0 (syncs_at g s j t e) same) each es b)
+            (same_step n s (move g s) (λ j t e. told.left s.node j within.0 (syncs_at g s j t e) same) each es b)
         | inr r ↦ removed r each
       ]
     where
@@ -173,10 +153,9 @@ module _ (g new : List GraphNode) (c : IsCoalesced g new) (held : ℕ → ℕ �
           subst (λ m. syncs_along false h b (tree_of_move (walk new n) s.locals m) es ≡ kept_along g held h (suc n) s es) (sym now)
           (subst (λ m. syncs_along false h b (walk new n (beyond g s)) es ≡ kept_by g held h (kept_along g held h n) s.node m es) (sym old) (by_trace es next))
         where
-          by_case : (x : Bool) → (r.handler == h) ≡ x → (k : ℕ) → k ≡ (if x && not (held s.node h) then 1 else 0) + k
+          by_case : (x : Bool) → (r.handler == h) ≡ x → (k : ℕ) → k ≡ (if x && not (held s.node) then 1 else 0) + k
           by_case true is k =
-              let same : r.handler ≡ h = grind (arith, is) in
-              let holds : held s.node h ≡ true = subst (λ k. held s.node k ≡ true) same (removed_here r.handler s.node r.sync r.held) in
+              let holds : held s.node ≡ true = told.gone s.node within.0 r in
               rw holds (omega arith)
           by_case false is k = omega arith
 

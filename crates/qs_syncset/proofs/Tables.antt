@@ -3,7 +3,7 @@
 -- path: what the table says is held at a node is held along each path to it.
 use Rattle.std.proofs.Common.{◌≡◌, ℕ, zero, suc, ◌+◌, ◌<◌, inl, inr, Bool, true, false, List, [], ◌∷◌, length, get_or, Option, Some, None, refl, sym, ap, ◌∙◌, subst, arith}
 use Rattle.std.specs.Prelude.{◌&&◌, ◌||◌, not}
-use Rattle.qs_graph.specs.Nodes.{GraphNode, place_at, exit}
+use Rattle.qs_graph.specs.Nodes.{ControlGraph, GraphNode, place_at, exit}
 use Rattle.qs_graph.specs.Paths.{IsAmong, IsPath}
 use Rattle.qs_syncset.specs.Coalesced.{IsRemovedIfHeld, IsCoalesced}
 use Rattle.qs_syncset.specs.Flow.{held_after, held_along}
@@ -23,14 +23,14 @@ abbrev pub allows_all : Table → Bool → List ℕ → Bool
 allows_all t out [] = true
 allows_all t out (n ∷ ns) = allows out (get_or t n None) && allows_all t out ns
 
-abbrev pub fits_at : Table → ℕ → Option Bool → GraphNode → Bool
-fits_at t h None p = true
-fits_at t h (Some held) p = allows_all t (held_after p.node (λ k. held) h) p.edges
+abbrev pub fits_at : ControlGraph → Table → ℕ → Option Bool → GraphNode → Bool
+fits_at g t h None p = true
+fits_at g t h (Some held) p = allows_all t (held_after g p.node (λ k. held) h) p.edges
 
 -- the table fits the places, which are numbered from m
-abbrev pub fits : Table → ℕ → ℕ → List GraphNode → Bool
-fits t h m [] = true
-fits t h m (p ∷ ps) = fits_at t h (get_or t m None) p && fits t h (suc m) ps
+abbrev pub fits : ControlGraph → Table → ℕ → ℕ → List GraphNode → Bool
+fits g t h m [] = true
+fits g t h m (p ∷ ps) = fits_at g t h (get_or t m None) p && fits g t h (suc m) ps
 
 and_first : (a b : Bool) → (a && b) ≡ true → a ≡ true
 and_first true b e = refl
@@ -48,20 +48,20 @@ allows_among t out n (m ∷ ns) e (inl same) =
 allows_among t out n (m ∷ ns) e (inr later) =
     allows_among t out n ns (and_second (allows out (get_or t m None)) (allows_all t out ns) e) later
 
-fits_exit : (t : Table) (h : ℕ) (x : Option Bool) → fits_at t h x exit ≡ true
-fits_exit t h None = refl
-fits_exit t h (Some held) = refl
+fits_exit : (g : ControlGraph) (t : Table) (h : ℕ) (x : Option Bool) → fits_at g t h x exit ≡ true
+fits_exit g t h None = refl
+fits_exit g t h (Some held) = refl
 
-fits_from : (t : Table) (h m : ℕ) (ps : List GraphNode) (i : ℕ) → fits t h m ps ≡ true
-    → fits_at t h (get_or t (m + i) None) (place_at ps i) ≡ true
-fits_from t h m [] i e = fits_exit t h (get_or t (m + i) None)
-fits_from t h m (p ∷ ps) zero e =
+fits_from : (g : ControlGraph) (t : Table) (h m : ℕ) (ps : List GraphNode) (i : ℕ) → fits g t h m ps ≡ true
+    → fits_at g t h (get_or t (m + i) None) (place_at ps i) ≡ true
+fits_from g t h m [] i e = fits_exit g t h (get_or t (m + i) None)
+fits_from g t h m (p ∷ ps) zero e =
     let same : m + 0 ≡ m = omega arith in
-    subst (λ k. fits_at t h (get_or t k None) p ≡ true) (sym same) (and_first (fits_at t h (get_or t m None) p) (fits t h (suc m) ps) e)
-fits_from t h m (p ∷ ps) (suc i) e =
+    subst (λ k. fits_at g t h (get_or t k None) p ≡ true) (sym same) (and_first (fits_at g t h (get_or t m None) p) (fits g t h (suc m) ps) e)
+fits_from g t h m (p ∷ ps) (suc i) e =
     let same : suc m + i ≡ m + suc i = omega arith in
-    subst (λ k. fits_at t h (get_or t k None) (place_at ps i) ≡ true) same
-    (fits_from t h (suc m) ps i (and_second (fits_at t h (get_or t m None) p) (fits t h (suc m) ps) e))
+    subst (λ k. fits_at g t h (get_or t k None) (place_at ps i) ≡ true) same
+    (fits_from g t h (suc m) ps i (and_second (fits_at g t h (get_or t m None) p) (fits g t h (suc m) ps) e))
 
 zero_more : (m : ℕ) → 0 + m ≡ m
 zero_more m = omega arith
@@ -76,14 +76,14 @@ allowed out None e = absurd (let f : false ≡ true = e in cc)
 allowed out (Some true) e = record { value = true; is = refl; below = λ t. e }
 allowed out (Some false) e = record { value = false; is = refl; below = λ t. absurd (let f : false ≡ true = t in cc) }
 
-module _ (g : List GraphNode) (h : ℕ) (t : Table) (right : fits t h 0 g ≡ true) (start : get_or t 0 None ≡ Some false) where
+module _ (g : ControlGraph) (h : ℕ) (t : Table) (right : fits g t h 0 g.nodes ≡ true) (start : get_or t 0 None ≡ Some false) where
   -- the table knows each node that a path leads to
   record IsKnown (before : List ℕ) (n : ℕ) : Type 0 where
     value : Bool
     is : get_or t n None ≡ Some value
     below : value ≡ true → held_along g before h ≡ true
 
-  known : (before : List ℕ) (n : ℕ) → IsPath g before n → IsKnown before n
+  known : (before : List ℕ) (n : ℕ) → IsPath g.nodes before n → IsKnown before n
   known [] n path = record {
     value = false;
     is = subst (λ k. get_or t k None ≡ Some false) (sym path) start;
@@ -91,15 +91,15 @@ module _ (g : List GraphNode) (h : ℕ) (t : Table) (right : fits t h 0 g ≡ tr
   }
   known (m ∷ before) n path =
       let k = known before m path.1 in
-      let fit_here : fits_at t h (get_or t m None) (place_at g m) ≡ true =
-      subst (λ i. fits_at t h (get_or t i None) (place_at g m) ≡ true) (zero_more m) (fits_from t h 0 g m right) in
-      let fit : fits_at t h (Some k.value) (place_at g m) ≡ true = subst (λ x. fits_at t h x (place_at g m) ≡ true) k.is fit_here in
-      let out = held_after (place_at g m).node (λ _. k.value) h in
-      let a = allowed out (get_or t n None) (allows_among t out n (place_at g m).edges fit path.0) in
+      let fit_here : fits_at g t h (get_or t m None) (place_at g.nodes m) ≡ true =
+      subst (λ i. fits_at g t h (get_or t i None) (place_at g.nodes m) ≡ true) (zero_more m) (fits_from g t h 0 g.nodes m right) in
+      let fit : fits_at g t h (Some k.value) (place_at g.nodes m) ≡ true = subst (λ x. fits_at g t h x (place_at g.nodes m) ≡ true) k.is fit_here in
+      let out = held_after g (place_at g.nodes m).node (λ _. k.value) h in
+      let a = allowed out (get_or t n None) (allows_among t out n (place_at g.nodes m).edges fit path.0) in
       record {
         value = a.value;
         is = a.is;
-        below = λ e. monotone (place_at g m).node h (λ _. k.value) (held_along g before) k.below (a.below e);
+        below = λ e. monotone g (place_at g.nodes m).node h (λ _. k.value) (held_along g before) k.below (a.below e);
       }
 
   pub held_by_table : (n : ℕ) → get_or t n None ≡ Some true → IsHeld g n h
@@ -114,23 +114,23 @@ module _ (g : List GraphNode) (h : ℕ) (t : Table) (right : fits t h 0 g ≡ tr
       let k = known before n path in
       let never : Some k.value ≡ None = sym k.is ∙ e in cc
 
-pub missed : (g : List GraphNode) (n h : ℕ) (before : List ℕ) → IsPath g before n → held_along g before h ≡ false → IsHeld g n h → ⊥
+pub missed : (g : ControlGraph) (n h : ℕ) (before : List ℕ) → IsPath g.nodes before n → held_along g before h ≡ false → IsHeld g n h → ⊥
 missed g n h before path e held =
     let never : true ≡ false = sym (synced_along g h before (held before path)) ∙ e in cc
 
 -- the places from the number m on, one after another
-abbrev pub AreCoalesced : List GraphNode → ℕ → (old new : List GraphNode) → Type 0
+abbrev pub AreCoalesced : ControlGraph → ℕ → (old new : List GraphNode) → Type 0
 AreCoalesced g m [] [] = Unit {0}
 AreCoalesced g m (p ∷ ps) (q ∷ qs) = IsRemovedIfHeld (IsHeld g m) p.node p q × AreCoalesced g (suc m) ps qs
 AreCoalesced g m _ _ = ⊥
 
-same_count : (g : List GraphNode) (m : ℕ) (ps qs : List GraphNode) → AreCoalesced g m ps qs → length qs ≡ length ps
+same_count : (g : ControlGraph) (m : ℕ) (ps qs : List GraphNode) → AreCoalesced g m ps qs → length qs ≡ length ps
 same_count g m [] [] c = refl
 same_count g m (p ∷ ps) (q ∷ qs) c = ap suc (same_count g (suc m) ps qs c.1)
 same_count g m [] (q ∷ qs) c = absurd c
 same_count g m (p ∷ ps) [] c = absurd c
 
-each_place : (g : List GraphNode) (m : ℕ) (ps qs : List GraphNode) → AreCoalesced g m ps qs → (i : ℕ) → i < length ps
+each_place : (g : ControlGraph) (m : ℕ) (ps qs : List GraphNode) → AreCoalesced g m ps qs → (i : ℕ) → i < length ps
     → IsRemovedIfHeld (IsHeld g (m + i)) (place_at ps i).node (place_at ps i) (place_at qs i)
 each_place g m [] qs c i inside = absurd (omega arith)
 each_place g m (p ∷ ps) [] c i inside = absurd c
@@ -141,10 +141,10 @@ each_place g m (p ∷ ps) (q ∷ qs) c (suc i) inside =
     subst (λ n. IsRemovedIfHeld (IsHeld g n) (place_at ps i).node (place_at ps i) (place_at qs i)) same
     (each_place g (suc m) ps qs c.1 i (omega arith))
 
-pub coalesced_one_by_one : (g new : List GraphNode) → AreCoalesced g 0 g new → IsCoalesced g new
+pub coalesced_one_by_one : (g : ControlGraph) (new : List GraphNode) → AreCoalesced g 0 g.nodes new → IsCoalesced g new
 coalesced_one_by_one g new c = record {
-  count = same_count g 0 g new c;
+  count = same_count g 0 g.nodes new c;
   places = λ n inside.
-      subst (λ m. IsRemovedIfHeld (IsHeld g m) (place_at g n).node (place_at g n) (place_at new n)) (zero_more n)
-      (each_place g 0 g new c n inside);
+      subst (λ m. IsRemovedIfHeld (IsHeld g m) (place_at g.nodes n).node (place_at g.nodes n) (place_at new n)) (zero_more n)
+      (each_place g 0 g.nodes new c n inside);
 }

@@ -1,13 +1,13 @@
 -- When a set is passed along an edge, all that was known of the nodes stays true: what is reached has a path, and what is missing
 -- at a node is missing along some path to it. The proofs on a visit of a node stand on it. It goes by cases on whether a node is
 -- the one at which the set arrives.
-use Rattle.std.proofs.Common.{◌≡◌, ◌≢◌, ℕ, ◌<◌, ◌/◌, ◌^◌, inl, inr, Bool, true, false, List, [], length, get_or, set, sym, ap, subst, ◌∙◌, arith, bit_and}
+use Rattle.std.proofs.Common.{◌≡◌, ◌≢◌, ℕ, ◌<◌, ◌/◌, ◌^◌, inl, inr, true, false, List, [], length, get_or, set, sym, ap, subst, ◌∙◌, arith, bit_and}
 use Rattle.std.specs.Prelude.{◌&&◌, ◌==◌}
 use Rattle.std.proofs.lemmas.Bool.{and_cases, and_parts, cases_eq, cases_lt}
 use Rattle.std.proofs.lemmas.List.{get_or-map, get_or-set_other, get_or-set_same, get_or_default, get_or_past, length-map}
 use Rattle.std.proofs.lemmas.Nat.Bits.{shr_and_one}
 use Rattle.qs_program.specs.Limits.{most_handlers}
-use Rattle.qs_graph.specs.Nodes.{GraphNode, place_at}
+use Rattle.qs_graph.specs.Nodes.{ControlGraph, place_at}
 use Rattle.qs_graph.specs.declared.node.Node.{Node}
 use Rattle.qs_graph.specs.Paths.{HasEdge}
 use Rattle.qs_syncset.specs.Flow.{Holding, held_after, IsReached, IsMissed, AreWitnessed, HasArrived, IsAtEntry, IsPassedOn}
@@ -18,7 +18,7 @@ use Rattle.qs_syncset.proofs.Bits.{in_both, truths_at}
 use Rattle.qs_syncset.proofs.Paths.{held_is, missed_past, reached_past}
 
 -- what goes to n lacks only what some path to n misses
-pub record IsFair (g : List GraphNode) (n out : ℕ) : Type 0 where
+pub record IsFair (g : ControlGraph) (n out : ℕ) : Type 0 where
   pub reached : IsReached g n
   pub lacks : (h : ℕ) → h < most_handlers → in_set out h ≡ false → IsMissed g n h
 
@@ -57,14 +57,14 @@ module _ (old new : State) (n out : ℕ) (m : IsMetAt old new n out) where
     | inr other ↦ reached_elsewhere x other ∙ r
   ]
 
-  missed_there : (g : List GraphNode) → AreWitnessed g (reached_at old) (held_at old) → IsFair g n out
+  missed_there : (g : ControlGraph) → AreWitnessed g (reached_at old) (held_at old) → IsFair g n out
       → (h : ℕ) → h < most_handlers → held_at new n h ≡ false → IsMissed g n h
   missed_there g w f h below e = elim (and_cases (held_at old n h) (in_set out h) (sym (held_there h) ∙ e)) [
     | inl before ↦ w.miss n h below before
     | inr lacking ↦ f.lacks h below lacking
   ]
 
-  pub witnessed_still : (g : List GraphNode) → AreWitnessed g (reached_at old) (held_at old) → IsFair g n out
+  pub witnessed_still : (g : ControlGraph) → AreWitnessed g (reached_at old) (held_at old) → IsFair g n out
       → AreWitnessed g (reached_at new) (held_at new)
   witnessed_still g w f = record {
     reach = λ x r. elim (cases_eq x n) [
@@ -106,20 +106,20 @@ module _ (old new : State) (n out : ℕ) (m : IsMetAt old new n out) where
   }
 
   -- another node has passed on what it has, as before
-  pub passed_still : (g : List GraphNode) (x : ℕ) → x ≢ n → IsPassedOn g (reached_at old) (held_at old) x
+  pub passed_still : (g : ControlGraph) (x : ℕ) → x ≢ n → IsPassedOn g (reached_at old) (held_at old) x
       → IsPassedOn g (reached_at new) (held_at new) x
   passed_still g x other passed to edge =
-      let sent = held_after (place_at g x).node (held_at old x) in
+      let sent = held_after g (place_at g.nodes x).node (held_at old x) in
       let before : HasArrived (reached_at new) (held_at new) to sent = arrived_still to sent (passed to edge) in
       record {
         reach = before.reach;
         below = λ h below t.
-            ap (λ s. held_after (place_at g x).node (in_set s) h) (set_elsewhere x other) ∙ before.below h below t;
+            ap (λ s. held_after g (place_at g.nodes x).node (in_set s) h) (set_elsewhere x other) ∙ before.below h below t;
       }
 
 -- what goes along an edge of a node that is reached is fair
-pub fair_edge : (g : List GraphNode) (s : State) (m n out : ℕ) → AreWitnessed g (reached_at s) (held_at s) → HasEdge g m n
-    → reached_at s m ≡ true → ((h : ℕ) → h < most_handlers → in_set out h ≡ held_after (place_at g m).node (held_at s m) h) → IsFair g n out
+pub fair_edge : (g : ControlGraph) (s : State) (m n out : ℕ) → AreWitnessed g (reached_at s) (held_at s) → HasEdge g.nodes m n
+    → reached_at s m ≡ true → ((h : ℕ) → h < most_handlers → in_set out h ≡ held_after g (place_at g.nodes m).node (held_at s m) h) → IsFair g n out
 fair_edge g s m n out w edge r is = record {
   reached = reached_past g (reached_at s) (held_at s) w m n edge r;
   lacks = λ h below e. missed_past g (reached_at s) (held_at s) w m n h edge r below (sym (is h below) ∙ e);
@@ -133,13 +133,13 @@ reached_inside s n r = elim (cases_lt n (length s.reached)) [
 ]
 
 -- what goes out of a node, by the byte that the code reads
-pub sent_from : (g : List GraphNode) (v : Node) (out : ℕ) (s : State) (x d : ℕ) → v ≡ (place_at g x).node → x < length s.sets
-    → ((h : ℕ) → h < most_handlers → in_set out h ≡ held_after v (in_set (get_or s.sets x d)) h)
-    → (h : ℕ) → h < most_handlers → in_set out h ≡ held_after (place_at g x).node (held_at s x) h
+pub sent_from : (g : ControlGraph) (v : Node) (out : ℕ) (s : State) (x d : ℕ) → v ≡ (place_at g.nodes x).node → x < length s.sets
+    → ((h : ℕ) → h < most_handlers → in_set out h ≡ held_after g v (in_set (get_or s.sets x d)) h)
+    → (h : ℕ) → h < most_handlers → in_set out h ≡ held_after g (place_at g.nodes x).node (held_at s x) h
 sent_from g v out s x d e inside is h below =
     let read : get_or s.sets x d ≡ set_at s x = get_or_default s.sets x d 255 inside in
-    subst (λ (w : Node). in_set out h ≡ held_after w (held_at s x) h) e
-    (is h below ∙ ap (λ n. held_after v (in_set n) h) read)
+    subst (λ (w : Node). in_set out h ≡ held_after g w (held_at s x) h) e
+    (is h below ∙ ap (λ n. held_after g v (in_set n) h) read)
 
 has_byte : (sets : List ℕ) (n h d : ℕ) → n < length sets → h < most_handlers → has (truths_of sets) n h ≡ in_set (get_or sets n d) h
 has_byte sets n h d inside below =
@@ -153,7 +153,7 @@ has_bit sets n h set inside below read =
     ap (λ b. b == 1) (shr_and_one set h) ∙ ap (λ s. in_set s h) read ∙ sym (has_byte sets n h set within below)
 
 -- where everything is passed on, the bytes are the held sets
-pub bytes_are_sets : (g : List GraphNode) (s : State) → length s.sets ≡ length g → AreWitnessed g (reached_at s) (held_at s)
+pub bytes_are_sets : (g : ControlGraph) (s : State) → length s.sets ≡ length g.nodes → AreWitnessed g (reached_at s) (held_at s)
     → IsAtEntry (reached_at s) (held_at s) → ((m : ℕ) → reached_at s m ≡ true → IsPassedOn g (reached_at s) (held_at s) m)
     → AreSetsOf g (truths_of s.sets)
 bytes_are_sets g s each w entry closed = record {

@@ -10,7 +10,7 @@ use Rattle.std.proofs.lemmas.List.Sums.{sum_by-set, sum_by-le}
 use Rattle.std.proofs.lemmas.Nat.{and_le_l}
 use Rattle.std.proofs.lemmas.Nat.Bits.{bit_at_ones, bit_at-zero}
 use Rattle.qs_program.specs.Limits.{most_handlers}
-use Rattle.qs_graph.specs.Nodes.{GraphNode, place_at}
+use Rattle.qs_graph.specs.Nodes.{ControlGraph, place_at}
 use Rattle.qs_graph.specs.Paths.{IsAmong, HasEdge}
 use Rattle.qs_syncset.specs.Bytes.{in_set, size, truths_of}
 use Rattle.qs_syncset.specs.Dataflow.{State, IsKnown, IsPassed, IsSettled, IsTaken, IsWork, held_at, reached_at, set_at, state, turns_left, unreached_count}
@@ -66,7 +66,7 @@ module _ (old new : State) (to out : ℕ) (inside_reached : to < length old.reac
       (All-weaker (λ m. reached_at old m ≡ true) (λ m. reached_at new m ≡ true) (reached_still old new to out met) old.list all)
       (reached_there old new to out met))
 
-  known_still : (g : List GraphNode) → IsPassed old new to out → IsKnown g old → IsFair g to out → IsKnown g new
+  known_still : (g : ControlGraph) → IsPassed old new to out → IsKnown g old → IsFair g to out → IsKnown g new
   known_still g p k fair =
       let met = passed_met p in
       record {
@@ -78,7 +78,7 @@ module _ (old new : State) (to out : ℕ) (inside_reached : to < length old.reac
       }
 
   -- a node stays settled unless it is met, and then it is on the list or its set is as before
-  settled_still : (g : List GraphNode) (m : ℕ) → IsPassed old new to out → IsSettled g old m → IsSettled g new m
+  settled_still : (g : ControlGraph) (m : ℕ) → IsPassed old new to out → IsSettled g old m → IsSettled g new m
   settled_still g m (inl k) s = rw k.same s
   settled_still g m (inr p) (inl listed) = inl (rw p.list (Contains-append_left old.list (to ∷ []) m listed))
   settled_still g m (inr p) (inr passed) = elim (cases_eq m to) [
@@ -123,14 +123,14 @@ module _ (old new : State) (to out : ℕ) (inside_reached : to < length old.reac
 
 -- ---- a visit of x, whose set was `first` as it began, with `listed` nodes on the list; `most` bounds the turns that are left
 
-pub record IsVisit (g : List GraphNode) (x first listed most : ℕ) (s : State) : Type 0 where
+pub record IsVisit (g : ControlGraph) (x first listed most : ℕ) (s : State) : Type 0 where
   pub known : IsKnown g s
   pub settled : (m : ℕ) → reached_at s m ≡ true → m ≢ x → IsSettled g s m
   pub tracked : Contains s.list x ⊎ (set_at s x ≡ first)
   pub grown : listed ≤ length s.list
   pub cost : turns_left s ≤ most
 
-pub visit_passed : (g : List GraphNode) (x first listed most : ℕ) (old new : State) (to out : ℕ) → to < length g → IsVisit g x first listed most old
+pub visit_passed : (g : ControlGraph) (x first listed most : ℕ) (old new : State) (to out : ℕ) → to < length g.nodes → IsVisit g x first listed most old
     → IsFair g to out → IsPassed old new to out → IsVisit g x first listed most new
 visit_passed g x first listed most old new to out inside v fair p =
     let within_reached : to < length old.reached = omega (arith, v.known.each_reached) in
@@ -147,9 +147,9 @@ visit_passed g x first listed most old new to out inside v fair p =
     }
 
 -- what goes out of x has come to each node that it leads to, unless x was put on the list again
-pub visit_done : (g : List GraphNode) (x first listed most : ℕ) (s : State) (out : ℕ) → IsVisit g x first listed most s
-    → ((n : ℕ) → HasEdge g x n → HasArrived (reached_at s) (held_at s) n (in_set out))
-    → ((h : ℕ) → h < most_handlers → in_set out h ≡ held_after (place_at g x).node (in_set first) h) → IsWork g s
+pub visit_done : (g : ControlGraph) (x first listed most : ℕ) (s : State) (out : ℕ) → IsVisit g x first listed most s
+    → ((n : ℕ) → HasEdge g.nodes x n → HasArrived (reached_at s) (held_at s) n (in_set out))
+    → ((h : ℕ) → h < most_handlers → in_set out h ≡ held_after g (place_at g.nodes x).node (in_set first) h) → IsWork g s
 visit_done g x first listed most s out v arrived is = record {
   known = v.known;
   settled = λ m r. elim (cases_eq m x) [
@@ -160,7 +160,7 @@ visit_done g x first listed most s out v arrived is = record {
           record {
             reach = a.reach;
             below = λ h below t.
-                ap (λ set. held_after (place_at g x).node (in_set set) h) unchanged ∙ sym (is h below) ∙ a.below h below t;
+                ap (λ set. held_after g (place_at g.nodes x).node (in_set set) h) unchanged ∙ sym (is h below) ∙ a.below h below t;
           })
     ])
     | inr other ↦ v.settled m r other
@@ -169,7 +169,7 @@ visit_done g x first listed most s out v arrived is = record {
 
 -- ---- the node that is taken from the list
 
-pub work_taken : (g : List GraphNode) (reached : List Bool) (sets list rest : List ℕ) (x : ℕ) → list ≡ rest ++ x ∷ []
+pub work_taken : (g : ControlGraph) (reached : List Bool) (sets list rest : List ℕ) (x : ℕ) → list ≡ rest ++ x ∷ []
     → IsWork g (state reached sets list) → IsTaken g (state reached sets rest) x
 work_taken g reached sets list rest x e w =
     let both = All-pop (λ m. reached_at (state reached sets list) m ≡ true) list rest (Some x) e w.known.listed in
@@ -189,7 +189,7 @@ work_taken g reached sets list rest x e w =
     }
 
 -- where the list is empty, the bytes are the held sets
-pub done_sets : (g : List GraphNode) (reached : List Bool) (sets : List ℕ) → IsWork g (state reached sets []) → AreSetsOf g (truths_of sets)
+pub done_sets : (g : ControlGraph) (reached : List Bool) (sets : List ℕ) → IsWork g (state reached sets []) → AreSetsOf g (truths_of sets)
 done_sets g reached sets w =
     bytes_are_sets g (state reached sets []) w.known.each_set w.known.witnessed w.known.entry
     (λ m r. elim (w.settled m r) [
@@ -227,7 +227,7 @@ module _ (n : ℕ) (some : 0 < n) where
       let all : held_at (first_state n) m h ≡ true = ap (λ s. in_set s h) full ∙ ap (λ x. x == 1) (bit_at_ones 8 h below) in
       let never : true ≡ false = sym all ∙ missing in cc
 
-  pub begun_known : (g : List GraphNode) → n ≡ length g → IsKnown g (first_state n)
+  pub begun_known : (g : ControlGraph) → n ≡ length g.nodes → IsKnown g (first_state n)
   begun_known g count = record {
     each_reached = length-set (replicate n false) 0 true ∙ length-replicate {A = Bool} n false ∙ count;
     each_set = length-set (replicate n 255) 0 0 ∙ length-replicate {A = ℕ} n 255 ∙ count;
@@ -248,7 +248,7 @@ module _ (n : ℕ) (some : 0 < n) where
     listed = All-cons (λ m. reached_at (first_state n) m ≡ true) 0 [] begun_first (All-nil (λ m. reached_at (first_state n) m ≡ true));
   }
 
-  pub begun_work : (g : List GraphNode) → n ≡ length g → IsWork g (first_state n)
+  pub begun_work : (g : ControlGraph) → n ≡ length g.nodes → IsWork g (first_state n)
   begun_work g count = record {
     known = begun_known g count;
     settled = λ m r. elim (cases_eq m 0) [

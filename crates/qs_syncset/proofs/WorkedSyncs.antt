@@ -3,6 +3,7 @@
 -- for what is not; then the walks are computed.
 use Rattle.std.proofs.Common.{inl, inr, true, false, [], ◌∷◌, Some, refl}
 use Rattle.qs_graph.specs.Graphs.{block_graph}
+use Rattle.qs_graph.specs.Nodes.{over_objects}
 use Rattle.qs_graph.specs.Steps.{limit}
 use Rattle.qs_graph.specs.Walk.{move}
 use Rattle.qs_syncset.specs.Coalesced.{IsCoalesced}
@@ -14,41 +15,41 @@ use Rattle.qs_syncset.proofs.WorkedGraphs.{held_examples}
 abbrev three_table : Table
 three_table = Some false ∷ Some false ∷ Some true ∷ Some true ∷ Some true ∷ Some true ∷ Some true ∷ Some true ∷ []
 
-first_missed : IsHeld (block_graph three) 1 0 → ⊥
-first_missed = missed (block_graph three) 1 0 (0 ∷ []) (inl refl, refl) refl
+first_missed : IsHeld (over_objects (block_graph three)) 1 0 → ⊥
+first_missed = missed (over_objects (block_graph three)) 1 0 (0 ∷ []) (inl refl, refl) refl
 
-three_coalesced : IsCoalesced (block_graph three) first_alone
+three_coalesced : IsCoalesced (over_objects (block_graph three)) first_alone
 three_coalesced =
-    coalesced_one_by_one (block_graph three) first_alone (
+    coalesced_one_by_one (over_objects (block_graph three)) first_alone (
       refl,
       (
         inr (first_missed, refl),
         (
           refl,
           (
-            inl (held_by_table (block_graph three) 0 three_table refl refl 3 refl, refl),
-            (refl, (inl (held_by_table (block_graph three) 0 three_table refl refl 5 refl, refl), (refl, (refl, tt)))),
+            inl (held_by_table (over_objects (block_graph three)) 0 three_table refl refl 3 refl, refl),
+            (refl, (inl (held_by_table (over_objects (block_graph three)) 0 three_table refl refl 5 refl, refl), (refl, (refl, tt)))),
           ),
         ),
       ),
     )
 
-repeated_missed : IsHeld (block_graph repeated_query) 3 0 → ⊥
-repeated_missed = missed (block_graph repeated_query) 3 0 (2 ∷ 1 ∷ 0 ∷ []) (inl refl, (inl refl, (inl refl, refl))) refl
+repeated_missed : IsHeld (over_objects (block_graph repeated_query)) 3 0 → ⊥
+repeated_missed = missed (over_objects (block_graph repeated_query)) 3 0 (2 ∷ 1 ∷ 0 ∷ []) (inl refl, (inl refl, (inl refl, refl))) refl
 
-repeated_coalesced : IsCoalesced (block_graph repeated_query) (block_graph repeated_query)
-repeated_coalesced = coalesced_one_by_one (block_graph repeated_query) (block_graph repeated_query)
+repeated_coalesced : IsCoalesced (over_objects (block_graph repeated_query)) (block_graph repeated_query)
+repeated_coalesced = coalesced_one_by_one (over_objects (block_graph repeated_query)) (block_graph repeated_query)
     (refl, (refl, (refl, (inr (repeated_missed, refl), (refl, (refl, tt))))))
 
-other_missed : IsHeld (block_graph either) 3 0 → ⊥
-other_missed = missed (block_graph either) 3 0 (1 ∷ 0 ∷ []) (inr (inl refl), (inl refl, refl)) refl
+other_missed : IsHeld (over_objects (block_graph either)) 3 0 → ⊥
+other_missed = missed (over_objects (block_graph either)) 3 0 (1 ∷ 0 ∷ []) (inr (inl refl), (inl refl, refl)) refl
 
-meeting_missed : IsHeld (block_graph either) 5 0 → ⊥
-meeting_missed = missed (block_graph either) 5 0 (2 ∷ 1 ∷ 0 ∷ []) (inl refl, (inl refl, (inl refl, refl))) refl
+meeting_missed : IsHeld (over_objects (block_graph either)) 5 0 → ⊥
+meeting_missed = missed (over_objects (block_graph either)) 5 0 (2 ∷ 1 ∷ 0 ∷ []) (inl refl, (inl refl, (inl refl, refl))) refl
 
-either_coalesced : IsCoalesced (block_graph either) (block_graph either)
+either_coalesced : IsCoalesced (over_objects (block_graph either)) (block_graph either)
 either_coalesced =
-    coalesced_one_by_one (block_graph either) (block_graph either)
+    coalesced_one_by_one (over_objects (block_graph either)) (block_graph either)
     (refl, (refl, (refl, (inr (other_missed, refl), (refl, (inr (meeting_missed, refl), (refl, (refl, tt))))))))
 
 pub sync_examples : SyncExamples

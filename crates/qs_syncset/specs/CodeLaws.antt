@@ -4,7 +4,7 @@ use Rattle.qs_meaning.specs.Interaction.{tree_of}
 use Rattle.qs_program.specs.Program.{BlockShape, ProgramShape, block_at, blocks_of}
 use Rattle.qs_program.specs.Sound.{IsSound}
 use Rattle.qs_program.specs.Values.{Locals}
-use Rattle.qs_graph.specs.Nodes.{GraphNode}
+use Rattle.qs_graph.specs.Nodes.{ControlGraph, GraphNode}
 use Rattle.qs_graph.specs.SoundNodes.{AreSoundNodes}
 use Rattle.qs_graph.specs.Steps.{limit}
 use Rattle.qs_graph.specs.Synced.{without_syncs}
@@ -38,4 +38,4 @@ NodesStaySound =
 
 -- a graph has one coalesced form
 abbrev pub CoalescingIsUnique : Type 0
-CoalescingIsUnique = (g one other : List GraphNode) → IsCoalesced g one → IsCoalesced g other → one ≡ other
+CoalescingIsUnique = (g : ControlGraph) (one other : List GraphNode) → IsCoalesced g one → IsCoalesced g other → one ≡ other

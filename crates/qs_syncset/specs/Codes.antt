@@ -3,10 +3,9 @@ use Rattle.std.specs.Prelude.{◌≡◌, ℕ, ◌<◌, Bool, true, false, List, 
 use Rattle.qs_program.specs.Loads.{load_of}
 use Rattle.qs_program.specs.Program.{BlockShape, ProgramShape, block_at, blocks_of}
 use Rattle.qs_program.specs.Sound.{IsSound}
-use Rattle.qs_program.specs.Statements.{Statements}
 use Rattle.qs_program.specs.Limits.{most_handlers}
-use Rattle.qs_graph.specs.Graphs.{block_graph}
-use Rattle.qs_graph.specs.Nodes.{GraphNode}
+use Rattle.qs_graph.specs.Names.{graph_of}
+use Rattle.qs_graph.specs.Nodes.{ControlGraph, GraphNode}
 use Rattle.qs_syncset.specs.declared.mode.Mode.{Mode}
 use Rattle.qs_syncset.specs.Coalesced.{IsCoalesced}
 use Rattle.qs_syncset.specs.Modes.{is_static, is_dynamic}
@@ -32,20 +31,20 @@ abbrev pub load_at : BlockCode → ℕ → ℕ
 load_at b h = slice_index_or b.loads h 0
 
 -- the graph of a block as it is built, or coalesced
-abbrev pub IsGraphOf : (static : Bool) → Statements → List GraphNode → Type 0
-IsGraphOf false body g = g ≡ block_graph body
-IsGraphOf true body g = IsCoalesced (block_graph body) g
+abbrev pub IsGraphOf : (static : Bool) → ControlGraph → List GraphNode → Type 0
+IsGraphOf false g new = new ≡ g.nodes
+IsGraphOf true g new = IsCoalesced g new
 
-pub record IsBlockCode (static : Bool) (b : BlockShape) (code : BlockCode) : Type 0 where
+pub record IsBlockCode (static : Bool) (b : BlockShape) (g : ControlGraph) (code : BlockCode) : Type 0 where
   pub reserved : code.reserved ≡ b.reserved
-  pub graph : IsGraphOf static b.body code.graph
+  pub graph : IsGraphOf static g code.graph
   pub loads : (h : ℕ) → h < most_handlers → load_at code h ≡ load_of b.body h
 
 -- the code of a program's client: its blocks in their order, coalesced in the static modes alone, tested in the dynamic ones alone
 pub record IsCodeOf (p : ProgramShape) (mode : Mode) (client : ℕ) (code : ClientCode) : Type 0 where
   pub dynamic : code.dynamic ≡ is_dynamic mode
   pub count : length code.blocks ≡ blocks_of p client
-  pub blocks : (k : ℕ) → k < blocks_of p client → IsBlockCode (is_static mode) (block_at p client k) (code_at code k)
+  pub blocks : (k : ℕ) → k < blocks_of p client → IsBlockCode (is_static mode) (block_at p client k) (graph_of p client k) (code_at code k)
 
 -- the code of some client of some checked program
 pub record IsCode (code : ClientCode) : Type 0 where

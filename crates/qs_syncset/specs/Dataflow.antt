@@ -2,7 +2,7 @@
 use Rattle.std.specs.Prelude.{◌≡◌, ◌≢◌, ℕ, ◌+◌, ◌<◌, ◌^◌, ◌⊎◌, Bool, true, false, cond, List, [], ◌∷◌, ◌++◌, length, slice_index_or, slice_set, bit_and, All, Contains}
 use Rattle.std.specs.List.{sum_by}
 use Rattle.qs_program.specs.Limits.{most_handlers}
-use Rattle.qs_graph.specs.Nodes.{GraphNode}
+use Rattle.qs_graph.specs.Nodes.{ControlGraph}
 use Rattle.qs_syncset.specs.Bytes.{in_set, size}
 use Rattle.qs_syncset.specs.Flow.{Holding, AreWitnessed, IsAtEntry, IsPassedOn}
 
@@ -49,24 +49,24 @@ abbrev pub IsPassed : (old new : State) (to out : ℕ) → Type 0
 IsPassed old new to out = IsKept old new to out ⊎ IsPut old new to out
 
 -- what is known is so: what is reached has a path, what is not held a path that shows it
-pub record IsKnown (g : List GraphNode) (s : State) : Type 0 where
-  pub each_reached : length s.reached ≡ length g
-  pub each_set : length s.sets ≡ length g
+pub record IsKnown (g : ControlGraph) (s : State) : Type 0 where
+  pub each_reached : length s.reached ≡ length g.nodes
+  pub each_set : length s.sets ≡ length g.nodes
   pub witnessed : AreWitnessed g (reached_at s) (held_at s)
   pub entry : IsAtEntry (reached_at s) (held_at s)
   pub listed : All (λ m. reached_at s m ≡ true) s.list
 
 -- a node is on the list, or what goes out of it has come to each node that it leads to
-abbrev pub IsSettled : List GraphNode → State → ℕ → Type 0
+abbrev pub IsSettled : ControlGraph → State → ℕ → Type 0
 IsSettled g s m = Contains s.list m ⊎ IsPassedOn g (reached_at s) (held_at s) m
 
 -- between two visits each node that is reached is settled; so where the list is empty, everything is passed on
-pub record IsWork (g : List GraphNode) (s : State) : Type 0 where
+pub record IsWork (g : ControlGraph) (s : State) : Type 0 where
   pub known : IsKnown g s
   pub settled : (m : ℕ) → reached_at s m ≡ true → IsSettled g s m
 
 -- x was taken from the list, so each but x is settled
-pub record IsTaken (g : List GraphNode) (s : State) (x : ℕ) : Type 0 where
+pub record IsTaken (g : ControlGraph) (s : State) (x : ℕ) : Type 0 where
   pub known : IsKnown g s
   pub reached : reached_at s x ≡ true
   pub settled : (m : ℕ) → reached_at s m ≡ true → m ≢ x → IsSettled g s m

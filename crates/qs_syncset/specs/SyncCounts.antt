@@ -11,7 +11,9 @@ use Rattle.qs_program.specs.Sound.{IsSound}
 use Rattle.qs_program.specs.Statements.{Statements}
 use Rattle.qs_program.specs.Values.{Locals}
 use Rattle.qs_graph.specs.Graphs.{block_graph}
-use Rattle.qs_graph.specs.Nodes.{GraphNode, place_at}
+use Rattle.qs_graph.specs.Names.{graph_of}
+use Rattle.qs_graph.specs.Nodes.{ControlGraph, GraphNode, place_at}
+use Rattle.qs_graph.specs.declared.node.Node.{Node}
 use Rattle.qs_graph.specs.Steps.{limit}
 use Rattle.qs_graph.specs.declared.node.Node.TheVariants as node
 use Rattle.qs_graph.specs.Synced.{Synced, Done, Call, Sync, Query}
@@ -40,8 +42,8 @@ first_queries asked (e ∷ es) = if asks e then (if asked then 0 else 1) + first
 abbrev pub runs : ℕ → List Event → ℕ
 runs h es = first_queries false (part h es)
 
--- A walk through a graph with a trace: its synchronisations with h whose queries are in the trace, but those at which h is held by a test.
-module _ (g : List GraphNode) (held : ℕ → ℕ → Bool) (h : ℕ) where
+-- A walk through a graph with a trace: its synchronisations with h whose queries are in the trace, but those of the nodes that a test tells.
+module _ (g : List GraphNode) (held : ℕ → Bool) (h : ℕ) where
   -- at node n, where `go` counts from the next spot on
   abbrev pub kept_by : (Spot → List Event → ℕ) → (n : ℕ) → Move → List Event → ℕ
   kept_by go n Ends es = 0
@@ -49,7 +51,7 @@ module _ (g : List GraphNode) (held : ℕ → ℕ → Bool) (h : ℕ) where
   kept_by go n (Calls r s) [] = 0
   kept_by go n (Calls r s) (e ∷ es) = go s es
   kept_by go n (Syncs k s) [] = 0
-  kept_by go n (Syncs k s) (e ∷ es) = (if (k == h) && not (held n h) then 1 else 0) + go s (e ∷ es)
+  kept_by go n (Syncs k s) (e ∷ es) = (if (k == h) && not (held n) then 1 else 0) + go s (e ∷ es)
   kept_by go n (Queries r s) [] = 0
   kept_by go n (Queries r s) (e ∷ es) = go (s (value_of e.reply)) es
 
@@ -62,16 +64,16 @@ module _ (g : List GraphNode) (held : ℕ → ℕ → Bool) (h : ℕ) where
 abbrev pub entry_with : ℕ → Locals → Spot
 entry_with n l = entry l (replicate n 0)
 
--- the queries of a block's trace on object h that come to a synchronisation at which h is not held, in the graph as it is built
-abbrev pub kept : Statements → (ℕ → ℕ → Bool) → Locals → ℕ → List Event → ℕ
+-- the queries of a block's trace on object h that come to a synchronisation at which its handler is not held, in the graph as it is built
+abbrev pub kept : Statements → (ℕ → Bool) → Locals → ℕ → List Event → ℕ
 kept body held l h es = kept_along (block_graph body) held h limit (entry_with (length (block_graph body)) l) es
 
--- a test of whether a handler is held where a graph synchronises with it
-abbrev pub Decides : List GraphNode → (ℕ → ℕ → Bool) → Type 0
-Decides g held = (n h : ℕ) → (place_at g n).node ≡ node.Sync h → (held n h ≡ true) ↔ IsHeld g n h
+-- a test of whether the handler that a node of a graph synchronises with is held there, by the handler's own name
+abbrev pub Decides : ControlGraph → (ℕ → Bool) → Type 0
+Decides g held = (n h : ℕ) → (place_at g.nodes n).node ≡ node.Sync h → (held n ≡ true) ↔ IsHeld g n h
 
-abbrev pub HasTest : List GraphNode → Type 0
-HasTest g = (held : ℕ → ℕ → Bool) × Decides g held
+abbrev pub HasTest : ControlGraph → Type 0
+HasTest g = (held : ℕ → Bool) × Decides g held
 
 -- The Syncs for h along a tree with synchronisations whose queries are in the trace. With the dynamic test one is skipped where h is held:
 -- a synchronisation gives it, and a call sends it home.
@@ -86,22 +88,29 @@ syncs_along dynamic h held (Query r next) [] = 0
 syncs_along dynamic h held (Query r next) (e ∷ es) = syncs_along dynamic h held (next (value_of e.reply)) es
 
 -- at most one for each query, and at least one for each of its runs
-pub record AreOrdered (body : Statements) (l : Locals) (es : List Event) (h : ℕ) (held : ℕ → ℕ → Bool) : Type 0 where
+pub record AreOrdered (body : Statements) (l : Locals) (es : List Event) (h : ℕ) (held : ℕ → Bool) : Type 0 where
   pub least : runs h es ≤ kept body held l h es
   pub most : kept body held l h es ≤ queries h es
 
--- what a client that follows a trace sends for h along the tree that this graph says
-pub record IsSentBy (mode : Mode) (body : Statements) (g : List GraphNode) (n : ℕ) (l : Locals) (es : List Event) (h : ℕ) : Type 0 where
+-- what a client that follows a trace of a block sends for h along the tree that this graph says; the block's graph over names is `built`
+pub record IsSentBy (mode : Mode) (built : ControlGraph) (body : Statements) (g : List GraphNode) (n : ℕ) (l : Locals) (es : List Event) (h : ℕ) : Type 0 where
   pub plain : mode ≡ Plain → syncs_along (is_dynamic mode) h false (walk g limit (entry_with n l)) es ≡ queries h es
   pub dynamic : is_dynamic mode ≡ true → syncs_along (is_dynamic mode) h false (walk g limit (entry_with n l)) es ≡ runs h es
-  pub static : mode ≡ Static → (held : ℕ → ℕ → Bool) → Decides (block_graph body) held
+  pub static : mode ≡ Static → (held : ℕ → Bool) → Decides built held
       → syncs_along (is_dynamic mode) h false (walk g limit (entry_with n l)) es ≡ kept body held l h es
-  pub tested : is_static mode ≡ true → HasTest (block_graph body)
-  pub ordered : (held : ℕ → ℕ → Bool) → Decides (block_graph body) held → AreOrdered body l es h held
+  pub tested : is_static mode ≡ true → HasTest built
+  pub ordered : (held : ℕ → Bool) → Decides built held → AreOrdered body l es h held
+
+-- whether the handler that a node synchronises with is in the node's set
+abbrev pub has_synced : List (List Bool) → ℕ → Node → Bool
+has_synced sets n (node.Sync h) = has sets n h
+has_synced sets n _ = false
 
 -- the held sets of a graph are such a test
 abbrev pub SetsDecide : Type 0
-SetsDecide = (g : List GraphNode) (sets : List (List Bool)) → IsGraph g → AreSetsOf g sets → Decides g (has sets)
+SetsDecide =
+    (g : ControlGraph) (sets : List (List Bool)) → IsGraph g.nodes → AreSetsOf g sets
+    → Decides g (λ n. has_synced sets n (place_at g.nodes n).node)
 
 -- each block of a sound program, with its graph as the mode says, and each trace that leads along the block's tree
 abbrev pub SyncsAreCounted : Type 0
@@ -109,4 +118,4 @@ SyncsAreCounted =
     (p : ProgramShape) (mode : Mode) (c : ℕ) (code : ClientCode) → IsSound p → IsCodeOf p mode c code
     → (k n : ℕ) (l : Locals) (es : List Event) (rest : Interaction) (h : ℕ) → k < blocks_of p c → length (code_at code k).graph ≤ n
     → Leads (tree_of (block_at p c k).body l) es rest
-    → IsSentBy mode (block_at p c k).body (code_at code k).graph n l es h
+    → IsSentBy mode (graph_of p c k) (block_at p c k).body (code_at code k).graph n l es h

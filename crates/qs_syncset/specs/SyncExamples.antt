@@ -11,7 +11,7 @@ use Rattle.qs_program.specs.declared.code.Atom.TheVariants.{Variable, Number}
 use Rattle.qs_program.specs.declared.code.Test as tests
 use Rattle.qs_graph.specs.GraphExamples.{balance, deposit, leave_first, query_in_repeat}
 use Rattle.qs_graph.specs.Graphs.{block_graph}
-use Rattle.qs_graph.specs.Nodes.{GraphNode, exit, to}
+use Rattle.qs_graph.specs.Nodes.{GraphNode, exit, over_objects, to}
 use Rattle.qs_graph.specs.Steps.{limit}
 use Rattle.qs_graph.specs.Synced.{Synced}
 use Rattle.qs_graph.specs.SyncedExamples.{both}
@@ -54,13 +54,13 @@ abbrev pub tree_in : List GraphNode → Synced
 tree_in g = walk g limit (entry_with (length g) zeros)
 
 -- a test of what is held, by the nodes at which a is
-abbrev pub held_at : List Bool → ℕ → ℕ → Bool
-held_at table n h = slice_index_or table n false
+abbrev pub held_at : List Bool → ℕ → Bool
+held_at table n = slice_index_or table n false
 
 -- a block with its graph coalesced and a table of the nodes at which a is held: the queries, the runs of them and those at which a is not
 -- held; and the Syncs that are sent in the modes Plain, Dynamic, Static and Both
 pub record Counts (b : Statements) (coalesced : List GraphNode) (table : List Bool) (counted sent : List ℕ) : Type 0 where
-  pub graph : IsCoalesced (block_graph b) coalesced
+  pub graph : IsCoalesced (over_objects (block_graph b)) coalesced
   pub counts : queries 0 (trace_of b) ∷ runs 0 (trace_of b) ∷ kept b (held_at table) zeros 0 (trace_of b) ∷ [] ≡ counted
   pub sends : syncs_along false 0 false (tree_in (block_graph b)) (trace_of b) ∷ syncs_along true 0 false (tree_in (block_graph b)) (trace_of b)
       ∷ syncs_along false 0 false (tree_in coalesced) (trace_of b) ∷ syncs_along true 0 false (tree_in coalesced) (trace_of b) ∷ [] ≡ sent

@@ -4,6 +4,7 @@ ghost use Rattle.std.specs.Prelude.{◌≡◌, ◌<◌, ◌≤◌, ℕ, length, 
 ghost use Rattle.qs_program.specs.Limits.{most_handlers, most_requests};
 ghost use Rattle.qs_program.specs.Program.{block_at, blocks_of};
 ghost use Rattle.qs_program.specs.Loads.{load_of};
+ghost use Rattle.qs_graph.specs.Names.{graph_of};
 ghost use Rattle.qs_syncset.specs.Codes.{IsCode, IsCodeOf, IsBlockCode, IsGraphOf, code_at, load_at};
 ghost use Rattle.qs_syncset.specs.Modes.{is_static};
 
@@ -155,7 +156,7 @@ fn block_graph_in(
 ) -> Result<Graph, AllocError>
     requires client { client < length program.now.clients }
     requires block { block < blocks_of program.now client }
-    ensures graph { IfOk result (λ g. IsGraphOf (is_static mode) (block_at program.now client block).body g.nodes) }
+    ensures graph { IfOk result (λ g. IsGraphOf (is_static mode) (graph_of program.now client block) g.nodes) }
 {
     let built = graph(alloc, program, client, block)?;
     if !mode.is_static() {
@@ -197,7 +198,7 @@ fn block_code(
 ) -> Result<BlockCode, AllocError>
     requires client { client < length program.now.clients }
     requires block { block < blocks_of program.now client }
-    ensures code { IfOk result (λ code. IsBlockCode (is_static mode) (block_at program.now client block) code) }
+    ensures code { IfOk result (λ code. IsBlockCode (is_static mode) (block_at program.now client block) (graph_of program.now client block) code) }
 {
     Ok(BlockCode {
         reserved: copied(alloc, program.block(client, block).reserved())?,

@@ -3,24 +3,38 @@
 
 ghost use Rattle.std.specs.Prelude.{◌≡◌, ℕ, ◌+◌, ◌<◌, ◌≤◌, [], length, OnOk};
 ghost use Rattle.qs_program.specs.Limits.{most_handlers};
+ghost use Rattle.qs_graph.specs.Names.{may_be_one};
 ghost use Rattle.qs_graph.specs.WellFormed.{IsInRange};
 ghost use Rattle.qs_syncset.specs.Bytes.{in_set};
 ghost use Rattle.qs_syncset.specs.Dataflow.{IsPassed, IsTaken, IsWork, state, turns_left};
-ghost use Rattle.qs_syncset.specs.Flow.{held_after};
+ghost use Rattle.qs_syncset.specs.Flow.{held_after, without};
 
 use crate::worklist::{VisitCount, Worklist};
 use qs_graph::{Graph, Node};
 use std::alloc::AllocError;
 use std::sync::ledger::Ledger;
 
+// What is held after a call of a name, from what is held before it.
+fn without_called(graph: &Graph, called: u8, set: u8) -> u8
+    ensures value { (h : ℕ) → h < most_handlers → in_set result h ≡ without (may_be_one graph.now called) (in_set set) h }
+{
+    let mut left = set;
+    for name in 0..8u8 {
+        if graph.may_be_one(called, name) {
+            left &= !(1 << name);
+        }
+    }
+    left
+}
+
 // What is held after a node, from what is held before it.
-fn after(node: &Node, set: u8) -> u8
+fn after(graph: &Graph, node: &Node, set: u8) -> u8
     requires in_range { IsInRange node.now }
-    ensures value { (h : ℕ) → h < most_handlers → in_set result h ≡ held_after node.now (in_set set) h }
+    ensures value { (h : ℕ) → h < most_handlers → in_set result h ≡ held_after graph.now node.now (in_set set) h }
 {
     match node {
         Node::Sync(handler) => set | (1 << *handler),
-        Node::Call(call) => set & !(1 << call.object),
+        Node::Call(call) => without_called(graph, call.object, set),
         Node::Entry | Node::Local(_) | Node::Branch(_) | Node::Query(_, _) | Node::Exit => set,
     }
 }
@@ -55,13 +69,13 @@ fn visit(
     list: &mut Worklist,
     node: usize,
 ) -> Result<(), AllocError>
-    requires taken { IsTaken graph.now.nodes (state reached.old sets.old list.old) node }
-    ensures work { OnOk result (IsWork graph.now.nodes (state reached.new sets.new list.new)) }
+    requires taken { IsTaken graph.now (state reached.old sets.old list.old) node }
+    ensures work { OnOk result (IsWork graph.now (state reached.new sets.new list.new)) }
     ensures more { OnOk result (length list.old ≤ length list.new) }
     ensures less { OnOk result (turns_left (state reached.new sets.new list.new) ≤ turns_left (state reached.old sets.old list.old)) }
 {
     graph.is_graph();
-    let out = after(graph.node(node), sets[node]);
+    let out = after(graph, graph.node(node), sets[node]);
     for to in graph.edges(node) {
         pass_to(reached, sets, list, *to, out)?;
     }
@@ -76,8 +90,8 @@ pub(crate) fn run<L: Ledger>(
     list: &mut Worklist,
     turns: &mut VisitCount<L>,
 ) -> Result<(), AllocError>
-    requires work { IsWork graph.now.nodes (state reached.old sets.old list.old) }
-    ensures done { OnOk result (IsWork graph.now.nodes (state reached.new sets.new [])) }
+    requires work { IsWork graph.now (state reached.old sets.old list.old) }
+    ensures done { OnOk result (IsWork graph.now (state reached.new sets.new [])) }
     ensures counted { OnOk result (turns.old + length list.old ≤ turns.new) }
     ensures turns { turns.new ≤ turns.old + turns_left (state reached.old sets.old list.old) }
 {

@@ -7,11 +7,12 @@ ghost use Rattle.qs_syncset.specs.Table.{AreSetsOf};
 use crate::sets::Sets;
 use qs_graph::{Graph, Node};
 
-/// Removes each synchronisation whose own handler is held as it is reached; takes no memory.
+/// Removes each synchronisation whose own handler, by its name, is held as it is reached; takes no memory.
 pub fn coalesce(mut graph: Graph, sets: &Sets) -> Graph
-    requires sets { AreSetsOf graph.nodes sets.now }
-    ensures coalesced { IsCoalesced graph.nodes result.nodes }
+    requires sets { AreSetsOf graph sets.now }
+    ensures coalesced { IsCoalesced graph result.nodes }
     ensures same_names { result.names ≡ graph.names }
+    ensures same_aliases { result.aliases ≡ graph.aliases }
 {
     graph.is_graph();
     for n in 0..graph.len() {

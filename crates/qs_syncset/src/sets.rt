@@ -50,7 +50,7 @@ pub fn held_sets_counted<L: Ledger>(
     graph: &Graph,
     turns: &mut VisitCount<L>,
 ) -> Result<Sets, AllocError>
-    ensures sets { IfOk result (λ sets. AreSetsOf graph.now.nodes sets) }
+    ensures sets { IfOk result (λ sets. AreSetsOf graph.now sets) }
     ensures counted { OnOk result (turns.old < turns.new) }
     ensures turns { turns.new ≤ turns.old + suc most_handlers * length graph.now.nodes }
 {
@@ -70,7 +70,7 @@ fn newly_counted<L: Ledger>(alloc: Global, graph: &Graph, blank: Blank) -> Resul
     requires name { blank.name ≡ L.name }
     requires parts { blank.parts ≡ L.parts }
     requires some { 0 < blank.parts }
-    ensures sets { IfOk result (λ sets. AreSetsOf graph.now.nodes sets) }
+    ensures sets { IfOk result (λ sets. AreSetsOf graph.now sets) }
 {
     let mut turns = VisitCount::<L>::new(blank);
     held_sets_counted(alloc, graph, &mut turns)
@@ -78,7 +78,7 @@ fn newly_counted<L: Ledger>(alloc: Global, graph: &Graph, blank: Blank) -> Resul
 
 /// The held sets of a graph.
 pub fn held_sets(alloc: Global, graph: &Graph) -> Result<Sets, AllocError>
-    ensures sets { IfOk result (λ sets. AreSetsOf graph.now.nodes sets) }
+    ensures sets { IfOk result (λ sets. AreSetsOf graph.now sets) }
 {
     newly_counted::<Brand>(alloc, graph, Blank::new(1))
 }

@@ -1,4 +1,4 @@
-use Rattle.qs_syncset.proofs.Bits.{with_handler, without_handler}
+use Rattle.qs_syncset.proofs.Bits.{with_handler}
 use Rattle.qs_syncset.proofs.dataflow.after.Goals as goal
 
 pub returns-in-Sync : goal.returns-in-Sync
@@ -6,11 +6,4 @@ returns-in-Sync c = record {
   value = λ k small.
       let range = rw c.in-Sync.is at c.requires.in_range in
       rw c.in-Sync.is (with_handler c.args.set c.in-Sync.handler k range);
-}
-
-pub returns-in-Call : goal.returns-in-Call
-returns-in-Call c = record {
-  value = λ k small.
-      let range = rw c.in-Call.is at c.requires.in_range in
-      rw c.in-Call.is (without_handler c.args.set c.in-Call.call.object k range.0 small);
 }

@@ -3,6 +3,6 @@ use Rattle.qs_syncset.proofs.dataflow.run.Goals as goal
 
 pub visit-requires : goal.visit-requires
 visit-requires g c = record {
-  taken = work_taken c.args.graph.now.nodes c.turns.reached c.turns.sets c.turns.list c.pop.new.self c.in-Some.node c.in-Some.ensures.last
+  taken = work_taken c.args.graph.now c.turns.reached c.turns.sets c.turns.list c.pop.new.self c.in-Some.node c.in-Some.ensures.last
       c.turns.invariant.work;
 }

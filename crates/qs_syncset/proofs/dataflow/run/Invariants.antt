@@ -7,7 +7,7 @@ invariant-turns g l =
     let before = state l.fn.reached l.fn.sets l.fn.list in
     let now = state l.reached l.sets l.list in
     record {
-      work : IsWork l.graph.nodes now;
+      work : IsWork l.graph now;
       counted : l.fn.turns + length l.fn.list ≤ l.turns + length l.list;
       cost : l.turns + turns_left now ≤ l.fn.turns + turns_left before;
     }

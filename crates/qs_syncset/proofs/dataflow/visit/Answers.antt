@@ -15,18 +15,18 @@ use Rattle.qs_syncset.proofs.dataflow.visit.Goals.{After-after-out}
 -- what the loop passes on is what goes out of the node
 sent : (c : After-after-out) (h : ℕ) → h < most_handlers
     → in_set c.after-out.result h
-    ≡ held_after (place_at c.args.graph.now.nodes c.args.node).node (held_at (state c.args.reached.now c.args.sets.now c.args.list.now) c.args.node) h
+    ≡ held_after c.args.graph.now (place_at c.args.graph.now.nodes c.args.node).node (held_at (state c.args.reached.now c.args.sets.now c.args.list.now) c.args.node) h
 sent c =
     let first = state c.args.reached.now c.args.sets.now c.args.list.now in
     let known = c.requires.taken.known in
     let inside : c.args.node < length c.args.sets.now =
     omega (arith, reached_inside first c.args.node c.requires.taken.reached, known.each_reached, known.each_set) in
-    sent_from c.args.graph.now.nodes c.node.result.now c.after-out.result first c.args.node 0 c.node.ensures.value inside
+    sent_from c.args.graph.now c.node.result.now c.after-out.result first c.args.node 0 c.node.ensures.value inside
     c.after-out.ensures.value
 
 pub loop-to-preserved : goal.loop-to-preserved
 loop-to-preserved c =
-    let g = c.args.graph.now.nodes in
+    let g = c.args.graph.now in
     let x = c.args.node in
     let edges = c.edges-to-items.result.now in
     let to : ℕ = get_or edges c.loop-to.to-index 0 in
@@ -36,9 +36,9 @@ loop-to-preserved c =
     let new = state c.pass_to.new.reached c.pass_to.new.sets c.pass_to.new.list in
     let visit = c.loop-to.invariant.visit in
     let passed = c.in_ok-pass_to.ensures.passed in
-    let edge : HasEdge g x to =
+    let edge : HasEdge g.nodes x to =
     subst (λ es. IsAmong to es) c.edges-to-items.ensures.value (among_at edges c.loop-to.to-index c.loop-to-test.true) in
-    let inside : to < length g = edge_inside g x to c.is_graph.ensures.graph edge in
+    let inside : to < length g.nodes = edge_inside g.nodes x to c.is_graph.ensures.graph edge in
     let fair = fair_edge g first x to out c.requires.taken.known.witnessed edge c.requires.taken.reached
     (sent (goal.at.loop-to-preserved c).After-after-out) in
     let met = passed_met old new to out (omega (arith, visit.known.each_reached)) (omega (arith, visit.known.each_set)) passed in
@@ -51,7 +51,7 @@ loop-to-preserved c =
 
 pub returns-clause-work : goal.returns-clause-work
 returns-clause-work c =
-    let g = c.args.graph.now.nodes in
+    let g = c.args.graph.now in
     let x = c.args.node in
     let edges = c.edges-to-items.result.now in
     let first = state c.args.reached.now c.args.sets.now c.args.list.now in

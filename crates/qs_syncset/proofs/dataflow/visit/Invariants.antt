@@ -11,6 +11,6 @@ invariant-loop-to l =
     let before = state l.fn.reached l.fn.sets l.fn.list in
     let now = state l.reached l.sets l.list in
     record {
-      visit : IsVisit l.graph.nodes l.node (set_at before l.node) (length before.list) (turns_left before) now;
+      visit : IsVisit l.graph l.node (set_at before l.node) (length before.list) (turns_left before) now;
       arrived : (n : ℕ) → IsAmong n (take l.to-index l.to-items) → HasArrived (reached_at now) (held_at now) n (in_set l.out);
     }

@@ -2,7 +2,6 @@ use Rattle.std.proofs.Common.{◌≡◌, ℕ, ◌+◌, ◌<◌, true, false, ari
 use Rattle.std.specs.Prelude.{◌↔◌}
 use Rattle.qs_objects.proofs.Elements.{AllByRecursion-get_or}
 use Rattle.qs_graph.specs.declared.node.Node.TheVariants.{Sync}
-use Rattle.qs_graph.specs.declared.node.Named.{Named}
 use Rattle.qs_graph.specs.Nodes.{ControlGraph, GraphNode, place_at}
 use Rattle.qs_graph.specs.WellFormed.{IsInRange, IsGraphNode}
 use Rattle.qs_graph.specs.Nodes.{exit}
@@ -14,8 +13,8 @@ use Rattle.qs_syncset.proofs.removal.coalesce.Goals as goal
 use Rattle.qs_syncset.proofs.removal.coalesce.Goals.{in-Sync+then-holds, in-Sync+else-holds, in_default}
 
 -- so far, with the names as they were
-abbrev IsDoneWith : List GraphNode → List Named → ℕ → ControlGraph → Type 0
-IsDoneWith g names n now = record { done : IsDone g now.nodes n; names : now.names ≡ names }
+abbrev IsDoneWith : ControlGraph → ℕ → ControlGraph → Type 0
+IsDoneWith g n now = record { done : IsDone g now.nodes n; names : now.names ≡ g.names; aliases : now.aliases ≡ g.aliases }
 
 inside : (c : goal.Joined-node) → c.loop-n.n < length c.args.graph.nodes
 inside c = omega (arith, c.loop-n-test.true, c.len-n-end.ensures.value)
@@ -27,42 +26,45 @@ handler_known c h e =
     subst IsInRange e here.in_range
 
 exact : (c : goal.Joined-node) (h : ℕ) → (place_at c.args.graph.nodes c.loop-n.n).node ≡ Sync h
-    → (has c.args.sets.now c.loop-n.n h ≡ true) ↔ IsHeld c.args.graph.nodes c.loop-n.n h
+    → (has c.args.sets.now c.loop-n.n h ≡ true) ↔ IsHeld c.args.graph c.loop-n.n h
 exact c h e = c.requires.sets.exact c.loop-n.n h (inside c) (handler_known c h e)
 
 pub loop-n-preserved : goal.loop-n-preserved
 loop-n-preserved c =
-    let g = c.args.graph.nodes in
+    let g = c.args.graph in
     let n = c.loop-n.n in
-    let node_same : (place_at g n).node ≡ c.node.result.now =
+    let node_same : (place_at g.nodes n).node ≡ c.node.result.now =
     ap (λ (p : GraphNode). p.node) (sym (c.loop-n.invariant.done.rest n (omega arith))) ∙ sym c.node.ensures.value in
     let kept = c.loop-n.invariant.names in
     elim c.match-node.branch [
       | in-Sync+then-holds w ↦
-          let is : (place_at g n).node ≡ Sync w.in-Sync.handler = node_same ∙ w.in-Sync.is in
+          let is : (place_at g.nodes n).node ≡ Sync w.in-Sync.handler = node_same ∙ w.in-Sync.is in
           let held : IsHeld g n w.in-Sync.handler = (exact c w.in-Sync.handler is).0 (sym w.holds.ensures.value ∙ w.if-holds.true) in
-          subst (IsDoneWith g c.args.graph.names (n + 1)) (sym w.graph-is)
+          subst (IsDoneWith g (n + 1)) (sym w.graph-is)
           (record {
             done = subst (λ (now : List GraphNode). IsDone g now (n + 1)) (sym w.make_local.ensures.change)
                 (done_set g c.loop-n.graph.nodes n (omega (arith, inside c, c.loop-n.invariant.done.count)) c.loop-n.invariant.done
-                (removed (IsHeld g n) w.in-Sync.handler (place_at g n) is held));
+                (removed (IsHeld g n) w.in-Sync.handler (place_at g.nodes n) is held));
             names = w.make_local.ensures.same_names ∙ kept;
+            aliases = w.make_local.ensures.same_aliases ∙ c.loop-n.invariant.aliases;
           })
       | in-Sync+else-holds w ↦
-          let is : (place_at g n).node ≡ Sync w.in-Sync.handler = node_same ∙ w.in-Sync.is in
+          let is : (place_at g.nodes n).node ≡ Sync w.in-Sync.handler = node_same ∙ w.in-Sync.is in
           let missing : has c.args.sets.now n w.in-Sync.handler ≡ false = sym w.holds.ensures.value ∙ w.if-holds.false in
-          subst (IsDoneWith g c.args.graph.names (n + 1)) (sym w.graph-is)
+          subst (IsDoneWith g (n + 1)) (sym w.graph-is)
           (record {
             done = done_kept g c.loop-n.graph.nodes n c.loop-n.invariant.done
-                (not_held (IsHeld g n) w.in-Sync.handler (place_at g n) is (λ held.
+                (not_held (IsHeld g n) w.in-Sync.handler (place_at g.nodes n) is (λ held.
                 let never : true ≡ false = sym ((exact c w.in-Sync.handler is).1 held) ∙ missing in cc));
             names = kept;
+            aliases = c.loop-n.invariant.aliases;
           })
       | in_default w ↦
-          subst (IsDoneWith g c.args.graph.names (n + 1)) (sym w.graph-is)
+          subst (IsDoneWith g (n + 1)) (sym w.graph-is)
           (record {
             done = done_kept g c.loop-n.graph.nodes n c.loop-n.invariant.done
-                (no_sync (IsHeld g n) (place_at g n) (λ h e. w.in_default.not-Sync h (sym node_same ∙ e)));
+                (no_sync (IsHeld g n) (place_at g.nodes n) (λ h e. w.in_default.not-Sync h (sym node_same ∙ e)));
             names = kept;
+            aliases = c.loop-n.invariant.aliases;
           })
     ]

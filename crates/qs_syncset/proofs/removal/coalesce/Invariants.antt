@@ -4,6 +4,7 @@ use Rattle.qs_syncset.proofs.removal.coalesce.Given as goal
 
 abbrev pub invariant-loop-n : goal.invariant-loop-n
 invariant-loop-n l = record {
-  done : IsDone l.fn.graph.nodes l.graph.nodes l.n;
+  done : IsDone l.fn.graph l.graph.nodes l.n;
   names : l.graph.names ≡ l.fn.graph.names;
+  aliases : l.graph.aliases ≡ l.fn.graph.aliases;
 }

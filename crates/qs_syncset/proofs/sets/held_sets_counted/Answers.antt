@@ -33,7 +33,7 @@ pub run-requires : goal.run-requires
 run-requires g c =
     let made = (goal.at.run-requires g c).After-deref_mut-2 in
     rw (is_begun g made)
-    (record { work = begun_work c.len-count.result (some_node g made) c.args.graph.now.nodes c.len-count.ensures.value })
+    (record { work = begun_work c.len-count.result (some_node g made) c.args.graph.now c.len-count.ensures.value })
 
 pub returns-in_err-run-clause-turns : goal.returns-in_err-run-clause-turns
 returns-in_err-run-clause-turns g c =
@@ -46,7 +46,7 @@ returns-clause-sets g c =
     let rest = drop (length c.run.new.sets) (set c.in_ok-bytes.bytes.items 0 0) in
     let whole : take c.in_ok-bytes.bytes.len (c.run.new.sets ++ rest) ≡ c.run.new.sets =
     take_at c.run.new.sets rest c.in_ok-bytes.bytes.len (omega (arith, work.known.each_set, c.len-count.ensures.value, c.in_ok-bytes.ensures.len)) in
-    rw whole (done_sets c.args.graph.now.nodes c.run.new.reached c.run.new.sets work)
+    rw whole (done_sets c.args.graph.now c.run.new.reached c.run.new.sets work)
 
 pub returns-clause-turns : goal.returns-clause-turns
 returns-clause-turns g c =
