@@ -117,6 +117,7 @@ module _ (D : List Declared) where
         variables = few;
         blocks = rw (length-map c.blocks (block_of (names D) (kinds D) (variables_of c))) (omega (arith, (blocks_stay (with_client s c.name) t c.blocks w).count (omega arith)));
         each = sound_blocks (variables_of c) few c.blocks (with_client s c.name) t known w;
+        start = tt;
       }
 
   known_of : (os more : List Name) (ks others : List Kind) → names D ≡ os ++ more → kinds D ≡ ks ++ others → length ks ≡ length os → Known D os ks

@@ -1,5 +1,5 @@
 -- Scripts with each name replaced by its number.
-use Rattle.std.specs.Prelude.{Bool, true, false, List, [], ◌∷◌, map}
+use Rattle.std.specs.Prelude.{Bool, true, false, List, [], ◌∷◌, map, None}
 use Rattle.qs_objects.specs.declared.object.Kind.{Kind}
 use Rattle.qs_script.specs.Tree as tree
 use Rattle.qs_script.specs.declared.tree.Atom as text
@@ -76,7 +76,7 @@ variables_of c = variables_at [] (blocks_places c.blocks)
 abbrev pub client_of : List Name → List Kind → ClientItem → ClientShape
 client_of objects kinds c =
     let variables = variables_of c in
-    record { name = c.name; variables = variables; blocks = map (block_of objects kinds variables) c.blocks }
+    record { name = c.name; variables = variables; blocks = map (block_of objects kinds variables) c.blocks; start = None }
 
 -- the objects of a script, in text order
 abbrev pub objects_of : List Item → List Declared

@@ -1,6 +1,6 @@
 //! From names to numbers.
 
-ghost use Rattle.std.specs.Prelude.{◌≡◌, ◌≤◌, ◌<◌, IfOk, length, map};
+ghost use Rattle.std.specs.Prelude.{◌≡◌, ◌≤◌, ◌<◌, IfOk, length, map, None};
 ghost use Rattle.std.specs.List.{AllByRecursion};
 ghost use Rattle.qs_script.specs.Form.{levels_of, IsFormed, HasForm};
 ghost use Rattle.qs_script.specs.Views.{single as single_text};
@@ -74,6 +74,7 @@ fn resolve_client(
     ensures name { IfOk result (λ c. c.name ≡ item.now.name) }
     ensures variables { IfOk result (λ c. c.variables ≡ variables) }
     ensures blocks { IfOk result (λ c. c.blocks ≡ map (block_of objects.now kinds.now variables) item.now.blocks) }
+    ensures start { IfOk result (λ c. c.start ≡ None) }
 {
     match resolve_blocks(alloc, objects, kinds, &variables, item.blocks.as_slice()) {
         Ok(blocks) => Ok(Client::new(item.name.copied(), variables, blocks)),

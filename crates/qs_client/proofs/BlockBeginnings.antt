@@ -135,7 +135,7 @@ begins code k l counts w inside long =
     let p = w.program in
     let here : k < blocks_of p w.client = omega (arith, inside, w.of.count) in
     let b = block_at p w.client k in
-    let is : IsBlockCode _ b _ (code_at code k) = w.of.blocks k here in
+    let is : IsBlockCode _ b _ _ (code_at code k) = w.of.blocks k here in
     let s : IsSoundWalk b (code_at code k).graph l counts = walks_are_sound p w.mode w.client code w.sound w.of k l counts here long in
     let t = walk (code_at code k).graph limit (entry l counts) in
     record {

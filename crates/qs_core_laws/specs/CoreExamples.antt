@@ -7,9 +7,10 @@ use Rattle.qs_objects.specs.declared.held.Ticket.{Ticket}
 use Rattle.qs_objects.specs.declared.Request.{Request}
 use Rattle.qs_program.specs.Loads.{load_of}
 use Rattle.qs_meaning.specs.MeaningExamples.{block, call, client, deposit_of_5, full_buffer, hundred, left_at_once, left_with, n, only, program, some, ticket, transfer, withdrawals}
-use Rattle.qs_program.specs.Program.{BlockShape, ProgramShape, client_at}
+use Rattle.qs_program.specs.Program.{ProgramShape, binding_of, block_at, blocks_of}
 use Rattle.qs_program.specs.Statements.{end, command}
-use Rattle.qs_graph.specs.Graphs.{block_graph}
+use Rattle.qs_graph.specs.Bound.{bound_nodes}
+use Rattle.qs_graph.specs.Names.{graph_of}
 use Rattle.qs_syncset.specs.Codes.{BlockCode, ClientCode}
 use Rattle.qs_sync_counts.specs.declared.sync_counts.SyncCount.{SyncCount}
 use Rattle.qs_syncset.specs.declared.mode.Mode.TheVariants as modes
@@ -21,11 +22,13 @@ use Rattle.qs_core_laws.specs.Core.{AreCodes}
 use Rattle.qs_core_laws.specs.CoreSchedule.{core_played, core_scheduled, on_way}
 
 -- the codes with all synchronisations, tested or not
-abbrev pub built_block : BlockShape → BlockCode
-built_block b = record { reserved = b.reserved; graph = block_graph b.body; loads = map (load_of b.body) (range_with_len 0 8) }
+abbrev pub built_block : ProgramShape → ℕ → ℕ → BlockCode
+built_block p c k =
+    let b = block_at p c k in
+    record { reserved = b.reserved; graph = bound_nodes (binding_of p c) (graph_of p c k).nodes; loads = map (load_of b.body) (range_with_len 0 8) }
 
 abbrev pub example_code : Bool → ProgramShape → ℕ → ClientCode
-example_code dynamic p c = record { dynamic = dynamic; blocks = map built_block (client_at p c).blocks }
+example_code dynamic p c = record { dynamic = dynamic; blocks = map (built_block p c) (range_with_len 0 (blocks_of p c)) }
 
 abbrev pub core_shown : Bool → ProgramShape → List Actor → ℕ → Played
 core_shown dynamic p picks rounds = core_played p (core_scheduled p (example_code dynamic p) 8 picks rounds)

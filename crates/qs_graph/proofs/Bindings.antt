@@ -1,9 +1,16 @@
 -- A graph over names, with each name replaced by its object: it has the same paths, and it is the graph of the text in which the
 -- names were replaced. The proofs on coalescing by names stand on the first, and those on a client's code on the second. Both go by
 -- induction: on the path, and on the statements.
-use Rattle.std.proofs.Common.{◌≡◌, ℕ, zero, suc, ◌+◌, List, [], ◌∷◌, ◌++◌, refl, ap, subst}
-use Rattle.std.proofs.lemmas.List.{map-append}
-use Rattle.qs_program.specs.Binding.{bound_statements}
+use Rattle.std.proofs.Common.{◌≡◌, ℕ, zero, suc, ◌+◌, ◌<◌, ◌≤◌, List, [], ◌∷◌, ◌++◌, length, map, set, slice_index_or, Option, Some, None, refl, sym, ap, ◌∙◌, subst, arith, below_more}
+use Rattle.std.specs.List.{AllByRecursion}
+use Rattle.std.proofs.lemmas.List.{ext_get_or, get_or-set_other, get_or-set_same, length-map, length-set, map-append}
+use Rattle.qs_objects.proofs.Elements.{AllByRecursion-get_or}
+use Rattle.qs_program.specs.Binding.{bound_call, bound_statements}
+use Rattle.qs_program.specs.declared.code.Call as calls
+use Rattle.qs_program.specs.Limits.{most_handlers, most_objects}
+use Rattle.qs_program.specs.Program.{BlockShape, ProgramShape, StartShape, binding_in, binding_of, client_at, no_client}
+use Rattle.qs_program.specs.Sound.{IsSound, IsSoundClient, IsStartSound}
+use Rattle.qs_program.specs.declared.program.Declared.{Declared}
 use Rattle.qs_program.specs.Statements.{Statements, end, command, query, assign, choose, again, leave}
 use Rattle.qs_graph.specs.Bound.{bound_node, bound_place, bound_nodes}
 use Rattle.qs_graph.specs.declared.node.Node.{Node}
@@ -11,6 +18,7 @@ use Rattle.qs_graph.specs.declared.node.Node.TheVariants.{Entry, Local, Branch, 
 use Rattle.qs_graph.specs.Graphs.{block_graph, first_node, node_count, places_of}
 use Rattle.qs_graph.specs.Nodes.{GraphNode, exit, place_at}
 use Rattle.qs_graph.specs.Paths.{HasEdge, IsAmong, IsPath}
+use Rattle.qs_graph.specs.WellFormed.{IsCallInRange, IsGraph, IsGraphNode, IsInRange, edge_count}
 
 pub place_bound : (binding : List ℕ) (g : List GraphNode) (n : ℕ) → place_at (bound_nodes binding g) n ≡ bound_place binding (place_at g n)
 place_bound binding [] n = refl
@@ -105,3 +113,87 @@ module _ (binding : List ℕ) where
   graph_bound b =
       let last = 1 + node_count b in
       rw (count_bound b, first_bound 1 last b, places_bound 1 last last b, map-append (bound_place binding) (places_of 1 last last b) (exit ∷ [])) refl
+
+-- ---- places bound one after another
+
+-- the places before n are bound, and the others as they were
+pub record AreBoundBelow (binding : List ℕ) (old now : List GraphNode) (n : ℕ) : Type 0 where
+  pub count : length now ≡ length old
+  pub done : (k : ℕ) → k < n → place_at now k ≡ bound_place binding (place_at old k)
+  pub rest : (k : ℕ) → n ≤ k → place_at now k ≡ place_at old k
+
+pub bound_next : (binding : List ℕ) (old now : List GraphNode) (n : ℕ) (new : GraphNode) → n < length now → AreBoundBelow binding old now n
+    → new ≡ bound_place binding (place_at now n) → AreBoundBelow binding old (set now n new) (n + 1)
+bound_next binding old now n new inside b e = record {
+  count = length-set now n new ∙ b.count;
+  done = below_more (λ k. place_at (set now n new) k ≡ bound_place binding (place_at old k)) _
+      (λ k l. get_or-set_other now n k new exit (λ e. omega arith) ∙ b.done k l)
+      (get_or-set_same now n new exit inside ∙ (e ∙ ap (bound_place binding) (b.rest n (omega arith))));
+  rest = λ k l. get_or-set_other now n k new exit (λ e. omega arith) ∙ b.rest k (omega arith);
+}
+
+pub bound_all : (binding : List ℕ) (old now : List GraphNode) (n : ℕ) → length now ≤ n → AreBoundBelow binding old now n → now ≡ bound_nodes binding old
+bound_all binding old now n past b =
+    ext_get_or exit now (bound_nodes binding old) (b.count ∙ sym (length-map old (bound_place binding)))
+    (λ k inside. b.done k (omega (arith, inside, past)) ∙ sym (place_bound binding old k))
+
+-- ---- it is a graph still
+
+bound_edges : (binding : List ℕ) (v : Node) → edge_count (bound_node binding v) ≡ edge_count v
+bound_edges binding Entry = refl
+bound_edges binding (Local a) = refl
+bound_edges binding (Branch c) = refl
+bound_edges binding (Sync h) = refl
+bound_edges binding (Query x c) = refl
+bound_edges binding (Call c) = refl
+bound_edges binding Exit = refl
+
+module _ (binding : List ℕ) (small : AllByRecursion (λ h. h < most_handlers) binding) where
+  bound_small : (bs : List ℕ) → AllByRecursion (λ h. h < most_handlers) bs → (i name : ℕ) → name < most_handlers → slice_index_or bs i name < most_handlers
+  bound_small [] each i name below = below
+  bound_small (b ∷ bs) each zero name below = each.0
+  bound_small (b ∷ bs) each (suc i) name below = bound_small bs each.1 i name below
+
+  call_range : (c : calls.Call) → IsCallInRange c → IsCallInRange (bound_call binding c)
+  call_range c range = (bound_small binding small c.object c.object range.0, range.1)
+
+  bound_range : (v : Node) → IsInRange v → IsInRange (bound_node binding v)
+  bound_range Entry range = range
+  bound_range (Local a) range = range
+  bound_range (Branch c) range = range
+  bound_range (Sync h) range = bound_small binding small h h range
+  bound_range (Query x c) range = (range.0, call_range c range.1)
+  bound_range (Call c) range = call_range c range
+  bound_range Exit range = range
+
+  bound_each : (n m : ℕ) → m ≡ n → (ps : List GraphNode) → AllByRecursion (IsGraphNode n) ps → AllByRecursion (IsGraphNode m) (bound_nodes binding ps)
+  bound_each n m same [] each = tt
+  bound_each n m same (p ∷ ps) each = (
+    record {
+      edges = subst (λ k. AllByRecursion (λ e. e < k) p.edges) (sym same) each.0.edges;
+      count = each.0.count ∙ sym (bound_edges binding p.node);
+      in_range = bound_range p.node each.0.in_range;
+    },
+    bound_each n m same ps each.1,
+  )
+
+  pub bound_is_graph : (g : List GraphNode) → IsGraph g → IsGraph (bound_nodes binding g)
+  bound_is_graph g is = record {
+    entry = ap (λ (p : GraphNode). p.node) (place_bound binding g 0) ∙ ap (bound_node binding) is.entry;
+    places = bound_each (length g) (length (bound_nodes binding g)) (length-map g (bound_place binding)) g is.places;
+  }
+
+-- the objects that a sound client's names stand for are among 8
+small_start : (objects : List Declared) → length objects ≤ most_objects → (blocks : List BlockShape) (start : Option StartShape)
+    → IsStartSound objects blocks start → AllByRecursion (λ h. h < most_handlers) (binding_in start)
+small_start objects few blocks None sound = tt
+small_start objects few blocks (Some s) sound = smaller s.binding sound.inside
+  where
+    smaller : (bs : List ℕ) → AllByRecursion (λ h. h < length objects) bs → AllByRecursion (λ h. h < most_handlers) bs
+    smaller [] each = tt
+    smaller (b ∷ bs) each = (omega (arith, each.0, few), smaller bs each.1)
+
+pub small_binding : (p : ProgramShape) (c : ℕ) → IsSound p → c < length p.clients → AllByRecursion (λ h. h < most_handlers) (binding_of p c)
+small_binding p c sound inside =
+    let d : IsSoundClient p.objects (client_at p c) = AllByRecursion-get_or (IsSoundClient p.objects) p.clients c no_client sound.each inside in
+    small_start p.objects sound.objects (client_at p c).blocks (client_at p c).start d.start

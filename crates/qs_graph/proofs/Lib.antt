@@ -6,9 +6,9 @@ pub mod Counting
 pub mod Silence
 pub mod Weights
 pub mod Alone
+pub mod Bindings
 pub mod Ranges
 pub mod Along
 pub mod Limits
 pub mod Inside
 pub mod Removing
-pub mod Bindings

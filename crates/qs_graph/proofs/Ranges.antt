@@ -1,23 +1,26 @@
 -- The nodes of a sound program's block form a graph: each edge leads to a node, each node has its number of edges, and the
 -- numbers in it are in range. The function that builds the graph promises this, and the proofs on walks and held sets begin from
 -- it. It goes by induction on the statements; the invariant is that the nodes to which they lead are in range.
-use Rattle.std.proofs.Common.{◌≡◌, ℕ, zero, suc, ◌+◌, ◌<◌, ◌≤◌, Bool, true, false, ◌||◌, ◌==◌, List, [], ◌∷◌, ◌++◌, length, get_or, refl, arith, subst, length-append}
+use Rattle.std.proofs.Common.{◌≡◌, ℕ, zero, suc, ◌+◌, ◌<◌, ◌≤◌, Bool, true, false, ◌||◌, ◌==◌, List, [], ◌∷◌, ◌++◌, length, map, get_or, Option, Some, None, refl, sym, ap, ◌∙◌, arith, subst, length-append}
 use Rattle.std.specs.List.{AllByRecursion}
 use Rattle.qs_objects.proofs.Arities.{arity_small}
 use Rattle.qs_program.specs.declared.code.Call as calls
 use Rattle.qs_program.specs.declared.program.Declared.{Declared}
 use Rattle.qs_program.specs.Statements.{Statements, end, command, query, assign, choose, again, leave}
-use Rattle.qs_program.specs.Program.{BlockShape, ClientShape, ProgramShape, no_block, no_client, block_at}
-use Rattle.qs_program.specs.Sound.{IsSound, IsSoundBlock, IsSoundBody, IsSoundCall, IsSoundClient, is_in}
+use Rattle.qs_program.specs.Program.{BlockShape, ClientShape, ProgramShape, StartShape, binding_in, client_at, declarations_in, declarations_of, own_block, own_in, no_block, no_client, block_at}
+use Rattle.qs_program.specs.Sound.{IsSound, IsSoundBlock, IsSoundBody, IsSoundCall, IsSoundClient, IsStartSound, is_in}
 use Rattle.qs_program.specs.Limits.{most_handlers, most_objects}
 use Rattle.qs_graph.specs.declared.node.Node.{Node}
 use Rattle.qs_graph.specs.declared.node.Node.TheVariants.{Entry, Local, Branch, Sync, Query, Call, Exit}
 use Rattle.qs_graph.specs.declared.node.Action.TheVariants.{Assign, SetCount, Nothing}
+use Rattle.qs_program.specs.Binding.{bound_block}
+use Rattle.qs_graph.specs.Bound.{bound_nodes}
 use Rattle.qs_graph.specs.Nodes.{GraphNode, exit}
 use Rattle.qs_graph.specs.Graphs.{node_count, first_node, places_of, block_graph}
-use Rattle.qs_graph.specs.WellFormed.{edge_count, IsCallInRange, IsInRange, IsGraphNode}
-use Rattle.qs_graph.specs.SoundNodes.{IsSoundNode}
+use Rattle.qs_graph.specs.WellFormed.{edge_count, IsCallInRange, IsGraph, IsInRange, IsGraphNode}
+use Rattle.qs_graph.specs.SoundNodes.{AreSoundNodes, IsSoundNode}
 use Rattle.qs_graph.specs.WalkLaws.{BlocksHaveGraphs}
+use Rattle.qs_graph.proofs.Bindings.{graph_bound, unbound}
 use Rattle.qs_graph.proofs.StatementPlaces.{length_places}
 
 pub all_append : {X : Type 0} (P : X → Type 0) (xs ys : List X) → AllByRecursion P xs → AllByRecursion P ys → AllByRecursion P (xs ++ ys)
@@ -31,7 +34,7 @@ all_at P Q [] i d each h past = past
 all_at P Q (x ∷ xs) zero d each h past = h x each.0
 all_at P Q (x ∷ xs) (suc i) d each h past = all_at P Q xs i d each.1 h past
 
-is_in-all : (P : ℕ → Type 0) (xs : List ℕ) (x : ℕ) → is_in xs x ≡ true → AllByRecursion P xs → P x
+pub is_in-all : (P : ℕ → Type 0) (xs : List ℕ) (x : ℕ) → is_in xs x ≡ true → AllByRecursion P xs → P x
 is_in-all P [] x member each = cc
 is_in-all P (y ∷ ys) x member each = by_test (y == x) (λ e. e) member (λ later. is_in-all P ys x later each.1)
   where
@@ -166,22 +169,71 @@ sound_text p c k sound =
     (λ b v. record { known = v.reserved; body = v.body }) (record { known = tt; body = tt }))
     (record { known = tt; body = tt })
 
+-- ---- the own text of a client's block
+
+-- sound by what its names were declared as, and once each name stands for its object it is the block
+pub record IsSoundOwn (objects : List Declared) (blocks : List BlockShape) (start : Option StartShape) (k : ℕ) : Type 0 where
+  pub few : length (declarations_in objects start) ≤ most_objects
+  pub text : IsSoundText (declarations_in objects start) (own_in start k (get_or blocks k no_block))
+  pub bound : block_graph (get_or blocks k no_block).body ≡ bound_nodes (binding_in start) (block_graph (own_in start k (get_or blocks k no_block)).body)
+
+bound_at : (binding : List ℕ) (bs : List BlockShape) (k : ℕ) → get_or (map (bound_block binding) bs) k no_block ≡ bound_block binding (get_or bs k no_block)
+bound_at binding [] k = refl
+bound_at binding (b ∷ bs) zero = refl
+bound_at binding (b ∷ bs) (suc k) = bound_at binding bs k
+
+module _ (objects : List Declared) (few : length objects ≤ most_objects) (blocks : List BlockShape) (k : ℕ)
+    (text : IsSoundText objects (get_or blocks k no_block)) where
+  own_by : (start : Option StartShape) → IsStartSound objects blocks start → IsSoundOwn objects blocks start k
+  own_by None sound = record { few = few; text = text; bound = sym (unbound (block_graph (get_or blocks k no_block).body)) }
+  own_by (Some s) sound =
+      let same : get_or blocks k no_block ≡ bound_block s.binding (get_or s.blocks k no_block) =
+      ap (λ bs. get_or bs k no_block) sound.bound ∙ bound_at s.binding s.blocks k in
+      record {
+        few = sound.few;
+        text = all_at (IsSoundBlock s.formals) (IsSoundText s.formals) s.blocks k no_block sound.texts
+            (λ b v. record { known = v.reserved; body = v.body }) (record { known = tt; body = tt });
+        bound = ap (λ (b : BlockShape). block_graph b.body) same ∙ graph_bound s.binding (get_or s.blocks k no_block).body;
+      }
+
+pub sound_own : (p : ProgramShape) (c k : ℕ) → IsSound p → IsSoundOwn p.objects (client_at p c).blocks (client_at p c).start k
+sound_own p c k sound =
+    all_at (IsSoundClient p.objects) (λ (d : ClientShape). IsSoundOwn p.objects d.blocks d.start k)
+    p.clients c no_client sound.each
+    (λ d w. own_by p.objects sound.objects d.blocks k
+    (all_at (IsSoundBlock p.objects) (IsSoundText p.objects) d.blocks k no_block w.each
+    (λ b v. record { known = v.reserved; body = v.body }) (record { known = tt; body = tt })) d.start w.start)
+    (record { few = sound.objects; text = record { known = tt; body = tt }; bound = sym (unbound (block_graph no_block.body)) })
+
+-- ---- graphs of sound texts
+
+module _ (objects : List Declared) (few : length objects ≤ most_objects) (b : BlockShape) (text : IsSoundText objects b) where
+  abbrev text_graph : List GraphNode
+  text_graph = block_graph b.body
+
+  pub text_has_graph : IsGraph text_graph
+  text_has_graph = record {
+    entry = refl;
+    places = all_map (IsSoundGraphNode objects b.reserved (length text_graph)) (IsGraphNode (length text_graph)) text_graph
+        (λ q w. record {
+          edges = w.edges;
+          count = w.count;
+          in_range = node_ok objects few b.reserved text.known q.node w.sound;
+        }) (block_fine objects b text);
+  }
+
+  pub text_is_sound : AreSoundNodes objects b.reserved text_graph
+  text_is_sound = all_map (IsSoundGraphNode objects b.reserved (length text_graph)) (λ (q : GraphNode). IsSoundNode objects b.reserved q.node) text_graph
+      (λ q w. w.sound) (block_fine objects b text)
+
 pub blocks_have_graphs : BlocksHaveGraphs
 blocks_have_graphs p c k sound =
-    let b = block_at p c k in
-    let g = block_graph b.body in
     let text = sound_text p c k sound in
-    let fine = block_fine p.objects b text in
+    let own = sound_own p c k sound in
     record {
-      graph = record {
-        entry = refl;
-        places = all_map (IsSoundGraphNode p.objects b.reserved (length g)) (IsGraphNode (length g)) g
-            (λ q w. record {
-              edges = w.edges;
-              count = w.count;
-              in_range = node_ok p.objects sound.objects b.reserved text.known q.node w.sound;
-            }) fine;
-      };
-      sound = all_map (IsSoundGraphNode p.objects b.reserved (length g)) (λ (q : GraphNode). IsSoundNode p.objects b.reserved q.node) g
-          (λ q w. w.sound) fine;
+      graph = text_has_graph p.objects sound.objects (block_at p c k) text;
+      sound = text_is_sound p.objects sound.objects (block_at p c k) text;
+      own = text_has_graph (declarations_of p c) own.few (own_block p c k) own.text;
+      own_sound = text_is_sound (declarations_of p c) own.few (own_block p c k) own.text;
+      bound = own.bound;
     }

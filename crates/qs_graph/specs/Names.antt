@@ -1,23 +1,25 @@
--- The names of a block's list. A client's own block names an object by the object's number.
-use Rattle.std.specs.Prelude.{ℕ, Bool, false, ◌==◌, ◌&&◌, ◌||◌, if◌then◌else◌, List, map}
+-- The names of a block's list: in a client's own block the numbers of objects, in a template's block formals.
+use Rattle.std.specs.Prelude.{ℕ, Bool, ◌==◌, ◌&&◌, ◌||◌, if◌then◌else◌, List, map}
 use Rattle.std.specs.List.{list_any}
 use Rattle.qs_program.specs.Kinds.{same_kind}
-use Rattle.qs_program.specs.Program.{BlockShape, ProgramShape, block_at, object_at}
+use Rattle.qs_program.specs.Program.{BlockShape, ProgramShape, client_at, declared_as, is_started, own_block}
 use Rattle.qs_graph.specs.declared.node.Named.{Named}
 use Rattle.qs_graph.specs.Graphs.{block_graph}
 use Rattle.qs_graph.specs.Nodes.{ControlGraph}
 
-abbrev pub named_object : ProgramShape → ℕ → Named
-named_object p h = record { name = h; kind = (object_at p h).kind }
+-- a name of a client's own text, with the kind that it was declared with
+abbrev pub named : ProgramShape → ℕ → ℕ → Named
+named p c name = record { name = name; kind = (declared_as p c name).kind }
 
 -- in the order of the list
-abbrev pub names_of : ProgramShape → BlockShape → List Named
-names_of p b = map (named_object p) b.reserved
+abbrev pub names_of : ProgramShape → ℕ → BlockShape → List Named
+names_of p c b = map (named p c) b.reserved
 
--- the graph of a client's block, in whose text two names are two objects
+-- the graph of a client's block in its own text; where the client is of a template, two names may stand for one object
 abbrev pub graph_of : ProgramShape → ℕ → ℕ → ControlGraph
 graph_of p c k =
-    let b = block_at p c k in record { nodes = block_graph b.body; names = names_of p b; aliases = false }
+    let b = own_block p c k in
+    record { nodes = block_graph b.body; names = names_of p c b; aliases = is_started (client_at p c).start }
 
 -- whether both stand in the list, with one kind
 abbrev pub are_of_one_kind : List Named → ℕ → ℕ → Bool

@@ -5,10 +5,11 @@ use Rattle.qs_program.specs.Values.{Locals}
 use Rattle.qs_meaning.specs.Solo.{States, solo}
 use Rattle.qs_meaning.specs.Interaction.{tree_of}
 use Rattle.qs_program.specs.Loads.{weight_of}
-use Rattle.qs_program.specs.Program.{ProgramShape, block_at}
+use Rattle.qs_program.specs.Program.{ProgramShape, binding_of, block_at, declarations_of, own_block}
 use Rattle.qs_program.specs.Sound.{IsSound}
 use Rattle.qs_program.specs.Binding.{bound_statements}
 use Rattle.qs_graph.specs.Bound.{bound_nodes}
+use Rattle.qs_graph.specs.Names.{graph_of}
 use Rattle.qs_graph.specs.Nodes.{GraphNode}
 use Rattle.qs_graph.specs.Graphs.{block_graph}
 use Rattle.qs_graph.specs.Paths.{IsPath}
@@ -65,10 +66,14 @@ WalksGoAlongPaths =
     (g : List GraphNode) (s : Spot) (before : List ℕ) → IsGraph g → s.node < length g → IsPath g before s.node
     → EachNext (λ t. IsPath g (s.node ∷ before) t.node) (move g s)
 
--- the places of a block are a graph, and its nodes are sound by the block's list
+-- The places of a block are a graph, and its nodes are sound by the block's list; so are those of the block's own text, by what its names
+-- were declared as. Once each name stands for its object, these are the places of the block.
 pub record HasGraph (p : ProgramShape) (c k : ℕ) : Type 0 where
   pub graph : IsGraph (block_graph (block_at p c k).body)
   pub sound : AreSoundNodes p.objects (block_at p c k).reserved (block_graph (block_at p c k).body)
+  pub own : IsGraph (graph_of p c k).nodes
+  pub own_sound : AreSoundNodes (declarations_of p c) (own_block p c k).reserved (graph_of p c k).nodes
+  pub bound : block_graph (block_at p c k).body ≡ bound_nodes (binding_of p c) (graph_of p c k).nodes
 
 abbrev pub BlocksHaveGraphs : Type 0
 BlocksHaveGraphs = (p : ProgramShape) (c k : ℕ) → IsSound p → HasGraph p c k

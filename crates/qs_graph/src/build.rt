@@ -1,7 +1,7 @@
 //! The graph of a block, made in one pass: where a statement leads is known from how many nodes there are before it.
 
 ghost use Rattle.std.specs.Prelude.{◌≡◌, ◌<◌, ◌≤◌, ◌+◌, ◌++◌, ◌∷◌, [], length, vec_capacity, IfOk, OnOk};
-ghost use Rattle.qs_program.specs.Program.{block_at, blocks_of};
+ghost use Rattle.qs_program.specs.Program.{blocks_of, declarations_of, own_block};
 ghost use Rattle.qs_program.specs.Views.{single};
 ghost use Rattle.qs_graph.specs.declared.node.Node.TheVariants.{Branch, Call, Query, Sync};
 ghost use Rattle.qs_graph.specs.Names.{graph_of, names_of};
@@ -17,17 +17,17 @@ use crate::node::{Action, Choice, Named, Node};
 use qs_program::{Body, Call as Request, Program, Stmt};
 use std::alloc::{AllocError, Global};
 
-/// The control-flow graph of a block.
+/// The control-flow graph of a block in its client's own text: where the client is of a template, its nodes name formals.
 pub fn graph(alloc: Global, program: &Program, client: u8, block: u8) -> Result<Graph, AllocError>
     requires client { client < length program.now.clients }
     requires block { block < blocks_of program.now client }
     ensures graph_of { IfOk result (λ graph. graph ≡ graph_of program.now client block) }
-    ensures drawn { IfOk result (λ graph. IsDrawing graph.nodes (block_at program.now client block).body) }
+    ensures drawn { IfOk result (λ graph. IsDrawing graph.nodes (own_block program.now client block).body) }
 {
     let names = block_names(alloc, program, client, block)?;
     program.is_sound();
-    match block_places(alloc, program.block(client, block).body()) {
-        Ok(places) => Ok(Graph::of(places, names, false)),
+    match block_places(alloc, program.own_block(client, block).body()) {
+        Ok(places) => Ok(Graph::of(places, names, program.is_started(client))),
         Err(error) => {
             drop(names);
             Err(error)
@@ -35,7 +35,7 @@ pub fn graph(alloc: Global, program: &Program, client: u8, block: u8) -> Result<
     }
 }
 
-// The names of a block's list, with the kinds of their objects.
+// The names of a block's list, with the kinds that they were declared with.
 fn block_names(
     alloc: Global,
     program: &Program,
@@ -44,28 +44,28 @@ fn block_names(
 ) -> Result<Vec<Named>, AllocError>
     requires client { client < length program.now.clients }
     requires block { block < blocks_of program.now client }
-    ensures names { IfOk result (λ names. names.items ≡ names_of program.now (block_at program.now client block)) }
+    ensures names { IfOk result (λ names. names.items ≡ names_of program.now client (own_block program.now client block)) }
 {
     let reserved = reserved_by(program, client, block);
     let mut names = Vec::with_capacity(alloc, reserved.len())?;
     for name in reserved {
         names.push_reserved(Named {
             name: *name,
-            kind: program.kind(*name),
+            kind: program.declared_as(client, *name).kind,
         });
     }
     Ok(names)
 }
 
-// The objects that a block reserves.
+// The names of a block's list, each of which was declared.
 fn reserved_by(program: &Program, client: u8, block: u8) -> &[u8]
     requires client { client < length program.now.clients }
     requires block { block < blocks_of program.now client }
-    ensures value { result.now ≡ (block_at program.now client block).reserved }
-    ensures inside { AllByRecursion (λ h. h < length program.now.objects) result.now }
+    ensures value { result.now ≡ (own_block program.now client block).reserved }
+    ensures inside { AllByRecursion (λ h. h < length (declarations_of program.now client)) result.now }
 {
     program.is_sound();
-    program.block(client, block).reserved()
+    program.own_block(client, block).reserved()
 }
 
 // All room is taken at once; where it was given, there are fewer nodes than the greatest number.

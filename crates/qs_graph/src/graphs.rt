@@ -1,6 +1,8 @@
 //! Graphs as they are kept.
 
-ghost use Rattle.std.specs.Prelude.{◌≡◌, ◌<◌, length, slice_set};
+ghost use Rattle.std.specs.Prelude.{◌≡◌, ◌<◌, [], false, length, slice_set};
+ghost use Rattle.qs_program.specs.Program.{binding_of};
+ghost use Rattle.qs_graph.specs.Bound.{bound_nodes};
 ghost use Rattle.std.specs.List.{list_any};
 ghost use Rattle.std.specs.Prelude.{◌==◌, ◌&&◌};
 ghost use Rattle.qs_program.specs.Kinds.{same_kind as are_alike};
@@ -10,7 +12,8 @@ ghost use Rattle.qs_graph.specs.WellFormed.{IsGraph};
 
 use crate::node::{Action, Named, Node};
 use qs_objects::Kind;
-use qs_program::same_kind;
+use crate::binding::bind_places;
+use qs_program::{Program, same_kind};
 use std::marker::Model;
 use std::mem;
 
@@ -25,7 +28,7 @@ pub(crate) enum Targets {
 /// A node and where it leads.
 #[derive(Drop)]
 pub(crate) struct GraphNode {
-    node: Node,
+    pub(crate) node: Node,
     targets: Targets,
 }
 
@@ -123,6 +126,29 @@ impl Graph {
             places,
             names,
             aliases,
+        }
+    }
+
+    /// The graph over objects: each name is replaced by the object that it stands for in a client's blocks. Takes no memory.
+    pub fn bound(self, program: &Program, client: u8) -> Graph
+        requires client { client < length program.now.clients }
+        ensures value { result.nodes ≡ bound_nodes (binding_of program.now client) self.nodes }
+        ensures no_names { result.names ≡ [] }
+        ensures no_aliases { result.aliases ≡ false }
+    {
+        self.is_graph();
+        program.is_sound();
+        let Graph {
+            mut places,
+            mut names,
+            aliases: _,
+        } = self;
+        names.clear();
+        bind_places(&mut places, program, client);
+        Graph {
+            places,
+            names,
+            aliases: false,
         }
     }
 

@@ -1,6 +1,7 @@
 //! The control-flow graph of a block, and what a walk through it does.
 #![tactic(auto)]
 
+mod binding;
 mod build;
 mod copies;
 mod counts;

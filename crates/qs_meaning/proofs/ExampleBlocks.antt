@@ -63,6 +63,7 @@ depositor_sound objects name variables a b x few within here there apart deposit
     },
     tt,
   );
+  start = tt;
 }
 
 depositor_formed : (name : Name) (variables : List Name) (a b x : ℕ) → IsDistinct same_name variables → x < length variables

@@ -26,6 +26,7 @@ depositor name variables a b x = record {
   blocks =
       block (a ∷ b ∷ [])
       (command (call a Deposit (n 5 ∷ [])) (query x (balance a) (command (call b Deposit (Variable x ∷ [])) end))) ∷ [];
+  start = None;
 }
 
 abbrev pub first : ProgramShape

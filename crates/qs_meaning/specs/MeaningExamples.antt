@@ -33,7 +33,7 @@ abbrev pub block : List ℕ → Statements → BlockShape
 block reserved body = record { reserved = reserved; body = body }
 
 abbrev pub client : List BlockShape → ClientShape
-client blocks = record { name = []; variables = []; blocks = blocks }
+client blocks = record { name = []; variables = []; blocks = blocks; start = None }
 
 abbrev pub program : List Kind → List ClientShape → ProgramShape
 program ks clients = record { objects = declarations ks; clients = clients }

@@ -15,6 +15,10 @@ most_clients = 8
 abbrev pub most_blocks : ℕ
 most_blocks = 64
 
+-- of a template
+abbrev pub most_formals : ℕ
+most_formals = 8
+
 -- of a program: one for each block of each client
 abbrev pub most_tickets : ℕ
 most_tickets = most_clients * most_blocks

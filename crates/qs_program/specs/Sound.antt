@@ -1,10 +1,10 @@
 -- What holds of every checked program: numbers in range, requests on reserved objects that have the operation, limits.
-use Rattle.std.specs.Prelude.{◌≡◌, ◌≤◌, ◌<◌, ℕ, ◌+◌, max, Bool, true, false, ◌==◌, List, length, map, IsSome, slice_index_or}
+use Rattle.std.specs.Prelude.{◌≡◌, ◌≤◌, ◌<◌, ℕ, ◌+◌, max, Bool, true, false, ◌==◌, List, length, map, Option, Some, None, IsSome, slice_index_or}
 use Rattle.std.specs.List.{AllByRecursion, IsDistinct, list_any}
 use Rattle.qs_objects.specs.Objects.{starts}
 use Rattle.qs_objects.specs.Operations.{is_query, arity, fits}
 use Rattle.qs_script.specs.Limits.{most_levels}
-use Rattle.qs_program.specs.Limits.{most_blocks, most_clients, most_objects, most_requests, most_steps, most_turns, most_variables}
+use Rattle.qs_program.specs.Limits.{most_blocks, most_clients, most_formals, most_objects, most_requests, most_steps, most_turns, most_variables}
 use Rattle.qs_program.specs.declared.code.Atom.{Atom}
 use Rattle.qs_program.specs.declared.code.Atom.TheVariants.{Variable, Number}
 use Rattle.qs_program.specs.declared.code.Expr.{Expr}
@@ -12,9 +12,11 @@ use Rattle.qs_program.specs.declared.code.Expr.TheVariants.{Plain, Binary}
 use Rattle.qs_program.specs.declared.code.Test.{Test}
 use Rattle.qs_program.specs.declared.code.Call.{Call}
 use Rattle.qs_program.specs.declared.program.Declared.{Declared}
+use Rattle.qs_program.specs.Binding.{bound_block}
+use Rattle.qs_program.specs.Kinds.{same_kind}
 use Rattle.qs_program.specs.Numbering.{same_name}
 use Rattle.qs_program.specs.Statements.{Statements, end, command, query, assign, choose, again, leave}
-use Rattle.qs_program.specs.Program.{BlockShape, ClientShape, ProgramShape, no_object, whole_load, whole_weight}
+use Rattle.qs_program.specs.Program.{BlockShape, ClientShape, ProgramShape, StartShape, no_object, whole_load, whole_weight}
 
 -- a variable of the client
 abbrev pub IsSoundAtom : Atom → Type 0
@@ -54,10 +56,26 @@ pub record IsSoundBlock (objects : List Declared) (b : BlockShape) : Type 0 wher
   pub distinct : IsDistinct ◌==◌ b.reserved
   pub body : IsSoundBody objects b.reserved b.body
 
+-- an object for each formal, of its kind; blocks that are sound by the formals' kinds, and these are the client's blocks once each formal
+-- stands for its object
+pub record IsSoundStart (objects : List Declared) (blocks : List BlockShape) (s : StartShape) : Type 0 where
+  pub few : length s.formals ≤ most_formals
+  pub each : length s.binding ≡ length s.formals
+  pub inside : AllByRecursion (λ h. h < length objects) s.binding
+  pub kinds : (i : ℕ) → i < length s.formals
+      → same_kind (slice_index_or s.formals i no_object).kind (slice_index_or objects (slice_index_or s.binding i 0) no_object).kind ≡ true
+  pub texts : AllByRecursion (IsSoundBlock s.formals) s.blocks
+  pub bound : blocks ≡ map (bound_block s.binding) s.blocks
+
+abbrev pub IsStartSound : List Declared → List BlockShape → Option StartShape → Type 0
+IsStartSound objects blocks None = Unit {0}
+IsStartSound objects blocks (Some s) = IsSoundStart objects blocks s
+
 pub record IsSoundClient (objects : List Declared) (c : ClientShape) : Type 0 where
   pub variables : length c.variables ≤ most_variables
   pub blocks : length c.blocks ≤ most_blocks
   pub each : AllByRecursion (IsSoundBlock objects) c.blocks
+  pub start : IsStartSound objects c.blocks c.start
 
 -- each variable has a number below a count
 module _ (count : ℕ) where

@@ -16,6 +16,6 @@ pub use limits::{
     MOST_TICKETS, MOST_TURNS, MOST_VARIABLES,
 };
 pub use names::Names;
-pub use program::{Block, Client, Declared, Program};
+pub use program::{Block, Client, Declared, Program, Start};
 pub use totals::{all_load, all_weight};
 pub use values::Locals;

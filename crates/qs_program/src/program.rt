@@ -3,6 +3,9 @@
 ghost use Rattle.std.specs.Prelude.{◌≡◌, ◌<◌, ◌≤◌, length, slice_index_or, sum_by};
 ghost use Rattle.qs_program.specs.Limits.{most_requests, most_steps};
 ghost use Rattle.qs_program.specs.Loads.{load_of};
+ghost use Rattle.std.specs.Prelude.{Some, None};
+ghost use Rattle.qs_program.specs.Binding.{bound};
+ghost use Rattle.qs_program.specs.Program.{binding_of, declarations_of, declared_as, is_started, own_block, no_object};
 ghost use Rattle.qs_program.specs.Program.{client_at, block_at, object_at, no_block, blocks_of, program_of, whole_load, whole_weight};
 ghost use Rattle.qs_program.specs.Sound.{IsSound};
 
@@ -74,11 +77,79 @@ impl Block {
     }
 }
 
-/// A client: its name, the names of its variables by number, and its blocks.
+/// What a client of a template was started with: the template's formal names with their kinds, for each formal its object, and the
+/// template's blocks over formals.
+pub struct Start {
+    formals: Vec<Declared>,
+    binding: Vec<u8>,
+    blocks: Vec<Block>,
+}
+
+impl Drop for Start {
+    fn drop(self) {
+        let Start {
+            formals: _,
+            binding: _,
+            blocks: _,
+        } = self;
+    }
+}
+
+impl Model for Start {
+    ghost use Rattle.qs_program.specs.Shapes.{start_code};
+    ghost use Rattle.qs_program.specs.Program.{StartShape};
+
+    ghost Value = { StartShape };
+
+    ghost coded = { start_code };
+
+    ghost view = { λ s. record { formals = s.formals.items; binding = s.binding.items; blocks = s.blocks.items } };
+}
+
+impl Start {
+    /// Formal names with their kinds, for each its object, and blocks over formals.
+    pub fn new(formals: Vec<Declared>, binding: Vec<u8>, blocks: Vec<Block>) -> Start
+        ensures value { result ≡ record { formals = formals.items; binding = binding.items; blocks = blocks.items } }
+    {
+        Start {
+            formals,
+            binding,
+            blocks,
+        }
+    }
+
+    fn bound(&self, name: u8) -> u8
+        ensures value { result ≡ bound self.now.binding name }
+    {
+        self.binding
+            .get(usize::from(name))
+            .copied()
+            .unwrap_or(name)
+    }
+
+    fn block(&self, index: u8) -> &Block
+        requires { index < length self.now.blocks }
+        ensures value { result.now ≡ slice_index_or self.now.blocks index no_block }
+    {
+        let place = usize::from(index);
+        &self.blocks[place]
+    }
+
+    fn formal(&self, name: u8) -> &Declared
+        requires { name < length self.now.formals }
+        ensures value { result.now ≡ slice_index_or self.now.formals name no_object }
+    {
+        &self.formals[usize::from(name)]
+    }
+}
+
+/// A client: its name, the names of its variables by number, its blocks over objects, and what it was started with, if it is of a
+/// template.
 pub struct Client {
     name: Name,
     variables: Names,
     pub(crate) blocks: Vec<Block>,
+    start: Option<Start>,
 }
 
 impl Drop for Client {
@@ -87,6 +158,7 @@ impl Drop for Client {
             name: _,
             variables: _,
             blocks: _,
+            start: _,
         } = self;
     }
 }
@@ -99,19 +171,29 @@ impl Model for Client {
 
     ghost coded = { client_code };
 
-    ghost view = { λ c. record { name = c.name; variables = c.variables; blocks = c.blocks.items } };
+    ghost view = { λ c. record { name = c.name; variables = c.variables; blocks = c.blocks.items; start = c.start } };
 }
 
 impl Client {
-    /// A client of a name, of its variables' names by number, and of blocks.
+    /// A client with blocks of its own: a name, its variables' names by number, and its blocks.
     pub fn new(name: Name, variables: Names, blocks: Vec<Block>) -> Client
-        ensures value { result ≡ record { name = name; variables = variables; blocks = blocks.items } }
+        ensures value { result ≡ record { name = name; variables = variables; blocks = blocks.items; start = None } }
     {
         Client {
             name,
             variables,
             blocks,
+            start: None,
         }
+    }
+
+    /// A client of a template: its blocks over objects, and what it was started with.
+    pub fn started(name: Name, variables: Names, blocks: Vec<Block>, start: Start) -> Client
+        ensures value { result ≡ record { name = name; variables = variables; blocks = blocks.items; start = Some start } }
+    {
+        let mut client = Client::new(name, variables, blocks);
+        client.start = Some(start);
+        client
     }
 
     fn len(&self) -> usize
@@ -282,6 +364,66 @@ impl Program {
     {
         let client = &self.clients[usize::from(client)];
         &client.variables
+    }
+
+    /// Whether a client is of a template; then two names of its own text may stand for one object.
+    pub fn is_started(&self, client: u8) -> bool
+        requires { client < length self.now.clients }
+        ensures value { result ≡ is_started (client_at self.now client).start }
+    {
+        let client = &self.clients[usize::from(client)];
+        client.start.is_some()
+    }
+
+    /// The object that a name of a client's own text stands for: where the client is of no template, the name is the number of its object.
+    /// Takes no memory.
+    pub fn bound(&self, client: u8, name: u8) -> u8
+        requires { client < length self.now.clients }
+        ensures value { result ≡ bound (binding_of self.now client) name }
+    {
+        let client = &self.clients[usize::from(client)];
+        match &client.start {
+            None => name,
+            Some(start) => start.bound(name),
+        }
+    }
+
+    /// A client's block in its own text: where the client is of a template, the template's block over formals.
+    pub fn own_block(&self, client: u8, block: u8) -> &Block
+        requires client { client < length self.now.clients }
+        requires block { block < blocks_of self.now client }
+        ensures value { result.now ≡ own_block self.now client block }
+    {
+        let client = &self.clients[usize::from(client)];
+        match &client.start {
+            None => client.block(block),
+            Some(start) => start.block(block),
+        }
+    }
+
+    /// How many names a client's own text may have: the formals of its template, or the objects.
+    pub fn declarations(&self, client: u8) -> usize
+        requires { client < length self.now.clients }
+        ensures value { result ≡ length (declarations_of self.now client) }
+    {
+        let client = &self.clients[usize::from(client)];
+        match &client.start {
+            None => self.objects.len(),
+            Some(start) => start.formals.len(),
+        }
+    }
+
+    /// What a name of a client's own text was declared as: a formal of its template, or an object.
+    pub fn declared_as(&self, client: u8, name: u8) -> &Declared
+        requires client { client < length self.now.clients }
+        requires name { name < length (declarations_of self.now client) }
+        ensures value { result.now ≡ declared_as self.now client name }
+    {
+        let client = &self.clients[usize::from(client)];
+        match &client.start {
+            None => &self.objects[usize::from(name)],
+            Some(start) => start.formal(name),
+        }
     }
 
     /// A client's block, by its number from 0.

@@ -2,7 +2,7 @@
 -- functions that write the graphs of a program, `put_block`, `put_blocks` and `graph_text`, stand on it. It takes the definition
 -- of the texts up to a number one number further, and joins what each step has added.
 use Rattle.std.proofs.Common.{◌≡◌, ℕ, ◌+◌, ◌<◌, List, [], ◌∷◌, ◌++◌, codes, length, flat_map, refl, ap, subst, ◌∙◌, append_assoc, add-one, arith}
-use Rattle.qs_program.specs.Program.{ProgramShape, block_at}
+use Rattle.qs_program.specs.Program.{ProgramShape, own_block}
 use Rattle.qs_graph.specs.Names.{graph_of}
 use Rattle.qs_graph.specs.Nodes.{ControlGraph}
 use Rattle.qs_syncset.specs.Table.{AreSetsOf}
@@ -14,14 +14,14 @@ listed_some text (x ∷ xs) some = refl
 
 -- the text of a block, by any name of its list and its graph
 pub block_added : (p : ProgramShape) (c k : ℕ) (reserved : List ℕ) (g : ControlGraph) (first line all : List ℕ)
-    → reserved ≡ (block_at p c k).reserved → g ≡ graph_of p c k
-    → line ≡ first ++ block_line p c k → IsAdded (AreNodesText p reserved g) line all → IsAdded (IsBlockText p c k) first all
+    → reserved ≡ (own_block p c k).reserved → g ≡ graph_of p c k
+    → line ≡ first ++ block_line p c k → IsAdded (AreNodesText p c reserved g) line all → IsAdded (IsBlockText p c k) first all
 block_added p c k reserved g first line all r e f (text, (sets, held, t), h) =
-    let own = (block_at p c k).reserved in
+    let own = (own_block p c k).reserved in
     let built = graph_of p c k in
-    let nodes : text ≡ nodes_text p own built.nodes sets =
-    t ∙ ap (λ rs. nodes_text p rs g.nodes sets) r ∙ ap (λ (q : ControlGraph). nodes_text p own q.nodes sets) e in (
-      block_line p c k ++ nodes_text p own built.nodes sets,
+    let nodes : text ≡ nodes_text p c own built.nodes sets =
+    t ∙ ap (λ rs. nodes_text p c rs g.nodes sets) r ∙ ap (λ (q : ControlGraph). nodes_text p c own q.nodes sets) e in (
+      block_line p c k ++ nodes_text p c own built.nodes sets,
       record { sets = sets; held = subst (λ q. AreSetsOf q sets) e held; lines = refl },
       h ∙ ap (λ l. l ++ text) f ∙ append_assoc first (block_line p c k) text ∙ ap (λ l. first ++ (block_line p c k ++ l)) nodes,
     )

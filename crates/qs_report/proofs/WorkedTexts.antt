@@ -85,7 +85,7 @@ either_sets = checked_sets (graph_of ann_twice 0 1) either (straight 9) refl ref
 
 -- the text of one block alone
 alone : (s : BlockShape) (sets : List (List Bool)) (text : List ℕ) → AreSetsOf (graph_of (by_ann (s ∷ [])) 0 0) sets
-    → text ≡ block_line (by_ann (s ∷ [])) 0 0 ++ nodes_text (by_ann (s ∷ [])) s.reserved (block_graph s.body) sets
+    → text ≡ block_line (by_ann (s ∷ [])) 0 0 ++ nodes_text (by_ann (s ∷ [])) 0 s.reserved (block_graph s.body) sets
     → IsGraphText (by_ann (s ∷ [])) text
 unfolding IsGraphText
 alone s sets text held e =
@@ -111,8 +111,8 @@ graph_text_examples = record {
   kept_where_bodies_meet = alone (on_a two_bodies) (sets_in sets_met) _ met_sets refl;
   empty_bodies = alone (on_a empty_bodies) (sets_in nowhere) _ nowhere_sets refl;
   two_blocks = two (on_a end) on_b_and_a
-      (block_line ann_twice 0 0 ++ nodes_text ann_twice (0 ∷ []) (block_graph end) (sets_in neither))
-      (block_line ann_twice 0 1 ++ nodes_text ann_twice (1 ∷ 0 ∷ []) (block_graph on_b_and_a.body) (sets_in either))
+      (block_line ann_twice 0 0 ++ nodes_text ann_twice 0 (0 ∷ []) (block_graph end) (sets_in neither))
+      (block_line ann_twice 0 1 ++ nodes_text ann_twice 0 (1 ∷ 0 ∷ []) (block_graph on_b_and_a.body) (sets_in either))
       (record { sets = sets_in neither; held = neither_sets; lines = refl })
       (record { sets = sets_in either; held = either_sets; lines = refl });
 }

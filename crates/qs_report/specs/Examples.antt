@@ -26,7 +26,7 @@ declaration name kind = record { name = name; kind = kind }
 
 -- a client with as many blocks as there are lists of reserved objects
 abbrev pub client : List ℕ → List BlockShape → ClientShape
-client name blocks = record { name = name; variables = []; blocks = blocks }
+client name blocks = record { name = name; variables = []; blocks = blocks; start = None }
 
 -- a block without statements that reserves these objects
 abbrev pub block : List ℕ → BlockShape

@@ -3,14 +3,14 @@
 ghost use Rattle.std.specs.Prelude.{◌≡◌, ◌<◌, ◌++◌, decimal, length, IfOk, OnOk};
 ghost use Rattle.std.specs.List.{AllByRecursion, filter};
 ghost use Rattle.qs_program.specs.Limits.{most_handlers};
-ghost use Rattle.qs_program.specs.Program.{block_at, blocks_of};
+ghost use Rattle.qs_program.specs.Program.{blocks_of, own_block};
 ghost use Rattle.qs_graph.specs.Nodes.{place_at};
 ghost use Rattle.qs_syncset.specs.Table.{has};
 ghost use Rattle.qs_report.specs.GraphText.{list_text, name_of, removed_text, label_text, node_line, nodes_text, block_line, step_text};
 ghost use Rattle.qs_report.specs.GraphText.{AreNodesText, IsBlockText, IsClientText, IsGraphText, IsAdded};
 
 use crate::bytes::{put, put_all};
-use crate::names::{client_name, object_name};
+use crate::names::{client_name, declared_name};
 use itoa::Buffer;
 use qs_graph::{Graph, Node, graph};
 use qs_program::Program;
@@ -23,30 +23,34 @@ fn removed_word(is_held: bool) -> &'static [u8]
     if is_held { b" removed" } else { b" kept" }
 }
 
-// A word and the name of an object.
+// A word and a name of a client's own text.
 fn put_named(
     out: &mut Vec<u8>,
     program: &Program,
+    client: u8,
     word: &[u8],
-    object: u8,
+    name: u8,
 ) -> Result<(), AllocError>
-    ensures ok { OnOk result (out.new.items ≡ out.old.items ++ (word.now ++ name_of program.now object)) }
+    requires client { client < length program.now.clients }
+    ensures ok { OnOk result (out.new.items ≡ out.old.items ++ (word.now ++ name_of program.now client name)) }
 {
     put(out, word)?;
-    put(out, object_name(program, usize::from(object)))
+    put(out, declared_name(program, client, name))
 }
 
 // What a node does.
 fn put_label(
     out: &mut Vec<u8>,
     program: &Program,
+    client: u8,
     graph: &Graph,
     sets: &Sets,
     n: usize,
 ) -> Result<(), AllocError>
+    requires client { client < length program.now.clients }
     requires node { n < length graph.now.nodes }
     requires sets { length sets.now ≡ length graph.now.nodes }
-    ensures ok { OnOk result (out.new.items ≡ out.old.items ++ label_text program.now (has sets.now n) (place_at graph.now.nodes n).node) }
+    ensures ok { OnOk result (out.new.items ≡ out.old.items ++ label_text program.now client (has sets.now n) (place_at graph.now.nodes n).node) }
 {
     graph.is_graph();
     match graph.node(n) {
@@ -54,11 +58,11 @@ fn put_label(
         Node::Local(_) => put(out, b"local"),
         Node::Branch(_) => put(out, b"branch"),
         Node::Sync(handler) => {
-            put_named(out, program, b"sync ", *handler)?;
+            put_named(out, program, client, b"sync ", *handler)?;
             put(out, removed_word(sets.holds(n, *handler)))
         }
-        Node::Query(_, call) => put_named(out, program, b"query ", call.object),
-        Node::Call(call) => put_named(out, program, b"call ", call.object),
+        Node::Query(_, call) => put_named(out, program, client, b"query ", call.object),
+        Node::Call(call) => put_named(out, program, client, b"call ", call.object),
         Node::Exit => put(out, b"exit"),
     }
 }
@@ -77,7 +81,7 @@ fn put_targets(out: &mut Vec<u8>, targets: &[usize]) -> Result<(), AllocError>
     Ok(())
 }
 
-// The objects of a block's list that are held at a node, in the list's order.
+// The names of a block's list that are held at a node, in the list's order.
 fn held_at(alloc: Global, reserved: &[u8], sets: &Sets, n: usize) -> Result<Vec<u8>, AllocError>
     requires node { n < length sets.now }
     requires handlers { AllByRecursion (λ h. h < most_handlers) reserved.now }
@@ -92,15 +96,21 @@ fn held_at(alloc: Global, reserved: &[u8], sets: &Sets, n: usize) -> Result<Vec<
     Ok(held)
 }
 
-// The names of objects.
-fn put_names(out: &mut Vec<u8>, program: &Program, objects: &[u8]) -> Result<(), AllocError>
-    ensures ok { OnOk result (out.new.items ≡ out.old.items ++ list_text (name_of program.now) objects.now) }
+// Names of a client's own text.
+fn put_names(
+    out: &mut Vec<u8>,
+    program: &Program,
+    client: u8,
+    names: &[u8],
+) -> Result<(), AllocError>
+    requires client { client < length program.now.clients }
+    ensures ok { OnOk result (out.new.items ≡ out.old.items ++ list_text (name_of program.now client) names.now) }
 {
-    if objects.is_empty() {
+    if names.is_empty() {
         return put(out, b" -");
     }
-    for object in objects {
-        put_named(out, program, b" ", *object)?;
+    for name in names {
+        put_named(out, program, client, b" ", *name)?;
     }
     Ok(())
 }
@@ -109,36 +119,40 @@ fn put_names(out: &mut Vec<u8>, program: &Program, objects: &[u8]) -> Result<(),
 fn put_step(
     out: &mut Vec<u8>,
     program: &Program,
+    client: u8,
     graph: &Graph,
     sets: &Sets,
     n: usize,
 ) -> Result<(), AllocError>
+    requires client { client < length program.now.clients }
     requires node { n < length graph.now.nodes }
     requires sets { length sets.now ≡ length graph.now.nodes }
-    ensures ok { OnOk result (out.new.items ≡ out.old.items ++ step_text program.now graph.now.nodes sets.now n) }
+    ensures ok { OnOk result (out.new.items ≡ out.old.items ++ step_text program.now client graph.now.nodes sets.now n) }
 {
     let mut buffer = Buffer::new();
     put_all(out, &[buffer.format(n).as_bytes(), b" "])?;
-    put_label(out, program, graph, sets, n)?;
+    put_label(out, program, client, graph, sets, n)?;
     put(out, b" ->")?;
     put_targets(out, graph.edges(n))
 }
 
-// The names of the objects of a block's list that are held at a node.
+// The names of a block's list that are held at a node, as text.
 fn put_held(
     alloc: Global,
     out: &mut Vec<u8>,
     program: &Program,
+    client: u8,
     reserved: &[u8],
     sets: &Sets,
     n: usize,
 ) -> Result<(), AllocError>
+    requires client { client < length program.now.clients }
     requires node { n < length sets.now }
     requires handlers { AllByRecursion (λ h. h < most_handlers) reserved.now }
-    ensures ok { OnOk result (out.new.items ≡ out.old.items ++ list_text (name_of program.now) (filter (has sets.now n) reserved.now)) }
+    ensures ok { OnOk result (out.new.items ≡ out.old.items ++ list_text (name_of program.now client) (filter (has sets.now n) reserved.now)) }
 {
     let held = held_at(alloc, reserved, sets, n)?;
-    let put = put_names(out, program, held.as_slice());
+    let put = put_names(out, program, client, held.as_slice());
     drop(held);
     put
 }
@@ -147,19 +161,21 @@ fn put_node(
     alloc: Global,
     out: &mut Vec<u8>,
     program: &Program,
+    client: u8,
     reserved: &[u8],
     graph: &Graph,
     sets: &Sets,
     n: usize,
 ) -> Result<(), AllocError>
+    requires client { client < length program.now.clients }
     requires node { n < length graph.now.nodes }
     requires sets { length sets.now ≡ length graph.now.nodes }
     requires handlers { AllByRecursion (λ h. h < most_handlers) reserved.now }
-    ensures ok { OnOk result (out.new.items ≡ out.old.items ++ node_line program.now reserved.now graph.now.nodes sets.now n) }
+    ensures ok { OnOk result (out.new.items ≡ out.old.items ++ node_line program.now client reserved.now graph.now.nodes sets.now n) }
 {
-    put_step(out, program, graph, sets, n)?;
+    put_step(out, program, client, graph, sets, n)?;
     put(out, b" held")?;
-    put_held(alloc, out, program, reserved, sets, n)?;
+    put_held(alloc, out, program, client, reserved, sets, n)?;
     put(out, b"\n")
 }
 
@@ -167,16 +183,18 @@ fn put_nodes(
     alloc: Global,
     out: &mut Vec<u8>,
     program: &Program,
+    client: u8,
     reserved: &[u8],
     graph: &Graph,
     sets: &Sets,
 ) -> Result<(), AllocError>
+    requires client { client < length program.now.clients }
     requires sets { length sets.now ≡ length graph.now.nodes }
     requires handlers { AllByRecursion (λ h. h < most_handlers) reserved.now }
-    ensures ok { OnOk result (out.new.items ≡ out.old.items ++ nodes_text program.now reserved.now graph.now.nodes sets.now) }
+    ensures ok { OnOk result (out.new.items ≡ out.old.items ++ nodes_text program.now client reserved.now graph.now.nodes sets.now) }
 {
     for n in 0..graph.len() {
-        put_node(alloc, out, program, reserved, graph, sets, n)?;
+        put_node(alloc, out, program, client, reserved, graph, sets, n)?;
     }
     Ok(())
 }
@@ -197,15 +215,15 @@ fn put_block_line(
     )
 }
 
-// The objects that a block reserves, each one of 8.
+// The names of a block's list, each one of 8.
 fn reserved_by(program: &Program, client: u8, block: u8) -> &[u8]
     requires client { client < length program.now.clients }
     requires block { block < blocks_of program.now client }
-    ensures value { result.now ≡ (block_at program.now client block).reserved }
+    ensures value { result.now ≡ (own_block program.now client block).reserved }
     ensures handlers { AllByRecursion (λ h. h < most_handlers) result.now }
 {
     program.is_sound();
-    program.block(client, block).reserved()
+    program.own_block(client, block).reserved()
 }
 
 // The nodes of a graph, with what is held at each.
@@ -213,14 +231,16 @@ fn put_graph(
     alloc: Global,
     out: &mut Vec<u8>,
     program: &Program,
+    client: u8,
     reserved: &[u8],
     graph: &Graph,
 ) -> Result<(), AllocError>
+    requires client { client < length program.now.clients }
     requires handlers { AllByRecursion (λ h. h < most_handlers) reserved.now }
-    ensures ok { OnOk result (IsAdded (AreNodesText program.now reserved.now graph.now) out.old.items out.new.items) }
+    ensures ok { OnOk result (IsAdded (AreNodesText program.now client reserved.now graph.now) out.old.items out.new.items) }
 {
     let sets = held_sets(alloc, graph)?;
-    let put = put_nodes(alloc, out, program, reserved, graph, &sets);
+    let put = put_nodes(alloc, out, program, client, reserved, graph, &sets);
     drop(sets);
     put
 }
@@ -242,6 +262,7 @@ fn put_block(
         alloc,
         out,
         program,
+        client,
         reserved_by(program, client, block),
         &graph,
     );
@@ -266,7 +287,7 @@ fn put_blocks(
 }
 
 /// The text of a program's control-flow graphs: for each block its nodes as they are built, each with its number, what it does, the
-/// nodes that it leads to, and the objects that are held as it is reached. An error says that an allocation failed, and nothing is left.
+/// nodes that it leads to, and the names that are held as it is reached. An error says that an allocation failed, and nothing is left.
 pub fn graph_text(alloc: Global, program: &Program) -> Result<Vec<u8>, AllocError>
     ensures text { IfOk result (λ bytes. IsGraphText program.now bytes.items) }
 {

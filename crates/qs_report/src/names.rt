@@ -1,7 +1,7 @@
 // The names of a program by number; a number past the last has none.
 
-ghost use Rattle.std.specs.Prelude.{◌≡◌};
-ghost use Rattle.qs_program.specs.Program.{object_at, client_at};
+ghost use Rattle.std.specs.Prelude.{◌≡◌, ◌<◌, length};
+ghost use Rattle.qs_program.specs.Program.{object_at, client_at, declared_as};
 
 use qs_program::Program;
 
@@ -11,6 +11,18 @@ pub(crate) fn object_name(program: &Program, object: usize) -> &[u8]
     program.is_sound();
     if object < program.objects() {
         program.object_name(object as u8).as_slice()
+    } else {
+        b""
+    }
+}
+
+// A name of a client's own text: of a formal of its template, or of an object.
+pub(crate) fn declared_name(program: &Program, client: u8, name: u8) -> &[u8]
+    requires { client < length program.now.clients }
+    ensures name { result.now ≡ (declared_as program.now client name).name }
+{
+    if usize::from(name) < program.declarations(client) {
+        program.declared_as(client, name).name.as_slice()
     } else {
         b""
     }

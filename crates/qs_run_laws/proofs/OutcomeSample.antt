@@ -64,6 +64,7 @@ first_client = record {
   variables = omega arith;
   blocks = omega arith;
   each = (record { reserved = (omega arith, (omega arith, tt)); distinct = two_apart; body = first_body }, tt);
+  start = tt;
 }
 
 second_client : IsSoundClient bank.objects (client_at bank 1)
@@ -78,6 +79,7 @@ second_client = record {
     },
     (record { reserved = (omega arith, tt); distinct = one_alone 1; body = third_body }, tt),
   );
+  start = tt;
 }
 
 names_apart : AreNamesApart bank

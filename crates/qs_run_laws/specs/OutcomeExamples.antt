@@ -33,7 +33,7 @@ abbrev pub holder : ℕ → Declared
 holder letter = record { name = letter ∷ []; kind = hundred }
 
 abbrev pub example_client : ℕ → List (List ℕ) → List BlockShape → ClientShape
-example_client letter variables blocks = record { name = letter ∷ []; variables = variables; blocks = blocks }
+example_client letter variables blocks = record { name = letter ∷ []; variables = variables; blocks = blocks; start = None }
 
 abbrev pub moves_30 : BlockShape
 moves_30 = block (0 ∷ 1 ∷ [])

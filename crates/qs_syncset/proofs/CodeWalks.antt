@@ -1,11 +1,10 @@
 -- Walks through the graphs of a client's code end within the limit, say the block's tree but for synchronisations, and make each
 -- query on an object that is held. The proofs on clients, on their threads and on the optimised machine begin from it. In each
 -- mode the graph is the one that was built, or has lost synchronisations with objects that are held.
-use Rattle.std.proofs.Common.{inl, inr, ℕ, suc, ◌<◌, ◌≤◌, Bool, true, false, List, [], ◌∷◌, length, get_or, refl, sym, ap, ◌∙◌, subst, arith}
+use Rattle.std.proofs.Common.{◌≡◌, inl, inr, ℕ, suc, ◌<◌, ◌≤◌, Bool, true, false, List, [], ◌∷◌, length, get_or, refl, sym, ap, ◌∙◌, subst, arith}
 use Rattle.std.specs.List.{AllByRecursion}
-use Rattle.std.proofs.lemmas.Bool.{eq-eqb}
 use Rattle.qs_objects.proofs.Elements.{AllByRecursion-get_or}
-use Rattle.qs_program.specs.Program.{ProgramShape, block_at}
+use Rattle.qs_program.specs.Program.{ProgramShape, binding_of, block_at}
 use Rattle.qs_program.specs.Statements.{Statements}
 use Rattle.qs_program.specs.Values.{Locals}
 use Rattle.qs_program.specs.declared.program.Declared.{Declared}
@@ -19,19 +18,19 @@ use Rattle.qs_graph.specs.Synced.{without_syncs}
 use Rattle.qs_graph.specs.Walk.{entry}
 use Rattle.qs_graph.specs.WalkLaws.{FollowsBlock}
 use Rattle.qs_graph.specs.WellFormed.{IsGraph}
-use Rattle.qs_graph.proofs.Bindings.{unbound}
 use Rattle.qs_graph.proofs.Alone.{syncs_erased}
 use Rattle.qs_graph.proofs.Limits.{walks_within_limit}
 use Rattle.qs_graph.proofs.Ranges.{blocks_have_graphs}
-use Rattle.qs_syncset.specs.Coalesced.{IsCoalesced}
-use Rattle.qs_syncset.specs.Codes.{IsGraphOf, code_at}
+use Rattle.qs_syncset.specs.Codes.{IsBoundGraphOf, code_at}
 use Rattle.qs_syncset.specs.SyncCounts.{Decides}
 use Rattle.qs_syncset.specs.CodeLaws.{WalksAreSound, NodesStaySound}
 use Rattle.qs_syncset.specs.Flow.{nothing}
 use Rattle.qs_syncset.specs.Modes.{is_static}
 use Rattle.qs_syncset.specs.SoundSynced.{IsSoundSynced}
 use Rattle.qs_syncset.proofs.SoundTrees.{block_sound, walk_reserved}
-use Rattle.qs_syncset.proofs.Removals.{AreNamesTold, IsSoundRemoval, IsToldBy, none_removed, removal_bound, told_bound}
+use Rattle.qs_program.specs.Sound.{IsSound}
+use Rattle.qs_syncset.proofs.NamesAndKinds.{names_told}
+use Rattle.qs_syncset.proofs.Removals.{IsSoundRemoval, IsToldBy, none_removed, removal_bound, told_bound}
 use Rattle.qs_syncset.proofs.CoalescedWalks.{IsReduced, reduced}
 
 all_from : {X : Type 0} (P : X → Type 0) (xs : List X) (d : X) → ((i : ℕ) → i < length xs → P (get_or xs i d)) → AllByRecursion P xs
@@ -52,30 +51,33 @@ left_nodes objects reserved g new c nodes =
 
 -- ---- the graph of a code
 
--- in a client's own block a call is a call of its name alone
-told_apart : (p : ProgramShape) (c k : ℕ) → AreNamesTold [] (graph_of p c k)
-told_apart p c k m n call h is_call is_sync same = eq-eqb call.object h same
+-- some synchronisations are removed, each where its object is held
+pub removal_of : (p : ProgramShape) (c k : ℕ) → IsSound p → (static : Bool) (g : List GraphNode)
+    → IsBoundGraphOf static (graph_of p c k) (binding_of p c) g → IsSoundRemoval (block_graph (block_at p c k).body) g
+removal_of p c k sound false g (names, same, is) =
+    let built : block_graph (block_at p c k).body ≡ bound_nodes (binding_of p c) (graph_of p c k).nodes = (blocks_have_graphs p c k sound).bound in
+    let stays : g ≡ block_graph (block_at p c k).body = is ∙ ap (bound_nodes (binding_of p c)) same ∙ sym built in
+    subst (IsSoundRemoval (block_graph (block_at p c k).body)) (sym stays) (none_removed (block_graph (block_at p c k).body))
+removal_of p c k sound true g (names, coalesced, is) =
+    let built : block_graph (block_at p c k).body ≡ bound_nodes (binding_of p c) (graph_of p c k).nodes = (blocks_have_graphs p c k sound).bound in
+    subst (λ x. IsSoundRemoval x g) (sym built)
+    (subst (IsSoundRemoval (bound_nodes (binding_of p c) (graph_of p c k).nodes)) (sym is)
+    (removal_bound (binding_of p c) (graph_of p c k) (names_told p c k sound) names coalesced))
 
-pub removal_of : (p : ProgramShape) (c k : ℕ) (static : Bool) (g : List GraphNode) → IsGraphOf static (graph_of p c k) g
-    → IsSoundRemoval (block_graph (block_at p c k).body) g
-removal_of p c k false g same = subst (IsSoundRemoval (block_graph (block_at p c k).body)) (sym same) (none_removed (block_graph (block_at p c k).body))
-removal_of p c k true g c' =
-    let built = block_graph (block_at p c k).body in
-    subst (λ x. IsSoundRemoval x g) (unbound built)
-    (subst (IsSoundRemoval (bound_nodes [] built)) (unbound g) (removal_bound [] (graph_of p c k) (told_apart p c k) g c'))
-
-pub told_of : (p : ProgramShape) (c k : ℕ) (g : List GraphNode) → IsCoalesced (graph_of p c k) g → (held : ℕ → Bool)
+-- and a test by names tells which
+pub told_of : (p : ProgramShape) (c k : ℕ) → IsSound p → (g : List GraphNode)
+    → IsBoundGraphOf true (graph_of p c k) (binding_of p c) g → (held : ℕ → Bool)
     → Decides (graph_of p c k) held → IsToldBy (block_graph (block_at p c k).body) g held
-told_of p c k g c' held decides =
-    let built = block_graph (block_at p c k).body in
-    subst (λ x. IsToldBy x g held) (unbound built)
-    (subst (λ y. IsToldBy (bound_nodes [] built) y held) (unbound g)
-    (told_bound [] (graph_of p c k) (told_apart p c k) g c' held decides))
+told_of p c k sound g (names, coalesced, is) held decides =
+    let built : block_graph (block_at p c k).body ≡ bound_nodes (binding_of p c) (graph_of p c k).nodes = (blocks_have_graphs p c k sound).bound in
+    subst (λ x. IsToldBy x g held) (sym built)
+    (subst (λ y. IsToldBy (bound_nodes (binding_of p c) (graph_of p c k).nodes) y held) (sym is)
+    (told_bound (binding_of p c) (graph_of p c k) (names_told p c k sound) names coalesced held decides))
 
 pub nodes_stay_sound : NodesStaySound
 nodes_stay_sound p mode client code sound of k inside =
     left_nodes p.objects (block_at p client k).reserved (block_graph (block_at p client k).body) (code_at code k).graph
-    (removal_of p client k (is_static mode) (code_at code k).graph (of.blocks k inside).graph)
+    (removal_of p client k sound (is_static mode) (code_at code k).graph (of.blocks k inside).graph)
     (blocks_have_graphs p client k sound).sound
 
 -- the walk with all its synchronisations, and the one with those that are left
@@ -90,7 +92,7 @@ pub walks_are_sound : WalksAreSound
 walks_are_sound p mode client code sound of k l counts inside room =
     let b = block_at p client k in
     let g = (code_at code k).graph in
-    let left : IsSoundRemoval (block_graph b.body) g = removal_of p client k (is_static mode) g (of.blocks k inside).graph in
+    let left : IsSoundRemoval (block_graph b.body) g = removal_of p client k sound (is_static mode) g (of.blocks k inside).graph in
     let long : length (block_graph b.body) ≤ length counts = omega (arith, left.count) in
     let f : FollowsBlock limit b.body l counts = walks_within_limit p client k l counts sound long in
     let w : IsReduced (block_graph b.body) g limit (entry l counts) nothing =

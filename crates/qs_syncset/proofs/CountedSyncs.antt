@@ -11,7 +11,7 @@ use Rattle.std.proofs.lemmas.List.FromFn.{get_or-map-range_with_len, length-rang
 use Rattle.qs_objects.specs.declared.held.Event.{Event}
 use Rattle.qs_meaning.specs.Following.{AsksOnly, Leads, reserves}
 use Rattle.qs_meaning.specs.Interaction.{Interaction, tree_of}
-use Rattle.qs_program.specs.Program.{ProgramShape, block_at, blocks_of}
+use Rattle.qs_program.specs.Program.{ProgramShape, binding_of, block_at, blocks_of}
 use Rattle.qs_meaning.specs.Solo.{value_of}
 use Rattle.qs_program.specs.Sound.{IsSound}
 use Rattle.qs_program.specs.Statements.{Statements}
@@ -22,6 +22,7 @@ use Rattle.qs_graph.specs.declared.node.Node.TheVariants.{Entry, Local, Branch, 
 use Rattle.qs_graph.specs.declared.node.Action.TheVariants.{Assign, SetCount, Nothing}
 use Rattle.qs_graph.specs.declared.node.Choice.TheVariants.{If, Repeat}
 use Rattle.qs_graph.specs.Graphs.{block_graph}
+use Rattle.qs_graph.specs.Bound.{bound_nodes}
 use Rattle.qs_graph.specs.Names.{graph_of}
 use Rattle.qs_graph.specs.Nodes.{ControlGraph, GraphNode, place_at, exit, made_local, first_target, second_target}
 use Rattle.qs_graph.specs.Steps.{limit}
@@ -34,7 +35,7 @@ use Rattle.qs_graph.proofs.Limits.{walks_within_limit}
 use Rattle.qs_graph.proofs.Ranges.{blocks_have_graphs}
 use Rattle.qs_syncset.specs.declared.mode.Mode.{Mode}
 use Rattle.qs_syncset.specs.Coalesced.{IsRemovedIfHeld, IsCoalesced}
-use Rattle.qs_syncset.specs.Codes.{ClientCode, IsCodeOf, IsGraphOf, code_at}
+use Rattle.qs_syncset.specs.Codes.{ClientCode, IsBoundGraphOf, IsCodeOf, code_at}
 use Rattle.qs_syncset.specs.Flow.{nothing}
 use Rattle.qs_syncset.specs.Held.{IsHeld}
 use Rattle.qs_syncset.specs.Modes.{is_dynamic, is_static}
@@ -259,20 +260,22 @@ module _ (program : ProgramShape) (sound : IsSound program) (client index : ℕ)
         plain_is h may tree es false rest is.asks (asks_built n room).1 (only tree is) (leads_along tree is)
 
     module _ (held : ℕ → Bool) (decides : Decides names_graph held) where
-      sent_kept : (n : ℕ) → length built_graph ≤ n → (g : List GraphNode) → IsCoalesced names_graph g → syncs_along false h false
-          (walk g limit (entry_with n l)) es ≡ kept body held l h es
+      sent_kept : (n : ℕ) → length built_graph ≤ n → (g : List GraphNode)
+          → IsBoundGraphOf true names_graph (binding_of program client) g
+          → syncs_along false h false (walk g limit (entry_with n l)) es ≡ kept body held l h es
       sent_kept n room g c =
-          kept_is built_graph g (removal_of program client index true g c) held (told_of program client index g c held decides) h limit
-          (entry_with n l) (follows n room).ends es false
+          kept_is built_graph g (removal_of program client index sound true g c) held (told_of program client index sound g c held decides) h limit
+              (entry_with n l) (follows n room).ends es false
           ∙ sym (kept_alike built_graph held h limit 0 l (replicate n 0) (replicate (length built_graph) 0) es (zeros_alike (length built_graph) n room) (follows n room).ends)
 
       are_ordered : AreOrdered body l es h held
       are_ordered =
           let n = length built_graph in
-          let g = coalesced_by held built_graph in
-          let c = is_coalesced_by names_graph held decides in
+          let names = coalesced_by held names_graph.nodes in
+          let g = bound_nodes (binding_of program client) names in
+          let c : IsBoundGraphOf true names_graph (binding_of program client) g = (names, is_coalesced_by names_graph held decides, refl) in
           let tree = walk g limit (entry_with n l) in
-          let is = is_tree n (omega arith) g (removal_of program client index true g c) in
+          let is = is_tree n (omega arith) g (removal_of program client index sound true g c) in
           let same = sent_kept n (omega arith) g c in
           let more = fewer_is h tree es false false in
           let most = most_is h may tree es false rest is.asks (only tree is) (leads_along tree is) in
@@ -284,7 +287,7 @@ pub code_asks : (program : ProgramShape) (mode : Mode) (client : ℕ) (code : Cl
     → IsAsking (walk (code_at code k).graph limit (entry_with n l))
 code_asks program mode client code sound of k n l inside room =
     let g = (code_at code k).graph in
-    let left = removal_of program client k (is_static mode) g (of.blocks k inside).graph in
+    let left = removal_of program client k sound (is_static mode) g (of.blocks k inside).graph in
     (is_tree program sound client k l n (omega (arith, left.count, room)) g left).asks
 
 pub syncs_are_counted : SyncsAreCounted
@@ -292,20 +295,24 @@ syncs_are_counted program mode client code sound of k n l es rest h inside room 
     let g = (code_at code k).graph in
     let is = (of.blocks k inside).graph in
     let names = graph_of program client k in
+    let binding = binding_of program client in
     let b = (block_at program client k).body in
-    let left = removal_of program client k (is_static mode) g is in
+    let left = removal_of program client k sound (is_static mode) g is in
     let long : length (block_graph b) ≤ n = omega (arith, left.count, room) in
     let sent = λ (dynamic : Bool). syncs_along dynamic h false (walk g limit (entry_with n l)) es in
     record {
       plain = λ e.
-          let same : g ≡ block_graph b = subst (λ m. IsGraphOf (is_static m) names g) e is in
+          let own : IsBoundGraphOf false names binding g = subst (λ m. IsBoundGraphOf (is_static m) names binding g) e is in
+          let same : g ≡ block_graph b = own.2 ∙ ap (bound_nodes binding) own.1 ∙ sym (blocks_have_graphs program client k sound).bound in
           ap sent (ap is_dynamic e) ∙ (ap (λ g. syncs_along false h false (walk g limit (entry_with n l)) es) same
           ∙ sent_queries program sound client k l es rest leads h n long);
       dynamic = λ e. ap sent e ∙ sent_runs program sound client k l es rest leads h (walk g limit (entry_with n l))
           (is_tree program sound client k l n long g left);
       static = λ e held decides.
-          let c : IsCoalesced names g = subst (λ m. IsGraphOf (is_static m) names g) e is in
+          let c : IsBoundGraphOf true names binding g = subst (λ m. IsBoundGraphOf (is_static m) names binding g) e is in
           ap sent (ap is_dynamic e) ∙ sent_kept program sound client k l es rest leads h held decides n long g c;
-      tested = λ e. coalesced_tests names g (subst (λ static. IsGraphOf static names g) e is);
+      tested = λ e.
+          let c : IsBoundGraphOf true names binding g = subst (λ static. IsBoundGraphOf static names binding g) e is in
+          coalesced_tests names c.0 c.1;
       ordered = λ held decides. are_ordered program sound client k l es rest leads h held decides;
     }

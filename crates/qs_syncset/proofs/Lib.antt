@@ -7,6 +7,7 @@ pub mod Moves
 pub mod SoundTrees
 pub mod Removals
 pub mod CoalescedWalks
+pub mod NamesAndKinds
 pub mod CodeWalks
 pub mod SyncTrees
 pub mod SyncWalks

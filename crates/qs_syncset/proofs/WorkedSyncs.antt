@@ -1,7 +1,7 @@
 -- In some small blocks the Syncs were counted by hand for each mode, and the definitions give the same numbers. The law on these
 -- examples, `SyncExamples`, is proved here. Each coalesced graph is found node by node, with a table for what is held and a path
 -- for what is not; then the walks are computed.
-use Rattle.std.proofs.Common.{inl, inr, true, false, [], ◌∷◌, Some, refl}
+use Rattle.std.proofs.Common.{◌≡◌, pos, inl, inr, true, false, [], ◌∷◌, Some, refl}
 use Rattle.qs_graph.specs.Graphs.{block_graph}
 use Rattle.qs_graph.specs.Nodes.{over_objects}
 use Rattle.qs_graph.specs.Steps.{limit}
@@ -60,4 +60,7 @@ sync_examples = record {
   before_repeat = record { graph = held_examples.inner_removed; counts = refl; sends = refl };
   where_bodies_meet = record { graph = either_coalesced; counts = refl; sends = refl };
   past_a_leave = record { graph = held_examples.last_removed; counts = refl; sends = refl };
+  one_object = record { graph = held_examples.alias_kept; counts = refl; sends = refl };
+  two_objects = record { graph = held_examples.alias_kept; counts = refl; sends = refl };
+  unheld = λ w. let never : false ≡ true = (w.1 (pos 100)).0 in cc;
 }

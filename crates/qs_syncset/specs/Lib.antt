@@ -10,5 +10,5 @@ pub mod Shapes
 pub mod SoundSynced
 pub mod CodeLaws
 pub mod SyncCounts
-pub mod SyncExamples
 pub mod HeldExamples
+pub mod SyncExamples

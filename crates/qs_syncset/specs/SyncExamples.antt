@@ -5,11 +5,13 @@ use Rattle.qs_objects.specs.Objects.{fresh}
 use Rattle.qs_objects.specs.declared.held.Event.{Event}
 use Rattle.qs_script.specs.declared.tree.Relation.TheVariants.{Unequal}
 use Rattle.qs_meaning.specs.Solo.{solo}
+use Rattle.qs_program.specs.Binding.{bound_statements}
 use Rattle.qs_program.specs.Statements.{Statements, end, command, query, choose, again}
 use Rattle.qs_program.specs.Values.{Locals}
 use Rattle.qs_program.specs.declared.code.Atom.TheVariants.{Variable, Number}
 use Rattle.qs_program.specs.declared.code.Test as tests
 use Rattle.qs_graph.specs.GraphExamples.{balance, deposit, leave_first, query_in_repeat}
+use Rattle.qs_graph.specs.Bound.{bound_nodes}
 use Rattle.qs_graph.specs.Graphs.{block_graph}
 use Rattle.qs_graph.specs.Nodes.{GraphNode, exit, over_objects, to}
 use Rattle.qs_graph.specs.Steps.{limit}
@@ -19,7 +21,9 @@ use Rattle.qs_graph.specs.Walk.{walk}
 use Rattle.qs_graph.specs.declared.node.Action.TheVariants.{Nothing}
 use Rattle.qs_graph.specs.declared.node.Node.TheVariants.{Entry, Local, Query, Sync}
 use Rattle.qs_syncset.specs.Coalesced.{IsCoalesced}
-use Rattle.qs_syncset.specs.HeldExamples.{without_inner, without_last}
+use Rattle.qs_syncset.specs.HeldExamples.{deposit_between, f_and_g, template_graph, without_inner, without_last, without_second}
+use Rattle.qs_syncset.specs.Flow.{nothing}
+use Rattle.qs_syncset.specs.SoundSynced.{IsSoundSynced}
 use Rattle.qs_syncset.specs.SyncCounts.{entry_with, kept, queries, runs, syncs_along}
 
 -- x = a.balance(); x = a.balance(); x = a.balance();
@@ -65,6 +69,17 @@ pub record Counts (b : Statements) (coalesced : List GraphNode) (table : List Bo
   pub sends : syncs_along false 0 false (tree_in (block_graph b)) (trace_of b) ∷ syncs_along true 0 false (tree_in (block_graph b)) (trace_of b)
       ∷ syncs_along false 0 false (tree_in coalesced) (trace_of b) ∷ syncs_along true 0 false (tree_in coalesced) (trace_of b) ∷ [] ≡ sent
 
+-- A template's block `x = f.balance(); g.deposit(1); y = f.balance();` whose names stand for these objects: of the first of its objects the
+-- queries, the runs of them and those at which its own name is not held, by a test of the names; and the Syncs that are sent in the modes
+-- without and with the dynamic test, whether or not the mode is static
+pub record TemplateCounts (binding : List ℕ) (counted sent : List ℕ) : Type 0 where
+  pub graph : IsCoalesced (template_graph f_and_g deposit_between) (block_graph deposit_between)
+  pub counts : queries 0 (trace_of (bound_statements binding deposit_between)) ∷ runs 0 (trace_of (bound_statements binding deposit_between))
+      ∷ kept (bound_statements binding deposit_between) (held_at []) zeros 0 (trace_of (bound_statements binding deposit_between)) ∷ [] ≡ counted
+  pub sends : syncs_along false 0 false (tree_in (bound_nodes binding (block_graph deposit_between))) (trace_of (bound_statements binding deposit_between))
+      ∷ syncs_along true 0 false (tree_in (bound_nodes binding (block_graph deposit_between))) (trace_of (bound_statements binding deposit_between))
+      ∷ [] ≡ sent
+
 pub record SyncExamples : Type 0 where
   pub one_after_another : Counts three first_alone (false ∷ false ∷ true ∷ true ∷ true ∷ true ∷ true ∷ true ∷ [])
       (3 ∷ 1 ∷ 1 ∷ []) (3 ∷ 1 ∷ 1 ∷ 1 ∷ [])
@@ -75,3 +90,8 @@ pub record SyncExamples : Type 0 where
       (2 ∷ 1 ∷ 2 ∷ []) (2 ∷ 1 ∷ 2 ∷ 1 ∷ [])
   pub past_a_leave : Counts leave_first without_last (false ∷ false ∷ true ∷ true ∷ true ∷ true ∷ false ∷ true ∷ true ∷ true ∷ [])
       (2 ∷ 1 ∷ 1 ∷ []) (2 ∷ 1 ∷ 1 ∷ 1 ∷ [])
+  -- both names for one object: the deposit ends the run; for two objects: it does not, and the second synchronisation is left all the same
+  pub one_object : TemplateCounts (0 ∷ 0 ∷ []) (2 ∷ 2 ∷ 2 ∷ []) (2 ∷ 2 ∷ [])
+  pub two_objects : TemplateCounts (0 ∷ 1 ∷ []) (2 ∷ 1 ∷ 2 ∷ []) (2 ∷ 1 ∷ [])
+  -- without it, a client with both names for one object would query an object that it does not hold
+  pub unheld : IsSoundSynced nothing (tree_in (bound_nodes (0 ∷ 0 ∷ []) without_second)) → ⊥

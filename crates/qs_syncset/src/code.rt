@@ -2,10 +2,10 @@
 
 ghost use Rattle.std.specs.Prelude.{◌≡◌, ◌<◌, ◌≤◌, ℕ, length, slice_index_or, IfOk, IsErr};
 ghost use Rattle.qs_program.specs.Limits.{most_handlers, most_requests};
-ghost use Rattle.qs_program.specs.Program.{block_at, blocks_of};
+ghost use Rattle.qs_program.specs.Program.{binding_of, block_at, blocks_of};
 ghost use Rattle.qs_program.specs.Loads.{load_of};
 ghost use Rattle.qs_graph.specs.Names.{graph_of};
-ghost use Rattle.qs_syncset.specs.Codes.{IsCode, IsCodeOf, IsBlockCode, IsGraphOf, code_at, load_at};
+ghost use Rattle.qs_syncset.specs.Codes.{IsCode, IsCodeOf, IsBlockCode, IsBoundGraphOf, code_at, load_at};
 ghost use Rattle.qs_syncset.specs.Modes.{is_static};
 
 use crate::mode::Mode;
@@ -146,7 +146,7 @@ impl Code {
     }
 }
 
-// The graph of a block, coalesced in the static modes.
+// The graph of a block in its own names, coalesced in the static modes; then each name is replaced by its object.
 fn block_graph_in(
     alloc: Global,
     program: &Program,
@@ -156,14 +156,14 @@ fn block_graph_in(
 ) -> Result<Graph, AllocError>
     requires client { client < length program.now.clients }
     requires block { block < blocks_of program.now client }
-    ensures graph { IfOk result (λ g. IsGraphOf (is_static mode) (graph_of program.now client block) g.nodes) }
+    ensures graph { IfOk result (λ g. IsBoundGraphOf (is_static mode) (graph_of program.now client block) (binding_of program.now client) g.nodes) }
 {
     let built = graph(alloc, program, client, block)?;
     if !mode.is_static() {
-        return Ok(built);
+        return Ok(built.bound(program, client));
     }
     let sets = held_sets(alloc, &built)?;
-    Ok(coalesce(built, &sets))
+    Ok(coalesce(built, &sets).bound(program, client))
 }
 
 // How many requests a block can make on each of 8 handlers' objects.
@@ -198,7 +198,7 @@ fn block_code(
 ) -> Result<BlockCode, AllocError>
     requires client { client < length program.now.clients }
     requires block { block < blocks_of program.now client }
-    ensures code { IfOk result (λ code. IsBlockCode (is_static mode) (block_at program.now client block) (graph_of program.now client block) code) }
+    ensures code { IfOk result (λ code. IsBlockCode (is_static mode) (block_at program.now client block) (graph_of program.now client block) (binding_of program.now client) code) }
 {
     Ok(BlockCode {
         reserved: copied(alloc, program.block(client, block).reserved())?,

@@ -1,5 +1,5 @@
 use Rattle.std.proofs.Common.{sym, subst, ◌∙◌, ap}
-use Rattle.qs_program.specs.Program.{BlockShape, block_at}
+use Rattle.qs_program.specs.Program.{BlockShape, own_block}
 use Rattle.qs_graph.specs.Drawn.{IsDrawing}
 use Rattle.qs_graph.specs.WellFormed.{IsGraph}
 use Rattle.qs_graph.specs.Graphs.{block_graph}
@@ -10,12 +10,12 @@ use Rattle.qs_graph.proofs.build.graph.Goals as goal
 pub of-requires : goal.of-requires
 of-requires c =
     let program = c.args.program.now in
-    let same = c.in-Ok.ensures.ok ∙ ap block_graph (c.body.ensures.value ∙ ap (λ (b : BlockShape). b.body) c.block.ensures.value) in
-    record { graph = subst IsGraph (sym same) (blocks_have_graphs program c.args.client c.args.block c.is_sound.ensures.sound).graph }
+    let same = c.in-Ok.ensures.ok ∙ ap block_graph (c.body.ensures.value ∙ ap (λ (b : BlockShape). b.body) c.own_block.ensures.value) in
+    record { graph = subst IsGraph (sym same) (blocks_have_graphs program c.args.client c.args.block c.is_sound.ensures.sound).own }
 
 pub returns-in-Ok-clause-drawn : goal.returns-in-Ok-clause-drawn
 returns-in-Ok-clause-drawn c =
     let program = c.args.program.now in
-    let body = (block_at program c.args.client c.args.block).body in
-    let same = c.of.ensures.value ∙ c.in-Ok.ensures.ok ∙ ap block_graph (c.body.ensures.value ∙ ap (λ (b : BlockShape). b.body) c.block.ensures.value) in
+    let body = (own_block program c.args.client c.args.block).body in
+    let same = c.of.ensures.value ∙ c.in-Ok.ensures.ok ∙ ap block_graph (c.body.ensures.value ∙ ap (λ (b : BlockShape). b.body) c.own_block.ensures.value) in
     subst (λ g. IsDrawing g body) (sym same) (graph_drawn body)

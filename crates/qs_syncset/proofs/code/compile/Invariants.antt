@@ -1,6 +1,6 @@
 use Rattle.std.proofs.Common.{◌≡◌, ℕ, ◌<◌, ◌≤◌, length, slice_index_or}
 use Rattle.std.specs.Prelude.{vec_capacity}
-use Rattle.qs_program.specs.Program.{block_at}
+use Rattle.qs_program.specs.Program.{binding_of, block_at}
 use Rattle.qs_graph.specs.Names.{graph_of}
 use Rattle.qs_syncset.specs.Codes.{IsBlockCode, no_code}
 use Rattle.qs_syncset.specs.Modes.{is_static}
@@ -11,5 +11,5 @@ invariant-loop-block l = record {
   count : length l.blocks.items ≡ l.block;
   room : l.count ≤ vec_capacity l.blocks;
   done : (k : ℕ) → k < l.block
-      → IsBlockCode (is_static l.mode) (block_at l.program l.client k) (graph_of l.program l.client k) (slice_index_or l.blocks.items k no_code);
+      → IsBlockCode (is_static l.mode) (block_at l.program l.client k) (graph_of l.program l.client k) (binding_of l.program l.client) (slice_index_or l.blocks.items k no_code);
 }
