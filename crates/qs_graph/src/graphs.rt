@@ -10,9 +10,9 @@ ghost use Rattle.qs_graph.specs.Names.{may_be_one, are_of_one_kind};
 ghost use Rattle.qs_graph.specs.Nodes.{to, to_either, exit, place_at, first_target, second_target, made_local, IsSync};
 ghost use Rattle.qs_graph.specs.WellFormed.{IsGraph};
 
+use crate::binding::bind_places;
 use crate::node::{Action, Named, Node};
 use qs_objects::Kind;
-use crate::binding::bind_places;
 use qs_program::{Program, same_kind};
 use std::marker::Model;
 use std::mem;

@@ -121,10 +121,7 @@ impl Start {
     fn bound(&self, name: u8) -> u8
         ensures value { result ≡ bound self.now.binding name }
     {
-        self.binding
-            .get(usize::from(name))
-            .copied()
-            .unwrap_or(name)
+        self.binding.get(usize::from(name)).copied().unwrap_or(name)
     }
 
     fn block(&self, index: u8) -> &Block

@@ -265,7 +265,7 @@ module _ (program : ProgramShape) (sound : IsSound program) (client index : ℕ)
           → syncs_along false h false (walk g limit (entry_with n l)) es ≡ kept body held l h es
       sent_kept n room g c =
           kept_is built_graph g (removal_of program client index sound true g c) held (told_of program client index sound g c held decides) h limit
-              (entry_with n l) (follows n room).ends es false
+          (entry_with n l) (follows n room).ends es false
           ∙ sym (kept_alike built_graph held h limit 0 l (replicate n 0) (replicate (length built_graph) 0) es (zeros_alike (length built_graph) n room) (follows n room).ends)
 
       are_ordered : AreOrdered body l es h held

@@ -50,7 +50,7 @@ pub record IsBlockCode (static : Bool) (b : BlockShape) (g : ControlGraph) (bind
 pub record IsCodeOf (p : ProgramShape) (mode : Mode) (client : ℕ) (code : ClientCode) : Type 0 where
   pub dynamic : code.dynamic ≡ is_dynamic mode
   pub count : length code.blocks ≡ blocks_of p client
-  pub blocks : (k : ℕ) → k < blocks_of p client 
+  pub blocks : (k : ℕ) → k < blocks_of p client
       → IsBlockCode (is_static mode) (block_at p client k) (graph_of p client k) (binding_of p client) (code_at code k)
 
 -- the code of some client of some checked program

@@ -19,22 +19,30 @@ impl Model for Latch {
     ghost view = { λ l. l.go.id };
 }
 
+/// The right to decide at a latch. It is made with the latch and used up by the decision, so there is one decision.
+#[derive(Drop)]
+pub(crate) struct Deciding {
+    _alone: (),
+}
+
 /// What was decided at a latch. Two decisions of one latch are the same.
 pub(crate) type Decision<'l> = OnceToken<'l, bool>;
 
 impl Latch {
-    /// A latch at which nothing is decided.
-    pub(crate) fn new() -> Latch {
-        Latch {
+    /// A latch at which nothing is decided, and the right to decide.
+    pub(crate) fn new() -> (Latch, Deciding) {
+        let latch = Latch {
             go: OnceLock::new(),
-        }
+        };
+        (latch, Deciding { _alone: () })
     }
 
-    /// Decides whether the workers go. It has to be the first decision: after another one this waits for ever.
-    pub(crate) fn decide<R: Wait>(&self, rt: &R, go: bool) -> Decision<'_>
+    /// Decides whether the workers go. It is the first decision, as there is one right to it, so the latch takes it at the first try.
+    pub(crate) fn decide<R: Wait>(&self, rt: &R, deciding: Deciding, go: bool) -> Decision<'_>
         ensures latch { result.of ≡ self.now }
         ensures decided { result.value ≡ go }
     {
+        drop(deciding);
         for _ in rt.forever() {
             if let Ok(decision) = self.go.set(rt, go) {
                 return decision;

@@ -6,7 +6,7 @@ ghost use Rattle.std.specs.Thread.{IsSend, IsSync};
 ghost use Rattle.qs_run.specs.Starts.{IsRefusedAStart, LetAllStart};
 ghost use Rattle.qs_run.specs.Workers.{ClientHasRun, HandlerHasServed, HasFollowed};
 
-use crate::start::latch::{Decision, Latch};
+use crate::start::latch::{Deciding, Decision, Latch};
 use crate::start::promises::{ClientEnd, ClientPromise, HandlerEnd, HandlerPromise};
 use crate::starter::Starter;
 use crate::worker::{ClientWorker, HandlerWorker, ReadyClient, ReadyHandler};
@@ -77,7 +77,14 @@ fn handler_work<'l, D: DeskName, G: Gate, R: Wait>(
         lanes,
     } = ready.into_worker();
     let (held, tickets, lanes) = serve(rt, gate, &mut (), held, tickets, lanes);
-    (Ok(HandlerWorker { held, tickets, lanes }), decision)
+    (
+        Ok(HandlerWorker {
+            held,
+            tickets,
+            lanes,
+        }),
+        decision,
+    )
 }
 
 // What a client's thread does: it runs once it is let go.
@@ -103,6 +110,7 @@ fn client_work<'l, D: DeskName, R: Wait>(
 fn refuse<'l, S, W, R: Wait>(
     rt: &R,
     latch: &'l Latch,
+    deciding: Deciding,
     starter: S,
     ready: Vec<W>,
     worker: W,
@@ -112,7 +120,7 @@ fn refuse<'l, S, W, R: Wait>(
     ensures end { (result.decision.of ≡ latch.entry.now) × (result.decision.value ≡ false) }
     ensures starter { result.starter ≡ starter }
 {
-    let decision = latch.decide(rt, false);
+    let decision = latch.decide(rt, deciding, false);
     let mut workers = ready;
     workers.push_reserved(worker);
     Group {
@@ -127,6 +135,7 @@ fn refuse<'l, S, W, R: Wait>(
 fn run_clients<'l, D: DeskName + Send + Sync, S: Starter + Drop, R: Threads + Wait + Sync>(
     rt: &R,
     latch: &'l Latch,
+    deciding: Deciding,
     front: &Front<D>,
     starter: S,
     number: u32,
@@ -144,7 +153,7 @@ fn run_clients<'l, D: DeskName + Send + Sync, S: Starter + Drop, R: Threads + Wa
 {
     let mut ready = ready;
     let Some(worker) = ready.pop() else {
-        let decision = latch.decide(rt, true);
+        let decision = latch.decide(rt, deciding, true);
         return Ok(Group {
             starter,
             workers: room,
@@ -168,18 +177,24 @@ fn run_clients<'l, D: DeskName + Send + Sync, S: Starter + Drop, R: Threads + Wa
         {
             let mut starter = starter;
             if !starter.may_start(number) {
-                return Err(refuse(rt, latch, starter, ready, worker));
+                return Err(refuse(rt, latch, deciding, starter, ready, worker));
             }
             let promise = ClientPromise {
                 worker: Snapshot::of(&worker),
                 latch,
             };
-            match scope.spawn_with(
-                promise,
-                move || client_work(rt, latch, front, worker),
-            ) {
+            match scope.spawn_with(promise, move || client_work(rt, latch, front, worker)) {
                 Ok(handle) => {
-                    let rest = run_clients(rt, latch, front, starter, number + 1, ready, room);
+                    let rest = run_clients(
+                        rt,
+                        latch,
+                        deciding,
+                        front,
+                        starter,
+                        number + 1,
+                        ready,
+                        room,
+                    );
                     let (mine, decision) = handle.join(rt);
                     match rest {
                         Ok(mut ran) => {
@@ -197,7 +212,7 @@ fn run_clients<'l, D: DeskName + Send + Sync, S: Starter + Drop, R: Threads + Wa
                     }
                 }
                 Err(SpawnError { value: work }) => {
-                    let decision = latch.decide(rt, false);
+                    let decision = latch.decide(rt, deciding, false);
                     let (mine, theirs) = work();
                     decision.agrees(&theirs);
                     let Err(mine) = mine else { unreachable!() };
@@ -226,6 +241,7 @@ fn run_handlers<
     rt: &R,
     gate: &G,
     latch: &'l Latch,
+    deciding: Deciding,
     starter: S,
     number: u32,
     ready: Vec<ReadyHandler<D>>,
@@ -248,7 +264,16 @@ fn run_handlers<
 {
     let mut ready = ready;
     let Some(worker) = ready.pop() else {
-        return match run_clients(rt, latch, &front, starter, number, clients, clients_room) {
+        return match run_clients(
+            rt,
+            latch,
+            deciding,
+            &front,
+            starter,
+            number,
+            clients,
+            clients_room,
+        ) {
             Ok(ran) => Ok(Ran {
                 starter: ran.starter,
                 results: RunResults {
@@ -288,7 +313,7 @@ fn run_handlers<
         {
             let mut starter = starter;
             if !starter.may_start(number) {
-                let held = refuse(rt, latch, starter, ready, worker);
+                let held = refuse(rt, latch, deciding, starter, ready, worker);
                 return Err(Held {
                     starter: held.starter,
                     workers: HeldWorkers {
@@ -302,15 +327,13 @@ fn run_handlers<
                 worker: Snapshot::of(&worker),
                 latch,
             };
-            match scope.spawn_with(
-                promise,
-                move || handler_work(rt, gate, latch, worker),
-            ) {
+            match scope.spawn_with(promise, move || handler_work(rt, gate, latch, worker)) {
                 Ok(handle) => {
                     let rest = run_handlers(
                         rt,
                         gate,
                         latch,
+                        deciding,
                         starter,
                         number + 1,
                         ready,
@@ -336,7 +359,7 @@ fn run_handlers<
                     }
                 }
                 Err(SpawnError { value: work }) => {
-                    let decision = latch.decide(rt, false);
+                    let decision = latch.decide(rt, deciding, false);
                     let (mine, theirs) = work();
                     decision.agrees(&theirs);
                     let Err(mine) = mine else { unreachable!() };
@@ -383,7 +406,7 @@ pub(crate) fn run_workers<
     ensures kept { IfErr result.1 (λ held. (held.handlers.items ≡ handlers.items) × (held.clients.items ≡ clients.items)) }
     ensures refused { IfErr result.1 (λ _. IsRefusedAStart S.answers 0 (vec_len handlers + vec_len clients) starter result.0) }
 {
-    let latch = Latch::new();
+    let (latch, deciding) = Latch::new();
     let mut handlers = handlers;
     let mut clients = clients;
     handlers.reverse();
@@ -392,6 +415,7 @@ pub(crate) fn run_workers<
         rt,
         gate,
         &latch,
+        deciding,
         starter,
         0,
         handlers,
