@@ -6,6 +6,7 @@ mod alone;
 mod apart;
 mod crowd;
 mod gates;
+mod refused;
 mod scripts;
 
 use crate::crowd::Held;
@@ -101,6 +102,22 @@ fn run_together<R: Threads + Wait + Sync, W: Write>(
     put(out, "twenty blocks", blocks)
 }
 
+// One client at one account, of whose two workers one may not be started, or a third one that is not there.
+fn run_refused<R: Threads + Wait + Sync, W: Write>(
+    rt: &R,
+    alloc: Global,
+    mode: Mode,
+    size: u8,
+    out: &mut W,
+) -> io::Result<()> {
+    let handler = refused::run(rt, alloc, 0, mode, size);
+    put(out, "the handler is refused", handler)?;
+    let client = refused::run(rt, alloc, 1, mode, size);
+    put(out, "the client is refused", client)?;
+    let nobody = refused::run(rt, alloc, 2, mode, size);
+    put(out, "nobody is refused", nobody)
+}
+
 fn run_all<R: Threads + Wait + Sync, W: Write>(
     rt: &R,
     alloc: Global,
@@ -110,6 +127,7 @@ fn run_all<R: Threads + Wait + Sync, W: Write>(
         for size in SIZES {
             run_apart(rt, alloc, mode, size, out)?;
             run_together(rt, alloc, mode, size, out)?;
+            run_refused(rt, alloc, mode, size, out)?;
         }
     }
     for mode in [Mode::Plain, Mode::Both] {
