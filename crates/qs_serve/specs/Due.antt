@@ -21,6 +21,7 @@ use Rattle.qs_plain_laws.specs.PlainSchedule.{IsPlayed}
 use Rattle.qs_played.specs.declared.fault.PlayFault.{PlayFault}
 use Rattle.qs_played.specs.Played.{Played}
 use Rattle.qs_run_laws.specs.Outcomes.{IsOutcome}
+use Rattle.qs_run.specs.Starts.{IsRefusal, LetAllStart, worker_count}
 use Rattle.qs_line.specs.Line.{Line, Request, asks, check, graph, help, line_in, play, refused, rules, run, version}
 use Rattle.qs_serve.specs.declared.due.Due.{Due}
 use Rattle.qs_serve.specs.declared.due.Due.TheVariants.{Text, Refused}
@@ -95,6 +96,13 @@ IsDueOfText request text (Refused (fault.Play f)) =
     (s : List Item) × IsScriptText text s × (fault_of s ≡ None) × IsUnplayedBy request (program_of_items s) f
 IsDueOfText request text (Refused (fault.Run f)) = (s : List Item) × IsScriptText text s × (fault_of s ≡ None) × IsRun request
 IsDueOfText request text (Refused _) = ⊥
+
+-- What a run on threads has asked its starter: its report is due, or an allocation failed in writing it, only where all workers were let
+-- start; and the run is refused only as a refused run asks.
+abbrev pub HasAsked : {S : Type 0} → (S → ℕ → Bool → S → Type 0) → ProgramShape → S → S → Due → Type 0
+HasAsked Answers p before after (Text bytes) = LetAllStart Answers 0 (worker_count p) before after
+HasAsked Answers p before after (Refused (fault.Run f)) = IsRefusal Answers (worker_count p) f before after
+HasAsked Answers p before after (Refused f) = LetAllStart Answers 0 (worker_count p) before after
 
 -- no more of the input than this is read
 abbrev pub longest : ℕ

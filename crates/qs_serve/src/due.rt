@@ -3,7 +3,7 @@
 ghost use Rattle.std.specs.Prelude.{◌≡◌, ◌+◌, ◌≤◌, ◌⊎◌, false, None, Some, map, IfOk, IfSome};
 ghost use Rattle.qs_report.specs.declared.faults.Fault.TheVariants as fault;
 ghost use Rattle.qs_line.specs.Line.{asks, line_in, play, request_by, request_of, rules, run};
-ghost use Rattle.qs_serve.specs.Due.{IsDue, IsDueOfProgram, IsDueOfText, IsRefusedBy, IsReportOf, IsTextOf, IsOutOfMemory, due_status, longest};
+ghost use Rattle.qs_serve.specs.Due.{HasAsked, IsDue, IsDueOfProgram, IsDueOfText, IsRefusedBy, IsReportOf, IsTextOf, IsOutOfMemory, due_status, longest};
 
 use crate::input::{Counted, InputFault, gather};
 use qs_check::{Program, check};
@@ -14,7 +14,7 @@ use qs_played::{Outcome, Played};
 use qs_report::{
     Fault, check_text, graph_text, report, report_counts, report_run, report_run_counts, status,
 };
-use qs_run::{FreeGate, execute};
+use qs_run::{FreeGate, FreeStart, Starter, execute_with};
 use qs_script::{LONGEST_TEXT, read};
 use qs_syncset::Mode;
 use std::alloc::{AllocError, Global};
@@ -111,19 +111,21 @@ fn due_of_outcome(alloc: Global, program: &Program, counts: bool, outcome: Outco
     due_of_bytes(text)
 }
 
-// A run on threads.
-fn due_of_run<T: Threads + Wait + Sync>(
+// A run on threads. Where it is told to be refused, it was: its starter was asked what a refused run asks, and no more.
+fn due_of_run<S: Starter, T: Threads + Wait + Sync>(
     rt: &T,
     alloc: Global,
     program: &Program,
     counts: bool,
     mode: Mode,
     chunk: ChunkSize,
+    starter: &mut S,
 ) -> Due
     ensures not_input { ¬ IsRefusedBy fault.Input result }
     ensures due { IsOutOfMemory result ⊎ IsDueOfProgram (run counts mode chunk) program.now result }
+    ensures started { HasAsked S.answers program.now starter.old starter.new result }
 {
-    match execute(rt, alloc, program, mode, chunk, &FreeGate) {
+    match execute_with(rt, alloc, program, mode, chunk, &FreeGate, starter) {
         Ok(outcome) => due_of_outcome(alloc, program, counts, outcome),
         Err(fault) => Due::Refused(Fault::Run(fault)),
     }
@@ -164,7 +166,9 @@ fn due_of_program<T: Threads + Wait + Sync>(
             counts,
             mode,
             chunk,
-        } => due_of_run(rt, alloc, program, *counts, *mode, *chunk),
+        } => due_of_run(
+            rt, alloc, program, *counts, *mode, *chunk, &mut FreeStart,
+        ),
         Settings::Check => due_of_bytes(check_text(alloc, program)),
         Settings::Graph => due_of_bytes(graph_text(alloc, program)),
     }
