@@ -6,3 +6,4 @@ pub mod OutcomesText
 pub mod Faults
 pub mod Examples
 pub mod GraphTextExamples
+pub mod OutcomesTextExamples

@@ -3,7 +3,7 @@
 ghost use Rattle.std.specs.Prelude.{◌≡◌, ◌<◌, ◌++◌, [], codes, flat_map, length, slice_index_or, IfOk, OnOk};
 ghost use Rattle.std.specs.List.{AllByRecursion};
 ghost use Rattle.qs_outcomes.specs.Outcomes.{IsListed};
-ghost use Rattle.qs_report.specs.OutcomesText.{client_line, clients_text, listed_text, next_client_text, object_line, outcome_line, outcome_text, outcome_text_at, variable_text, variables_text};
+ghost use Rattle.qs_report.specs.OutcomesText.{client_line, clients_text, listed_text, next_client_text, no_standing, object_line, outcome_line, outcome_text, outcome_text_at, variable_text, variables_text};
 ghost use Rattle.qs_report.specs.Texts.{texts_up_to};
 
 use crate::bytes::{put, put_all, put_count, put_number};
@@ -175,6 +175,14 @@ fn put_outcome(
     put_clients(out, program, standing)
 }
 
+// The outcome at a place of a list.
+fn outcome_at(found: &[Standing], place: usize) -> &Standing
+    requires { place < length found.now }
+    ensures standing { result.now ≡ slice_index_or found.now place no_standing }
+{
+    &found[place]
+}
+
 // All outcomes, one after another.
 fn put_found(
     out: &mut Vec<u8>,
@@ -185,7 +193,7 @@ fn put_found(
     ensures ok { OnOk result (out.new.items ≡ out.old.items ++ texts_up_to (length found.now) (outcome_text_at program.now found.now)) }
 {
     for place in 0..found.len() {
-        put_outcome(out, program, place + 1, &found[place])?;
+        put_outcome(out, program, place + 1, outcome_at(found, place))?;
     }
     Ok(())
 }

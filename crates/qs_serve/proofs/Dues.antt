@@ -15,8 +15,7 @@ use Rattle.qs_script.specs.declared.fault.ReadFault.TheVariants as read
 use Rattle.qs_check.specs.declared.fault.CheckFault.TheVariants as check_fault
 use Rattle.qs_played.specs.declared.fault.PlayFault.TheVariants as play_fault
 use Rattle.qs_run_laws.specs.Outcomes.{IsOutcome}
-use Rattle.qs_outcomes.specs.Outcomes.{HasMoreThan, OutcomesShape}
-use Rattle.qs_outcomes.specs.declared.fault.OutcomesFault.{OutcomesFault}
+use Rattle.qs_outcomes.specs.Outcomes.{OutcomesShape}
 use Rattle.qs_outcomes.specs.declared.fault.OutcomesFault.TheVariants as outcomes_fault
 use Rattle.qs_report.specs.OutcomesText.{AreOutcomesOf, IsOutcomesText}
 use Rattle.qs_line.specs.Line.{Line, asks, help, outcomes, play, refused, rules, run, version}
@@ -87,12 +86,6 @@ pub due_by_outcomes : (p : ProgramShape) (limit : ℕ) (all : OutcomesShape) (du
 unfolding IsOutcomesText
 due_by_outcomes p limit all (Text bytes) are is = inr (all, are, is)
 due_by_outcomes p limit all (Refused f) are is = inl (subst (λ g. IsOutOfMemory (Refused g)) (sym is) tt)
-
--- and the refusal that is due where they are not listed
-pub due_by_no_outcomes : (p : ProgramShape) (limit : ℕ) (f : OutcomesFault) → (f ≡ outcomes_fault.Limit → HasMoreThan p limit)
-    → IsOutOfMemory (Refused (fault.Outcomes f)) ⊎ IsDueOfProgram (outcomes limit) p (Refused (fault.Outcomes f))
-due_by_no_outcomes p limit outcomes_fault.Memory more = inl tt
-due_by_no_outcomes p limit outcomes_fault.Limit more = inr (more refl)
 
 pub list_is_no_input : (p : ProgramShape) (all : OutcomesShape) (due : Due) → IsListOf p all due → ¬ IsRefusedBy fault.Input due
 list_is_no_input p all (Text bytes) is = λ none. none
