@@ -41,7 +41,7 @@ plain_covered p sound picks rounds r (few, named, shows) finished =
 
 pub core_covered : CoreRunsAreCovered
 unfolding core_scheduled
-core_covered p sound mode size picks rounds r (few, named, code, are, shows) finished =
+core_covered p sound mode size picks rounds r (few, named, (code, are, shows)) finished =
     let s = core_plays code size (schedule p picks rounds) (core_begin p) in
     isolated_covered p r (on_way s)
     (subst (λ q. IsIsolated p q (on_way s)) (sym shows) (core_isolated p sound mode code are size (schedule p picks rounds))) finished
