@@ -6,17 +6,16 @@ use Rattle.qs_objects.specs.declared.held.Ticket.{Ticket}
 use Rattle.qs_objects.specs.declared.Request.{Request}
 use Rattle.qs_program.specs.Program.{ProgramShape}
 use Rattle.qs_meaning.specs.Configurations.{IsComplete, outcome_of}
-use Rattle.qs_outcomes.specs.Outcomes.{outcome_at}
 use Rattle.qs_outcomes.proofs.Lists.{has_map}
 use Rattle.qs_played.specs.Isolation.{IsIsolated}
 use Rattle.qs_played.specs.Played.{Played}
 use Rattle.qs_played.specs.Schedule.{schedule}
-use Rattle.qs_plain_laws.specs.PlainSchedule.{played_of, plays, scheduled}
+use Rattle.qs_plain_laws.specs.PlainSchedule.{plays, scheduled}
 use Rattle.qs_plain_laws.specs.Plain.{begin}
 use Rattle.qs_plain_laws.specs.PlainIsolation.{commands_in_queue}
 use Rattle.qs_plain_laws.proofs.Isolating.{runs_isolated}
 use Rattle.qs_core_laws.specs.Core.{core_begin}
-use Rattle.qs_core_laws.specs.CoreSchedule.{core_played, core_plays, core_scheduled, on_way}
+use Rattle.qs_core_laws.specs.CoreSchedule.{core_plays, core_scheduled, on_way}
 use Rattle.qs_core_laws.proofs.CoreIsolating.{core_isolated}
 use Rattle.qs_covered.specs.Covered.{CoreRunsAreCovered, IsCovered, PlainRunsAreCovered, ShowsStates, ThreadRunsAreCovered}
 

@@ -62,7 +62,8 @@ Example:
 
 The threads decide the order of reservations. Along it, each block shows what it does alone.";
 
-pub const OUTCOMES: &str = "Lists all that the script can come to, each once, with an order of blocks that leads there";
+pub const OUTCOMES: &str =
+    "Lists all that the script can come to, each once, with an order of blocks that leads there";
 
 pub const OUTCOMES_EXAMPLE: &str = "\
 Example:

@@ -1,5 +1,5 @@
 -- All outcomes of a program, as bytes.
-use Rattle.std.specs.Prelude.{◌≡◌, ◌+◌, ℕ, ℤ, pos, List, [], ◌∷◌, ◌++◌, codes, decimal, length, slice_index_or}
+use Rattle.std.specs.Prelude.{◌≡◌, ◌+◌, ℕ, pos, List, [], ◌∷◌, ◌++◌, codes, decimal, length, slice_index_or}
 use Rattle.std.specs.Fmt.{signed_decimal}
 use Rattle.std.specs.List.{AllByRecursion, join_by}
 use Rattle.qs_objects.specs.declared.held.Ticket.{Ticket}

@@ -1,10 +1,9 @@
 -- Lists of outcomes with their texts, worked out by hand.
-use Rattle.std.specs.Prelude.{◌≡◌, ℕ, ℤ, pos, negsuc, List, [], ◌∷◌, codes, None}
+use Rattle.std.specs.Prelude.{◌≡◌, ℕ, pos, negsuc, List, [], ◌∷◌, codes, None}
 use Rattle.qs_objects.specs.Act.{account, buffer}
 use Rattle.qs_objects.specs.declared.object.Kind.TheVariants as kinds
 use Rattle.qs_program.specs.Numbering.{Name}
 use Rattle.qs_program.specs.Program.{ClientShape, ProgramShape}
-use Rattle.qs_program.specs.Values.{Locals}
 use Rattle.qs_outcomes.specs.Outcomes.{OutcomesShape}
 use Rattle.qs_outcomes.specs.Standings.{StandingShape}
 use Rattle.qs_report.specs.Examples.{block, declaration, state, ticket}

@@ -49,11 +49,7 @@ fn put_clients_in(out: &mut Vec<u8>, order: &[Ticket]) -> Result<(), AllocError>
 }
 
 // The line that begins an outcome.
-fn put_outcome_line(
-    out: &mut Vec<u8>,
-    number: usize,
-    order: &[Ticket],
-) -> Result<(), AllocError>
+fn put_outcome_line(out: &mut Vec<u8>, number: usize, order: &[Ticket]) -> Result<(), AllocError>
     ensures ok { OnOk result (out.new.items ≡ out.old.items ++ outcome_line number order.now) }
 {
     let mut buffer = Buffer::new();
@@ -85,11 +81,7 @@ fn put_variable(
 }
 
 // All variables of a client.
-fn put_variables(
-    out: &mut Vec<u8>,
-    variables: &Names,
-    locals: &Locals,
-) -> Result<(), AllocError>
+fn put_variables(out: &mut Vec<u8>, variables: &Names, locals: &Locals) -> Result<(), AllocError>
     ensures ok { OnOk result (out.new.items ≡ out.old.items ++ variables_text variables.now locals.now) }
 {
     for number in 0..variables.len() {
@@ -129,11 +121,7 @@ fn put_object(
 }
 
 // All clients at the end.
-fn put_clients(
-    out: &mut Vec<u8>,
-    program: &Program,
-    standing: &Standing,
-) -> Result<(), AllocError>
+fn put_clients(out: &mut Vec<u8>, program: &Program, standing: &Standing) -> Result<(), AllocError>
     requires listed { IsListed program.now standing.now }
     ensures ok { OnOk result (out.new.items ≡ out.old.items ++ texts_up_to (length program.now.clients) (client_line program.now standing.now)) }
 {
@@ -145,11 +133,7 @@ fn put_clients(
 }
 
 // All objects at the end.
-fn put_objects(
-    out: &mut Vec<u8>,
-    program: &Program,
-    standing: &Standing,
-) -> Result<(), AllocError>
+fn put_objects(out: &mut Vec<u8>, program: &Program, standing: &Standing) -> Result<(), AllocError>
     requires listed { IsListed program.now standing.now }
     ensures ok { OnOk result (out.new.items ≡ out.old.items ++ texts_up_to (length program.now.objects) (object_line program.now standing.now)) }
 {
@@ -184,11 +168,7 @@ fn outcome_at(found: &[Standing], place: usize) -> &Standing
 }
 
 // All outcomes, one after another.
-fn put_found(
-    out: &mut Vec<u8>,
-    program: &Program,
-    found: &[Standing],
-) -> Result<(), AllocError>
+fn put_found(out: &mut Vec<u8>, program: &Program, found: &[Standing]) -> Result<(), AllocError>
     requires listed { AllByRecursion (IsListed program.now) found.now }
     ensures ok { OnOk result (out.new.items ≡ out.old.items ++ texts_up_to (length found.now) (outcome_text_at program.now found.now)) }
 {
