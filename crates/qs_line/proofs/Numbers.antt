@@ -1,5 +1,5 @@
--- When the text of a setting is parsed, the number is the one that the settings name, in the range of a chunk's size or of a
--- number of rounds, and a text that is refused names none. The proofs of `chunk_of` and `rounds_of` stand on it. It goes by cases
+-- When the text of a setting is parsed, the number is the one that the settings name, in the range of a chunk's size, of a number of
+-- rounds or of a limit, and a text that is refused names none. The proofs of `chunk_of`, `rounds_of` and `limit_of` stand on it. It goes by cases
 -- on the result of parsing, whose range is compared with that of the setting.
 use Rattle.std.proofs.Common.{◌≡◌, ◌≤◌, ◌^◌, ◌<◌, ℕ, Bool, List, true, false, Option, Some, None, Result, Ok, Err, refl, sym, ap, ◌∙◌, arith, ◌↔◌, IfSome}
 use Rattle.std.specs.Prelude.{if◌then◌else◌, IsSome, unwrap_or}
@@ -37,6 +37,19 @@ pub parsed_rounds : {E : Type 0} (text : List ℕ) (r : Result ℕ E) → Parses
 parsed_rounds text (Ok n) h =
     rw h.1 (sym (number_in-some 0 4294967295 text h.0.0 (omega (arith, h.0.1)) (omega arith) (omega (arith, h.0.1))))
 parsed_rounds text (Err e) h = sym (number_in-none 0 4294967295 text (λ numeral at_least at_most. h (numeral, omega (arith, at_most))))
+
+pub unparsed_limit : {E : Type 0} (text : List ℕ) (r : Result ℕ E) → ParsesUnsigned 32 10 text r → result_ok r ≡ None
+    → number_in 1 4294967295 text ≡ None
+unparsed_limit text (Ok n) h e = absurd (cc e)
+unparsed_limit text (Err error) h e = number_in-none 1 4294967295 text (λ numeral at_least at_most. h (numeral, omega (arith, at_most)))
+
+pub parsed_limit : {E : Type 0} (n : ℕ) (text : List ℕ) (r : Result ℕ E) → ParsesUnsigned 32 10 text r → result_ok r ≡ Some n → 0 < n
+    → Some n ≡ number_in 1 4294967295 text
+parsed_limit n text (Ok m) h e some =
+    let same : m ≡ n = ap (λ o. unwrap_or o 0) e in
+    let is : n ≡ digits_value 10 (without_leading_plus text) = sym same ∙ h.1 in
+    ap Some is ∙ sym (number_in-some 1 4294967295 text h.0.0 (omega (arith, h.0.1)) (omega (arith, is, some)) (omega (arith, h.0.1)))
+parsed_limit n text (Err error) h e some = absurd (cc e)
 
 pub unparsed_chunk : {E : Type 0} (text : List ℕ) (r : Result ℕ E) → ParsesUnsigned 8 10 text r → result_ok r ≡ None → number_in 1 32 text ≡ None
 unparsed_chunk text (Ok n) h e = absurd (cc e)

@@ -19,6 +19,10 @@ chunk_rule = record (defaulted_rule (codes "chunk") (codes "8")) { parser = Some
 abbrev pub rounds_rule : Rule
 rounds_rule = defaulted_rule (codes "rounds") (codes "1000000")
 
+-- `--limit`, of 1 to 4294967295
+abbrev pub limit_rule : Rule
+limit_rule = record (defaulted_rule (codes "limit") (codes "1000000")) { parser = Some (parser.Signed (pos 1) (pos 4294967295)) }
+
 -- `--counts`, without a value
 abbrev pub counts_rule : Rule
 counts_rule = record (new_rule (codes "counts")) { long = Some (codes "counts"); action = Some SetTrue }
@@ -39,6 +43,10 @@ play_app = with_rule (with_rule (with_rule (machine_app (codes "play")) rounds_r
 abbrev pub run_app : App
 run_app = with_rule (machine_app (codes "run")) counts_rule
 
+-- `outcomes [--limit N]`
+abbrev pub outcomes_app : App
+outcomes_app = with_rule (new_app (codes "outcomes")) limit_rule
+
 -- the program's name and its version, with no word `help`
 abbrev pub named_app : App
 named_app = record (new_app (codes "qs")) { top = record (new_app (codes "qs")).top { disable_help_subcommand = true; has_version = true } }
@@ -49,4 +57,4 @@ texts_app = with_subcommand (with_subcommand named_app (new_app (codes "check"))
 
 -- the whole command
 abbrev pub qs_app : App
-qs_app = with_subcommand (with_subcommand (with_subcommand texts_app rules_app.top) play_app.top) run_app.top
+qs_app = with_subcommand (with_subcommand (with_subcommand (with_subcommand texts_app rules_app.top) play_app.top) run_app.top) outcomes_app.top

@@ -1,5 +1,5 @@
 -- What a line asks for.
-use Rattle.std.specs.Prelude.{◌≡◌, ◌≢◌, ℕ, List, [], ◌∷◌, codes, Option, Some, None, Result, Ok, Err, ⊤, Bool, true, false, if◌then◌else◌, option_map, option_and_then, unwrap_or}
+use Rattle.std.specs.Prelude.{◌≡◌, ◌≢◌, ℕ, List, [], ◌∷◌, codes, Option, Some, None, Result, Ok, Err, ⊤, Bool, false, if◌then◌else◌, option_map, option_and_then, unwrap_or}
 use Rattle.std.specs.Option.{option_map_or}
 use Rattle.std.specs.Str.{bytes_eq}
 use Rattle.std.specs.Str.Parse.{digits_value, without_leading_plus}
@@ -20,13 +20,15 @@ use Rattle.qs_line.specs.declared.line.Settings.{Settings}
 use Rattle.qs_line.specs.declared.line.Settings.TheVariants as word
 
 -- what is asked for: the counts; the graphs; a run by the plain rules, with so many rounds after its picks; one in the optimised
--- machine, in a mode and by chunks of a size; or one on threads. Of a run the counts of synchronisations may be asked for as well.
+-- machine, in a mode and by chunks of a size; one on threads; or all outcomes, with so many configurations at most. Of a run the counts
+-- of synchronisations may be asked for as well.
 pub data Request : Type 0 where
   check : Request
   graph : Request
   rules : (counts : Bool) → ℕ → List Actor → Request
   play : (counts : Bool) → Mode → ℕ → ℕ → List Actor → Request
   run : (counts : Bool) → Mode → ℕ → Request
+  outcomes : (limit : ℕ) → Request
 
 abbrev pub request_of : Settings → Request
 request_of word.Check = check
@@ -34,6 +36,7 @@ request_of word.Graph = graph
 request_of (word.Rules counts rounds picks) = rules counts rounds picks.items
 request_of (word.Play counts mode chunk rounds picks) = play counts mode chunk rounds picks.items
 request_of (word.Run counts mode chunk) = run counts mode chunk
+request_of (word.Outcomes limit) = outcomes limit
 
 abbrev pub mode_in : Text → Option Mode
 mode_in text =
@@ -60,6 +63,9 @@ chunk_at rows = option_and_then (number_in 1 32) (first_of (codes "chunk") rows)
 abbrev pub rounds_at : List Row → Option ℕ
 rounds_at rows = option_and_then (number_in 0 4294967295) (first_of (codes "rounds") rows)
 
+abbrev pub limit_at : List Row → Option ℕ
+limit_at rows = option_and_then (number_in 1 4294967295) (first_of (codes "limit") rows)
+
 -- no pick where the line has no list of them
 abbrev pub picks_at : List Row → Option (List Actor)
 picks_at rows = unwrap_or (option_map picks_in (first_of (codes "pick") rows)) (Some [])
@@ -76,6 +82,9 @@ play_at rows =
 abbrev pub run_at : List Row → Option Request
 run_at rows = option_and_then (λ mode. option_map (run (counts_at rows) mode) (chunk_at rows)) (mode_at rows)
 
+abbrev pub outcomes_at : List Row → Option Request
+outcomes_at rows = option_map outcomes (limit_at rows)
+
 -- what a word asks for, with the entries that clap finds after it
 abbrev pub request_at : Text → List Row → Option Request
 request_at name rows =
@@ -83,7 +92,8 @@ request_at name rows =
     else if bytes_eq name (codes "graph") then Some graph
     else if bytes_eq name (codes "rules") then rules_at rows
     else if bytes_eq name (codes "play") then play_at rows
-    else if bytes_eq name (codes "run") then run_at rows else None
+    else if bytes_eq name (codes "run") then run_at rows
+    else if bytes_eq name (codes "outcomes") then outcomes_at rows else None
 
 -- what the word that clap meets asks for
 abbrev pub request_met : Option (Text × List Row) → Option Request

@@ -3,7 +3,7 @@ use Rattle.std.specs.Prelude.{◌≡◌, List, [], ◌∷◌, codes, true, false
 use Rattle.clap.specs.Words.{Text}
 use Rattle.qs_played.specs.declared.schedule.actor.Actor.TheVariants.{Client, Handler}
 use Rattle.qs_syncset.specs.declared.mode.Mode.TheVariants.{Dynamic, Static, Both}
-use Rattle.qs_line.specs.Line.{Line, asks, check, graph, help, line_in, play, refused, rules, run, version}
+use Rattle.qs_line.specs.Line.{Line, asks, check, graph, help, line_in, outcomes, play, refused, rules, run, version}
 
 -- the line of the words after the program's name
 abbrev pub line : List Text → Line
@@ -15,6 +15,7 @@ pub record DefaultLines : Type 0 where
   pub rules_alone : line (codes "rules" ∷ []) ≡ asks (rules false 1000000 [])
   pub play_alone : line (codes "play" ∷ []) ≡ asks (play false Both 8 1000000 [])
   pub run_alone : line (codes "run" ∷ []) ≡ asks (run false Both 8)
+  pub outcomes_alone : line (codes "outcomes" ∷ []) ≡ asks (outcomes 1000000)
 
 pub record SetLines : Type 0 where
   pub mode : line (codes "play" ∷ codes "--mode" ∷ codes "static" ∷ []) ≡ asks (play false Static 8 1000000 [])
@@ -24,6 +25,18 @@ pub record SetLines : Type 0 where
   pub all : line (codes "play" ∷ codes "--rounds" ∷ codes "0" ∷ codes "--pick=h1" ∷ codes "--chunk" ∷ codes "1" ∷ codes "--mode=dynamic" ∷ [])
       ≡ asks (play false Dynamic 1 0 (Handler 1 ∷ []))
   pub runs : line (codes "run" ∷ codes "--chunk" ∷ codes "4" ∷ codes "--mode=static" ∷ []) ≡ asks (run false Static 4)
+
+pub record LimitLines : Type 0 where
+  pub least : line (codes "outcomes" ∷ codes "--limit" ∷ codes "1" ∷ []) ≡ asks (outcomes 1)
+  pub most : line (codes "outcomes" ∷ codes "--limit=4294967295" ∷ []) ≡ asks (outcomes 4294967295)
+  pub none : line (codes "outcomes" ∷ codes "--limit" ∷ codes "0" ∷ []) ≡ refused
+  pub one_more : line (codes "outcomes" ∷ codes "--limit" ∷ codes "4294967296" ∷ []) ≡ refused
+  pub negative : line (codes "outcomes" ∷ codes "--limit=-1" ∷ []) ≡ refused
+  pub no_number : line (codes "outcomes" ∷ codes "--limit" ∷ codes "all" ∷ []) ≡ refused
+  pub twice : line (codes "outcomes" ∷ codes "--limit=2" ∷ codes "--limit=2" ∷ []) ≡ refused
+  pub of_play : line (codes "play" ∷ codes "--limit" ∷ codes "1" ∷ []) ≡ refused
+  pub by_rounds : line (codes "outcomes" ∷ codes "--rounds" ∷ codes "1" ∷ []) ≡ refused
+  pub counted : line (codes "outcomes" ∷ codes "--counts" ∷ []) ≡ refused
 
 pub record CountedLines : Type 0 where
   pub rules_alone : line (codes "rules" ∷ codes "--counts" ∷ []) ≡ asks (rules true 1000000 [])
@@ -65,6 +78,7 @@ pub record OtherLines : Type 0 where
 pub record LineExamples : Type 0 where
   pub defaults : DefaultLines
   pub settings : SetLines
+  pub limits : LimitLines
   pub counted : CountedLines
   pub uncounted : UncountedLines
   pub others : OtherLines

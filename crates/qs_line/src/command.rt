@@ -3,7 +3,7 @@
 ghost use Rattle.std.specs.Prelude.{◌≡◌, IfOk, codes, false};
 ghost use Rattle.clap.specs.Words.{app_of, new_app, rule_of, with_subcommand};
 ghost use Rattle.clap.specs.declared.Command.TheViews.{out-Command as fields_of};
-ghost use Rattle.qs_line.specs.Command.{chunk_rule, counts_rule, defaulted_rule, machine_app, named_app, option_rule, play_app, qs_app, rounds_rule, rules_app, run_app, texts_app};
+ghost use Rattle.qs_line.specs.Command.{chunk_rule, counts_rule, defaulted_rule, limit_rule, machine_app, named_app, option_rule, outcomes_app, play_app, qs_app, rounds_rule, rules_app, run_app, texts_app};
 
 use crate::help;
 use clap::{Arg, ArgAction, Command, value_parser};
@@ -43,6 +43,15 @@ fn rounds_option<'a>(alloc: Global) -> Arg<'a>
     ensures local { result.global ≡ false }
 {
     option(alloc, "rounds", "N", help::ROUNDS).default_value("1000000")
+}
+
+fn limit_option<'a>(alloc: Global) -> Arg<'a>
+    ensures rule { rule_of result ≡ limit_rule }
+    ensures local { result.global ≡ false }
+{
+    option(alloc, "limit", "N", help::LIMIT)
+        .default_value("1000000")
+        .value_parser(value_parser!(u32).range(1..=4294967295))
 }
 
 fn counts_flag<'a>(alloc: Global) -> Arg<'a>
@@ -104,6 +113,13 @@ fn run_command<'a>(alloc: Global) -> Result<Command<'a>, AllocError>
     machine_command(alloc, "run", help::RUN, help::RUN_EXAMPLE)?.arg(counts_flag(alloc))
 }
 
+fn outcomes_command<'a>(alloc: Global) -> Result<Command<'a>, AllocError>
+    ensures app { IfOk result (λ command. app_of command ≡ outcomes_app) }
+    ensures local { IfOk result (λ command. (fields_of command).has_globals ≡ false) }
+{
+    word(alloc, "outcomes", help::OUTCOMES, help::OUTCOMES_EXAMPLE).arg(limit_option(alloc))
+}
+
 // The program, before its words.
 fn named_command<'a>(alloc: Global) -> Command<'a>
     ensures app { app_of result ≡ named_app }
@@ -161,10 +177,23 @@ fn with_run<'a>(alloc: Global, command: Command<'a>) -> Result<Command<'a>, Allo
     }
 }
 
+// With the word `outcomes`.
+fn with_outcomes<'a>(alloc: Global, command: Command<'a>) -> Result<Command<'a>, AllocError>
+    ensures app { IfOk result (λ whole. app_of whole ≡ with_subcommand (app_of command.entry) outcomes_app.top) }
+{
+    match outcomes_command(alloc) {
+        Ok(outcomes) => command.subcommand(outcomes),
+        Err(error) => {
+            drop(command);
+            Err(error)
+        }
+    }
+}
+
 /// The whole command.
 pub fn command<'a>(alloc: Global) -> Result<Command<'a>, AllocError>
     ensures app { IfOk result (λ command. app_of command ≡ qs_app) }
 {
     let played = with_play(alloc, with_rules(alloc, texts_command(alloc)?)?)?;
-    with_run(alloc, played)
+    with_outcomes(alloc, with_run(alloc, played)?)
 }

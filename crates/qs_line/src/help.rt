@@ -14,6 +14,7 @@ Examples, with the script in the file my.script:
   qs play < my.script                    ann and bob take turns
   qs play --pick c1,c1,h0 < my.script    bob (client 1) steps twice and a's handler once, before the turns
   qs run --counts < my.script            on threads, with the synchronisations sent
+  qs outcomes < my.script                all results that the script can have
 
 A report lists the blocks in the order of their reservations, each with its requests and replies, then the
 objects' last states and how many synchronisations were sent. `qs WORD --help` says more of a word.";
@@ -61,12 +62,26 @@ Example:
 
 The threads decide the order of reservations. Along it, each block shows what it does alone.";
 
+pub const OUTCOMES: &str =
+    "Lists all that the script can come to, each once, with an order of blocks that leads there";
+
+pub const OUTCOMES_EXAMPLE: &str = "\
+Example:
+  qs outcomes --limit 5000 < my.script
+
+A line `outcome 2 c1,c0` begins the second result: the block of client 1 first, then that of client 0. Below it stand the
+objects at the end, and each client with its variables. Configurations, which the last line counts, are where the script
+can stand between two blocks.";
+
 pub const MODE: &str =
     "Which synchronisations are left out: by none, dynamic or static coalescing, or by both";
 
 pub const CHUNK: &str = "How many commands travel in one chunk: 1 to 32";
 
 pub const ROUNDS: &str = "How many rounds are played at most, after the picks: 0 to 1000000";
+
+pub const LIMIT: &str =
+    "How many configurations are looked at, at most: 1 to 4294967295; where there are more, nothing is listed";
 
 pub const PICK: &str =
     "Who steps first, joined by commas: c0 is the first client, h0 the first object's handler";

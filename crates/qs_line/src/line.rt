@@ -4,7 +4,7 @@ ghost use Rattle.std.specs.Prelude.{◌≡◌, [], IfOk, IfErr, map, option_map}
 ghost use Rattle.clap.specs.Words.{found_of, first_of, kind_of, rows_of, subcommand_of, subcommand_rows_of};
 ghost use Rattle.clap.specs.Faults.{fault_of};
 ghost use Rattle.qs_line.specs.Command.{qs_app};
-ghost use Rattle.qs_line.specs.Line.{IsAnswer, IsFault, IsFaultAmong, chunk_at, counts_at, line_in, mode_at, picks_at, play_at, request_at, request_met, request_of, rounds_at, rules_at, run_at};
+ghost use Rattle.qs_line.specs.Line.{IsAnswer, IsFault, IsFaultAmong, chunk_at, counts_at, limit_at, line_in, mode_at, outcomes_at, picks_at, play_at, request_at, request_met, request_of, rounds_at, rules_at, run_at};
 
 use crate::Actor;
 use crate::command::command;
@@ -52,6 +52,11 @@ pub enum Settings {
         mode: Mode,
         /// How many commands a chunk takes.
         chunk: ChunkSize,
+    },
+    /// Check it, and list all outcomes.
+    Outcomes {
+        /// How many configurations are looked at, at most.
+        limit: u32,
     },
 }
 
@@ -115,6 +120,13 @@ fn rounds_of(found: &ArgMatches<'_>) -> Option<u32>
     text_at(found, "rounds")?.parse::<u32>().ok()
 }
 
+fn limit_of(found: &ArgMatches<'_>) -> Option<u32>
+    ensures limit { result ≡ limit_at (rows_of (found_of found.now)) }
+{
+    let limit = text_at(found, "limit")?.parse::<u32>().ok()?;
+    if limit == 0 { None } else { Some(limit) }
+}
+
 // The picks of a line; none where it has no list of them.
 fn given_picks(alloc: Global, found: &ArgMatches<'_>) -> Result<Option<Vec<Actor>>, AllocError>
     ensures picks { IfOk result (λ picks. option_map (λ actors. actors.items) picks ≡ picks_at (rows_of (found_of found.now))) }
@@ -168,6 +180,13 @@ fn run_settings(found: &ArgMatches<'_>) -> Option<Settings>
     })
 }
 
+fn outcomes_settings(found: &ArgMatches<'_>) -> Option<Settings>
+    ensures settings { option_map request_of result ≡ outcomes_at (rows_of (found_of found.now)) }
+{
+    let limit = limit_of(found)?;
+    Some(Settings::Outcomes { limit })
+}
+
 // What a word asks for, with what clap found after it.
 fn settings_of(
     alloc: Global,
@@ -182,6 +201,7 @@ fn settings_of(
         "rules" => rules_settings(alloc, found),
         "play" => play_settings(alloc, found),
         "run" => Ok(run_settings(found)),
+        "outcomes" => Ok(outcomes_settings(found)),
         _ => Ok(None),
     }
 }

@@ -8,8 +8,10 @@ use Rattle.qs_played.specs.declared.fault.PlayFault.{PlayFault}
 use Rattle.qs_played.specs.declared.fault.PlayFault.TheVariants as play
 use Rattle.qs_played.specs.declared.fault.RunFault.{RunFault}
 use Rattle.qs_played.specs.declared.fault.RunFault.TheVariants as run
+use Rattle.qs_outcomes.specs.declared.fault.OutcomesFault.{OutcomesFault}
+use Rattle.qs_outcomes.specs.declared.fault.OutcomesFault.TheVariants as outcomes
 use Rattle.qs_report.specs.declared.faults.Fault.{Fault}
-use Rattle.qs_report.specs.declared.faults.Fault.TheVariants.{CommandLine, Input, Read, Check, Play, Run, Memory}
+use Rattle.qs_report.specs.declared.faults.Fault.TheVariants.{CommandLine, Input, Read, Check, Play, Run, Outcomes, Memory}
 
 abbrev pub read_words : ReadFault → List ℕ
 read_words read.Size = codes "read 1 Size"
@@ -51,6 +53,10 @@ abbrev pub run_words : RunFault → List ℕ
 run_words run.Memory = codes "run 1 Memory"
 run_words run.Threads = codes "run 2 Threads"
 
+abbrev pub outcomes_words : OutcomesFault → List ℕ
+outcomes_words outcomes.Memory = codes "outcomes 1 Memory"
+outcomes_words outcomes.Limit = codes "outcomes 2 Limit"
+
 abbrev pub fault_words : Fault → List ℕ
 fault_words CommandLine = codes "command line"
 fault_words Input = codes "input"
@@ -58,6 +64,7 @@ fault_words (Read fault) = read_words fault
 fault_words (Check fault) = check_words fault
 fault_words (Play fault) = play_words fault
 fault_words (Run fault) = run_words fault
+fault_words (Outcomes fault) = outcomes_words fault
 fault_words Memory = codes "memory"
 
 abbrev pub fault_place : Fault → Option ℕ
@@ -83,4 +90,6 @@ fault_status (Check _) = 2
 fault_status (Play play.Memory) = 3
 fault_status (Play _) = 2
 fault_status (Run _) = 3
+fault_status (Outcomes outcomes.Memory) = 3
+fault_status (Outcomes outcomes.Limit) = 2
 fault_status Memory = 3

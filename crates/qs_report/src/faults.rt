@@ -3,11 +3,12 @@
 ghost use Rattle.std.specs.Prelude.{◌≡◌, ◌||◌, flat_map, IsTrue, not};
 ghost use Rattle.std.specs.Io.KnownBytes.{Appends};
 ghost use Rattle.qs_report.specs.Texts.{AppendsFront};
-ghost use Rattle.qs_report.specs.Faults.{fault_place, fault_status, fault_text, fault_words, read_words, read_place, check_words, play_words, run_words};
+ghost use Rattle.qs_report.specs.Faults.{fault_place, fault_status, fault_text, fault_words, read_words, read_place, check_words, play_words, run_words, outcomes_words};
 
 use crate::watching::{Watch, write_text};
 use itoa::Buffer;
 use qs_check::CheckFault;
+use qs_outcomes::OutcomesFault;
 use qs_played::{PlayFault, RunFault};
 use qs_script::ReadFault;
 use std::io::Write;
@@ -27,6 +28,8 @@ pub enum Fault {
     Play(PlayFault),
     /// The program was not run on threads.
     Run(RunFault),
+    /// The outcomes of the program were not found.
+    Outcomes(OutcomesFault),
     /// An allocation failed elsewhere: for the input or for a report.
     Memory,
 }
@@ -95,6 +98,15 @@ fn words_of_run(fault: RunFault) -> &'static [u8]
     }
 }
 
+fn words_of_outcomes(fault: OutcomesFault) -> &'static [u8]
+    ensures words { result.now ≡ outcomes_words fault }
+{
+    match fault {
+        OutcomesFault::Memory => b"outcomes 1 Memory",
+        OutcomesFault::Limit => b"outcomes 2 Limit",
+    }
+}
+
 fn words_of(fault: &Fault) -> &'static [u8]
     ensures words { result.now ≡ fault_words fault.now }
 {
@@ -105,6 +117,7 @@ fn words_of(fault: &Fault) -> &'static [u8]
         Fault::Check(fault) => words_of_check(*fault),
         Fault::Play(fault) => words_of_play(*fault),
         Fault::Run(fault) => words_of_run(*fault),
+        Fault::Outcomes(fault) => words_of_outcomes(*fault),
         Fault::Memory => b"memory",
     }
 }
@@ -170,7 +183,12 @@ pub fn status(fault: &Fault) -> u8
         | Fault::Run(_)
         | Fault::Read(ReadFault::Memory)
         | Fault::Check(CheckFault::Memory)
-        | Fault::Play(PlayFault::Memory) => 3,
-        Fault::CommandLine | Fault::Read(_) | Fault::Check(_) | Fault::Play(_) => 2,
+        | Fault::Play(PlayFault::Memory)
+        | Fault::Outcomes(OutcomesFault::Memory) => 3,
+        Fault::CommandLine
+        | Fault::Read(_)
+        | Fault::Check(_)
+        | Fault::Play(_)
+        | Fault::Outcomes(OutcomesFault::Limit) => 2,
     }
 }

@@ -3,6 +3,7 @@
 ghost use Rattle.qs_report.specs.Examples.{Examples};
 ghost use Rattle.qs_report.specs.GraphText.{GraphTextsAreUnique};
 ghost use Rattle.qs_report.specs.GraphTextExamples.{GraphTextExamples};
+ghost use Rattle.qs_report.specs.OutcomesTextExamples.{OutcomesTextExamples};
 
 /// The texts of a few runs, programs and faults, worked out by hand.
 pub fn examples()
@@ -17,4 +18,9 @@ pub fn graph_text_examples()
 /// A sound program has one text of its graphs; it does nothing.
 pub fn graph_texts_are_unique()
     ensures unique { GraphTextsAreUnique }
+{}
+
+/// The texts of two lists of outcomes, worked out by hand; it does nothing.
+pub fn outcomes_text_examples()
+    ensures examples { OutcomesTextExamples }
 {}

@@ -15,8 +15,11 @@ use Rattle.qs_script.specs.declared.fault.ReadFault.TheVariants as read
 use Rattle.qs_check.specs.declared.fault.CheckFault.TheVariants as check_fault
 use Rattle.qs_played.specs.declared.fault.PlayFault.TheVariants as play_fault
 use Rattle.qs_run_laws.specs.Outcomes.{IsOutcome}
-use Rattle.qs_line.specs.Line.{Line, asks, help, play, refused, rules, run, version}
-use Rattle.qs_serve.specs.Due.{IsDue, IsDueOfProgram, IsOutOfMemory, IsRefusedBy, IsReportOf, due_status}
+use Rattle.qs_outcomes.specs.Outcomes.{OutcomesShape}
+use Rattle.qs_outcomes.specs.declared.fault.OutcomesFault.TheVariants as outcomes_fault
+use Rattle.qs_report.specs.OutcomesText.{AreOutcomesOf, IsOutcomesText}
+use Rattle.qs_line.specs.Line.{Line, asks, help, outcomes, play, refused, rules, run, version}
+use Rattle.qs_serve.specs.Due.{IsDue, IsDueOfProgram, IsListOf, IsOutOfMemory, IsRefusedBy, IsReportOf, due_status}
 use Rattle.qs_serve.specs.declared.due.Due.{Due}
 use Rattle.qs_serve.specs.declared.due.Due.TheVariants.{Text, Refused}
 
@@ -40,6 +43,8 @@ status_of_input (fault.Check _) e = absurd (cc e)
 status_of_input (fault.Play play_fault.Memory) e = absurd (cc e)
 status_of_input (fault.Play _) e = absurd (cc e)
 status_of_input (fault.Run _) e = absurd (cc e)
+status_of_input (fault.Outcomes outcomes_fault.Memory) e = absurd (cc e)
+status_of_input (fault.Outcomes outcomes_fault.Limit) e = absurd (cc e)
 
 -- a status of 4 that is due says that a read has failed
 pub four_is_due : (line : Line) (known : Option (List ℕ)) (failed : Bool) (due : Due) → IsDue line known failed due → due_status due ≡ 4 → failed ≡ true
@@ -74,3 +79,14 @@ pub report_is_no_input : (counts : Bool) (p : ProgramShape) (played : Played) (d
     → ¬ IsRefusedBy fault.Input due
 report_is_no_input counts p played (Text bytes) is = λ none. none
 report_is_no_input counts p played (Refused f) is = λ e. absurd (cc (is, e))
+
+-- a list that is due by what was asked for
+pub due_by_outcomes : (p : ProgramShape) (limit : ℕ) (all : OutcomesShape) (due : Due) → AreOutcomesOf p all → IsListOf p all due
+    → IsOutOfMemory due ⊎ IsDueOfProgram (outcomes limit) p due
+unfolding IsOutcomesText
+due_by_outcomes p limit all (Text bytes) are is = inr (all, are, is)
+due_by_outcomes p limit all (Refused f) are is = inl (subst (λ g. IsOutOfMemory (Refused g)) (sym is) tt)
+
+pub list_is_no_input : (p : ProgramShape) (all : OutcomesShape) (due : Due) → IsListOf p all due → ¬ IsRefusedBy fault.Input due
+list_is_no_input p all (Text bytes) is = λ none. none
+list_is_no_input p all (Refused f) is = λ e. absurd (cc (is, e))

@@ -5,11 +5,15 @@ use Rattle.std.specs.Io.KnownBytes.{Appends}
 use Rattle.qs_script.specs.declared.fault.ReadFault.TheVariants as read
 use Rattle.qs_check.specs.declared.fault.CheckFault.TheVariants as check_fault
 use Rattle.qs_played.specs.declared.fault.PlayFault.TheVariants as play_fault
+use Rattle.qs_outcomes.specs.Outcomes.{HasMoreThan, OutcomesShape}
+use Rattle.qs_outcomes.specs.declared.fault.OutcomesFault.{OutcomesFault}
+use Rattle.qs_outcomes.specs.declared.fault.OutcomesFault.TheVariants as outcomes_fault
 use Rattle.qs_report.specs.declared.faults.Fault.{Fault}
 use Rattle.qs_report.specs.declared.faults.Fault.TheVariants as fault
 use Rattle.qs_report.specs.Faults.{fault_text, fault_status}
 use Rattle.qs_report.specs.Report.{run_text, counts_text}
 use Rattle.qs_report.specs.GraphText.{IsGraphText}
+use Rattle.qs_report.specs.OutcomesText.{IsOutcomesText, listed_text}
 use Rattle.qs_report.specs.Texts.{AppendsFront}
 use Rattle.qs_script.specs.Reads.{IsRefused, IsScriptText}
 use Rattle.qs_script.specs.declared.tree.Item.{Item}
@@ -22,7 +26,7 @@ use Rattle.qs_played.specs.declared.fault.PlayFault.{PlayFault}
 use Rattle.qs_played.specs.Played.{Played}
 use Rattle.qs_run_laws.specs.Outcomes.{IsOutcome}
 use Rattle.qs_run.specs.Starts.{IsRefusal, LetAllStart, worker_count}
-use Rattle.qs_line.specs.Line.{Line, Request, asks, check, graph, help, line_in, play, refused, rules, run, version}
+use Rattle.qs_line.specs.Line.{Line, Request, asks, check, graph, help, line_in, outcomes, play, refused, rules, run, version}
 use Rattle.qs_serve.specs.declared.due.Due.{Due}
 use Rattle.qs_serve.specs.declared.due.Due.TheVariants.{Text, Refused}
 
@@ -39,12 +43,13 @@ abbrev pub IsRefusedBy : Fault → Due → Type 0
 IsRefusedBy f (Text bytes) = ⊥
 IsRefusedBy f (Refused g) = g ≡ f
 
--- an allocation failed: in reading, in checking, in playing, or elsewhere
+-- an allocation failed: in reading, in checking, in playing, in finding outcomes, or elsewhere
 abbrev pub IsOutOfMemory : Due → Type 0
 IsOutOfMemory (Refused fault.Memory) = Unit {0}
 IsOutOfMemory (Refused (fault.Read read.Memory)) = Unit {0}
 IsOutOfMemory (Refused (fault.Check check_fault.Memory)) = Unit {0}
 IsOutOfMemory (Refused (fault.Play play_fault.Memory)) = Unit {0}
+IsOutOfMemory (Refused (fault.Outcomes outcomes_fault.Memory)) = Unit {0}
 IsOutOfMemory _ = ⊥
 
 -- a text that was made, or that an allocation failed
@@ -57,9 +62,14 @@ abbrev pub IsReportOf : (counts : Bool) → ProgramShape → Played → Due → 
 IsReportOf counts p played (Text bytes) = bytes.items ≡ run_text counts p played
 IsReportOf counts p played (Refused f) = f ≡ fault.Memory
 
+-- the text of a list of outcomes; or that an allocation failed
+abbrev pub IsListOf : ProgramShape → OutcomesShape → Due → Type 0
+IsListOf p all (Text bytes) = bytes.items ≡ listed_text p all
+IsListOf p all (Refused f) = f ≡ fault.Memory
+
 -- what a request makes of a program: its counts; its graphs; the report of its run by the plain rules or in the optimised machine,
--- with so many rounds after its picks; or that of an outcome which its run on threads may have. A report has the counts of
--- synchronisations where they are asked for.
+-- with so many rounds after its picks; that of an outcome which its run on threads may have; or all its outcomes. A report has the
+-- counts of synchronisations where they are asked for.
 abbrev pub IsTextBy : Request → ProgramShape → List ℕ → Type 0
 IsTextBy check p text = text ≡ counts_text p
 IsTextBy graph p text = IsGraphText p text
@@ -68,6 +78,7 @@ IsTextBy (rules counts rounds picks) p text =
 IsTextBy (play counts mode size rounds picks) p text =
     (played : Played) × IsPlayedIn p mode size picks rounds (Ok played) × (text ≡ run_text counts p played)
 IsTextBy (run counts mode size) p text = (outcome : Played) × IsOutcome p mode size outcome × (text ≡ run_text counts p outcome)
+IsTextBy (outcomes limit) p text = IsOutcomesText p text
 
 -- why what a request asks for is not played
 abbrev pub IsUnplayedBy : Request → ProgramShape → PlayFault → Type 0
@@ -80,13 +91,21 @@ abbrev pub IsRun : Request → Type 0
 IsRun (run counts mode size) = Unit {0}
 IsRun _ = ⊥
 
+-- why outcomes that are asked for are not listed: there are more configurations than the limit, or an allocation failed
+abbrev pub IsUnlistedBy : Request → ProgramShape → OutcomesFault → Type 0
+IsUnlistedBy (outcomes limit) p outcomes_fault.Limit = HasMoreThan p limit
+IsUnlistedBy (outcomes limit) p outcomes_fault.Memory = Unit {0}
+IsUnlistedBy _ p f = ⊥
+
 abbrev pub IsDueOfProgram : Request → ProgramShape → Due → Type 0
 IsDueOfProgram request p (Text bytes) = IsTextBy request p bytes.items
 IsDueOfProgram request p (Refused (fault.Play f)) = IsUnplayedBy request p f
 IsDueOfProgram request p (Refused (fault.Run f)) = IsRun request
+IsDueOfProgram request p (Refused (fault.Outcomes f)) = IsUnlistedBy request p f
 IsDueOfProgram request p (Refused _) = ⊥
 
--- what a request makes of a text: the result of its program, or the fault of the text, of its script, of its schedule or of its threads
+-- what a request makes of a text: the result of its program, or the fault of the text, of its script, of its schedule, of its threads or
+-- of its outcomes
 abbrev pub IsDueOfText : Request → List ℕ → Due → Type 0
 IsDueOfText request text (Text bytes) =
     (s : List Item) × IsScriptText text s × (fault_of s ≡ None) × IsTextBy request (program_of_items s) bytes.items
@@ -95,6 +114,8 @@ IsDueOfText request text (Refused (fault.Check f)) = (s : List Item) × IsScript
 IsDueOfText request text (Refused (fault.Play f)) =
     (s : List Item) × IsScriptText text s × (fault_of s ≡ None) × IsUnplayedBy request (program_of_items s) f
 IsDueOfText request text (Refused (fault.Run f)) = (s : List Item) × IsScriptText text s × (fault_of s ≡ None) × IsRun request
+IsDueOfText request text (Refused (fault.Outcomes f)) =
+    (s : List Item) × IsScriptText text s × (fault_of s ≡ None) × IsUnlistedBy request (program_of_items s) f
 IsDueOfText request text (Refused _) = ⊥
 
 -- What a run on threads has asked its starter: its report is due, or an allocation failed in writing it, only where all workers were let

@@ -2,17 +2,21 @@
 
 ghost use Rattle.std.specs.Prelude.{◌≡◌, ◌+◌, ◌≤◌, ◌⊎◌, false, None, Some, map, IfOk, IfSome};
 ghost use Rattle.qs_report.specs.declared.faults.Fault.TheVariants as fault;
-ghost use Rattle.qs_line.specs.Line.{asks, line_in, play, request_by, request_of, rules, run};
-ghost use Rattle.qs_serve.specs.Due.{HasAsked, IsDue, IsDueOfProgram, IsDueOfText, IsRefusedBy, IsReportOf, IsTextOf, IsOutOfMemory, due_status, longest};
+ghost use Rattle.qs_line.specs.Line.{asks, line_in, outcomes, play, request_by, request_of, rules, run};
+ghost use Rattle.qs_serve.specs.Due.{HasAsked, IsDue, IsDueOfProgram, IsDueOfText, IsRefusedBy, IsListOf, IsReportOf, IsTextOf, IsOutOfMemory, due_status, longest};
+ghost use Rattle.std.specs.List.{AllByRecursion};
+ghost use Rattle.qs_outcomes.specs.Outcomes.{IsListed};
 
 use crate::input::{Counted, InputFault, gather};
 use qs_check::{Program, check};
 use qs_chunk::ChunkSize;
 use qs_core::play_plain;
 use qs_line::{Actor, LineFault, Settings, read_line};
+use qs_outcomes::{AllOutcomes, outcomes};
 use qs_played::{Outcome, Played};
 use qs_report::{
-    Fault, check_text, graph_text, report, report_counts, report_run, report_run_counts, status,
+    Fault, check_text, graph_text, outcomes_text, report, report_counts, report_run,
+    report_run_counts, status,
 };
 use qs_run::{FreeGate, FreeStart, Starter, execute_with};
 use qs_script::{LONGEST_TEXT, read};
@@ -131,7 +135,29 @@ fn due_of_run<S: Starter, T: Threads + Wait + Sync>(
     }
 }
 
-// What settings make of a program: a run by the plain rules, in the optimised machine or on threads, the counts, or the graphs.
+// The text of all outcomes.
+fn due_of_all(alloc: Global, program: &Program, all: AllOutcomes) -> Due
+    requires listed { AllByRecursion (IsListed program.now) all.found }
+    ensures due { IsListOf program.now all result }
+{
+    let text = outcomes_text(alloc, program, &all);
+    drop(all);
+    due_of_bytes(text)
+}
+
+// All outcomes, found over so many configurations at most.
+fn due_of_outcomes(alloc: Global, program: &Program, limit: u32) -> Due
+    ensures not_input { ¬ IsRefusedBy fault.Input result }
+    ensures due { IsOutOfMemory result ⊎ IsDueOfProgram (outcomes limit) program.now result }
+{
+    match outcomes(alloc, program, limit) {
+        Ok(all) => due_of_all(alloc, program, all),
+        Err(fault) => Due::Refused(Fault::Outcomes(fault)),
+    }
+}
+
+// What settings make of a program: a run by the plain rules, in the optimised machine or on threads, all outcomes, the counts, or the
+// graphs.
 fn due_of_program<T: Threads + Wait + Sync>(
     rt: &T,
     alloc: Global,
@@ -169,6 +195,7 @@ fn due_of_program<T: Threads + Wait + Sync>(
         } => due_of_run(
             rt, alloc, program, *counts, *mode, *chunk, &mut FreeStart,
         ),
+        Settings::Outcomes { limit } => due_of_outcomes(alloc, program, *limit),
         Settings::Check => due_of_bytes(check_text(alloc, program)),
         Settings::Graph => due_of_bytes(graph_text(alloc, program)),
     }

@@ -6,8 +6,20 @@ pub returns : goal.returns
 unfolding clap_on_literals
 returns c = record {
   examples = record {
-    defaults = record { checks = refl; graphs = refl; rules_alone = refl; play_alone = refl; run_alone = refl };
+    defaults = record { checks = refl; graphs = refl; rules_alone = refl; play_alone = refl; run_alone = refl; outcomes_alone = refl };
     settings = record { mode = refl; chunk = refl; most_rounds = refl; picks = refl; all = refl; runs = refl };
+    limits = record {
+      least = refl;
+      most = refl;
+      none = refl;
+      one_more = refl;
+      negative = refl;
+      no_number = refl;
+      twice = refl;
+      of_play = refl;
+      by_rounds = refl;
+      counted = refl;
+    };
     counted = record { rules_alone = refl; play_alone = refl; run_alone = refl; before_others = refl; between_others = refl; after_others = refl };
     uncounted = record { twice = refl; by_value = refl; by_true = refl; by_word = refl; before_word = refl; of_check = refl; of_graph = refl };
     others = record {

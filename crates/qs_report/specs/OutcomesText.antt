@@ -1,0 +1,71 @@
+-- All outcomes of a program, as bytes.
+use Rattle.std.specs.Prelude.{◌≡◌, ◌+◌, ℕ, pos, List, [], ◌∷◌, ◌++◌, codes, decimal, length, slice_index_or}
+use Rattle.std.specs.Fmt.{signed_decimal}
+use Rattle.std.specs.List.{AllByRecursion, join_by}
+use Rattle.qs_objects.specs.declared.held.Ticket.{Ticket}
+use Rattle.qs_program.specs.Numbering.{Name}
+use Rattle.qs_program.specs.Program.{ProgramShape, client_at, object_at}
+use Rattle.qs_program.specs.Values.{Locals}
+use Rattle.qs_meaning.specs.Serial.{zeros}
+use Rattle.qs_outcomes.specs.Outcomes.{AreAllOutcomes, AreApart, HasConfigurations, IsListed, OutcomesShape}
+use Rattle.qs_outcomes.specs.Standings.{StandingShape}
+use Rattle.qs_report.specs.Report.{no_state, state_line}
+use Rattle.qs_report.specs.Texts.{count_line, texts_up_to}
+
+-- the client whose block comes next
+abbrev pub next_client_text : Ticket → List ℕ
+next_client_text t = codes "c" ++ decimal t.client
+
+-- an order by its clients, joined by commas; a dash where it has no block
+abbrev pub clients_text : List Ticket → List ℕ
+clients_text [] = codes "-"
+clients_text (t ∷ ts) = join_by next_client_text (codes ",") (t ∷ ts)
+
+-- the number of an outcome, from 1, and an order that comes to it
+abbrev pub outcome_line : ℕ → List Ticket → List ℕ
+outcome_line n order = codes "outcome " ++ decimal n ++ codes " " ++ clients_text order ++ codes "\n"
+
+-- a variable with its value, by its number
+abbrev pub variable_text : List Name → Locals → ℕ → List ℕ
+variable_text names l x = codes " " ++ slice_index_or names x [] ++ codes " " ++ signed_decimal (slice_index_or l x (pos 0))
+
+abbrev pub variables_text : List Name → Locals → List ℕ
+variables_text names l = texts_up_to (length names) (variable_text names l)
+
+-- a client with its variables, in the order of their first appearance
+abbrev pub client_line : ProgramShape → StandingShape → ℕ → List ℕ
+client_line p s c = (client_at p c).name ++ variables_text (client_at p c).variables (slice_index_or s.locals c zeros) ++ codes "\n"
+
+-- an object at the end
+abbrev pub object_line : ProgramShape → StandingShape → ℕ → List ℕ
+object_line p s h = state_line (object_at p h).name (slice_index_or s.states h no_state)
+
+-- an outcome: its line, those of the objects, and those of the clients
+abbrev pub outcome_text : ProgramShape → ℕ → StandingShape → List ℕ
+outcome_text p n s =
+    outcome_line n s.order ++ texts_up_to (length p.objects) (object_line p s) ++ texts_up_to (length p.clients) (client_line p s)
+
+abbrev pub no_standing : StandingShape
+no_standing = record { order = []; begun = []; locals = []; states = [] }
+
+-- the outcome at a place of a list
+abbrev pub outcome_text_at : ProgramShape → List StandingShape → ℕ → List ℕ
+outcome_text_at p found i = outcome_text p (i + 1) (slice_index_or found i no_standing)
+
+-- how many outcomes there are, each of them, and how many configurations
+abbrev pub listed_text : ProgramShape → OutcomesShape → List ℕ
+listed_text p all =
+    count_line (codes "outcomes") (length all.found) ++ texts_up_to (length all.found) (outcome_text_at p all.found)
+    ++ count_line (codes "configurations") all.configurations
+
+-- Each comes from the complete order that it shows, the outcome of each complete order is among them, and no two are equal; and so many
+-- configurations there are.
+pub record AreOutcomesOf (p : ProgramShape) (all : OutcomesShape) : Type 0 where
+  pub sound : AllByRecursion (IsListed p) all.found
+  pub complete : AreAllOutcomes p all.found
+  pub once : AreApart all.found
+  pub counted : HasConfigurations p all.configurations
+
+-- There is a list of all outcomes of the program, in this order and with this count, whose text this is.
+unfoldable pub IsOutcomesText : ProgramShape → List ℕ → Type 0
+IsOutcomesText p text = (all : OutcomesShape) × AreOutcomesOf p all × (text ≡ listed_text p all)
