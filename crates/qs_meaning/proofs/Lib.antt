@@ -11,3 +11,6 @@ pub mod AlikeTraces
 pub mod StateKinds
 pub mod ExampleBlocks
 pub mod Orders
+pub mod Swaps
+pub mod Groups
+pub mod Reductions

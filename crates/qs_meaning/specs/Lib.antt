@@ -11,3 +11,5 @@ pub mod AlikeExamples
 pub mod BlockRecords
 pub mod Configurations
 pub mod ConfigurationExamples
+pub mod Reduced
+pub mod ReducedExamples

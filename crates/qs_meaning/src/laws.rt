@@ -8,6 +8,8 @@ ghost use Rattle.qs_meaning.specs.Following.{BlocksAskOnly, HonestTracesRun};
 ghost use Rattle.qs_meaning.specs.Interaction.{TreesAgree};
 ghost use Rattle.qs_meaning.specs.MeaningExamples.{MeaningExamples};
 ghost use Rattle.qs_meaning.specs.Paths.{RequestsWithinLoad};
+ghost use Rattle.qs_meaning.specs.Reduced.{NeighboursSwap, ReducedOrdersSuffice, SomeGoOn};
+ghost use Rattle.qs_meaning.specs.ReducedExamples.{ReducedExamples};
 ghost use Rattle.qs_meaning.specs.StateKinds.{SerialKeepsKinds};
 ghost use Rattle.qs_meaning.specs.TraceLoads.{SerialWithinLoad, TracesWithinLoad};
 
@@ -81,4 +83,18 @@ pub fn configurations()
 /// definitions; it does nothing.
 pub fn configuration_examples()
     ensures examples { ConfigurationExamples }
+{}
+
+/// Nobody disturbs those who go on at a configuration: no other client has a block left that shares an object with the next block of one
+/// of them; and somebody goes on wherever a block is left. Neighbours of different clients that share no object may be swapped. So every
+/// complete order of a checked program comes to what a reduced one comes to. It does nothing.
+pub fn reduced_orders()
+    ensures some { SomeGoOn }
+    ensures swap { NeighboursSwap }
+    ensures suffice { ReducedOrdersSuffice }
+{}
+
+/// Who goes on in a program of two accounts, where a block that is left for later counts, computed by the definitions; it does nothing.
+pub fn reduced_examples()
+    ensures examples { ReducedExamples }
 {}

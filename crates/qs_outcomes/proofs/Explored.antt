@@ -1,49 +1,54 @@
 -- What an explored program tells, once nothing is left on the stack: along any legal order the configuration was seen, at the end of a complete
 -- one it was found, and each that was found is the end of its own complete order. Two that were found differ in what they come to, as equal
 -- numbers make equal rows. The rows that were seen count the configurations.
-use Rattle.std.proofs.Common.{◌≡◌, ◌<◌, ◌≤◌, ℕ, suc, List, [], ◌∷◌, ◌++◌, length, get_or, refl, sym, ap, ◌∙◌, subst, arith, inl, inr, length-append, ℤ}
+use Rattle.std.proofs.Common.{◌≡◌, ◌<◌, ◌≤◌, ℕ, suc, true, List, [], ◌∷◌, ◌++◌, length, get_or, refl, sym, ap, ◌∙◌, subst, arith, inl, inr, length-append, ℤ}
 use Rattle.std.specs.List.{AllByRecursion}
 use Rattle.qs_objects.specs.declared.held.Ticket.{Ticket}
 use Rattle.qs_program.specs.Program.{ProgramShape, blocks_of}
+use Rattle.qs_program.specs.Sound.{IsSound}
 use Rattle.qs_meaning.specs.Configurations.{Configuration, OrderOutcome, configuration_after, configuration_from, first_configuration, one_block_on, outcome_in}
 use Rattle.qs_meaning.specs.Serial.{IsLegal, LegalFrom, no_state, zeros}
+use Rattle.qs_meaning.specs.Reduced.{IsReducedFrom, goes_on}
+use Rattle.qs_meaning.proofs.Reductions.{reduced_from}
 use Rattle.qs_meaning.proofs.Each.{each_map, each_snoc}
 use Rattle.qs_meaning.proofs.Orders.{begun_within, complete_orders_leave_none, configurations_follow_orders, legal_on}
-use Rattle.qs_outcomes.specs.Outcomes.{AreAllOutcomes, AreApart, AreDifferent, HasConfigurations, HasMoreThan, IsListed, outcome_at}
+use Rattle.qs_outcomes.specs.Outcomes.{AreAllOutcomesAfter, AreApart, AreDifferent, HasConfigurationsAfter, HasMoreThanAfter, IsListedAfter, outcome_at}
 use Rattle.qs_outcomes.specs.Search.{HasOne, IsExplored, IsFound, IsReached, IsSeen, NoTwo, NoneNext}
-use Rattle.qs_outcomes.specs.Standings.{HasNext, IsFirst, IsNext, IsStanding, StandingShape, configuration_in, row_of}
+use Rattle.qs_outcomes.specs.Standings.{GoesOn, HasNext, IsFirst, IsNext, IsStanding, StandingShape, configuration_in, row_of}
 use Rattle.qs_outcomes.proofs.Lists.{has_map, has_some, none_of, same_list, two_snoc}
+use Rattle.qs_outcomes.proofs.Stands.{configuration-append, legal-rest}
 use Rattle.qs_outcomes.proofs.RowTells.{row_tells, same_row}
 
 -- equal configurations have equal rows
-same_configurations : (p : ProgramShape) (s t : StandingShape) → IsStanding p s → IsStanding p t → configuration_in s ≡ configuration_in t → row_of s ≡ row_of t
-same_configurations p s t a b e =
+same_configurations : (p : ProgramShape) (front : List Ticket) (s t : StandingShape) → IsStanding p front s → IsStanding p front t → configuration_in s ≡ configuration_in t → row_of s ≡ row_of t
+same_configurations p front s t a b e =
     same_row s t
     (same_list 0 s.begun t.begun (a.begun ∙ sym b.begun) (λ i. ap (λ (g : Configuration). g.begun i) e))
     (same_list zeros s.locals t.locals (a.locals ∙ sym b.locals) (λ i. ap (λ (g : Configuration). g.locals i) e))
     (same_list no_state s.states t.states (a.states ∙ sym b.states) (λ i. ap (λ (g : Configuration). g.states i) e))
 
 -- no block left: each client has begun all that it has
-all_begun : (p : ProgramShape) (s : StandingShape) → IsStanding p s → NoneNext p s → (c : ℕ) → get_or s.begun c 0 ≡ blocks_of p c
-all_begun p s is none c =
+all_begun : (p : ProgramShape) (front : List Ticket) (s : StandingShape) → IsStanding p front s → NoneNext p s → (c : ℕ) → get_or s.begun c 0 ≡ blocks_of p c
+all_begun p front s is none c =
     let same : get_or s.begun c 0 ≡ (configuration_after p s.order).begun c = ap (λ (g : Configuration). g.begun c) is.stands in
     let within : (configuration_after p s.order).begun c ≤ blocks_of p c = begun_within p (first_configuration p) s.order c is.legal (omega arith) in
     let over : get_or s.begun c 0 < blocks_of p c → ⊥ = none c in
     omega (arith, same, within, over)
 
-listed : (p : ProgramShape) (rows : List (List ℤ)) (s : StandingShape) → IsFound p rows s → IsListed p s
-listed p rows s found = record {
+listed : (p : ProgramShape) (front : List Ticket) (rows : List (List ℤ)) (s : StandingShape) → IsFound p front rows s → IsListedAfter p front s
+listed p front rows s found = record {
   complete = (complete_orders_leave_none p s.order found.standing.legal).1
-      (λ c. sym (ap (λ (g : Configuration). g.begun c) found.standing.stands) ∙ all_begun p s found.standing found.over c);
+      (λ c. sym (ap (λ (g : Configuration). g.begun c) found.standing.stands) ∙ all_begun p front s found.standing found.over c);
+  reduced = found.standing.reduced;
   outcome = ap outcome_in found.standing.stands ∙ configurations_follow_orders p s.order found.standing.legal;
   locals = found.standing.locals;
   states = found.standing.states;
 }
 
-found_apart : (p : ProgramShape) (rows : List (List ℤ)) (s t : StandingShape) → IsFound p rows s → IsFound p rows t → outcome_at s ≡ outcome_at t → row_of s ≡ row_of t
-found_apart p rows s t a b e =
+found_apart : (p : ProgramShape) (front : List Ticket) (rows : List (List ℤ)) (s t : StandingShape) → IsFound p front rows s → IsFound p front rows t → outcome_at s ≡ outcome_at t → row_of s ≡ row_of t
+found_apart p front rows s t a b e =
     same_row s t
-    (same_list 0 s.begun t.begun (a.standing.begun ∙ sym b.standing.begun) (λ i. all_begun p s a.standing a.over i ∙ sym (all_begun p t b.standing b.over i)))
+    (same_list 0 s.begun t.begun (a.standing.begun ∙ sym b.standing.begun) (λ i. all_begun p front s a.standing a.over i ∙ sym (all_begun p front t b.standing b.over i)))
     (same_list zeros s.locals t.locals (a.standing.locals ∙ sym b.standing.locals) (λ i. ap (λ (o : OrderOutcome). o.locals i) e))
     (same_list no_state s.states t.states (a.standing.states ∙ sym b.standing.states) (λ i. ap (λ (o : OrderOutcome). o.states i) e))
 
@@ -66,54 +71,61 @@ seen_one : (Q : StandingShape → Type 0) (rows : List (List ℤ)) → IsReached
 seen_one Q rows (inl h) = absurd h
 seen_one Q rows (inr h) = pick Q rows h
 
-module _ (p : ProgramShape) (rows : List (List ℤ)) (found : List StandingShape) (explored : IsExplored p rows [] found) where
-  -- where a client's next block leads from a configuration that was seen
-  next_seen : (s : StandingShape) (c : ℕ) → HasOne (λ r. row_of s ≡ r) rows → HasNext p s c
-      → (n : StandingShape) × (IsStanding p n × (configuration_in n ≡ one_block_on p c (configuration_in s))) × HasOne (λ r. row_of n ≡ r) rows
-  next_seen s c seen left =
+module _ (p : ProgramShape) (front : List Ticket) (sound : IsSound p) (rows : List (List ℤ)) (found : List StandingShape) (explored : IsExplored p front rows [] found) where
+  -- where the next block of one who goes on leads from a configuration that was seen
+  next_seen : (s : StandingShape) (c : ℕ) → HasOne (λ r. row_of s ≡ r) rows → GoesOn p s c
+      → (n : StandingShape) × (IsStanding p front n × (configuration_in n ≡ one_block_on p c (configuration_in s))) × HasOne (λ r. row_of n ≡ r) rows
+  next_seen s c seen goes =
       has_some
-      (λ r (is : row_of s ≡ r) (w : (t : StandingShape) × IsSeen p rows [] found r t).
+      (λ r (is : row_of s ≡ r) (w : (t : StandingShape) × IsSeen p front rows [] found r t).
       let same : configuration_in w.0 ≡ configuration_in s = row_tells w.0 s (w.1.row ∙ sym is) in
-      let has : HasNext p w.0 c = subst (λ (g : Configuration). g.begun c < blocks_of p c) (sym same) left in
-      let n = seen_one (IsNext p w.0 c) rows (w.1.closed c has) in
+      let on : GoesOn p w.0 c = subst (λ (g : Configuration). goes_on p g.begun c ≡ true) (sym same) goes in
+      let n = seen_one (IsNext p front w.0 c) rows (w.1.closed c on) in
       (n.0, (n.1.standing, n.1.next ∙ ap (one_block_on p c) same), n.2))
       rows seen explored.seen
 
-  along : (s : StandingShape) (ts : List Ticket) → IsStanding p s → HasOne (λ r. row_of s ≡ r) rows → LegalFrom p (configuration_in s).begun ts
-      → (w : StandingShape) × (IsStanding p w × (configuration_in w ≡ configuration_from p (configuration_in s) ts)) × HasOne (λ r. row_of w ≡ r) rows
-  along s [] is seen legal = (s, (is, refl), seen)
-  along s (t ∷ ts) is seen legal =
-      let n = next_seen s t.client seen (let e = legal.0 in let l = legal.1 in omega (arith, e, l)) in
-      let rest = along n.0 ts n.1.0 n.2 (subst (λ (g : Configuration). LegalFrom p g.begun ts) (sym n.1.1) (legal_on p (configuration_in s) t ts legal)) in
+  along : (s : StandingShape) (ts : List Ticket) → IsStanding p front s → HasOne (λ r. row_of s ≡ r) rows → LegalFrom p (configuration_in s).begun ts → IsReducedFrom p (configuration_in s) ts
+      → (w : StandingShape) × (IsStanding p front w × (configuration_in w ≡ configuration_from p (configuration_in s) ts)) × HasOne (λ r. row_of w ≡ r) rows
+  along s [] is seen legal reduced = (s, (is, refl), seen)
+  along s (t ∷ ts) is seen legal reduced =
+      let n = next_seen s t.client seen reduced.0 in
+      let rest = along n.0 ts n.1.0 n.2 (subst (λ (g : Configuration). LegalFrom p g.begun ts) (sym n.1.1) (legal_on p (configuration_in s) t ts legal))
+      (subst (λ g. IsReducedFrom p g ts) (sym n.1.1) reduced.1) in
       (rest.0, (rest.1.0, rest.1.1 ∙ ap (λ g. configuration_from p g ts) n.1.1), rest.2)
 
-  reached : (order : List Ticket) → IsLegal p order → (w : StandingShape) × (IsStanding p w × (configuration_in w ≡ configuration_after p order)) × HasOne (λ r. row_of w ≡ r) rows
-  reached order legal =
-      let first = seen_one (IsFirst p) rows explored.first in
-      let last = along first.0 order first.1.standing first.2 (subst (λ (g : Configuration). LegalFrom p g.begun order) (sym first.1.first) legal) in
-      (last.0, (last.1.0, last.1.1 ∙ ap (λ g. configuration_from p g order) first.1.first), last.2)
+  reached : (rest : List Ticket) → LegalFrom p (configuration_after p front).begun rest → IsReducedFrom p (configuration_after p front) rest
+      → (w : StandingShape) × (IsStanding p front w × (configuration_in w ≡ configuration_from p (configuration_after p front) rest)) × HasOne (λ r. row_of w ≡ r) rows
+  reached rest legal reduced =
+      let first = seen_one (IsFirst p front) rows explored.first in
+      let last = along first.0 rest first.1.standing first.2 (subst (λ (g : Configuration). LegalFrom p g.begun rest) (sym first.1.first) legal)
+      (subst (λ g. IsReducedFrom p g rest) (sym first.1.first) reduced) in
+      (last.0, (last.1.0, last.1.1 ∙ ap (λ g. configuration_from p g rest) first.1.first), last.2)
 
-  pub all_outcomes : AreAllOutcomes p found
-  all_outcomes order complete =
-      let last = reached order complete.legal in
+  pub all_outcomes : AreAllOutcomesAfter p front found
+  all_outcomes rest complete =
+      let whole = configuration-append p (first_configuration p) front rest in
+      let ends : (c : ℕ) → (configuration_after p (front ++ rest)).begun c ≡ blocks_of p c = (complete_orders_leave_none p (front ++ rest) complete.legal).0 complete in
+      let r = reduced_from p sound (length rest) (configuration_after p front) rest (omega arith) (legal-rest p (first_configuration p) front rest complete.legal)
+      (λ c. ap (λ (g : Configuration). g.begun c) (sym whole) ∙ ends c) in
+      let last = reached r.reduced r.legal r.is_reduced in
       has_some
-      (λ r (is : row_of last.0 ≡ r) (w : (t : StandingShape) × IsSeen p rows [] found r t).
-      let same : configuration_in w.0 ≡ configuration_after p order = row_tells w.0 last.0 (w.1.row ∙ sym is) ∙ last.1.1 in
+      (λ q (is : row_of last.0 ≡ q) (w : (t : StandingShape) × IsSeen p front rows [] found q t).
+      let same : configuration_in w.0 ≡ configuration_after p (front ++ rest) = row_tells w.0 last.0 (w.1.row ∙ sym is) ∙ (last.1.1 ∙ (r.same ∙ sym whole)) in
       let none : NoneNext p w.0 = λ c left.
-      (let over : (configuration_after p order).begun c ≡ blocks_of p c = (complete_orders_leave_none p order complete.legal).0 complete c in
-      let has : (configuration_after p order).begun c < blocks_of p c = subst (λ (g : Configuration). g.begun c < blocks_of p c) same left in
+      (let over : (configuration_after p (front ++ rest)).begun c ≡ blocks_of p c = ends c in
+      let has : (configuration_after p (front ++ rest)).begun c < blocks_of p c = subst (λ (g : Configuration). g.begun c < blocks_of p c) same left in
       omega (arith, over, has)) in
-      has_map (λ x (e : configuration_in x ≡ configuration_in w.0). ap outcome_in (e ∙ same) ∙ configurations_follow_orders p order complete.legal) found (w.1.found none))
+      has_map (λ x (e : configuration_in x ≡ configuration_in w.0). ap outcome_in (e ∙ same) ∙ configurations_follow_orders p (front ++ rest) complete.legal) found (w.1.found none))
       rows last.2 explored.seen
 
-  pub all_listed : AllByRecursion (IsListed p) found
-  all_listed = each_map (listed p rows) found explored.found
+  pub all_listed : AllByRecursion (IsListedAfter p front) found
+  all_listed = each_map (listed p front rows) found explored.found
 
   pub all_apart : AreApart found
-  all_apart = two_map (λ x y. row_of x ≡ row_of y) (λ x y. outcome_at x ≡ outcome_at y) (found_apart p rows) found explored.found explored.apart
+  all_apart = two_map (λ x y. row_of x ≡ row_of y) (λ x y. outcome_at x ≡ outcome_at y) (found_apart p front rows) found explored.found explored.apart
 
 -- the configurations that were seen, one for each row
-module _ (p : ProgramShape) (Kept : List ℤ → StandingShape → Type 0) (standing : (r : List ℤ) (s : StandingShape) → Kept r s → IsStanding p s) (row : (r : List ℤ) (s : StandingShape) → Kept r s → row_of s ≡ r) where
+module _ (p : ProgramShape) (front : List Ticket) (Kept : List ℤ → StandingShape → Type 0) (standing : (r : List ℤ) (s : StandingShape) → Kept r s → IsStanding p front s) (row : (r : List ℤ) (s : StandingShape) → Kept r s → row_of s ≡ r) where
   abbrev pub AllKept : List (List ℤ) → Type 0
   AllKept rows = AllByRecursion (λ r. (s : StandingShape) × Kept r s) rows
 
@@ -126,17 +138,17 @@ module _ (p : ProgramShape) (Kept : List ℤ → StandingShape → Type 0) (stan
   picked_long [] h = refl
   picked_long (r ∷ rows) h = ap suc (picked_long rows h.1)
 
-  picked_standing : (rows : List (List ℤ)) (h : AllKept rows) → AllByRecursion (IsStanding p) (picked rows h)
+  picked_standing : (rows : List (List ℤ)) (h : AllKept rows) → AllByRecursion (IsStanding p front) (picked rows h)
   unfolding picked
   picked_standing [] h = tt
   picked_standing (r ∷ rows) h = (standing r h.0.0 h.0.1, picked_standing rows h.1)
 
-  picked_other : (s : StandingShape) → IsStanding p s → (rows : List (List ℤ)) (h : AllKept rows) → AllByRecursion (λ r. row_of s ≡ r → ⊥) rows
+  picked_other : (s : StandingShape) → IsStanding p front s → (rows : List (List ℤ)) (h : AllKept rows) → AllByRecursion (λ r. row_of s ≡ r → ⊥) rows
       → AllByRecursion (λ t. configuration_in s ≡ configuration_in t → ⊥) (picked rows h)
   unfolding picked
   picked_other s is [] h other = tt
   picked_other s is (r ∷ rows) h other =
-      (λ same. other.0 (same_configurations p s h.0.0 is (standing r h.0.0 h.0.1) same ∙ row r h.0.0 h.0.1), picked_other s is rows h.1 other.1)
+      (λ same. other.0 (same_configurations p front s h.0.0 is (standing r h.0.0 h.0.1) same ∙ row r h.0.0 h.0.1), picked_other s is rows h.1 other.1)
 
   picked_apart : (rows : List (List ℤ)) (h : AllKept rows) → NoTwo ◌≡◌ rows → NoTwo (λ s t. configuration_in s ≡ configuration_in t) (picked rows h)
   unfolding picked
@@ -150,36 +162,36 @@ module _ (p : ProgramShape) (Kept : List ℤ → StandingShape → Type 0) (stan
   picked_has w (r ∷ rows) h (inl e) = inl (row_tells h.0.0 w (row r h.0.0 h.0.1 ∙ sym e))
   picked_has w (r ∷ rows) h (inr later) = inr (picked_has w rows h.1 later)
 
-  pub different : (rows : List (List ℤ)) (h : AllKept rows) → NoTwo ◌≡◌ rows → AreDifferent p (picked rows h) (length rows)
+  pub different : (rows : List (List ℤ)) (h : AllKept rows) → NoTwo ◌≡◌ rows → AreDifferent p front (picked rows h) (length rows)
   different rows h once = record { count = picked_long rows h; reached = picked_standing rows h; different = picked_apart rows h once }
 
   turned : (s : StandingShape) (ts : List StandingShape) → AllByRecursion (λ t. configuration_in s ≡ configuration_in t → ⊥) ts → AllByRecursion (λ t. configuration_in t ≡ configuration_in s → ⊥) ts
   turned s ts h = each_map {Q = λ t. configuration_in t ≡ configuration_in s → ⊥} (λ t (other : configuration_in s ≡ configuration_in t → ⊥) e. other (sym e)) ts h
 
-  pub one_more : (rows : List (List ℤ)) (h : AllKept rows) → NoTwo ◌≡◌ rows → (s : StandingShape) → IsStanding p s → (HasOne (λ r. row_of s ≡ r) rows → ⊥)
-      → AreDifferent p (picked rows h ++ s ∷ []) (suc (length rows))
+  pub one_more : (rows : List (List ℤ)) (h : AllKept rows) → NoTwo ◌≡◌ rows → (s : StandingShape) → IsStanding p front s → (HasOne (λ r. row_of s ≡ r) rows → ⊥)
+      → AreDifferent p front (picked rows h ++ s ∷ []) (suc (length rows))
   one_more rows h once s is new = record {
     count = (let long = picked_long rows h in omega (arith, long, length-append (picked rows h) (s ∷ [])));
-    reached = each_snoc (IsStanding p) (picked rows h) s (picked_standing rows h) is;
+    reached = each_snoc (IsStanding p front) (picked rows h) s (picked_standing rows h) is;
     different = two_snoc (λ s t. configuration_in s ≡ configuration_in t) (picked rows h) s (picked_apart rows h once)
         (turned s (picked rows h) (picked_other s is rows h (none_of (λ r. row_of s ≡ r) rows new)));
   }
 
-pub has_configurations : (p : ProgramShape) (rows : List (List ℤ)) (found : List StandingShape) → IsExplored p rows [] found → HasConfigurations p (length rows)
-has_configurations p rows found explored = (
-  picked p (IsSeen p rows [] found) (λ r s w. w.standing) (λ r s w. w.row) rows explored.seen,
-  different p (IsSeen p rows [] found) (λ r s w. w.standing) (λ r s w. w.row) rows explored.seen explored.once,
-  λ order legal.
-      (let last = reached p rows found explored order legal in
-      has_map (λ s (e : configuration_in s ≡ configuration_in last.0). e ∙ last.1.1)
-      (picked p (IsSeen p rows [] found) (λ r s w. w.standing) (λ r s w. w.row) rows explored.seen)
-      (picked_has p (IsSeen p rows [] found) (λ r s w. w.standing) (λ r s w. w.row) last.0 rows explored.seen last.2)),
+pub has_configurations : (p : ProgramShape) (front : List Ticket) → IsSound p → (rows : List (List ℤ)) (found : List StandingShape) → IsExplored p front rows [] found → HasConfigurationsAfter p front (length rows)
+has_configurations p front sound rows found explored = (
+  picked p front (IsSeen p front rows [] found) (λ r s w. w.standing) (λ r s w. w.row) rows explored.seen,
+  different p front (IsSeen p front rows [] found) (λ r s w. w.standing) (λ r s w. w.row) rows explored.seen explored.once,
+  λ rest legal reduced.
+      (let last = reached p front sound rows found explored rest (legal-rest p (first_configuration p) front rest legal) reduced in
+      has_map (λ s (e : configuration_in s ≡ configuration_in last.0). e ∙ (last.1.1 ∙ sym (configuration-append p (first_configuration p) front rest)))
+      (picked p front (IsSeen p front rows [] found) (λ r s w. w.standing) (λ r s w. w.row) rows explored.seen)
+      (picked_has p front (IsSeen p front rows [] found) (λ r s w. w.standing) (λ r s w. w.row) last.0 rows explored.seen last.2)),
 )
 
-pub has_more_than : (p : ProgramShape) (limit : ℕ) (rows : List (List ℤ)) (stack found : List StandingShape) (s : StandingShape) → IsExplored p rows stack found
-    → IsStanding p s → length rows ≡ limit → (HasOne (λ r. row_of s ≡ r) rows → ⊥) → HasMoreThan p limit
-has_more_than p limit rows stack found s explored is full new = (
-  picked p (IsSeen p rows stack found) (λ r s w. w.standing) (λ r s w. w.row) rows explored.seen ++ s ∷ [],
-  subst (λ n. AreDifferent p (picked p (IsSeen p rows stack found) (λ r s w. w.standing) (λ r s w. w.row) rows explored.seen ++ s ∷ []) (suc n)) full
-      (one_more p (IsSeen p rows stack found) (λ r s w. w.standing) (λ r s w. w.row) rows explored.seen explored.once s is new),
+pub has_more_than : (p : ProgramShape) (front : List Ticket) (limit : ℕ) (rows : List (List ℤ)) (stack found : List StandingShape) (s : StandingShape) → IsExplored p front rows stack found
+    → IsStanding p front s → length rows ≡ limit → (HasOne (λ r. row_of s ≡ r) rows → ⊥) → HasMoreThanAfter p front limit
+has_more_than p front limit rows stack found s explored is full new = (
+  picked p front (IsSeen p front rows stack found) (λ r s w. w.standing) (λ r s w. w.row) rows explored.seen ++ s ∷ [],
+  subst (λ n. AreDifferent p front (picked p front (IsSeen p front rows stack found) (λ r s w. w.standing) (λ r s w. w.row) rows explored.seen ++ s ∷ []) (suc n)) full
+      (one_more p front (IsSeen p front rows stack found) (λ r s w. w.standing) (λ r s w. w.row) rows explored.seen explored.once s is new),
 )

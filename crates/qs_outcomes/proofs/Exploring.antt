@@ -3,12 +3,14 @@
 -- was seen; where the order is complete, it was found. Rows of equal numbers stand for one configuration.
 use Rattle.std.proofs.Common.{◌≡◌, ◌<◌, ◌≤◌, ◌+◌, ℕ, suc, Bool, true, false, List, [], ◌∷◌, ◌++◌, length, get_or, refl, sym, ap, ◌∙◌, subst, arith, ◌⊎◌, inl, inr, ⊎_elim, append_assoc, append-nil, length-append, ℤ}
 use Rattle.std.specs.List.{AllByRecursion}
+use Rattle.qs_objects.specs.declared.held.Ticket.{Ticket}
 use Rattle.qs_program.specs.Program.{ClientShape, ProgramShape, blocks_of, no_client}
+use Rattle.qs_meaning.proofs.Groups.{some_go_on}
 use Rattle.qs_meaning.proofs.Each.{each_back, each_front, each_join, each_map, each_snoc}
 use Rattle.qs_outcomes.specs.Search.{AreNextFrom, HasOne, IsExplored, IsFound, IsLonger, IsNoted, IsPushed, IsReached, IsSeen, NoTwo, NoneNext, work_left}
-use Rattle.qs_outcomes.specs.Standings.{HasNext, IsFirst, IsNext, IsStanding, StandingShape, configuration_in, row_of}
+use Rattle.qs_outcomes.specs.Standings.{GoesOn, HasNext, IsFirst, IsNext, IsStanding, StandingShape, configuration_in, row_of}
 use Rattle.qs_outcomes.proofs.Lists.{has_back, has_either, has_front, has_map, none_of, two_snoc}
-use Rattle.qs_outcomes.proofs.Stands.{below_or_past, past_end}
+use Rattle.qs_outcomes.proofs.Stands.{below_or_past, goes_left, past_end}
 
 -- a client that has a block left is one of the program's
 in_program : (p : ProgramShape) (s : StandingShape) (c : ℕ) → HasNext p s c → c < length p.clients
@@ -42,21 +44,21 @@ reached_on Q rows later stack now s seen more on (inl h) =
     last_is (inr h) = absurd h
 reached_on Q rows later stack now s seen more on (inr h) = inr (more _ h)
 
-module _ (p : ProgramShape) (rows : List (List ℤ)) (stack found : List StandingShape) (s : StandingShape) (explored : IsExplored p rows (stack ++ s ∷ []) found) where
-  pub taken : IsStanding p s
-  taken = (each_back (IsStanding p) stack (s ∷ []) explored.stack).0
+module _ (p : ProgramShape) (front : List Ticket) (rows : List (List ℤ)) (stack found : List StandingShape) (s : StandingShape) (explored : IsExplored p front rows (stack ++ s ∷ []) found) where
+  pub taken : IsStanding p front s
+  taken = (each_back (IsStanding p front) stack (s ∷ []) explored.stack).0
 
   -- a standing whose row was seen is done with
-  pub skips : HasOne (λ r. row_of s ≡ r) rows → IsExplored p rows stack found
+  pub skips : HasOne (λ r. row_of s ≡ r) rows → IsExplored p front rows stack found
   skips seen = record {
-    stack = each_front (IsStanding p) stack (s ∷ []) explored.stack;
-    first = reached_on (IsFirst p) rows rows stack stack s seen (λ P h. h) (λ P h. h) explored.first;
-    seen = each_map (λ r (w : (t : StandingShape) × IsSeen p rows (stack ++ s ∷ []) found r t). (
+    stack = each_front (IsStanding p front) stack (s ∷ []) explored.stack;
+    first = reached_on (IsFirst p front) rows rows stack stack s seen (λ P h. h) (λ P h. h) explored.first;
+    seen = each_map (λ r (w : (t : StandingShape) × IsSeen p front rows (stack ++ s ∷ []) found r t). (
       w.0,
       record {
         standing = w.1.standing;
         row = w.1.row;
-        closed = λ c next. reached_on (IsNext p w.0 c) rows rows stack stack s seen (λ P h. h) (λ P h. h) (w.1.closed c next);
+        closed = λ c next. reached_on (IsNext p front w.0 c) rows rows stack stack s seen (λ P h. h) (λ P h. h) (w.1.closed c next);
         found = w.1.found;
       },
     )) rows explored.seen;
@@ -65,9 +67,9 @@ module _ (p : ProgramShape) (rows : List (List ℤ)) (stack found : List Standin
     apart = explored.apart;
   }
 
-  module _ (new : HasOne (λ r. row_of s ≡ r) rows → ⊥) (added results : List StandingShape) (next : AreNextFrom p s 0 added)
+  module _ (new : HasOne (λ r. row_of s ≡ r) rows → ⊥) (added results : List StandingShape) (next : AreNextFrom p front s 0 added)
       (more : (P : StandingShape → Type 0) → HasOne P found → HasOne P results) (over : NoneNext p s → HasOne (λ x. configuration_in x ≡ configuration_in s) results)
-      (all : AllByRecursion (IsFound p (rows ++ row_of s ∷ [])) results) (apart : NoTwo (λ x y. row_of x ≡ row_of y) results) where
+      (all : AllByRecursion (IsFound p front (rows ++ row_of s ∷ [])) results) (apart : NoTwo (λ x y. row_of x ≡ row_of y) results) where
     here : HasOne (λ r. row_of s ≡ r) (rows ++ row_of s ∷ [])
     here = has_back (λ r. row_of s ≡ r) rows (row_of s ∷ []) (inl refl)
 
@@ -75,17 +77,17 @@ module _ (p : ProgramShape) (rows : List (List ℤ)) (stack found : List Standin
     onward Q = reached_on Q rows (rows ++ row_of s ∷ []) stack (stack ++ added) s here (λ P. has_front P rows (row_of s ∷ [])) (λ P. has_front P stack added)
 
     -- a new one is seen now, with what its next blocks lead to on the stack
-    pub sees : IsExplored p (rows ++ row_of s ∷ []) (stack ++ added) results
+    pub sees : IsExplored p front (rows ++ row_of s ∷ []) (stack ++ added) results
     sees = record {
-      stack = each_join (IsStanding p) stack added (each_front (IsStanding p) stack (s ∷ []) explored.stack) next.standing;
-      first = onward (IsFirst p) explored.first;
-      seen = each_snoc (λ r. (t : StandingShape) × IsSeen p (rows ++ row_of s ∷ []) (stack ++ added) results r t) rows (row_of s)
-          (each_map (λ r (w : (t : StandingShape) × IsSeen p rows (stack ++ s ∷ []) found r t). (
+      stack = each_join (IsStanding p front) stack added (each_front (IsStanding p front) stack (s ∷ []) explored.stack) next.standing;
+      first = onward (IsFirst p front) explored.first;
+      seen = each_snoc (λ r. (t : StandingShape) × IsSeen p front (rows ++ row_of s ∷ []) (stack ++ added) results r t) rows (row_of s)
+          (each_map (λ r (w : (t : StandingShape) × IsSeen p front rows (stack ++ s ∷ []) found r t). (
             w.0,
             record {
               standing = w.1.standing;
               row = w.1.row;
-              closed = λ c left. onward (IsNext p w.0 c) (w.1.closed c left);
+              closed = λ c left. onward (IsNext p front w.0 c) (w.1.closed c left);
               found = λ none. more _ (w.1.found none);
             },
           )) rows explored.seen) (
@@ -93,7 +95,7 @@ module _ (p : ProgramShape) (rows : List (List ℤ)) (stack found : List Standin
             record {
               standing = taken;
               row = refl;
-              closed = λ c left. inl (has_back (IsNext p s c) stack added (next.each c (omega arith) (in_program p s c left) left));
+              closed = λ c left. inl (has_back (IsNext p front s c) stack added (next.each c (omega arith) (in_program p s c (goes_left p s c left)) left));
               found = over;
             },
           );
@@ -103,50 +105,50 @@ module _ (p : ProgramShape) (rows : List (List ℤ)) (stack found : List Standin
     }
 
   -- where blocks are left, nothing more is found
-  pub sees_on : (HasOne (λ r. row_of s ≡ r) rows → ⊥) → (added : List StandingShape) → AreNextFrom p s 0 added → (NoneNext p s → ⊥)
-      → IsExplored p (rows ++ row_of s ∷ []) (stack ++ added) found
+  pub sees_on : (HasOne (λ r. row_of s ≡ r) rows → ⊥) → (added : List StandingShape) → AreNextFrom p front s 0 added → (NoneNext p s → ⊥)
+      → IsExplored p front (rows ++ row_of s ∷ []) (stack ++ added) found
   sees_on new added next some = sees new added found next (λ P h. h) (λ none. absurd (some none)) (found_on found explored.found) explored.apart
     where
-      found_on : (xs : List StandingShape) → AllByRecursion (IsFound p rows) xs → AllByRecursion (IsFound p (rows ++ row_of s ∷ [])) xs
-      found_on xs h = each_map (λ x (f : IsFound p rows x). record { standing = f.standing; over = f.over; seen = has_front (λ r. row_of x ≡ r) rows (row_of s ∷ []) f.seen }) xs h
+      found_on : (xs : List StandingShape) → AllByRecursion (IsFound p front rows) xs → AllByRecursion (IsFound p front (rows ++ row_of s ∷ [])) xs
+      found_on xs h = each_map (λ x (f : IsFound p front rows x). record { standing = f.standing; over = f.over; seen = has_front (λ r. row_of x ≡ r) rows (row_of s ∷ []) f.seen }) xs h
 
   -- where none is left, the standing is found
-  pub sees_end : (HasOne (λ r. row_of s ≡ r) rows → ⊥) → (added : List StandingShape) → AreNextFrom p s 0 added → NoneNext p s
-      → IsExplored p (rows ++ row_of s ∷ []) (stack ++ added) (found ++ s ∷ [])
+  pub sees_end : (HasOne (λ r. row_of s ≡ r) rows → ⊥) → (added : List StandingShape) → AreNextFrom p front s 0 added → NoneNext p s
+      → IsExplored p front (rows ++ row_of s ∷ []) (stack ++ added) (found ++ s ∷ [])
   sees_end new added next none =
       sees new added (found ++ s ∷ []) next (λ P. has_front P found (s ∷ []))
       (λ _. has_back (λ x. configuration_in x ≡ configuration_in s) found (s ∷ []) (inl refl))
-      (each_snoc (IsFound p (rows ++ row_of s ∷ [])) found s
-      (each_map (λ x (f : IsFound p rows x). record { standing = f.standing; over = f.over; seen = has_front (λ r. row_of x ≡ r) rows (row_of s ∷ []) f.seen }) found explored.found)
+      (each_snoc (IsFound p front (rows ++ row_of s ∷ [])) found s
+      (each_map (λ x (f : IsFound p front rows x). record { standing = f.standing; over = f.over; seen = has_front (λ r. row_of x ≡ r) rows (row_of s ∷ []) f.seen }) found explored.found)
       (record { standing = taken; over = none; seen = has_back (λ r. row_of s ≡ r) rows (row_of s ∷ []) (inl refl) }))
       (two_snoc (λ x y. row_of x ≡ row_of y) found s explored.apart
-      (each_map {Q = λ x. row_of x ≡ row_of s → ⊥} (λ x (f : IsFound p rows x) e. new (has_map (λ r (is : row_of x ≡ r). sym e ∙ is) rows f.seen)) found explored.found))
+      (each_map {Q = λ x. row_of x ≡ row_of s → ⊥} (λ x (f : IsFound p front rows x) e. new (has_map (λ r (is : row_of x ≡ r). sym e ∙ is) rows f.seen)) found explored.found))
 
 -- one more pushed: those of one more client
-pub pushed_on : (p : ProgramShape) (s : StandingShape) (c : ℕ) (before middle after : List StandingShape) → c < length p.clients
-    → IsLonger p s (suc c) before middle → IsPushed p s c middle after → IsLonger p s c before after
-pushed_on p s c before middle after client (added, is, next) (inl (left, (n, on, now))) = (
+pub pushed_on : (p : ProgramShape) (front : List Ticket) (s : StandingShape) (c : ℕ) (before middle after : List StandingShape) → c < length p.clients
+    → IsLonger p front s (suc c) before middle → IsPushed p front s c middle after → IsLonger p front s c before after
+pushed_on p front s c before middle after client (added, is, next) (inl (goes, left, (n, on, now))) = (
   added ++ n ∷ [],
   now ∙ (ap (λ xs. xs ++ n ∷ []) is ∙ append_assoc before added (n ∷ [])),
   record {
-    standing = each_snoc (IsStanding p) added n next.standing on.standing;
+    standing = each_snoc (IsStanding p front) added n next.standing on.standing;
     each = λ d from within has.
         ⊎_elim
-        (λ (same : c ≡ d). has_back (IsNext p s d) added (n ∷ []) (inl (subst (λ e. IsNext p s e n) same on)))
-        (λ (above : suc c ≤ d). has_front (IsNext p s d) added (n ∷ []) (next.each d above within has))
+        (λ (same : c ≡ d). has_back (IsNext p front s d) added (n ∷ []) (inl (subst (λ e. IsNext p front s e n) same on)))
+        (λ (above : suc c ≤ d). has_front (IsNext p front s d) added (n ∷ []) (next.each d above within has))
         (here_or_above c d from);
     few = (let few = next.few in omega (arith, few, length-append added (n ∷ [])));
     none = λ over. absurd (over c left);
   },
 )
-pushed_on p s c before middle after client (added, is, next) (inr (none, now)) = (
+pushed_on p front s c before middle after client (added, is, next) (inr (none, now)) = (
   added,
   now ∙ is,
   record {
     standing = next.standing;
     each = λ d from within has.
         ⊎_elim
-        (λ (same : c ≡ d). absurd (none (subst (λ e. HasNext p s e) (sym same) has)))
+        (λ (same : c ≡ d). absurd (none (subst (λ e. GoesOn p s e) (sym same) has)))
         (λ (above : suc c ≤ d). next.each d above within has)
         (here_or_above c d from);
     few = (let few = next.few in omega (arith, few));
@@ -154,8 +156,8 @@ pushed_on p s c before middle after client (added, is, next) (inr (none, now)) =
   },
 )
 
-pub none_pushed : (p : ProgramShape) (s : StandingShape) (before : List StandingShape) → IsLonger p s (length p.clients) before before
-none_pushed p s before = (
+pub none_pushed : (p : ProgramShape) (front : List Ticket) (s : StandingShape) (before : List StandingShape) → IsLonger p front s (length p.clients) before before
+none_pushed p front s before = (
   [],
   sym (append-nil before),
   record {
@@ -166,40 +168,42 @@ none_pushed p s before = (
   },
 )
 
--- nothing was added exactly where no block is left
-pub none_added : (p : ProgramShape) (s : StandingShape) (added : List StandingShape) → AreNextFrom p s 0 added → length added ≡ 0 → NoneNext p s
-none_added p s [] next long c left = next.each c (omega arith) (in_program p s c left) left
-none_added p s (n ∷ added) next long c left = (let e : length (n ∷ added) ≡ 0 = long in omega (arith, e))
+-- nothing was added exactly where no block is left: else somebody goes on
+pub none_added : (p : ProgramShape) (front : List Ticket) (s : StandingShape) (added : List StandingShape) → AreNextFrom p front s 0 added → length added ≡ 0 → NoneNext p s
+none_added p front s [] next long c left =
+    let one = (some_go_on p (configuration_in s).begun).some c left in
+    next.each one.0 (omega arith) (in_program p s one.0 (goes_left p s one.0 one.1)) one.1
+none_added p front s (n ∷ added) next long c left = (let e : length (n ∷ added) ≡ 0 = long in omega (arith, e))
 
 -- a standing that was taken up, by what was noted of it and what was added
-module _ (p : ProgramShape) (limit : ℕ) (rows later : List (List ℤ)) (stack now found : List StandingShape) (s : StandingShape) (explored : IsExplored p rows (stack ++ s ∷ []) found) (new : Bool)
+module _ (p : ProgramShape) (front : List Ticket) (limit : ℕ) (rows later : List (List ℤ)) (stack now found : List StandingShape) (s : StandingShape) (explored : IsExplored p front rows (stack ++ s ∷ []) found) (new : Bool)
     (noted : IsNoted rows (row_of s) limit new later) where
-  pub skipped : new ≡ false → IsExplored p later stack found
+  pub skipped : new ≡ false → IsExplored p front later stack found
   skipped old =
       let same : IsNoted rows (row_of s) limit false later = subst (λ b. IsNoted rows (row_of s) limit b later) old noted in
-      subst (λ rs. IsExplored p rs stack found) (sym same.0.0) (skips p rows stack found s explored same.0.1)
+      subst (λ rs. IsExplored p front rs stack found) (sym same.0.0) (skips p front rows stack found s explored same.0.1)
 
   fresh : new ≡ true → IsNoted rows (row_of s) limit true later
   fresh is = subst (λ b. IsNoted rows (row_of s) limit b later) is noted
 
-  pub gone_on : new ≡ true → IsLonger p s 0 stack now → (length now ≡ length stack → ⊥) → IsExplored p later now found
+  pub gone_on : new ≡ true → IsLonger p front s 0 stack now → (length now ≡ length stack → ⊥) → IsExplored p front later now found
   gone_on is (added, e, next) more =
       let n = fresh is in
-      subst (λ rs. IsExplored p rs now found) (sym n.0.0)
-      (subst (λ ts. IsExplored p (rows ++ row_of s ∷ []) ts found) (sym e)
-      (sees_on p rows stack found s explored n.0.1 added next
+      subst (λ rs. IsExplored p front rs now found) (sym n.0.0)
+      (subst (λ ts. IsExplored p front (rows ++ row_of s ∷ []) ts found) (sym e)
+      (sees_on p front rows stack found s explored n.0.1 added next
       (λ none. more (let zero_long = next.none none in let long = ap length e in omega (arith, zero_long, long, length-append stack added)))))
 
-  pub ended : new ≡ true → IsLonger p s 0 stack now → length now ≡ length stack → (results : List StandingShape) → results ≡ found ++ s ∷ [] → IsExplored p later now results
+  pub ended : new ≡ true → IsLonger p front s 0 stack now → length now ≡ length stack → (results : List StandingShape) → results ≡ found ++ s ∷ [] → IsExplored p front later now results
   ended is (added, e, next) same results last =
       let n = fresh is in
-      subst (λ rs. IsExplored p rs now results) (sym n.0.0)
-      (subst (λ ts. IsExplored p (rows ++ row_of s ∷ []) ts results) (sym e)
-      (subst (λ xs. IsExplored p (rows ++ row_of s ∷ []) (stack ++ added) xs) (sym last)
-      (sees_end p rows stack found s explored n.0.1 added next
-      (none_added p s added next (let long = ap length e in omega (arith, same, long, length-append stack added))))))
+      subst (λ rs. IsExplored p front rs now results) (sym n.0.0)
+      (subst (λ ts. IsExplored p front (rows ++ row_of s ∷ []) ts results) (sym e)
+      (subst (λ xs. IsExplored p front (rows ++ row_of s ∷ []) (stack ++ added) xs) (sym last)
+      (sees_end p front rows stack found s explored n.0.1 added next
+      (none_added p front s added next (let long = ap length e in omega (arith, same, long, length-append stack added))))))
 
-  pub less_left : new ≡ true → IsLonger p s 0 stack now → length p.clients ≤ 8 → work_left limit later now < work_left limit rows stack + 1
+  pub less_left : new ≡ true → IsLonger p front s 0 stack now → length p.clients ≤ 8 → work_left limit later now < work_left limit rows stack + 1
   less_left is (added, e, next) clients =
       let n = fresh is in let few = next.few in let within = n.1 in
       let one : length later ≡ length rows + 1 = ap length n.0.0 ∙ length-append rows (row_of s ∷ []) in

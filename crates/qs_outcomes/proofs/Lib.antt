@@ -6,3 +6,4 @@ pub mod RowTells
 pub mod Exploring
 pub mod Explored
 pub mod Inserting
+pub mod GoingSets

@@ -1,7 +1,7 @@
 -- Where a client's next block has run on what the lists of a standing hold, they hold the next configuration, and the order that is longer
 -- by one ticket leads there. The functions that make standings rest on it. Lists by number are functions that are changed at one place, and
 -- the last ticket of an order is taken last.
-use Rattle.std.proofs.Common.{◌≡◌, ◌<◌, ◌≤◌, ℕ, zero, suc, Bool, true, false, ◌==◌, List, [], ◌∷◌, ◌++◌, length, get_or, replicate, refl, sym, ap, ◌∙◌, subst, arith, ⊎_elim, ◌⊎◌, inl, inr, ◌≢◌, ◌||◌, ℤ}
+use Rattle.std.proofs.Common.{◌≡◌, ◌<◌, ◌≤◌, ℕ, zero, suc, Bool, true, false, ◌==◌, List, [], ◌∷◌, ◌++◌, length, get_or, replicate, refl, sym, ap, ◌∙◌, subst, arith, ⊎_elim, append_assoc, append-nil, ◌⊎◌, inl, inr, ◌≢◌, ◌||◌, ℤ}
 use Rattle.std.proofs.Common.{get_or-set_same, get_or-set_other}
 use Rattle.std.proofs.lemmas.List.{length-set, length-replicate}
 use Rattle.std.specs.Prelude.{slice_set}
@@ -22,7 +22,9 @@ use Rattle.qs_meaning.specs.Solo.{BlockResult, put, solo}
 use Rattle.qs_meaning.proofs.Orders.{legal_on}
 use Rattle.qs_meaning.proofs.TreeWalks.{put_here, put_there}
 use Rattle.qs_outcomes.specs.Alone.{AreCallsWithin, IsCallWithin, states_in}
-use Rattle.qs_outcomes.specs.Standings.{HasNext, IsFirst, IsNext, IsStanding, StandingShape, configuration_in}
+use Rattle.qs_meaning.specs.Reduced.{IsReducedFrom, goes_on}
+use Rattle.qs_meaning.proofs.Groups.{some_go_on}
+use Rattle.qs_outcomes.specs.Standings.{GoesOn, HasNext, IsFirst, IsNext, IsReducedAfter, IsStanding, StandingShape, configuration_in}
 
 -- a list by number, changed at a place
 pub lookup-set : {X : Type 0} (xs : List X) (i : ℕ) (v d : X) → i < length xs → ◌≡◌ {A = ℕ → X} (λ j. get_or (slice_set xs i v) j d) (put (λ j. get_or xs j d) i v)
@@ -66,18 +68,47 @@ legal-snoc p g (u ∷ ts) t legal is less = (
       (legal-snoc p (one_block_on p u.client g) ts t (legal_on p g u ts legal) is less),
 )
 
-module _ (p : ProgramShape) (s n : StandingShape) (c : ℕ) (standing : IsStanding p s) (client : c < length p.clients) (left : HasNext p s c) where
+pub configuration-append : (p : ProgramShape) (g : Configuration) (ts us : List Ticket) → configuration_from p g (ts ++ us) ≡ configuration_from p (configuration_from p g ts) us
+configuration-append p g [] us = refl
+configuration-append p g (t ∷ ts) us = configuration-append p (one_block_on p t.client g) ts us
+
+-- the rest of a legal order is legal from where its front leads
+pub legal-rest : (p : ProgramShape) (g : Configuration) (ts us : List Ticket) → LegalFrom p g.begun (ts ++ us) → LegalFrom p (configuration_from p g ts).begun us
+legal-rest p g [] us legal = legal
+legal-rest p g (t ∷ ts) us legal = legal-rest p (one_block_on p t.client g) ts us (legal_on p g t (ts ++ us) legal)
+
+reduced-snoc : (p : ProgramShape) (g : Configuration) (ts : List Ticket) (t : Ticket) → IsReducedFrom p g ts → goes_on p (configuration_from p g ts).begun t.client ≡ true
+    → IsReducedFrom p g (ts ++ t ∷ [])
+reduced-snoc p g [] t reduced goes = (goes, tt)
+reduced-snoc p g (u ∷ ts) t reduced goes = (reduced.0, reduced-snoc p (one_block_on p u.client g) ts t reduced.1 goes)
+
+-- who goes on has a block left
+pub goes_left : (p : ProgramShape) (s : StandingShape) (c : ℕ) → GoesOn p s c → HasNext p s c
+goes_left p s c goes = (some_go_on p (configuration_in s).begun).undisturbed.left c goes
+
+module _ (p : ProgramShape) (front : List Ticket) (s n : StandingShape) (c : ℕ) (standing : IsStanding p front s) (client : c < length p.clients) (left : HasNext p s c) (goes : GoesOn p s c) where
   abbrev ran : BlockResult
   ran = solo (block_at p c (get_or s.begun c 0)).body (get_or s.locals c zeros) (states_in s.states)
 
   abbrev ticket : Ticket
   ticket = record { client = c; index = get_or s.begun c 0 }
 
+  reduced_on : IsReducedAfter p front (s.order ++ ticket ∷ [])
+  reduced_on =
+      let r = standing.reduced in
+      let there : configuration_in s ≡ configuration_from p (configuration_after p front) r.rest =
+      standing.stands ∙ (ap (configuration_after p) r.whole ∙ configuration-append p (first_configuration p) front r.rest) in
+      record {
+        rest = r.rest ++ ticket ∷ [];
+        whole = ap (λ ts. ts ++ ticket ∷ []) r.whole ∙ append_assoc front r.rest (ticket ∷ []);
+        reduced = reduced-snoc p (configuration_after p front) r.rest ticket r.reduced (subst (λ (g : Configuration). goes_on p g.begun c ≡ true) there goes);
+      }
+
   pub stands_next : n.order ≡ s.order ++ record { client = c; index = get_or s.begun c 0 } ∷ []
       → n.begun ≡ slice_set s.begun c (suc (get_or s.begun c 0))
       → n.locals ≡ slice_set s.locals c (solo (block_at p c (get_or s.begun c 0)).body (get_or s.locals c zeros) (states_in s.states)).locals
       → states_in n.states ≡ (solo (block_at p c (get_or s.begun c 0)).body (get_or s.locals c zeros) (states_in s.states)).states
-      → length n.states ≡ length s.states → IsNext p s c n
+      → length n.states ≡ length s.states → IsNext p front s c n
   stands_next order begun locals states count =
       let here : c < length s.begun = omega (arith, client, standing.begun) in
       let there : c < length s.locals = omega (arith, client, standing.locals) in
@@ -93,6 +124,7 @@ module _ (p : ProgramShape) (s n : StandingShape) (c : ℕ) (standing : IsStandi
           locals = ap length locals ∙ length-set s.locals c _ ∙ standing.locals;
           states = count ∙ standing.states;
           legal = subst (IsLegal p) (sym order) (legal-snoc p (first_configuration p) s.order ticket standing.legal begins left);
+          reduced = subst (IsReducedAfter p front) (sym order) reduced_on;
           stands = next ∙ ap (one_block_on p c) standing.stands
               ∙ sym (ap (configuration_after p) order ∙ configuration-snoc p (first_configuration p) s.order ticket);
         };
@@ -100,7 +132,7 @@ module _ (p : ProgramShape) (s n : StandingShape) (c : ℕ) (standing : IsStandi
       }
 
 pub stands_first : (p : ProgramShape) (s : StandingShape) → s.order ≡ [] → s.begun ≡ replicate (length p.clients) 0 → s.locals ≡ replicate (length p.clients) zeros
-    → length s.states ≡ length p.objects → ((h : ℕ) → h < length p.objects → get_or s.states h no_state ≡ declared_states p h) → IsFirst p s
+    → length s.states ≡ length p.objects → ((h : ℕ) → h < length p.objects → get_or s.states h no_state ≡ declared_states p h) → IsFirst p [] s
 stands_first p s order begun locals count states =
     let first : configuration_in s ≡ first_configuration p = λ i. record { begun = counts i; locals = values i; states = objects i } in
     record {
@@ -109,6 +141,7 @@ stands_first p s order begun locals count states =
         locals = ap length locals ∙ length-replicate (length p.clients) zeros;
         states = count;
         legal = subst (IsLegal p) (sym order) tt;
+        reduced = record { rest = []; whole = order; reduced = tt };
         stands = first ∙ sym (ap (configuration_after p) order);
       };
       first = first;

@@ -1,4 +1,5 @@
 pub mod Alone
+pub mod Going
 pub mod Standings
 pub mod Search
 pub mod Rows

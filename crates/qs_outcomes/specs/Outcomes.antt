@@ -1,12 +1,13 @@
--- What the list of all outcomes of a program says.
-use Rattle.std.specs.Prelude.{◌≡◌, ℕ, suc, List, length}
+-- What the list of all outcomes of a program says, of all orders or of those that begin with a front.
+use Rattle.std.specs.Prelude.{◌≡◌, ℕ, suc, List, [], ◌++◌, length}
 use Rattle.std.specs.List.{AllByRecursion}
 use Rattle.qs_objects.specs.declared.held.Ticket.{Ticket}
 use Rattle.qs_program.specs.Program.{ProgramShape}
 use Rattle.qs_meaning.specs.Configurations.{IsComplete, OrderOutcome, configuration_after, outcome_in, outcome_of}
+use Rattle.qs_meaning.specs.Reduced.{IsReducedFrom}
 use Rattle.qs_meaning.specs.Serial.{IsLegal}
 use Rattle.qs_outcomes.specs.Search.{HasOne, NoTwo}
-use Rattle.qs_outcomes.specs.Standings.{IsStanding, StandingShape, configuration_in}
+use Rattle.qs_outcomes.specs.Standings.{IsReducedAfter, IsStanding, StandingShape, configuration_in}
 
 -- what was found, and how many configurations there are
 pub record OutcomesShape : Type 0 where
@@ -17,12 +18,21 @@ pub record OutcomesShape : Type 0 where
 abbrev pub outcome_at : StandingShape → OrderOutcome
 outcome_at s = outcome_in (configuration_in s)
 
--- its order is complete, and comes to what it holds; it has a place for each client and each object
-pub record IsListed (p : ProgramShape) (s : StandingShape) : Type 0 where
+-- its order begins with the front, is reduced after it, is complete, and comes to what it holds; it has a place for each client and each object
+pub record IsListedAfter (p : ProgramShape) (front : List Ticket) (s : StandingShape) : Type 0 where
   pub complete : IsComplete p s.order
+  pub reduced : IsReducedAfter p front s.order
   pub outcome : outcome_at s ≡ outcome_of p s.order
   pub locals : length s.locals ≡ length p.clients
   pub states : length s.states ≡ length p.objects
+
+abbrev pub IsListed : ProgramShape → StandingShape → Type 0
+IsListed p s = IsListedAfter p [] s
+
+-- the outcome of each complete order that begins with the front is among these
+abbrev pub AreAllOutcomesAfter : ProgramShape → List Ticket → List StandingShape → Type 0
+AreAllOutcomesAfter p front found =
+    (rest : List Ticket) → IsComplete p (front ++ rest) → HasOne (λ s. outcome_at s ≡ outcome_of p (front ++ rest)) found
 
 -- the outcome of each complete order is among these
 abbrev pub AreAllOutcomes : ProgramShape → List StandingShape → Type 0
@@ -31,18 +41,26 @@ AreAllOutcomes p found = (order : List Ticket) → IsComplete p order → HasOne
 abbrev pub AreApart : List StandingShape → Type 0
 AreApart found = NoTwo (λ s t. outcome_at s ≡ outcome_at t) found
 
--- as many different configurations, each after some legal order
-pub record AreDifferent (p : ProgramShape) (ss : List StandingShape) (many : ℕ) : Type 0 where
+-- as many different configurations, each after some order that is reduced after the front
+pub record AreDifferent (p : ProgramShape) (front : List Ticket) (ss : List StandingShape) (many : ℕ) : Type 0 where
   pub count : length ss ≡ many
-  pub reached : AllByRecursion (IsStanding p) ss
+  pub reached : AllByRecursion (IsStanding p front) ss
   pub different : NoTwo (λ s t. configuration_in s ≡ configuration_in t) ss
 
--- legal orders lead to exactly so many different configurations
-abbrev pub HasConfigurations : ProgramShape → ℕ → Type 0
-HasConfigurations p count =
-    (ss : List StandingShape) × AreDifferent p ss count
-    × ((order : List Ticket) → IsLegal p order → HasOne (λ s. configuration_in s ≡ configuration_after p order) ss)
+-- orders that are reduced after the front lead to exactly so many different configurations
+abbrev pub HasConfigurationsAfter : ProgramShape → List Ticket → ℕ → Type 0
+HasConfigurationsAfter p front count =
+    (ss : List StandingShape) × AreDifferent p front ss count
+    × ((rest : List Ticket) → IsLegal p (front ++ rest) → IsReducedFrom p (configuration_after p front) rest
+        → HasOne (λ s. configuration_in s ≡ configuration_after p (front ++ rest)) ss)
 
 -- and to more than so many
+abbrev pub HasMoreThanAfter : ProgramShape → List Ticket → ℕ → Type 0
+HasMoreThanAfter p front limit = (ss : List StandingShape) × AreDifferent p front ss (suc limit)
+
+-- reduced orders lead to exactly so many different configurations
+abbrev pub HasConfigurations : ProgramShape → ℕ → Type 0
+HasConfigurations p count = HasConfigurationsAfter p [] count
+
 abbrev pub HasMoreThan : ProgramShape → ℕ → Type 0
-HasMoreThan p limit = (ss : List StandingShape) × AreDifferent p ss (suc limit)
+HasMoreThan p limit = HasMoreThanAfter p [] limit

@@ -1,8 +1,9 @@
 -- What the search for all configurations has seen, what it has yet to see, and what it has found.
 use Rattle.std.specs.Prelude.{◌≡◌, ℕ, List, [], ◌∷◌, ◌++◌, ℤ, ◌⊎◌, ◌<◌, ◌≤◌, ◌+◌, ◌-◌, ◌*◌, Bool, true, false, length}
 use Rattle.std.specs.List.{AllByRecursion}
+use Rattle.qs_objects.specs.declared.held.Ticket.{Ticket}
 use Rattle.qs_program.specs.Program.{ProgramShape}
-use Rattle.qs_outcomes.specs.Standings.{HasNext, IsFirst, IsNext, IsStanding, StandingShape, configuration_in, row_of}
+use Rattle.qs_outcomes.specs.Standings.{GoesOn, HasNext, IsFirst, IsNext, IsStanding, StandingShape, configuration_in, row_of}
 
 -- one of a list has the property
 abbrev pub HasOne : {X : Type 0} → (X → Type 0) → List X → Type 0
@@ -21,43 +22,44 @@ NoneNext p s = (c : ℕ) → HasNext p s c → ⊥
 abbrev pub IsReached : (StandingShape → Type 0) → List (List ℤ) → List StandingShape → Type 0
 IsReached Q rows stack = HasOne Q stack ⊎ HasOne (λ r. (n : StandingShape) × Q n × (row_of n ≡ r)) rows
 
--- A row that was seen is that of a configuration; wherever a block leads from there is reached, and it is found where no block is left.
-pub record IsSeen (p : ProgramShape) (rows : List (List ℤ)) (ahead results : List StandingShape) (r : List ℤ) (s : StandingShape) : Type 0 where
-  pub standing : IsStanding p s
+-- A row that was seen is that of a configuration; wherever the next block of one who goes on leads from there is reached, and it is found
+-- where no block is left.
+pub record IsSeen (p : ProgramShape) (front : List Ticket) (rows : List (List ℤ)) (ahead results : List StandingShape) (r : List ℤ) (s : StandingShape) : Type 0 where
+  pub standing : IsStanding p front s
   pub row : row_of s ≡ r
-  pub closed : (c : ℕ) → HasNext p s c → IsReached (IsNext p s c) rows ahead
+  pub closed : (c : ℕ) → GoesOn p s c → IsReached (IsNext p front s c) rows ahead
   pub found : NoneNext p s → HasOne (λ x. configuration_in x ≡ configuration_in s) results
 
 -- found where no block is left, and seen
-pub record IsFound (p : ProgramShape) (rows : List (List ℤ)) (s : StandingShape) : Type 0 where
-  pub standing : IsStanding p s
+pub record IsFound (p : ProgramShape) (front : List Ticket) (rows : List (List ℤ)) (s : StandingShape) : Type 0 where
+  pub standing : IsStanding p front s
   pub over : NoneNext p s
   pub seen : HasOne (λ r. row_of s ≡ r) rows
 
-pub record IsExplored (p : ProgramShape) (rows : List (List ℤ)) (ahead results : List StandingShape) : Type 0 where
-  pub stack : AllByRecursion (IsStanding p) ahead
-  pub first : IsReached (IsFirst p) rows ahead
-  pub seen : AllByRecursion (λ r. (s : StandingShape) × IsSeen p rows ahead results r s) rows
+pub record IsExplored (p : ProgramShape) (front : List Ticket) (rows : List (List ℤ)) (ahead results : List StandingShape) : Type 0 where
+  pub stack : AllByRecursion (IsStanding p front) ahead
+  pub first : IsReached (IsFirst p front) rows ahead
+  pub seen : AllByRecursion (λ r. (s : StandingShape) × IsSeen p front rows ahead results r s) rows
   pub once : NoTwo ◌≡◌ rows
-  pub found : AllByRecursion (IsFound p rows) results
+  pub found : AllByRecursion (IsFound p front rows) results
   pub apart : NoTwo (λ x y. row_of x ≡ row_of y) results
 
--- these were added: one for each client from a number on that has a block left, and nothing else
-pub record AreNextFrom (p : ProgramShape) (s : StandingShape) (from : ℕ) (added : List StandingShape) : Type 0 where
-  pub standing : AllByRecursion (IsStanding p) added
-  pub each : (c : ℕ) → from ≤ c → c < length p.clients → HasNext p s c → HasOne (IsNext p s c) added
+-- these were added: one for each client from a number on that goes on, and nothing where no block is left
+pub record AreNextFrom (p : ProgramShape) (front : List Ticket) (s : StandingShape) (from : ℕ) (added : List StandingShape) : Type 0 where
+  pub standing : AllByRecursion (IsStanding p front) added
+  pub each : (c : ℕ) → from ≤ c → c < length p.clients → GoesOn p s c → HasOne (IsNext p front s c) added
   pub few : length added + from ≤ length p.clients
   pub none : NoneNext p s → length added ≡ 0
 
 -- a list with these after it
-abbrev pub IsLonger : ProgramShape → StandingShape → ℕ → List StandingShape → List StandingShape → Type 0
-IsLonger p s from before after = (added : List StandingShape) × (after ≡ before ++ added) × AreNextFrom p s from added
+abbrev pub IsLonger : ProgramShape → List Ticket → StandingShape → ℕ → List StandingShape → List StandingShape → Type 0
+IsLonger p front s from before after = (added : List StandingShape) × (after ≡ before ++ added) × AreNextFrom p front s from added
 
--- one more where the client has a block left
-abbrev pub IsPushed : ProgramShape → StandingShape → ℕ → List StandingShape → List StandingShape → Type 0
-IsPushed p s c before after =
-    (HasNext p s c × ((n : StandingShape) × IsNext p s c n × (after ≡ before ++ n ∷ [])))
-    ⊎ ((HasNext p s c → ⊥) × (after ≡ before))
+-- one more where the client goes on
+abbrev pub IsPushed : ProgramShape → List Ticket → StandingShape → ℕ → List StandingShape → List StandingShape → Type 0
+IsPushed p front s c before after =
+    (GoesOn p s c × HasNext p s c × ((n : StandingShape) × IsNext p front s c n × (after ≡ before ++ n ∷ [])))
+    ⊎ ((GoesOn p s c → ⊥) × (after ≡ before))
 
 -- whether a row is new, and the rows with it
 abbrev pub IsInserted : List (List ℤ) → List ℤ → Bool → List (List ℤ) → Type 0

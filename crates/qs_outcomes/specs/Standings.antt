@@ -1,10 +1,11 @@
 -- Configurations as they are kept: in lists, with an order that leads there, and as one flat row of numbers.
-use Rattle.std.specs.Prelude.{◌≡◌, ℕ, List, [], ◌∷◌, ◌++◌, length, map, slice_index_or, ℤ, pos, flat_map}
+use Rattle.std.specs.Prelude.{◌≡◌, ℕ, List, [], ◌∷◌, ◌++◌, true, length, map, slice_index_or, ℤ, pos, flat_map}
 use Rattle.qs_objects.specs.Act.{State, Content, account, buffer, grid}
 use Rattle.qs_objects.specs.declared.held.Ticket.{Ticket}
 use Rattle.qs_program.specs.Program.{ProgramShape}
 use Rattle.qs_program.specs.Values.{Locals}
-use Rattle.qs_meaning.specs.Configurations.{Configuration, HasBlockLeft, configuration_after, first_configuration, one_block_on}
+use Rattle.qs_meaning.specs.Configurations.{Configuration, HasBlockLeft, configuration_after, one_block_on}
+use Rattle.qs_meaning.specs.Reduced.{IsReducedFrom, goes_on}
 use Rattle.qs_meaning.specs.Serial.{IsLegal, zeros}
 use Rattle.qs_outcomes.specs.Alone.{states_in}
 
@@ -22,25 +23,36 @@ configuration_in s = record {
   states = states_in s.states;
 }
 
--- The lists have a place for each client and each object, the order is legal, and it leads to the configuration.
-pub record IsStanding (p : ProgramShape) (s : StandingShape) : Type 0 where
+-- an order that begins with a front, after which each next client is one of those who go on
+pub record IsReducedAfter (p : ProgramShape) (front order : List Ticket) : Type 0 where
+  pub rest : List Ticket
+  pub whole : order ≡ front ++ rest
+  pub reduced : IsReducedFrom p (configuration_after p front) rest
+
+-- The lists have a place for each client and each object, the order is legal and reduced after a front, and it leads to the configuration.
+pub record IsStanding (p : ProgramShape) (front : List Ticket) (s : StandingShape) : Type 0 where
   pub begun : length s.begun ≡ length p.clients
   pub locals : length s.locals ≡ length p.clients
   pub states : length s.states ≡ length p.objects
   pub legal : IsLegal p s.order
+  pub reduced : IsReducedAfter p front s.order
   pub stands : configuration_in s ≡ configuration_after p s.order
 
--- where no block was begun
-pub record IsFirst (p : ProgramShape) (s : StandingShape) : Type 0 where
-  pub standing : IsStanding p s
-  pub first : configuration_in s ≡ first_configuration p
+-- where no block was begun but those of the front
+pub record IsFirst (p : ProgramShape) (front : List Ticket) (s : StandingShape) : Type 0 where
+  pub standing : IsStanding p front s
+  pub first : configuration_in s ≡ configuration_after p front
 
 abbrev pub HasNext : ProgramShape → StandingShape → ℕ → Type 0
 HasNext p s c = HasBlockLeft p (configuration_in s) c
 
+-- whether a client is one of those who go on
+abbrev pub GoesOn : ProgramShape → StandingShape → ℕ → Type 0
+GoesOn p s c = goes_on p (configuration_in s).begun c ≡ true
+
 -- where the client's next block has run
-pub record IsNext (p : ProgramShape) (s : StandingShape) (c : ℕ) (n : StandingShape) : Type 0 where
-  pub standing : IsStanding p n
+pub record IsNext (p : ProgramShape) (front : List Ticket) (s : StandingShape) (c : ℕ) (n : StandingShape) : Type 0 where
+  pub standing : IsStanding p front n
   pub next : configuration_in n ≡ one_block_on p c (configuration_in s)
 
 -- a list of numbers with its length before it

@@ -3,6 +3,7 @@
 
 mod alone;
 mod fault;
+mod going;
 mod rows;
 mod search;
 mod standing;

@@ -2,14 +2,18 @@
 
 ghost use Rattle.std.specs.Prelude.{◌≡◌, ◌<◌, ◌≤◌, ◌+◌, ℕ, true, false, IfOk, OnOk, IsErrOf, [], ◌∷◌, ◌++◌, length};
 ghost use Rattle.std.specs.List.{AllByRecursion};
-ghost use Rattle.qs_outcomes.specs.Outcomes.{AreAllOutcomes, AreApart, HasConfigurations, HasMoreThan, IsListed};
+ghost use Rattle.qs_outcomes.specs.Outcomes.{AreAllOutcomes, AreApart, HasConfigurations, HasMoreThan, HasMoreThanAfter, IsListed};
 ghost use Rattle.qs_outcomes.specs.Rows.{rows_in};
 ghost use Rattle.qs_outcomes.specs.Search.{HasOne, IsExplored, IsInserted, IsLonger, IsNoted, IsPushed, work_left};
-ghost use Rattle.qs_outcomes.specs.Standings.{IsStanding, row_of};
+ghost use Rattle.qs_meaning.specs.Reduced.{goes_on};
+ghost use Rattle.qs_outcomes.specs.Going.{AreLast, in_byte};
+ghost use Rattle.qs_outcomes.specs.Standings.{IsStanding, configuration_in, row_of};
 
 use crate::fault::OutcomesFault;
+use crate::going::{Last, last_blocks};
 use crate::standing::Standing;
 use indexmap::IndexSet;
+use qs_objects::Ticket;
 use qs_program::Program;
 use std::alloc::{AllocError, Global};
 use std::marker::Model;
@@ -83,38 +87,46 @@ fn note(
     Ok(new)
 }
 
-// Adds where a client's next block leads, if it has one left.
+// Adds where a client's next block leads, if the client is one of those who go on.
 fn push_one(
     alloc: Global,
     program: &Program,
+    front: &[Ticket],
     standing: &Standing,
+    goes: u8,
     client: u8,
     stack: &mut Vec<Standing>,
 ) -> Result<(), AllocError>
     requires client { client < length program.now.clients }
-    requires standing { IsStanding program.now standing.now }
-    ensures pushed { OnOk result (IsPushed program.now standing.now client stack.old.items stack.new.items) }
+    requires standing { IsStanding program.now front.now standing.now }
+    requires goes { in_byte goes ≡ goes_on program.now (configuration_in standing.now).begun }
+    ensures pushed { OnOk result (IsPushed program.now front.now standing.now client stack.old.items stack.new.items) }
 {
-    if standing.has_next(program, client) {
-        stack.push(standing.next(alloc, program, client)?)?;
+    program.is_sound();
+    if (goes >> client) & 1 == 1 {
+        stack.push(standing.next(alloc, program, front, client)?)?;
     }
     Ok(())
 }
 
-// Adds where the next blocks lead, the first client's last.
+// Adds where the next blocks of those who go on lead, the first client's last.
 fn push_next(
     alloc: Global,
     program: &Program,
+    last: &[Last],
+    front: &[Ticket],
     standing: &Standing,
     stack: &mut Vec<Standing>,
 ) -> Result<(), AllocError>
-    requires standing { IsStanding program.now standing.now }
-    ensures longer { OnOk result (IsLonger program.now standing.now 0 stack.old.items stack.new.items) }
+    requires last { AreLast program.now last.now }
+    requires standing { IsStanding program.now front.now standing.now }
+    ensures longer { OnOk result (IsLonger program.now front.now standing.now 0 stack.old.items stack.new.items) }
 {
     program.is_sound();
+    let goes = standing.goes_on(program, last, front);
     let clients = program.clients() as u8;
     for back in 0..clients {
-        push_one(alloc, program, standing, clients - 1 - back, stack)?;
+        push_one(alloc, program, front, standing, goes, clients - 1 - back, stack)?;
     }
     Ok(())
 }
@@ -126,10 +138,13 @@ fn add(list: &mut Vec<Standing>, standing: Standing) -> Result<(), AllocError>
     Ok(())
 }
 
-// Takes up a standing: nothing where its row was seen, else what its next blocks lead to, or an outcome where no block is left.
+// Takes up a standing: nothing where its row was seen, else what the next blocks of those who go on lead to, or an outcome where no block is
+// left.
 fn visit(
     alloc: Global,
     program: &Program,
+    last: &[Last],
+    front: &[Ticket],
     limit: u32,
     standing: Standing,
     seen: &mut IndexSet<Vec<i64>>,
@@ -137,12 +152,13 @@ fn visit(
     found: &mut Vec<Standing>,
 ) -> Result<(), OutcomesFault>
     requires small { length (rows_in seen.old.keys) ≤ limit }
-    requires explored { IsExplored program.now (rows_in seen.old.keys) (stack.old.items ++ standing ∷ []) found.old.items }
-    ensures explored { OnOk result (IsExplored program.now (rows_in seen.new.keys) stack.new.items found.new.items) }
+    requires last { AreLast program.now last.now }
+    requires explored { IsExplored program.now front.now (rows_in seen.old.keys) (stack.old.items ++ standing ∷ []) found.old.items }
+    ensures explored { OnOk result (IsExplored program.now front.now (rows_in seen.new.keys) stack.new.items found.new.items) }
     ensures small { OnOk result (length (rows_in seen.new.keys) ≤ limit) }
     ensures less { OnOk result (work_left limit (rows_in seen.new.keys) stack.new.items
         < work_left limit (rows_in seen.old.keys) stack.old.items + 1) }
-    ensures limit { IsErrOf result OutcomesFault.Limit → HasMoreThan program.now limit }
+    ensures limit { IsErrOf result OutcomesFault.Limit → HasMoreThanAfter program.now front.now limit }
 {
     program.is_sound();
     match note(alloc, limit, &standing, seen) {
@@ -151,14 +167,14 @@ fn visit(
         Ok(true) => {}
     }
     let before = stack.len();
-    push_next(alloc, program, &standing, stack)?;
+    push_next(alloc, program, last, front, &standing, stack)?;
     if stack.len() == before {
         add(found, standing)?;
     }
     Ok(())
 }
 
-/// All outcomes of a program, each once, with a complete order that comes to it, and how many different configurations legal orders lead to.
+/// All outcomes of a program, each once, with a complete order that comes to it, and how many different configurations reduced orders lead to.
 /// `Limit` comes only where there are more configurations than the limit, `Memory` where memory was refused.
 pub fn outcomes(alloc: Global, program: &Program, limit: u32) -> Result<AllOutcomes, OutcomesFault>
     ensures sound { IfOk result (λ all. AllByRecursion (IsListed program.now) all.found) }
@@ -167,13 +183,15 @@ pub fn outcomes(alloc: Global, program: &Program, limit: u32) -> Result<AllOutco
     ensures counted { IfOk result (λ all. HasConfigurations program.now all.configurations) }
     ensures limit { IsErrOf result OutcomesFault.Limit → HasMoreThan program.now limit }
 {
+    program.is_sound();
+    let last = last_blocks(alloc, program)?;
     let mut seen = IndexSet::new(alloc);
     let mut found = Vec::new(alloc);
     let mut stack = Vec::new(alloc);
     add(&mut stack, Standing::first(alloc, program)?)?;
     while let Some(standing) = stack.pop() {
         visit(
-            alloc, program, limit, standing, &mut seen, &mut stack, &mut found,
+            alloc, program, last.as_slice(), &[], limit, standing, &mut seen, &mut stack, &mut found,
         )?;
     }
     Ok(AllOutcomes {

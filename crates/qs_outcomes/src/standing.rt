@@ -7,6 +7,7 @@ ghost use Rattle.qs_outcomes.specs.Alone.{AreCallsWithin, states_in};
 ghost use Rattle.qs_program.specs.Program.{blocks_of};
 
 use crate::alone::run_body;
+use crate::going::{Last, goes_on};
 use crate::rows::{add_begun, add_locals, add_objects};
 use qs_objects::{Object, ObjectFault, Ticket};
 use qs_program::{Block, Locals, MOST_VARIABLES, Program};
@@ -152,7 +153,9 @@ fn fresh_locals(alloc: Global, clients: usize) -> Result<Vec<Locals>, AllocError
 }
 
 impl Standing {
-    ghost use Rattle.qs_outcomes.specs.Standings.{HasNext, IsFirst, IsNext, IsStanding, row_of};
+    ghost use Rattle.qs_meaning.specs.Reduced.{goes_on};
+    ghost use Rattle.qs_outcomes.specs.Going.{AreLast, in_byte};
+    ghost use Rattle.qs_outcomes.specs.Standings.{GoesOn, HasNext, IsFirst, IsNext, IsStanding, configuration_in, row_of};
 
     /// The order of blocks that leads there.
     pub fn order(&self) -> &[Ticket]
@@ -179,7 +182,7 @@ impl Standing {
 
     /// Where the program stands before its first block. An error says that memory was refused.
     pub(crate) fn first(alloc: Global, program: &Program) -> Result<Standing, AllocError>
-        ensures first { IfOk result (IsFirst program.now) }
+        ensures first { IfOk result (IsFirst program.now []) }
     {
         program.is_sound();
         let clients = program.clients();
@@ -191,13 +194,13 @@ impl Standing {
         })
     }
 
-    // Whether a client has a block left.
-    pub(crate) fn has_next(&self, program: &Program, client: u8) -> bool
-        requires client { client < length program.now.clients }
-        requires standing { IsStanding program.now self.now }
-        ensures next { (result ≡ true) ↔ HasNext program.now self.now client }
+    // Who goes on. It takes no memory.
+    pub(crate) fn goes_on(&self, program: &Program, last: &[Last], front: &[Ticket]) -> u8
+        requires last { AreLast program.now last.now }
+        requires standing { IsStanding program.now front.now self.now }
+        ensures goes { in_byte result ≡ goes_on program.now (configuration_in self.now).begun }
     {
-        usize::from(self.begun[usize::from(client)]) < program.blocks_of(client)
+        goes_on(program, last, self.begun.as_slice())
     }
 
     // Where the program stands after the next block of a client. An error says that memory was refused.
@@ -205,12 +208,14 @@ impl Standing {
         &self,
         alloc: Global,
         program: &Program,
+        front: &[Ticket],
         client: u8,
     ) -> Result<Standing, AllocError>
         requires client { client < length program.now.clients }
-        requires standing { IsStanding program.now self.now }
+        requires standing { IsStanding program.now front.now self.now }
         requires left { HasNext program.now self.now client }
-        ensures next { IfOk result (IsNext program.now self.now client) }
+        requires goes { GoesOn program.now self.now client }
+        ensures next { IfOk result (IsNext program.now front.now self.now client) }
     {
         program.is_sound();
         let place = usize::from(client);

@@ -1,8 +1,24 @@
-use Rattle.std.proofs.Common.{inl, inr, sym, ◌∙◌, true≢false, refl}
+use Rattle.std.proofs.Common.{◌≡◌, ap, inl, inr, sym, ◌∙◌, true≢false, refl, subst, true}
+use Rattle.qs_outcomes.specs.Standings.{GoesOn}
+use Rattle.qs_outcomes.proofs.GoingSets.{in_set, out_of_set}
+use Rattle.qs_outcomes.proofs.Stands.{goes_left}
 use Rattle.qs_outcomes.proofs.search.push_one.Goals as goal
+use Rattle.qs_outcomes.proofs.search.push_one.Goals.{Then-goes-client-eq1}
+
+on : (c : Then-goes-client-eq1) → GoesOn c.args.program.now c.args.standing.now c.args.client
+on c = (λ i. sym c.requires.goes i c.args.client) ∙ in_set c.args.goes c.args.client c.if-goes-client-eq1.true
+
+pub next-requires : goal.next-requires
+next-requires c =
+    let a = (goal.at.next-requires c).Then-goes-client-eq1 in
+    record { client = c.requires.client; standing = c.requires.standing; left = goes_left c.args.program.now c.args.standing.now c.args.client (on a); goes = on a }
 
 pub returns-in_ok-push : goal.returns-in_ok-push
-returns-in_ok-push c = record { pushed = inl (c.has_next.ensures.next.0 c.if-has_next.true, (c.in_ok-next.field-0, c.in_ok-next.ensures.next, c.in_ok-push.ensures.items)) }
+returns-in_ok-push c =
+    let a = (goal.at.returns-in_ok-push c).Then-goes-client-eq1 in
+    record { pushed = inl (on a, goes_left c.args.program.now c.args.standing.now c.args.client (on a), (c.in_ok-next.field-0, c.in_ok-next.ensures.next, c.in_ok-push.ensures.items)) }
 
-pub returns-else-has_next : goal.returns-else-has_next
-returns-else-has_next c = record { pushed = inr (λ left. true≢false (sym (c.has_next.ensures.next.1 left) ∙ c.if-has_next.false), refl) }
+pub returns-else-goes-client-eq1 : goal.returns-else-goes-client-eq1
+returns-else-goes-client-eq1 c = record {
+  pushed = inr (λ goes. true≢false (sym goes ∙ ((λ i. sym c.requires.goes i c.args.client) ∙ out_of_set c.args.goes c.args.client c.if-goes-client-eq1.false)), refl);
+}

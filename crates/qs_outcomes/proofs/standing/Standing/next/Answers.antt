@@ -41,7 +41,7 @@ returns c =
     let a : After-as_slice = (goal.at.returns c).After-as_slice in
     let ran = same_run (block_here a) (locals_here a) (states_here a) in
     record {
-      next = stands_next c.args.program.now c.args.self.now _ c.args.client c.requires.standing c.requires.client c.requires.left
+      next = stands_next c.args.program.now c.args.front.now c.args.self.now _ c.args.client c.requires.standing c.requires.client c.requires.left c.requires.goes
           (c.in_ok-order.ensures.longer ∙ same_longer c.args.client (c.as_slice-2.ensures.value ∙ ap (λ (s : StandingShape). s.order) c.self.view_is) (begun_here a))
           (c.in_ok-begun.ensures.set ∙ same_set (c.as_slice-3.ensures.value ∙ ap (λ (s : StandingShape). s.begun) c.self.view_is) c.from-place.ensures (add-one c.index-index.result.now ∙ ap suc (begun_here a)))
           (c.in_ok-locals.ensures.set ∙ same_set (c.as_slice-4.ensures.value ∙ ap (λ (s : StandingShape). s.locals) c.self.view_is) c.from-place.ensures

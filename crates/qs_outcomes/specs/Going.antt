@@ -1,0 +1,29 @@
+-- Sets of clients as bytes, and the last block of each client that reserves an object: by these who goes on is found without memory.
+use Rattle.std.specs.Prelude.{◌≡◌, ◌<◌, ℕ, Bool, ◌==◌, List, [], length, drop, nat_lt, slice_index_or}
+use Rattle.std.specs.Int.{bit_at}
+use Rattle.std.specs.List.{list_any}
+use Rattle.qs_program.specs.Limits.{most_objects}
+use Rattle.qs_program.specs.Program.{ProgramShape, client_at}
+use Rattle.qs_meaning.specs.Reduced.{Clients, Counts, block_reserves, comes_in}
+
+-- whether a client is in a set: its bit of the byte
+abbrev pub in_byte : ℕ → Clients
+in_byte set c = bit_at set c == 1
+
+-- how many blocks each client has begun, by a list
+abbrev pub counts_in : List ℕ → Counts
+counts_in begun c = slice_index_or begun c 0
+
+-- For each object how many blocks a client has up to the last one that reserves it: a block from a place on reserves the object exactly
+-- where the place is below this number.
+abbrev pub IsLast : ProgramShape → ℕ → List ℕ → Type 0
+IsLast p c last = (k h : ℕ) → h < most_objects → list_any (block_reserves h) (drop k (client_at p c).blocks) ≡ nat_lt k (slice_index_or last h 0)
+
+-- for each client
+pub record AreLast (p : ProgramShape) (rows : List (List ℕ)) : Type 0 where
+  pub count : length rows ≡ length p.clients
+  pub each : (c : ℕ) → c < length p.clients → IsLast p c (slice_index_or rows c [])
+
+-- for each client, who comes in its way
+abbrev pub AreComers : ProgramShape → List ℕ → List ℕ → Type 0
+AreComers p begun rows = (c : ℕ) → c < length p.clients → in_byte (slice_index_or rows c 0) ≡ comes_in p (counts_in begun) c
