@@ -181,6 +181,7 @@ pub fn outcomes(alloc: Global, program: &Program, limit: u32) -> Result<AllOutco
     ensures complete { IfOk result (λ all. AreAllOutcomes program.now all.found) }
     ensures once { IfOk result (λ all. AreApart all.found) }
     ensures counted { IfOk result (λ all. HasConfigurations program.now all.configurations) }
+    ensures within { IfOk result (λ all. all.configurations ≤ limit) }
     ensures limit { IsErrOf result OutcomesFault.Limit → HasMoreThan program.now limit }
 {
     program.is_sound();

@@ -1,5 +1,5 @@
 -- All outcomes of a program, as bytes.
-use Rattle.std.specs.Prelude.{◌≡◌, ◌+◌, ℕ, pos, List, [], ◌∷◌, ◌++◌, codes, decimal, length, slice_index_or}
+use Rattle.std.specs.Prelude.{◌≡◌, ◌≤◌, ◌+◌, ℕ, pos, List, [], ◌∷◌, ◌++◌, codes, decimal, length, slice_index_or}
 use Rattle.std.specs.Fmt.{signed_decimal}
 use Rattle.std.specs.List.{AllByRecursion, join_by}
 use Rattle.qs_objects.specs.declared.held.Ticket.{Ticket}
@@ -66,6 +66,6 @@ pub record AreOutcomesOf (p : ProgramShape) (all : OutcomesShape) : Type 0 where
   pub once : AreApart all.found
   pub counted : HasConfigurations p all.configurations
 
--- There is a list of all outcomes of the program, in this order and with this count, whose text this is.
-unfoldable pub IsOutcomesText : ProgramShape → List ℕ → Type 0
-IsOutcomesText p text = (all : OutcomesShape) × AreOutcomesOf p all × (text ≡ listed_text p all)
+-- There is a list of all outcomes of the program, in this order and with this count, which is within the limit, whose text this is.
+unfoldable pub IsOutcomesText : ProgramShape → (limit : ℕ) → List ℕ → Type 0
+IsOutcomesText p limit text = (all : OutcomesShape) × AreOutcomesOf p all × (all.configurations ≤ limit) × (text ≡ listed_text p all)

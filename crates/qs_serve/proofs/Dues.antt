@@ -1,7 +1,7 @@
 -- Out of memory is always a due answer, the status 4 is due only after a read has failed, and the report of a run is due where
 -- the line asked for that run. The function `serve` and those that find what is due stand on it. Each goes by cases on what the
 -- line asks for and on the answer.
-use Rattle.std.proofs.Common.{◌≡◌, ◌⊎◌, ℕ, Bool, List, Option, Ok, true, false, refl, sym, subst, inl, inr}
+use Rattle.std.proofs.Common.{◌≡◌, ◌≤◌, ◌⊎◌, ℕ, Bool, List, Option, Ok, true, false, refl, sym, subst, inl, inr}
 use Rattle.qs_program.specs.Program.{ProgramShape}
 use Rattle.qs_core_laws.specs.CoreSchedule.{IsPlayedIn}
 use Rattle.qs_plain_laws.specs.PlainSchedule.{IsPlayed}
@@ -81,11 +81,11 @@ report_is_no_input counts p played (Text bytes) is = λ none. none
 report_is_no_input counts p played (Refused f) is = λ e. absurd (cc (is, e))
 
 -- a list that is due by what was asked for
-pub due_by_outcomes : (p : ProgramShape) (limit : ℕ) (all : OutcomesShape) (due : Due) → AreOutcomesOf p all → IsListOf p all due
+pub due_by_outcomes : (p : ProgramShape) (limit : ℕ) (all : OutcomesShape) (due : Due) → AreOutcomesOf p all → all.configurations ≤ limit → IsListOf p all due
     → IsOutOfMemory due ⊎ IsDueOfProgram (outcomes limit) p due
 unfolding IsOutcomesText
-due_by_outcomes p limit all (Text bytes) are is = inr (all, are, is)
-due_by_outcomes p limit all (Refused f) are is = inl (subst (λ g. IsOutOfMemory (Refused g)) (sym is) tt)
+due_by_outcomes p limit all (Text bytes) are within is = inr (all, are, within, is)
+due_by_outcomes p limit all (Refused f) are within is = inl (subst (λ g. IsOutOfMemory (Refused g)) (sym is) tt)
 
 pub list_is_no_input : (p : ProgramShape) (all : OutcomesShape) (due : Due) → IsListOf p all due → ¬ IsRefusedBy fault.Input due
 list_is_no_input p all (Text bytes) is = λ none. none

@@ -68,8 +68,8 @@ IsListOf p all (Text bytes) = bytes.items ≡ listed_text p all
 IsListOf p all (Refused f) = f ≡ fault.Memory
 
 -- what a request makes of a program: its counts; its graphs; the report of its run by the plain rules or in the optimised machine,
--- with so many rounds after its picks; that of an outcome which its run on threads may have; or all its outcomes. A report has the
--- counts of synchronisations where they are asked for.
+-- with so many rounds after its picks; that of an outcome which its run on threads may have; or all its outcomes, of so many
+-- configurations at most. A report has the counts of synchronisations where they are asked for.
 abbrev pub IsTextBy : Request → ProgramShape → List ℕ → Type 0
 IsTextBy check p text = text ≡ counts_text p
 IsTextBy graph p text = IsGraphText p text
@@ -78,7 +78,7 @@ IsTextBy (rules counts rounds picks) p text =
 IsTextBy (play counts mode size rounds picks) p text =
     (played : Played) × IsPlayedIn p mode size picks rounds (Ok played) × (text ≡ run_text counts p played)
 IsTextBy (run counts mode size) p text = (outcome : Played) × IsOutcome p mode size outcome × (text ≡ run_text counts p outcome)
-IsTextBy (outcomes limit) p text = IsOutcomesText p text
+IsTextBy (outcomes limit) p text = IsOutcomesText p limit text
 
 -- why what a request asks for is not played
 abbrev pub IsUnplayedBy : Request → ProgramShape → PlayFault → Type 0

@@ -10,7 +10,7 @@ returns-in-Ok-clause-due c =
       once = c.in-Ok.ensures.once;
       counted = c.in-Ok.ensures.counted;
     } in
-    due_by_outcomes c.args.program.now c.args.limit c.in-Ok.all _ are c.due_of_all.ensures.due
+    due_by_outcomes c.args.program.now c.args.limit c.in-Ok.all _ are c.in-Ok.ensures.within c.due_of_all.ensures.due
 
 pub returns-in-Ok-clause-not_input : goal.returns-in-Ok-clause-not_input
 returns-in-Ok-clause-not_input c = list_is_no_input c.args.program.now c.in-Ok.all _ c.due_of_all.ensures.due
