@@ -2,6 +2,7 @@
 use Rattle.std.specs.Prelude.{◌≡◌, ◌<◌, ◌↔◌, ℕ, suc, List, [], ◌∷◌, ◌++◌, length, filter, take, drop}
 use Rattle.qs_objects.specs.Parts.{same}
 use Rattle.qs_objects.specs.declared.held.Ticket.{Ticket}
+use Rattle.qs_program.specs.Limits.{most_variables}
 use Rattle.qs_program.specs.Program.{ProgramShape, block_at, blocks_of, client_at}
 use Rattle.qs_program.specs.Sound.{IsSound}
 use Rattle.qs_program.specs.Values.{Locals}
@@ -65,9 +66,11 @@ CompleteOrdersLeaveNone =
     (p : ProgramShape) (order : List Ticket) → IsLegal p order
     → IsComplete p order ↔ ((c : ℕ) → (configuration_after p order).begun c ≡ blocks_of p c)
 
--- After any order a client's variables are those that its text names, and 0 for the others.
+-- a client's variables: those that its text names, and 0 for the others
+pub record AreNamedAlone (p : ProgramShape) (c : ℕ) (l : Locals) : Type 0 where
+  pub long : length l ≡ most_variables
+  pub named : l ≡ take (length (client_at p c).variables) l ++ drop (length (client_at p c).variables) zeros
+
+-- After any order a variable that its client's text does not name is 0.
 abbrev pub UnnamedStayZero : Type 0
-UnnamedStayZero =
-    (p : ProgramShape) → IsSound p → (order : List Ticket) (c : ℕ)
-    → (configuration_after p order).locals c
-      ≡ take (length (client_at p c).variables) ((configuration_after p order).locals c) ++ drop (length (client_at p c).variables) zeros
+UnnamedStayZero = (p : ProgramShape) → IsSound p → (order : List Ticket) (c : ℕ) → AreNamedAlone p c ((configuration_after p order).locals c)
