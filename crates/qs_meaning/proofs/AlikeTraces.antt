@@ -82,7 +82,7 @@ one_variable : (p : ProgramShape) → IsSound p → (t : Ticket) (x y : ℕ)
     → variable_name p t x ≡ variable_name p t y → x ≡ y
 one_variable p sound t x y a b e = one_place (client_at p t.client).variables x y (formed_client p sound t.client).0 a b e
 
-variables_below : (p : ProgramShape) → IsSound p → (t : Ticket) → AreVariablesBelow (length (client_at p t.client).variables) (text_of p t).body
+pub variables_below : (p : ProgramShape) → IsSound p → (t : Ticket) → AreVariablesBelow (length (client_at p t.client).variables) (text_of p t).body
 variables_below p sound t =
     all_at (λ (b : BlockShape). AreVariablesBelow (length (client_at p t.client).variables) b.body) (client_at p t.client).blocks t.index no_block
     (formed_client p sound t.client).1 tt

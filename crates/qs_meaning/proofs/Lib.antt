@@ -14,3 +14,4 @@ pub mod Orders
 pub mod Swaps
 pub mod Groups
 pub mod Reductions
+pub mod Unnamed

@@ -1,8 +1,10 @@
 -- Configurations: where a program stands between blocks that run one after another, and what it comes to at the end of an order.
-use Rattle.std.specs.Prelude.{◌≡◌, ◌<◌, ◌↔◌, ℕ, suc, List, [], ◌∷◌, length, filter}
+use Rattle.std.specs.Prelude.{◌≡◌, ◌<◌, ◌↔◌, ℕ, suc, List, [], ◌∷◌, ◌++◌, length, filter, take, drop}
 use Rattle.qs_objects.specs.Parts.{same}
 use Rattle.qs_objects.specs.declared.held.Ticket.{Ticket}
-use Rattle.qs_program.specs.Program.{ProgramShape, block_at, blocks_of}
+use Rattle.qs_program.specs.Limits.{most_variables}
+use Rattle.qs_program.specs.Program.{ProgramShape, block_at, blocks_of, client_at}
+use Rattle.qs_program.specs.Sound.{IsSound}
 use Rattle.qs_program.specs.Values.{Locals}
 use Rattle.qs_meaning.specs.Serial.{IsLegal, declared_states, serial, zeros}
 use Rattle.qs_meaning.specs.Solo.{States, put, solo}
@@ -63,3 +65,12 @@ abbrev pub CompleteOrdersLeaveNone : Type 0
 CompleteOrdersLeaveNone =
     (p : ProgramShape) (order : List Ticket) → IsLegal p order
     → IsComplete p order ↔ ((c : ℕ) → (configuration_after p order).begun c ≡ blocks_of p c)
+
+-- a client's variables: those that its text names, and 0 for the others
+pub record AreNamedAlone (p : ProgramShape) (c : ℕ) (l : Locals) : Type 0 where
+  pub long : length l ≡ most_variables
+  pub named : l ≡ take (length (client_at p c).variables) l ++ drop (length (client_at p c).variables) zeros
+
+-- After any order a variable that its client's text does not name is 0.
+abbrev pub UnnamedStayZero : Type 0
+UnnamedStayZero = (p : ProgramShape) → IsSound p → (order : List Ticket) (c : ℕ) → AreNamedAlone p c ((configuration_after p order).locals c)

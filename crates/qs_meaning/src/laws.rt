@@ -3,7 +3,7 @@
 ghost use Rattle.qs_meaning.specs.Alike.{BlocksAlike, PlacesAlike, ValuesByName};
 ghost use Rattle.qs_meaning.specs.AlikeExamples.{AlikeExamples};
 ghost use Rattle.qs_meaning.specs.ConfigurationExamples.{ConfigurationExamples};
-ghost use Rattle.qs_meaning.specs.Configurations.{CompleteOrdersLeaveNone, ConfigurationsFollowOrders};
+ghost use Rattle.qs_meaning.specs.Configurations.{CompleteOrdersLeaveNone, ConfigurationsFollowOrders, UnnamedStayZero};
 ghost use Rattle.qs_meaning.specs.Following.{BlocksAskOnly, HonestTracesRun};
 ghost use Rattle.qs_meaning.specs.Interaction.{TreesAgree};
 ghost use Rattle.qs_meaning.specs.MeaningExamples.{MeaningExamples};
@@ -73,10 +73,12 @@ pub fn serial_keeps_kinds()
 {}
 
 /// Along a legal order each client's next block leads from a configuration to the next one. The configuration at the end has the variables
-/// and the states of the serial run; and the order is complete exactly where each client has begun all its blocks. It does nothing.
+/// and the states of the serial run; and the order is complete exactly where each client has begun all its blocks. A variable that its client's
+/// text doesn't name stays 0. It does nothing.
 pub fn configurations()
     ensures follow { ConfigurationsFollowOrders }
     ensures complete { CompleteOrdersLeaveNone }
+    ensures unnamed { UnnamedStayZero }
 {}
 
 /// The two orders of two clients that withdraw from one account, with the configurations to which they lead, computed by the

@@ -1,0 +1,97 @@
+-- A variable that its client's text does not name stays 0, since a block sets no other variables than those that its text names. A row of the
+-- search for all outcomes leaves such variables out. It goes by induction on the statements, on turns and on the order.
+use Rattle.std.proofs.Common.{◌≡◌, ◌<◌, ℕ, zero, suc, Bool, true, false, if◌then◌else◌, ◌==◌, List, [], ◌∷◌, ◌++◌, length, take, drop, refl, sym, ap, ◌∙◌, subst, arith, slice_set, ⊎_elim, ℤ}
+use Rattle.std.proofs.lemmas.List.{length-set, length-replicate}
+use Rattle.std.proofs.Common.{pos}
+use Rattle.qs_program.specs.Limits.{most_variables}
+use Rattle.qs_objects.specs.Journals.{answer}
+use Rattle.qs_objects.specs.declared.held.Ticket.{Ticket}
+use Rattle.qs_objects.proofs.Choices.{num_cases}
+use Rattle.qs_program.specs.Program.{ProgramShape, block_at, client_at}
+use Rattle.qs_program.specs.Sound.{AreVariablesBelow, IsSound}
+use Rattle.qs_program.specs.Statements.{Statements, end, command, query, assign, choose, again, leave}
+use Rattle.qs_program.specs.Values.{Locals, expr_value, request_of, test_value}
+use Rattle.qs_meaning.specs.Configurations.{Configuration, UnnamedStayZero, configuration_from, first_configuration, one_block_on}
+use Rattle.qs_meaning.specs.Serial.{zeros}
+use Rattle.qs_meaning.specs.Solo.{Ending, Runs, States, exec, put, solo, states_after, then_run, turns_run, value_of}
+use Rattle.qs_meaning.proofs.AlikeTraces.{variables_below}
+use Rattle.qs_meaning.proofs.TreeWalks.{put_here, put_there}
+
+drop_set : {X : Type 0} (l : List X) (n x : ℕ) (v : X) → x < n → drop n (slice_set l x v) ≡ drop n l
+drop_set [] n x v less = refl
+drop_set (y ∷ l) zero x v less = absurd (omega (arith, less))
+drop_set (y ∷ l) (suc n) zero v less = refl
+drop_set (y ∷ l) (suc n) (suc x) v less = drop_set l n x v (omega (arith, less))
+
+take_drop : {X : Type 0} (l : List X) (n : ℕ) → l ≡ take n l ++ drop n l
+take_drop [] zero = refl
+take_drop [] (suc n) = refl
+take_drop (x ∷ l) zero = refl
+take_drop (x ∷ l) (suc n) = ap (λ xs. x ∷ xs) (take_drop l n)
+
+-- what no setting of a named variable changes, no block changes
+module _ {X : Type 0} (F : Locals → X) (n : ℕ) (kept : (l : Locals) (x : ℕ) (v : ℤ) → x < n → F (slice_set l x v) ≡ F l) where
+  abbrev Keeps : Runs → Type 0
+  Keeps runs = (l : Locals) (st : States) → F (runs l st).locals ≡ F l
+
+  then_keeps : (o : Ending) (next : Runs) → Keeps next → F (then_run o next).locals ≡ F o.locals
+  then_keeps o next keeps = by_case o.left refl
+    where
+      by_case : (b : Bool) → o.left ≡ b → F (then_run o next).locals ≡ F o.locals
+      by_case true e = rw e refl
+      by_case false e = rw e (keeps o.locals o.states)
+
+  turns_keep : (k : ℕ) (body : Runs) → Keeps body → Keeps (turns_run k body)
+  turns_keep zero body keeps l st = refl
+  turns_keep (suc k) body keeps l st = by_case (body l st).left refl (turns_keep k body keeps (body l st).locals (body l st).states)
+    where
+      by_case : (b : Bool) → (body l st).left ≡ b → F (turns_run k body (body l st).locals (body l st).states).locals ≡ F (body l st).locals
+          → F (turns_run (suc k) body l st).locals ≡ F l
+      by_case true e later = rw e (keeps l st)
+      by_case false e later = rw e (later ∙ keeps l st)
+
+  exec_keeps : (body : Statements) → AreVariablesBelow n body → Keeps (exec body)
+  exec_keeps end below l st = refl
+  exec_keeps (command c rest) below l st = exec_keeps rest below.1 l (states_after st (request_of l c))
+  exec_keeps (query x c rest) below l st =
+      exec_keeps rest below.2 (slice_set l x (value_of (answer (st c.object) (request_of l c)))) (states_after st (request_of l c))
+      ∙ kept l x (value_of (answer (st c.object) (request_of l c))) below.0
+  exec_keeps (assign x e rest) below l st = exec_keeps rest below.2 (slice_set l x (expr_value l e)) st ∙ kept l x (expr_value l e) below.0
+  exec_keeps (choose t has_else first other rest) below l st =
+      then_keeps (if test_value l t then exec first l st else exec other l st) (exec rest) (exec_keeps rest below.4)
+      ∙ by_case (test_value l t) (exec_keeps first below.2 l st) (exec_keeps other below.3 l st)
+    where
+      by_case : (b : Bool) → F (exec first l st).locals ≡ F l → F (exec other l st).locals ≡ F l
+          → F (if b then exec first l st else exec other l st).locals ≡ F l
+      by_case true a b = a
+      by_case false a b = b
+  exec_keeps (again k body rest) below l st =
+      then_keeps (turns_run k (exec body) l st) (exec rest) (exec_keeps rest below.1) ∙ turns_keep k (exec body) (exec_keeps body below.0) l st
+  exec_keeps (leave rest) below l st = refl
+
+module _ {X : Type 0} (F : Locals → X) (p : ProgramShape) (sound : IsSound p) (c : ℕ)
+    (kept : (l : Locals) (x : ℕ) (v : ℤ) → x < length (client_at p c).variables → F (slice_set l x v) ≡ F l) where
+  one_block_keeps : (g : Configuration) (d : ℕ) → F ((one_block_on p d g).locals c) ≡ F (g.locals c)
+  one_block_keeps g d =
+      ⊎_elim
+      (λ (is : d ≡ c). at (sym is))
+      (λ (other : (d == c) ≡ false). ap F (put_there g.locals d (solo (block_at p d (g.begun d)).body (g.locals d) g.states).locals c other))
+      (num_cases d c)
+    where
+      at : c ≡ d → F ((one_block_on p d g).locals c) ≡ F (g.locals c)
+      at is =
+          ap (λ k. F ((one_block_on p k g).locals c)) (sym is)
+          ∙ (ap F (put_here g.locals c (solo (block_at p c (g.begun c)).body (g.locals c) g.states).locals)
+          ∙ exec_keeps F (length (client_at p c).variables) kept (block_at p c (g.begun c)).body (variables_below p sound (record { client = c; index = g.begun c })) (g.locals c) g.states)
+
+  order_keeps : (g : Configuration) (order : List Ticket) → F ((configuration_from p g order).locals c) ≡ F (g.locals c)
+  order_keeps g [] = refl
+  order_keeps g (t ∷ ts) = order_keeps (one_block_on p t.client g) ts ∙ one_block_keeps g t.client
+
+pub unnamed_stay_zero : UnnamedStayZero
+unnamed_stay_zero p sound order c = record {
+  long = order_keeps (λ l. length l) p sound c (λ l x v less. length-set l x v) (first_configuration p) order ∙ length-replicate most_variables (pos 0);
+  named = take_drop ((configuration_from p (first_configuration p) order).locals c) (length (client_at p c).variables)
+      ∙ ap (λ xs. take (length (client_at p c).variables) ((configuration_from p (first_configuration p) order).locals c) ++ xs)
+      (order_keeps (λ l. drop (length (client_at p c).variables) l) p sound c (λ l x v. drop_set l (length (client_at p c).variables) x v) (first_configuration p) order);
+}
