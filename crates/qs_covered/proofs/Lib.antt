@@ -1,1 +1,4 @@
 pub mod Covering
+pub mod Steps
+pub mod BlockAlone
+pub mod Reaching

@@ -98,11 +98,11 @@ pub record RunInvariant (p : ProgramShape) (sound : IsSound p) (s : Plain) : Typ
   pub kept : IsSimulated p sound (sight_of s stance)
 
 -- the lists that sound blocks reserve
-record IsList (p : ProgramShape) (hs : List ℕ) : Type 0 where
+pub record IsList (p : ProgramShape) (hs : List ℕ) : Type 0 where
   pub within : AllByRecursion (λ h. h < length p.objects) hs
   pub distinct : IsDistinct ◌==◌ hs
 
-reserved_list : (p : ProgramShape) → IsSound p → (t : Ticket) → IsList p (text_of p t).reserved
+pub reserved_list : (p : ProgramShape) → IsSound p → (t : Ticket) → IsList p (text_of p t).reserved
 unfolding IsDistinct
 reserved_list p sound t = by_client (nat_lt t.client (length p.clients)) refl
   where
@@ -128,7 +128,7 @@ in_list p (g ∷ hs) h each member = by_test (g == h) refl member (in_list p hs 
     by_test false e m later = later m
 
 -- each handler of a list changed, seen as a function
-each_is : (f : Handler → Handler) (hs : List Handler) (ks : List ℕ) (g : ℕ) → AllByRecursion (λ k. k < length hs) ks → IsDistinct ◌==◌ ks
+pub each_is : (f : Handler → Handler) (hs : List Handler) (ks : List ℕ) (g : ℕ) → AllByRecursion (λ k. k < length hs) ks → IsDistinct ◌==◌ ks
     → handler_at (at_each f hs ks) g ≡ (if is_in ks g then f (handler_at hs g) else handler_at hs g)
 each_is f hs [] g inside distinct = refl
 each_is f hs (k ∷ ks) g inside distinct =
