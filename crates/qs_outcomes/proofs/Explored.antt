@@ -20,9 +20,9 @@ use Rattle.qs_outcomes.proofs.Stands.{configuration-append, legal-rest}
 use Rattle.qs_outcomes.proofs.RowTells.{row_tells, same_row}
 
 -- equal configurations have equal rows
-same_configurations : (p : ProgramShape) (front : List Ticket) (s t : StandingShape) → IsStanding p front s → IsStanding p front t → configuration_in s ≡ configuration_in t → row_of s ≡ row_of t
+same_configurations : (p : ProgramShape) (front : List Ticket) (s t : StandingShape) → IsStanding p front s → IsStanding p front t → configuration_in s ≡ configuration_in t → row_of p s ≡ row_of p t
 same_configurations p front s t a b e =
-    same_row s t
+    same_row p s t
     (same_list 0 s.begun t.begun (a.begun ∙ sym b.begun) (λ i. ap (λ (g : Configuration). g.begun i) e))
     (same_list zeros s.locals t.locals (a.locals ∙ sym b.locals) (λ i. ap (λ (g : Configuration). g.locals i) e))
     (same_list no_state s.states t.states (a.states ∙ sym b.states) (λ i. ap (λ (g : Configuration). g.states i) e))
@@ -45,9 +45,9 @@ listed p front rows s found = record {
   states = found.standing.states;
 }
 
-found_apart : (p : ProgramShape) (front : List Ticket) (rows : List (List ℤ)) (s t : StandingShape) → IsFound p front rows s → IsFound p front rows t → outcome_at s ≡ outcome_at t → row_of s ≡ row_of t
+found_apart : (p : ProgramShape) (front : List Ticket) (rows : List (List ℤ)) (s t : StandingShape) → IsFound p front rows s → IsFound p front rows t → outcome_at s ≡ outcome_at t → row_of p s ≡ row_of p t
 found_apart p front rows s t a b e =
-    same_row s t
+    same_row p s t
     (same_list 0 s.begun t.begun (a.standing.begun ∙ sym b.standing.begun) (λ i. all_begun p front s a.standing a.over i ∙ sym (all_begun p front t b.standing b.over i)))
     (same_list zeros s.locals t.locals (a.standing.locals ∙ sym b.standing.locals) (λ i. ap (λ (o : OrderOutcome). o.locals i) e))
     (same_list no_state s.states t.states (a.standing.states ∙ sym b.standing.states) (λ i. ap (λ (o : OrderOutcome). o.states i) e))
@@ -62,41 +62,41 @@ two_map R S f [] each h = tt
 two_map R S f (x ∷ xs) each h = (all_but R S f x each.0 xs each.1 h.0, two_map R S f xs each.1 h.1)
 
 -- whose row was seen
-pick : (Q : StandingShape → Type 0) (rows : List (List ℤ)) → HasOne (λ r. (n : StandingShape) × Q n × (row_of n ≡ r)) rows → (n : StandingShape) × Q n × HasOne (λ r. row_of n ≡ r) rows
-pick Q [] h = absurd h
-pick Q (r ∷ rows) (inl (n, q, e)) = (n, q, inl e)
-pick Q (r ∷ rows) (inr h) = let later = pick Q rows h in (later.0, later.1, inr later.2)
+pick : (p : ProgramShape) (Q : StandingShape → Type 0) (rows : List (List ℤ)) → HasOne (λ r. (n : StandingShape) × Q n × (row_of p n ≡ r)) rows → (n : StandingShape) × Q n × HasOne (λ r. row_of p n ≡ r) rows
+pick p Q [] h = absurd h
+pick p Q (r ∷ rows) (inl (n, q, e)) = (n, q, inl e)
+pick p Q (r ∷ rows) (inr h) = let later = pick p Q rows h in (later.0, later.1, inr later.2)
 
-seen_one : (Q : StandingShape → Type 0) (rows : List (List ℤ)) → IsReached Q rows [] → (n : StandingShape) × Q n × HasOne (λ r. row_of n ≡ r) rows
-seen_one Q rows (inl h) = absurd h
-seen_one Q rows (inr h) = pick Q rows h
+seen_one : (p : ProgramShape) (Q : StandingShape → Type 0) (rows : List (List ℤ)) → IsReached p Q rows [] → (n : StandingShape) × Q n × HasOne (λ r. row_of p n ≡ r) rows
+seen_one p Q rows (inl h) = absurd h
+seen_one p Q rows (inr h) = pick p Q rows h
 
 module _ (p : ProgramShape) (front : List Ticket) (sound : IsSound p) (rows : List (List ℤ)) (found : List StandingShape) (explored : IsExplored p front rows [] found) where
   -- where the next block of one who goes on leads from a configuration that was seen
-  next_seen : (s : StandingShape) (c : ℕ) → HasOne (λ r. row_of s ≡ r) rows → GoesOn p s c
-      → (n : StandingShape) × (IsStanding p front n × (configuration_in n ≡ one_block_on p c (configuration_in s))) × HasOne (λ r. row_of n ≡ r) rows
-  next_seen s c seen goes =
+  next_seen : (s : StandingShape) (c : ℕ) → IsStanding p front s → HasOne (λ r. row_of p s ≡ r) rows → GoesOn p s c
+      → (n : StandingShape) × (IsStanding p front n × (configuration_in n ≡ one_block_on p c (configuration_in s))) × HasOne (λ r. row_of p n ≡ r) rows
+  next_seen s c is_s seen goes =
       has_some
-      (λ r (is : row_of s ≡ r) (w : (t : StandingShape) × IsSeen p front rows [] found r t).
-      let same : configuration_in w.0 ≡ configuration_in s = row_tells w.0 s (w.1.row ∙ sym is) in
+      (λ r (is : row_of p s ≡ r) (w : (t : StandingShape) × IsSeen p front rows [] found r t).
+      let same : configuration_in w.0 ≡ configuration_in s = row_tells p front sound w.0 s w.1.standing is_s (w.1.row ∙ sym is) in
       let on : GoesOn p w.0 c = subst (λ (g : Configuration). goes_on p g.begun c ≡ true) (sym same) goes in
-      let n = seen_one (IsNext p front w.0 c) rows (w.1.closed c on) in
+      let n = seen_one p (IsNext p front w.0 c) rows (w.1.closed c on) in
       (n.0, (n.1.standing, n.1.next ∙ ap (one_block_on p c) same), n.2))
       rows seen explored.seen
 
-  along : (s : StandingShape) (ts : List Ticket) → IsStanding p front s → HasOne (λ r. row_of s ≡ r) rows → LegalFrom p (configuration_in s).begun ts → IsReducedFrom p (configuration_in s) ts
-      → (w : StandingShape) × (IsStanding p front w × (configuration_in w ≡ configuration_from p (configuration_in s) ts)) × HasOne (λ r. row_of w ≡ r) rows
+  along : (s : StandingShape) (ts : List Ticket) → IsStanding p front s → HasOne (λ r. row_of p s ≡ r) rows → LegalFrom p (configuration_in s).begun ts → IsReducedFrom p (configuration_in s) ts
+      → (w : StandingShape) × (IsStanding p front w × (configuration_in w ≡ configuration_from p (configuration_in s) ts)) × HasOne (λ r. row_of p w ≡ r) rows
   along s [] is seen legal reduced = (s, (is, refl), seen)
   along s (t ∷ ts) is seen legal reduced =
-      let n = next_seen s t.client seen reduced.0 in
+      let n = next_seen s t.client is seen reduced.0 in
       let rest = along n.0 ts n.1.0 n.2 (subst (λ (g : Configuration). LegalFrom p g.begun ts) (sym n.1.1) (legal_on p (configuration_in s) t ts legal))
       (subst (λ g. IsReducedFrom p g ts) (sym n.1.1) reduced.1) in
       (rest.0, (rest.1.0, rest.1.1 ∙ ap (λ g. configuration_from p g ts) n.1.1), rest.2)
 
   reached : (rest : List Ticket) → LegalFrom p (configuration_after p front).begun rest → IsReducedFrom p (configuration_after p front) rest
-      → (w : StandingShape) × (IsStanding p front w × (configuration_in w ≡ configuration_from p (configuration_after p front) rest)) × HasOne (λ r. row_of w ≡ r) rows
+      → (w : StandingShape) × (IsStanding p front w × (configuration_in w ≡ configuration_from p (configuration_after p front) rest)) × HasOne (λ r. row_of p w ≡ r) rows
   reached rest legal reduced =
-      let first = seen_one (IsFirst p front) rows explored.first in
+      let first = seen_one p (IsFirst p front) rows explored.first in
       let last = along first.0 rest first.1.standing first.2 (subst (λ (g : Configuration). LegalFrom p g.begun rest) (sym first.1.first) legal)
       (subst (λ g. IsReducedFrom p g rest) (sym first.1.first) reduced) in
       (last.0, (last.1.0, last.1.1 ∙ ap (λ g. configuration_from p g rest) first.1.first), last.2)
@@ -109,8 +109,8 @@ module _ (p : ProgramShape) (front : List Ticket) (sound : IsSound p) (rows : Li
       (λ c. ap (λ (g : Configuration). g.begun c) (sym whole) ∙ ends c) in
       let last = reached r.reduced r.legal r.is_reduced in
       has_some
-      (λ q (is : row_of last.0 ≡ q) (w : (t : StandingShape) × IsSeen p front rows [] found q t).
-      let same : configuration_in w.0 ≡ configuration_after p (front ++ rest) = row_tells w.0 last.0 (w.1.row ∙ sym is) ∙ (last.1.1 ∙ (r.same ∙ sym whole)) in
+      (λ q (is : row_of p last.0 ≡ q) (w : (t : StandingShape) × IsSeen p front rows [] found q t).
+      let same : configuration_in w.0 ≡ configuration_after p (front ++ rest) = row_tells p front sound w.0 last.0 w.1.standing last.1.0 (w.1.row ∙ sym is) ∙ (last.1.1 ∙ (r.same ∙ sym whole)) in
       let none : NoneNext p w.0 = λ c left.
       (let over : (configuration_after p (front ++ rest)).begun c ≡ blocks_of p c = ends c in
       let has : (configuration_after p (front ++ rest)).begun c < blocks_of p c = subst (λ (g : Configuration). g.begun c < blocks_of p c) same left in
@@ -122,10 +122,10 @@ module _ (p : ProgramShape) (front : List Ticket) (sound : IsSound p) (rows : Li
   all_listed = each_map (listed p front rows) found explored.found
 
   pub all_apart : AreApart found
-  all_apart = two_map (λ x y. row_of x ≡ row_of y) (λ x y. outcome_at x ≡ outcome_at y) (found_apart p front rows) found explored.found explored.apart
+  all_apart = two_map (λ x y. row_of p x ≡ row_of p y) (λ x y. outcome_at x ≡ outcome_at y) (found_apart p front rows) found explored.found explored.apart
 
 -- the configurations that were seen, one for each row
-module _ (p : ProgramShape) (front : List Ticket) (Kept : List ℤ → StandingShape → Type 0) (standing : (r : List ℤ) (s : StandingShape) → Kept r s → IsStanding p front s) (row : (r : List ℤ) (s : StandingShape) → Kept r s → row_of s ≡ r) where
+module _ (p : ProgramShape) (front : List Ticket) (sound : IsSound p) (Kept : List ℤ → StandingShape → Type 0) (standing : (r : List ℤ) (s : StandingShape) → Kept r s → IsStanding p front s) (row : (r : List ℤ) (s : StandingShape) → Kept r s → row_of p s ≡ r) where
   abbrev pub AllKept : List (List ℤ) → Type 0
   AllKept rows = AllByRecursion (λ r. (s : StandingShape) × Kept r s) rows
 
@@ -143,7 +143,7 @@ module _ (p : ProgramShape) (front : List Ticket) (Kept : List ℤ → StandingS
   picked_standing [] h = tt
   picked_standing (r ∷ rows) h = (standing r h.0.0 h.0.1, picked_standing rows h.1)
 
-  picked_other : (s : StandingShape) → IsStanding p front s → (rows : List (List ℤ)) (h : AllKept rows) → AllByRecursion (λ r. row_of s ≡ r → ⊥) rows
+  picked_other : (s : StandingShape) → IsStanding p front s → (rows : List (List ℤ)) (h : AllKept rows) → AllByRecursion (λ r. row_of p s ≡ r → ⊥) rows
       → AllByRecursion (λ t. configuration_in s ≡ configuration_in t → ⊥) (picked rows h)
   unfolding picked
   picked_other s is [] h other = tt
@@ -154,13 +154,13 @@ module _ (p : ProgramShape) (front : List Ticket) (Kept : List ℤ → StandingS
   unfolding picked
   picked_apart [] h once = tt
   picked_apart (r ∷ rows) h once =
-      (picked_other h.0.0 (standing r h.0.0 h.0.1) rows h.1 (each_map {Q = λ q. row_of h.0.0 ≡ q → ⊥} (λ q (other : r ≡ q → ⊥) e. other (sym (row r h.0.0 h.0.1) ∙ e)) rows once.0), picked_apart rows h.1 once.1)
+      (picked_other h.0.0 (standing r h.0.0 h.0.1) rows h.1 (each_map {Q = λ q. row_of p h.0.0 ≡ q → ⊥} (λ q (other : r ≡ q → ⊥) e. other (sym (row r h.0.0 h.0.1) ∙ e)) rows once.0), picked_apart rows h.1 once.1)
 
-  picked_has : (w : StandingShape) (rows : List (List ℤ)) (h : AllKept rows) → HasOne (λ r. row_of w ≡ r) rows → HasOne (λ s. configuration_in s ≡ configuration_in w) (picked rows h)
+  picked_has : (w : StandingShape) → IsStanding p front w → (rows : List (List ℤ)) (h : AllKept rows) → HasOne (λ r. row_of p w ≡ r) rows → HasOne (λ s. configuration_in s ≡ configuration_in w) (picked rows h)
   unfolding picked
-  picked_has w [] h seen = absurd seen
-  picked_has w (r ∷ rows) h (inl e) = inl (row_tells h.0.0 w (row r h.0.0 h.0.1 ∙ sym e))
-  picked_has w (r ∷ rows) h (inr later) = inr (picked_has w rows h.1 later)
+  picked_has w is [] h seen = absurd seen
+  picked_has w is (r ∷ rows) h (inl e) = inl (row_tells p front sound h.0.0 w (standing r h.0.0 h.0.1) is (row r h.0.0 h.0.1 ∙ sym e))
+  picked_has w is (r ∷ rows) h (inr later) = inr (picked_has w is rows h.1 later)
 
   pub different : (rows : List (List ℤ)) (h : AllKept rows) → NoTwo ◌≡◌ rows → AreDifferent p front (picked rows h) (length rows)
   different rows h once = record { count = picked_long rows h; reached = picked_standing rows h; different = picked_apart rows h once }
@@ -168,30 +168,30 @@ module _ (p : ProgramShape) (front : List Ticket) (Kept : List ℤ → StandingS
   turned : (s : StandingShape) (ts : List StandingShape) → AllByRecursion (λ t. configuration_in s ≡ configuration_in t → ⊥) ts → AllByRecursion (λ t. configuration_in t ≡ configuration_in s → ⊥) ts
   turned s ts h = each_map {Q = λ t. configuration_in t ≡ configuration_in s → ⊥} (λ t (other : configuration_in s ≡ configuration_in t → ⊥) e. other (sym e)) ts h
 
-  pub one_more : (rows : List (List ℤ)) (h : AllKept rows) → NoTwo ◌≡◌ rows → (s : StandingShape) → IsStanding p front s → (HasOne (λ r. row_of s ≡ r) rows → ⊥)
+  pub one_more : (rows : List (List ℤ)) (h : AllKept rows) → NoTwo ◌≡◌ rows → (s : StandingShape) → IsStanding p front s → (HasOne (λ r. row_of p s ≡ r) rows → ⊥)
       → AreDifferent p front (picked rows h ++ s ∷ []) (suc (length rows))
   one_more rows h once s is new = record {
     count = (let long = picked_long rows h in omega (arith, long, length-append (picked rows h) (s ∷ [])));
     reached = each_snoc (IsStanding p front) (picked rows h) s (picked_standing rows h) is;
     different = two_snoc (λ s t. configuration_in s ≡ configuration_in t) (picked rows h) s (picked_apart rows h once)
-        (turned s (picked rows h) (picked_other s is rows h (none_of (λ r. row_of s ≡ r) rows new)));
+        (turned s (picked rows h) (picked_other s is rows h (none_of (λ r. row_of p s ≡ r) rows new)));
   }
 
 pub has_configurations : (p : ProgramShape) (front : List Ticket) → IsSound p → (rows : List (List ℤ)) (found : List StandingShape) → IsExplored p front rows [] found → HasConfigurationsAfter p front (length rows)
 has_configurations p front sound rows found explored = (
-  picked p front (IsSeen p front rows [] found) (λ r s w. w.standing) (λ r s w. w.row) rows explored.seen,
-  different p front (IsSeen p front rows [] found) (λ r s w. w.standing) (λ r s w. w.row) rows explored.seen explored.once,
+  picked p front sound (IsSeen p front rows [] found) (λ r s w. w.standing) (λ r s w. w.row) rows explored.seen,
+  different p front sound (IsSeen p front rows [] found) (λ r s w. w.standing) (λ r s w. w.row) rows explored.seen explored.once,
   λ rest legal reduced.
       (let last = reached p front sound rows found explored rest (legal-rest p (first_configuration p) front rest legal) reduced in
       has_map (λ s (e : configuration_in s ≡ configuration_in last.0). e ∙ (last.1.1 ∙ sym (configuration-append p (first_configuration p) front rest)))
-      (picked p front (IsSeen p front rows [] found) (λ r s w. w.standing) (λ r s w. w.row) rows explored.seen)
-      (picked_has p front (IsSeen p front rows [] found) (λ r s w. w.standing) (λ r s w. w.row) last.0 rows explored.seen last.2)),
+      (picked p front sound (IsSeen p front rows [] found) (λ r s w. w.standing) (λ r s w. w.row) rows explored.seen)
+      (picked_has p front sound (IsSeen p front rows [] found) (λ r s w. w.standing) (λ r s w. w.row) last.0 last.1.0 rows explored.seen last.2)),
 )
 
-pub has_more_than : (p : ProgramShape) (front : List Ticket) (limit : ℕ) (rows : List (List ℤ)) (stack found : List StandingShape) (s : StandingShape) → IsExplored p front rows stack found
-    → IsStanding p front s → length rows ≡ limit → (HasOne (λ r. row_of s ≡ r) rows → ⊥) → HasMoreThanAfter p front limit
-has_more_than p front limit rows stack found s explored is full new = (
-  picked p front (IsSeen p front rows stack found) (λ r s w. w.standing) (λ r s w. w.row) rows explored.seen ++ s ∷ [],
-  subst (λ n. AreDifferent p front (picked p front (IsSeen p front rows stack found) (λ r s w. w.standing) (λ r s w. w.row) rows explored.seen ++ s ∷ []) (suc n)) full
-      (one_more p front (IsSeen p front rows stack found) (λ r s w. w.standing) (λ r s w. w.row) rows explored.seen explored.once s is new),
+pub has_more_than : (p : ProgramShape) (front : List Ticket) → IsSound p → (limit : ℕ) (rows : List (List ℤ)) (stack found : List StandingShape) (s : StandingShape) → IsExplored p front rows stack found
+    → IsStanding p front s → length rows ≡ limit → (HasOne (λ r. row_of p s ≡ r) rows → ⊥) → HasMoreThanAfter p front limit
+has_more_than p front sound limit rows stack found s explored is full new = (
+  picked p front sound (IsSeen p front rows stack found) (λ r s w. w.standing) (λ r s w. w.row) rows explored.seen ++ s ∷ [],
+  subst (λ n. AreDifferent p front (picked p front sound (IsSeen p front rows stack found) (λ r s w. w.standing) (λ r s w. w.row) rows explored.seen ++ s ∷ []) (suc n)) full
+      (one_more p front sound (IsSeen p front rows stack found) (λ r s w. w.standing) (λ r s w. w.row) rows explored.seen explored.once s is new),
 )

@@ -30,35 +30,35 @@ here_or_above c d h =
     (below_or_past c d)
 
 -- whatever was reached stays so, where the last of the stack was seen
-reached_on : (Q : StandingShape → Type 0) (rows later : List (List ℤ)) (stack now : List StandingShape) (s : StandingShape)
-    → HasOne (λ r. row_of s ≡ r) later → ((P : List ℤ → Type 0) → HasOne P rows → HasOne P later) → ((P : StandingShape → Type 0) → HasOne P stack → HasOne P now)
-    → IsReached Q rows (stack ++ s ∷ []) → IsReached Q later now
-reached_on Q rows later stack now s seen more on (inl h) =
+reached_on : (p : ProgramShape) (Q : StandingShape → Type 0) (rows later : List (List ℤ)) (stack now : List StandingShape) (s : StandingShape)
+    → HasOne (λ r. row_of p s ≡ r) later → ((P : List ℤ → Type 0) → HasOne P rows → HasOne P later) → ((P : StandingShape → Type 0) → HasOne P stack → HasOne P now)
+    → IsReached p Q rows (stack ++ s ∷ []) → IsReached p Q later now
+reached_on p Q rows later stack now s seen more on (inl h) =
     ⊎_elim
     (λ (before : HasOne Q stack). inl (on Q before))
-    (λ (last : HasOne Q (s ∷ [])). inr (has_map (λ r (e : row_of s ≡ r). (s, last_is last, e)) later seen))
+    (λ (last : HasOne Q (s ∷ [])). inr (has_map (λ r (e : row_of p s ≡ r). (s, last_is last, e)) later seen))
     (has_either Q stack (s ∷ []) h)
   where
     last_is : HasOne Q (s ∷ []) → Q s
     last_is (inl q) = q
     last_is (inr h) = absurd h
-reached_on Q rows later stack now s seen more on (inr h) = inr (more _ h)
+reached_on p Q rows later stack now s seen more on (inr h) = inr (more _ h)
 
 module _ (p : ProgramShape) (front : List Ticket) (rows : List (List ℤ)) (stack found : List StandingShape) (s : StandingShape) (explored : IsExplored p front rows (stack ++ s ∷ []) found) where
   pub taken : IsStanding p front s
   taken = (each_back (IsStanding p front) stack (s ∷ []) explored.stack).0
 
   -- a standing whose row was seen is done with
-  pub skips : HasOne (λ r. row_of s ≡ r) rows → IsExplored p front rows stack found
+  pub skips : HasOne (λ r. row_of p s ≡ r) rows → IsExplored p front rows stack found
   skips seen = record {
     stack = each_front (IsStanding p front) stack (s ∷ []) explored.stack;
-    first = reached_on (IsFirst p front) rows rows stack stack s seen (λ P h. h) (λ P h. h) explored.first;
+    first = reached_on p (IsFirst p front) rows rows stack stack s seen (λ P h. h) (λ P h. h) explored.first;
     seen = each_map (λ r (w : (t : StandingShape) × IsSeen p front rows (stack ++ s ∷ []) found r t). (
       w.0,
       record {
         standing = w.1.standing;
         row = w.1.row;
-        closed = λ c next. reached_on (IsNext p front w.0 c) rows rows stack stack s seen (λ P h. h) (λ P h. h) (w.1.closed c next);
+        closed = λ c next. reached_on p (IsNext p front w.0 c) rows rows stack stack s seen (λ P h. h) (λ P h. h) (w.1.closed c next);
         found = w.1.found;
       },
     )) rows explored.seen;
@@ -67,21 +67,21 @@ module _ (p : ProgramShape) (front : List Ticket) (rows : List (List ℤ)) (stac
     apart = explored.apart;
   }
 
-  module _ (new : HasOne (λ r. row_of s ≡ r) rows → ⊥) (added results : List StandingShape) (next : AreNextFrom p front s 0 added)
+  module _ (new : HasOne (λ r. row_of p s ≡ r) rows → ⊥) (added results : List StandingShape) (next : AreNextFrom p front s 0 added)
       (more : (P : StandingShape → Type 0) → HasOne P found → HasOne P results) (over : NoneNext p s → HasOne (λ x. configuration_in x ≡ configuration_in s) results)
-      (all : AllByRecursion (IsFound p front (rows ++ row_of s ∷ [])) results) (apart : NoTwo (λ x y. row_of x ≡ row_of y) results) where
-    here : HasOne (λ r. row_of s ≡ r) (rows ++ row_of s ∷ [])
-    here = has_back (λ r. row_of s ≡ r) rows (row_of s ∷ []) (inl refl)
+      (all : AllByRecursion (IsFound p front (rows ++ row_of p s ∷ [])) results) (apart : NoTwo (λ x y. row_of p x ≡ row_of p y) results) where
+    here : HasOne (λ r. row_of p s ≡ r) (rows ++ row_of p s ∷ [])
+    here = has_back (λ r. row_of p s ≡ r) rows (row_of p s ∷ []) (inl refl)
 
-    onward : (Q : StandingShape → Type 0) → IsReached Q rows (stack ++ s ∷ []) → IsReached Q (rows ++ row_of s ∷ []) (stack ++ added)
-    onward Q = reached_on Q rows (rows ++ row_of s ∷ []) stack (stack ++ added) s here (λ P. has_front P rows (row_of s ∷ [])) (λ P. has_front P stack added)
+    onward : (Q : StandingShape → Type 0) → IsReached p Q rows (stack ++ s ∷ []) → IsReached p Q (rows ++ row_of p s ∷ []) (stack ++ added)
+    onward Q = reached_on p Q rows (rows ++ row_of p s ∷ []) stack (stack ++ added) s here (λ P. has_front P rows (row_of p s ∷ [])) (λ P. has_front P stack added)
 
     -- a new one is seen now, with what its next blocks lead to on the stack
-    pub sees : IsExplored p front (rows ++ row_of s ∷ []) (stack ++ added) results
+    pub sees : IsExplored p front (rows ++ row_of p s ∷ []) (stack ++ added) results
     sees = record {
       stack = each_join (IsStanding p front) stack added (each_front (IsStanding p front) stack (s ∷ []) explored.stack) next.standing;
       first = onward (IsFirst p front) explored.first;
-      seen = each_snoc (λ r. (t : StandingShape) × IsSeen p front (rows ++ row_of s ∷ []) (stack ++ added) results r t) rows (row_of s)
+      seen = each_snoc (λ r. (t : StandingShape) × IsSeen p front (rows ++ row_of p s ∷ []) (stack ++ added) results r t) rows (row_of p s)
           (each_map (λ r (w : (t : StandingShape) × IsSeen p front rows (stack ++ s ∷ []) found r t). (
             w.0,
             record {
@@ -99,30 +99,30 @@ module _ (p : ProgramShape) (front : List Ticket) (rows : List (List ℤ)) (stac
               found = over;
             },
           );
-      once = two_snoc ◌≡◌ rows (row_of s) explored.once (each_map {Q = λ r. r ≡ row_of s → ⊥} (λ r (other : row_of s ≡ r → ⊥) e. other (sym e)) rows (none_of (λ r. row_of s ≡ r) rows new));
+      once = two_snoc ◌≡◌ rows (row_of p s) explored.once (each_map {Q = λ r. r ≡ row_of p s → ⊥} (λ r (other : row_of p s ≡ r → ⊥) e. other (sym e)) rows (none_of (λ r. row_of p s ≡ r) rows new));
       found = all;
       apart = apart;
     }
 
   -- where blocks are left, nothing more is found
-  pub sees_on : (HasOne (λ r. row_of s ≡ r) rows → ⊥) → (added : List StandingShape) → AreNextFrom p front s 0 added → (NoneNext p s → ⊥)
-      → IsExplored p front (rows ++ row_of s ∷ []) (stack ++ added) found
+  pub sees_on : (HasOne (λ r. row_of p s ≡ r) rows → ⊥) → (added : List StandingShape) → AreNextFrom p front s 0 added → (NoneNext p s → ⊥)
+      → IsExplored p front (rows ++ row_of p s ∷ []) (stack ++ added) found
   sees_on new added next some = sees new added found next (λ P h. h) (λ none. absurd (some none)) (found_on found explored.found) explored.apart
     where
-      found_on : (xs : List StandingShape) → AllByRecursion (IsFound p front rows) xs → AllByRecursion (IsFound p front (rows ++ row_of s ∷ [])) xs
-      found_on xs h = each_map (λ x (f : IsFound p front rows x). record { standing = f.standing; over = f.over; seen = has_front (λ r. row_of x ≡ r) rows (row_of s ∷ []) f.seen }) xs h
+      found_on : (xs : List StandingShape) → AllByRecursion (IsFound p front rows) xs → AllByRecursion (IsFound p front (rows ++ row_of p s ∷ [])) xs
+      found_on xs h = each_map (λ x (f : IsFound p front rows x). record { standing = f.standing; over = f.over; seen = has_front (λ r. row_of p x ≡ r) rows (row_of p s ∷ []) f.seen }) xs h
 
   -- where none is left, the standing is found
-  pub sees_end : (HasOne (λ r. row_of s ≡ r) rows → ⊥) → (added : List StandingShape) → AreNextFrom p front s 0 added → NoneNext p s
-      → IsExplored p front (rows ++ row_of s ∷ []) (stack ++ added) (found ++ s ∷ [])
+  pub sees_end : (HasOne (λ r. row_of p s ≡ r) rows → ⊥) → (added : List StandingShape) → AreNextFrom p front s 0 added → NoneNext p s
+      → IsExplored p front (rows ++ row_of p s ∷ []) (stack ++ added) (found ++ s ∷ [])
   sees_end new added next none =
       sees new added (found ++ s ∷ []) next (λ P. has_front P found (s ∷ []))
       (λ _. has_back (λ x. configuration_in x ≡ configuration_in s) found (s ∷ []) (inl refl))
-      (each_snoc (IsFound p front (rows ++ row_of s ∷ [])) found s
-      (each_map (λ x (f : IsFound p front rows x). record { standing = f.standing; over = f.over; seen = has_front (λ r. row_of x ≡ r) rows (row_of s ∷ []) f.seen }) found explored.found)
-      (record { standing = taken; over = none; seen = has_back (λ r. row_of s ≡ r) rows (row_of s ∷ []) (inl refl) }))
-      (two_snoc (λ x y. row_of x ≡ row_of y) found s explored.apart
-      (each_map {Q = λ x. row_of x ≡ row_of s → ⊥} (λ x (f : IsFound p front rows x) e. new (has_map (λ r (is : row_of x ≡ r). sym e ∙ is) rows f.seen)) found explored.found))
+      (each_snoc (IsFound p front (rows ++ row_of p s ∷ [])) found s
+      (each_map (λ x (f : IsFound p front rows x). record { standing = f.standing; over = f.over; seen = has_front (λ r. row_of p x ≡ r) rows (row_of p s ∷ []) f.seen }) found explored.found)
+      (record { standing = taken; over = none; seen = has_back (λ r. row_of p s ≡ r) rows (row_of p s ∷ []) (inl refl) }))
+      (two_snoc (λ x y. row_of p x ≡ row_of p y) found s explored.apart
+      (each_map {Q = λ x. row_of p x ≡ row_of p s → ⊥} (λ x (f : IsFound p front rows x) e. new (has_map (λ r (is : row_of p x ≡ r). sym e ∙ is) rows f.seen)) found explored.found))
 
 -- one more pushed: those of one more client
 pub pushed_on : (p : ProgramShape) (front : List Ticket) (s : StandingShape) (c : ℕ) (before middle after : List StandingShape) → c < length p.clients
@@ -177,20 +177,20 @@ none_added p front s (n ∷ added) next long c left = (let e : length (n ∷ add
 
 -- a standing that was taken up, by what was noted of it and what was added
 module _ (p : ProgramShape) (front : List Ticket) (limit : ℕ) (rows later : List (List ℤ)) (stack now found : List StandingShape) (s : StandingShape) (explored : IsExplored p front rows (stack ++ s ∷ []) found) (new : Bool)
-    (noted : IsNoted rows (row_of s) limit new later) where
+    (noted : IsNoted rows (row_of p s) limit new later) where
   pub skipped : new ≡ false → IsExplored p front later stack found
   skipped old =
-      let same : IsNoted rows (row_of s) limit false later = subst (λ b. IsNoted rows (row_of s) limit b later) old noted in
+      let same : IsNoted rows (row_of p s) limit false later = subst (λ b. IsNoted rows (row_of p s) limit b later) old noted in
       subst (λ rs. IsExplored p front rs stack found) (sym same.0.0) (skips p front rows stack found s explored same.0.1)
 
-  fresh : new ≡ true → IsNoted rows (row_of s) limit true later
-  fresh is = subst (λ b. IsNoted rows (row_of s) limit b later) is noted
+  fresh : new ≡ true → IsNoted rows (row_of p s) limit true later
+  fresh is = subst (λ b. IsNoted rows (row_of p s) limit b later) is noted
 
   pub gone_on : new ≡ true → IsLonger p front s 0 stack now → (length now ≡ length stack → ⊥) → IsExplored p front later now found
   gone_on is (added, e, next) more =
       let n = fresh is in
       subst (λ rs. IsExplored p front rs now found) (sym n.0.0)
-      (subst (λ ts. IsExplored p front (rows ++ row_of s ∷ []) ts found) (sym e)
+      (subst (λ ts. IsExplored p front (rows ++ row_of p s ∷ []) ts found) (sym e)
       (sees_on p front rows stack found s explored n.0.1 added next
       (λ none. more (let zero_long = next.none none in let long = ap length e in omega (arith, zero_long, long, length-append stack added)))))
 
@@ -198,14 +198,14 @@ module _ (p : ProgramShape) (front : List Ticket) (limit : ℕ) (rows later : Li
   ended is (added, e, next) same results last =
       let n = fresh is in
       subst (λ rs. IsExplored p front rs now results) (sym n.0.0)
-      (subst (λ ts. IsExplored p front (rows ++ row_of s ∷ []) ts results) (sym e)
-      (subst (λ xs. IsExplored p front (rows ++ row_of s ∷ []) (stack ++ added) xs) (sym last)
+      (subst (λ ts. IsExplored p front (rows ++ row_of p s ∷ []) ts results) (sym e)
+      (subst (λ xs. IsExplored p front (rows ++ row_of p s ∷ []) (stack ++ added) xs) (sym last)
       (sees_end p front rows stack found s explored n.0.1 added next
       (none_added p front s added next (let long = ap length e in omega (arith, same, long, length-append stack added))))))
 
   pub less_left : new ≡ true → IsLonger p front s 0 stack now → length p.clients ≤ 8 → work_left limit later now < work_left limit rows stack + 1
   less_left is (added, e, next) clients =
       let n = fresh is in let few = next.few in let within = n.1 in
-      let one : length later ≡ length rows + 1 = ap length n.0.0 ∙ length-append rows (row_of s ∷ []) in
+      let one : length later ≡ length rows + 1 = ap length n.0.0 ∙ length-append rows (row_of p s ∷ []) in
       let long : length now ≡ length stack + length added = ap length e ∙ length-append stack added in
       omega (arith, few, within, one, long, clients)

@@ -1,8 +1,18 @@
--- A row tells the configuration: each part of it says how long it is, so two rows are equal only where all their parts are. By this what was
--- seen under a row need not be looked at again. It goes part by part, with the rest of the rows in hand.
+-- A row tells the configuration: each part of it is as long in any row of the program or says how long it is, so two rows are equal only where
+-- all their parts are; and a variable that no text names is 0. By this what was seen under a row need not be looked at again. It goes part by
+-- part, with the rest of the rows in hand.
 use Rattle.std.proofs.Common.{◌≡◌, ℕ, List, [], ◌∷◌, ◌++◌, length, map, flat_map, refl, sym, ap, ap₂, ◌∙◌, ℤ, pos, append_assoc, arith}
 use Rattle.qs_objects.specs.Act.{account, buffer, grid}
-use Rattle.qs_outcomes.specs.Standings.{StandingShape, configuration_in, content_row, counted, row_of, state_row}
+use Rattle.std.proofs.Common.{◌<◌, ◌+◌, suc, get_or, take, drop, subst}
+use Rattle.std.proofs.lemmas.List.{length-map, length-take}
+use Rattle.qs_objects.specs.declared.held.Ticket.{Ticket}
+use Rattle.qs_program.specs.Program.{ProgramShape, client_at}
+use Rattle.qs_program.specs.Sound.{IsSound}
+use Rattle.qs_program.specs.Values.{Locals}
+use Rattle.qs_meaning.specs.Configurations.{AreNamedAlone, Configuration}
+use Rattle.qs_meaning.specs.Serial.{zeros}
+use Rattle.qs_meaning.proofs.Unnamed.{unnamed_stay_zero}
+use Rattle.qs_outcomes.specs.Standings.{IsStanding, StandingShape, configuration_in, content_row, counted, named_from, row_of, state_row}
 
 -- the first number, and the rest
 head : {x y : ℤ} {xs ys : List ℤ} → ◌≡◌ {A = List ℤ} (x ∷ xs) (y ∷ ys) → x ≡ y
@@ -69,20 +79,54 @@ append_none : (xs : List ℤ) → xs ++ [] ≡ xs
 append_none [] = refl
 append_none (x ∷ xs) = ap (λ ys. x ∷ ys) (append_none xs)
 
-pub row_tells : (s t : StandingShape) → row_of s ≡ row_of t → configuration_in s ≡ configuration_in t
-row_tells s t e =
-    let whole = sym (append_assoc (counted (map pos s.begun)) (pos (length s.locals) ∷ flat_map counted s.locals) (pos (length s.states) ∷ flat_map state_row s.states)) in
-    let other = append_assoc (counted (map pos t.begun)) (pos (length t.locals) ∷ flat_map counted t.locals) (pos (length t.states) ∷ flat_map state_row t.states) in
-    let first = counted_tells (map pos s.begun) (map pos t.begun)
-    ((pos (length s.locals) ∷ flat_map counted s.locals) ++ (pos (length s.states) ∷ flat_map state_row s.states))
-    ((pos (length t.locals) ∷ flat_map counted t.locals) ++ (pos (length t.states) ∷ flat_map state_row t.states)) (whole ∙ (e ∙ other)) in
-    let begun : s.begun ≡ t.begun = map_pos s.begun t.begun first.0 in
-    let second = flat_tells counted counted_tells s.locals t.locals (pos (length s.states) ∷ flat_map state_row s.states) (pos (length t.states) ∷ flat_map state_row t.states)
-    (pos_is (head first.1)) (tail first.1) in
-    let third = flat_tells state_row state_tells s.states t.states [] [] (pos_is (head second.1))
-    (append_none (flat_map state_row s.states) ∙ (tail second.1 ∙ sym (append_none (flat_map state_row t.states)))) in
-    λ i. configuration_in (record { order = s.order; begun = begun i; locals = second.0 i; states = third.0 i })
+-- the variables of two clients that are the same as far as they are named
+same_named : (p : ProgramShape) (c : ℕ) (l m : Locals) → AreNamedAlone p c l → AreNamedAlone p c m
+    → take (length (client_at p c).variables) l ≡ take (length (client_at p c).variables) m → l ≡ m
+same_named p c l m a b e = a.named ∙ (ap (λ xs. xs ++ drop (length (client_at p c).variables) zeros) e ∙ sym b.named)
+
+named_long : (p : ProgramShape) (c : ℕ) (l m : Locals) → AreNamedAlone p c l → AreNamedAlone p c m
+    → length (take (length (client_at p c).variables) l) ≡ length (take (length (client_at p c).variables) m)
+named_long p c l m a b = rw (length-take, length-take) (rw (a.long, b.long) refl)
+
+-- each client's variables, from a client on
+abbrev NamedFrom : ProgramShape → ℕ → List Locals → Type 0
+NamedFrom p c ls = (i : ℕ) → i < length ls → AreNamedAlone p (c + i) (get_or ls i zeros)
+
+first_named : (p : ProgramShape) (c : ℕ) (l : Locals) (ls : List Locals) → NamedFrom p c (l ∷ ls) → AreNamedAlone p c l
+first_named p c l ls h = subst (λ k. AreNamedAlone p k l) (omega arith) (h 0 (omega arith))
+
+rest_named : (p : ProgramShape) (c : ℕ) (l : Locals) (ls : List Locals) → NamedFrom p c (l ∷ ls) → NamedFrom p (suc c) ls
+rest_named p c l ls h i less = subst (λ k. AreNamedAlone p k (get_or ls i zeros)) (omega arith) (h (suc i) (omega (arith, less)))
+
+named_tell : (p : ProgramShape) (c : ℕ) (ls ms : List Locals) (us vs : List ℤ) → length ls ≡ length ms → NamedFrom p c ls → NamedFrom p c ms
+    → named_from p c ls ++ us ≡ named_from p c ms ++ vs → (ls ≡ ms) × (us ≡ vs)
+named_tell p c [] [] us vs long a b e = (refl, e)
+named_tell p c [] (m ∷ ms) us vs long a b e = absurd (let h : 0 ≡ length (m ∷ ms) = long in omega (arith, h))
+named_tell p c (l ∷ ls) [] us vs long a b e = absurd (let h : length (l ∷ ls) ≡ 0 = long in omega (arith, h))
+named_tell p c (l ∷ ls) (m ∷ ms) us vs long a b e =
+    let n = length (client_at p c).variables in
+    let first = equal_long (take n l) (take n m) (named_from p (suc c) ls ++ us) (named_from p (suc c) ms ++ vs)
+    (named_long p c l m (first_named p c l ls a) (first_named p c m ms b))
+    (sym (append_assoc (take n l) (named_from p (suc c) ls) us) ∙ (e ∙ append_assoc (take n m) (named_from p (suc c) ms) vs)) in
+    let rest = named_tell p (suc c) ls ms us vs (let h : length (l ∷ ls) ≡ length (m ∷ ms) = long in omega (arith, h)) (rest_named p c l ls a) (rest_named p c m ms b) first.1 in
+    (ap₂ (λ z zs. z ∷ zs) (same_named p c l m (first_named p c l ls a) (first_named p c m ms b) first.0) rest.0, rest.1)
+
+module _ (p : ProgramShape) (front : List Ticket) (sound : IsSound p) where
+  named : (s : StandingShape) → IsStanding p front s → NamedFrom p 0 s.locals
+  named s is i less =
+      subst (λ k. AreNamedAlone p k (get_or s.locals i zeros)) (let z : i ≡ 0 + i = omega arith in z)
+      (subst (AreNamedAlone p i) (sym (ap (λ (g : Configuration). g.locals i) is.stands)) (unnamed_stay_zero p sound s.order i))
+
+  pub row_tells : (s t : StandingShape) → IsStanding p front s → IsStanding p front t → row_of p s ≡ row_of p t → configuration_in s ≡ configuration_in t
+  row_tells s t a b e =
+      let first = equal_long (map pos s.begun) (map pos t.begun) (named_from p 0 s.locals ++ flat_map state_row s.states) (named_from p 0 t.locals ++ flat_map state_row t.states)
+      (length-map s.begun pos ∙ (a.begun ∙ sym (length-map t.begun pos ∙ b.begun))) e in
+      let begun : s.begun ≡ t.begun = map_pos s.begun t.begun first.0 in
+      let second = named_tell p 0 s.locals t.locals (flat_map state_row s.states) (flat_map state_row t.states) (a.locals ∙ sym b.locals) (named s a) (named t b) first.1 in
+      let third = flat_tells state_row state_tells s.states t.states [] [] (a.states ∙ sym b.states)
+      (append_none (flat_map state_row s.states) ∙ (second.1 ∙ sym (append_none (flat_map state_row t.states)))) in
+      λ i. configuration_in (record { order = s.order; begun = begun i; locals = second.0 i; states = third.0 i })
 
 -- and equal configurations of as many clients and objects have equal rows
-pub same_row : (s t : StandingShape) → s.begun ≡ t.begun → s.locals ≡ t.locals → s.states ≡ t.states → row_of s ≡ row_of t
-same_row s t a b c = λ i. row_of (record { order = s.order; begun = a i; locals = b i; states = c i })
+pub same_row : (p : ProgramShape) (s t : StandingShape) → s.begun ≡ t.begun → s.locals ≡ t.locals → s.states ≡ t.states → row_of p s ≡ row_of p t
+same_row p s t a b c = λ i. row_of p (record { order = s.order; begun = a i; locals = b i; states = c i })

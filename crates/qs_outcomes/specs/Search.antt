@@ -19,30 +19,30 @@ abbrev pub NoneNext : ProgramShape → StandingShape → Type 0
 NoneNext p s = (c : ℕ) → HasNext p s c → ⊥
 
 -- one with the property stands on the stack, or its row was seen
-abbrev pub IsReached : (StandingShape → Type 0) → List (List ℤ) → List StandingShape → Type 0
-IsReached Q rows stack = HasOne Q stack ⊎ HasOne (λ r. (n : StandingShape) × Q n × (row_of n ≡ r)) rows
+abbrev pub IsReached : ProgramShape → (StandingShape → Type 0) → List (List ℤ) → List StandingShape → Type 0
+IsReached p Q rows stack = HasOne Q stack ⊎ HasOne (λ r. (n : StandingShape) × Q n × (row_of p n ≡ r)) rows
 
 -- A row that was seen is that of a configuration; wherever the next block of one who goes on leads from there is reached, and it is found
 -- where no block is left.
 pub record IsSeen (p : ProgramShape) (front : List Ticket) (rows : List (List ℤ)) (ahead results : List StandingShape) (r : List ℤ) (s : StandingShape) : Type 0 where
   pub standing : IsStanding p front s
-  pub row : row_of s ≡ r
-  pub closed : (c : ℕ) → GoesOn p s c → IsReached (IsNext p front s c) rows ahead
+  pub row : row_of p s ≡ r
+  pub closed : (c : ℕ) → GoesOn p s c → IsReached p (IsNext p front s c) rows ahead
   pub found : NoneNext p s → HasOne (λ x. configuration_in x ≡ configuration_in s) results
 
 -- found where no block is left, and seen
 pub record IsFound (p : ProgramShape) (front : List Ticket) (rows : List (List ℤ)) (s : StandingShape) : Type 0 where
   pub standing : IsStanding p front s
   pub over : NoneNext p s
-  pub seen : HasOne (λ r. row_of s ≡ r) rows
+  pub seen : HasOne (λ r. row_of p s ≡ r) rows
 
 pub record IsExplored (p : ProgramShape) (front : List Ticket) (rows : List (List ℤ)) (ahead results : List StandingShape) : Type 0 where
   pub stack : AllByRecursion (IsStanding p front) ahead
-  pub first : IsReached (IsFirst p front) rows ahead
+  pub first : IsReached p (IsFirst p front) rows ahead
   pub seen : AllByRecursion (λ r. (s : StandingShape) × IsSeen p front rows ahead results r s) rows
   pub once : NoTwo ◌≡◌ rows
   pub found : AllByRecursion (IsFound p front rows) results
-  pub apart : NoTwo (λ x y. row_of x ≡ row_of y) results
+  pub apart : NoTwo (λ x y. row_of p x ≡ row_of p y) results
 
 -- these were added: one for each client from a number on that goes on, and nothing where no block is left
 pub record AreNextFrom (p : ProgramShape) (front : List Ticket) (s : StandingShape) (from : ℕ) (added : List StandingShape) : Type 0 where

@@ -1,8 +1,8 @@
 -- Configurations as they are kept: in lists, with an order that leads there, and as one flat row of numbers.
-use Rattle.std.specs.Prelude.{◌≡◌, ℕ, List, [], ◌∷◌, ◌++◌, true, length, map, slice_index_or, ℤ, pos, flat_map}
+use Rattle.std.specs.Prelude.{◌≡◌, ℕ, List, [], ◌∷◌, ◌++◌, true, length, map, slice_index_or, ℤ, pos, flat_map, suc, take}
 use Rattle.qs_objects.specs.Act.{State, Content, account, buffer, grid}
 use Rattle.qs_objects.specs.declared.held.Ticket.{Ticket}
-use Rattle.qs_program.specs.Program.{ProgramShape}
+use Rattle.qs_program.specs.Program.{ProgramShape, client_at}
 use Rattle.qs_program.specs.Values.{Locals}
 use Rattle.qs_meaning.specs.Configurations.{Configuration, HasBlockLeft, configuration_after, one_block_on}
 use Rattle.qs_meaning.specs.Reduced.{IsReducedFrom, goes_on}
@@ -67,9 +67,12 @@ content_row (grid n k cells) = pos 2 ∷ pos n ∷ pos k ∷ counted cells
 abbrev pub state_row : State → List ℤ
 state_row s = s.refused ∷ content_row s.content
 
--- the numbers of a configuration, from which it can be read again
-abbrev pub row_of : StandingShape → List ℤ
-row_of s =
-    counted (map pos s.begun)
-    ++ (pos (length s.locals) ∷ flat_map counted s.locals)
-    ++ (pos (length s.states) ∷ flat_map state_row s.states)
+-- of each client's variables those that its text names, from a client on
+abbrev pub named_from : ProgramShape → ℕ → List Locals → List ℤ
+named_from p c [] = []
+named_from p c (l ∷ ls) = take (length (client_at p c).variables) l ++ named_from p (suc c) ls
+
+-- the numbers of a configuration, from which it can be read again: how many blocks each client has begun, the variables that the text names,
+-- and the objects
+abbrev pub row_of : ProgramShape → StandingShape → List ℤ
+row_of p s = map pos s.begun ++ (named_from p 0 s.locals ++ flat_map state_row s.states)

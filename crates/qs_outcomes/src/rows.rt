@@ -1,48 +1,52 @@
 //! Configurations as rows of numbers.
 
-ghost use Rattle.std.specs.Prelude.{◌≡◌, ◌∷◌, ◌++◌, OnOk, [], length, map, pos, flat_map};
-ghost use Rattle.qs_outcomes.specs.Standings.{counted, state_row};
+ghost use Rattle.std.specs.Prelude.{◌≡◌, ◌∷◌, ◌++◌, ◌≤◌, OnOk, [], length, map, pos, flat_map, take};
+ghost use Rattle.qs_outcomes.specs.Standings.{counted, named_from, state_row};
+ghost use Rattle.qs_program.specs.Limits.{most_variables};
 ghost use Rattle.qs_objects.specs.Objects.{values_of};
 
 use qs_objects::{Kind, Object};
-use qs_program::Locals;
+use qs_program::{Locals, Program};
 use std::alloc::AllocError;
 
-// Adds counts, with their number before them.
+// Adds counts.
 pub(crate) fn add_begun(row: &mut Vec<i64>, begun: &[u8]) -> Result<(), AllocError>
-    ensures added { OnOk result (row.new.items ≡ row.old.items ++ counted (map pos begun.now)) }
+    ensures added { OnOk result (row.new.items ≡ row.old.items ++ map pos begun.now) }
 {
-    row.push(begun.len() as i64)?;
     for count in begun {
         row.push(i64::from(*count))?;
     }
     Ok(())
 }
 
-// Adds variables, with the number of clients before them.
-pub(crate) fn add_locals(row: &mut Vec<i64>, locals: &[Locals]) -> Result<(), AllocError>
-    ensures added { OnOk result (row.new.items ≡ row.old.items ++ pos (length locals.now) ∷ flat_map counted locals.now) }
+// Adds the variables that the text names.
+pub(crate) fn add_locals(
+    row: &mut Vec<i64>,
+    program: &Program,
+    locals: &[Locals],
+) -> Result<(), AllocError>
+    requires each { length locals.now ≡ length program.now.clients }
+    ensures added { OnOk result (row.new.items ≡ row.old.items ++ named_from program.now 0 locals.now) }
 {
-    row.push(locals.len() as i64)?;
-    for values in locals {
-        add_values(row, values)?;
+    program.is_sound();
+    for client in 0..program.clients() as u8 {
+        add_named(row, &locals[usize::from(client)], program.variables(client).len())?;
     }
     Ok(())
 }
 
-fn add_values(row: &mut Vec<i64>, values: &[i64]) -> Result<(), AllocError>
-    ensures added { OnOk result (row.new.items ≡ row.old.items ++ counted values.now) }
+fn add_named(row: &mut Vec<i64>, values: &Locals, count: usize) -> Result<(), AllocError>
+    requires { count ≤ most_variables }
+    ensures added { OnOk result (row.new.items ≡ row.old.items ++ take count values.now) }
 {
-    row.push(values.len() as i64)?;
-    row.extend_from_slice(values)?;
+    row.extend_from_slice(&values[..count])?;
     Ok(())
 }
 
-// Adds objects, with their number before them.
+// Adds objects.
 pub(crate) fn add_objects(row: &mut Vec<i64>, objects: &[Object]) -> Result<(), AllocError>
-    ensures added { OnOk result (row.new.items ≡ row.old.items ++ pos (length objects.now) ∷ flat_map state_row objects.now) }
+    ensures added { OnOk result (row.new.items ≡ row.old.items ++ flat_map state_row objects.now) }
 {
-    row.push(objects.len() as i64)?;
     for object in objects {
         add_object(row, object)?;
     }

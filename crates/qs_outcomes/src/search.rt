@@ -67,20 +67,33 @@ fn insert(seen: &mut IndexSet<Vec<i64>>, row: Vec<i64>) -> Result<bool, AllocErr
     Ok(new)
 }
 
+// The same row in as much memory as it needs.
+fn exact(alloc: Global, row: &[i64]) -> Result<Vec<i64>, AllocError>
+    ensures same { IfOk result (λ copy. copy.items ≡ row.now) }
+{
+    let mut copy = Vec::with_capacity(alloc, row.len())?;
+    copy.extend_from_slice(row)?;
+    Ok(copy)
+}
+
 // Notes a standing's row: whether it is new.
 fn note(
     alloc: Global,
+    program: &Program,
+    front: &[Ticket],
     limit: u32,
     standing: &Standing,
+    row: &mut Vec<i64>,
     seen: &mut IndexSet<Vec<i64>>,
 ) -> Result<bool, OutcomesFault>
+    requires standing { IsStanding program.now front.now standing.now }
     requires small { length (rows_in seen.old.keys) ≤ limit }
-    ensures noted { IfOk result (λ new. IsNoted (rows_in seen.old.keys) (row_of standing.now) limit new (rows_in seen.new.keys)) }
+    ensures noted { IfOk result (λ new. IsNoted (rows_in seen.old.keys) (row_of program.now standing.now) limit new (rows_in seen.new.keys)) }
     ensures full { IsErrOf result OutcomesFault.Limit → (length (rows_in seen.old.keys) ≡ limit)
-        × (HasOne (λ r. row_of standing.now ≡ r) (rows_in seen.old.keys) → ⊥) }
+        × (HasOne (λ r. row_of program.now standing.now ≡ r) (rows_in seen.old.keys) → ⊥) }
 {
-    let row = standing.row(alloc)?;
-    let new = insert(seen, row)?;
+    standing.write_row(program, front, row)?;
+    let new = insert(seen, exact(alloc, row.as_slice())?)?;
     if new && seen.len() > limit as usize {
         return Err(OutcomesFault::Limit);
     }
@@ -147,6 +160,7 @@ fn visit(
     front: &[Ticket],
     limit: u32,
     standing: Standing,
+    row: &mut Vec<i64>,
     seen: &mut IndexSet<Vec<i64>>,
     stack: &mut Vec<Standing>,
     found: &mut Vec<Standing>,
@@ -161,7 +175,7 @@ fn visit(
     ensures limit { IsErrOf result OutcomesFault.Limit → HasMoreThanAfter program.now front.now limit }
 {
     program.is_sound();
-    match note(alloc, limit, &standing, seen) {
+    match note(alloc, program, front, limit, &standing, row, seen) {
         Err(fault) => return Err(fault),
         Ok(false) => return Ok(()),
         Ok(true) => {}
@@ -189,10 +203,11 @@ pub fn outcomes(alloc: Global, program: &Program, limit: u32) -> Result<AllOutco
     let mut seen = IndexSet::new(alloc);
     let mut found = Vec::new(alloc);
     let mut stack = Vec::new(alloc);
+    let mut row = Vec::new(alloc);
     add(&mut stack, Standing::first(alloc, program)?)?;
     while let Some(standing) = stack.pop() {
         visit(
-            alloc, program, last.as_slice(), &[], limit, standing, &mut seen, &mut stack, &mut found,
+            alloc, program, last.as_slice(), &[], limit, standing, &mut row, &mut seen, &mut stack, &mut found,
         )?;
     }
     Ok(AllOutcomes {

@@ -234,14 +234,14 @@ impl Standing {
         })
     }
 
-    // Its numbers as one row. An error says that memory was refused.
-    pub(crate) fn row(&self, alloc: Global) -> Result<Vec<i64>, AllocError>
-        ensures row { IfOk result (λ row. row.items ≡ row_of self.now) }
+    // Writes its numbers as one row. An error says that memory was refused.
+    pub(crate) fn write_row(&self, program: &Program, front: &[Ticket], row: &mut Vec<i64>) -> Result<(), AllocError>
+        requires standing { IsStanding program.now front.now self.now }
+        ensures row { OnOk result (row.new.items ≡ row_of program.now self.now) }
     {
-        let mut row = Vec::new(alloc);
-        add_begun(&mut row, self.begun.as_slice())?;
-        add_locals(&mut row, self.locals.as_slice())?;
-        add_objects(&mut row, self.objects.as_slice())?;
-        Ok(row)
+        row.clear();
+        add_begun(row, self.begun.as_slice())?;
+        add_locals(row, program, self.locals.as_slice())?;
+        add_objects(row, self.objects.as_slice())
     }
 }

@@ -12,7 +12,7 @@ pub returns-in-Err-clause-limit : goal.returns-in-Err-clause-limit
 returns-in-Err-clause-limit c = λ is.
     let same : c.in-Err.fault ≡ Limit = cc in
     let full = c.in-Err.ensures.full (ap (λ e. Err e) same) in
-    has_more_than c.args.program.now c.args.front.now c.args.limit (rows_in c.args.seen.now.keys) _ c.args.found.now.items c.args.standing c.requires.explored
+    has_more_than c.args.program.now c.args.front.now c.is_sound.ensures.sound c.args.limit (rows_in c.args.seen.now.keys) _ c.args.found.now.items c.args.standing c.requires.explored
     (taken c.args.program.now c.args.front.now _ c.args.stack.now.items c.args.found.now.items c.args.standing c.requires.explored) full.0 full.1
 
 pub returns-in-Ok-false-clause-explored : goal.returns-in-Ok-false-clause-explored
