@@ -1,5 +1,5 @@
 -- The places of a script where something may be wrong, in text order, and what is wrong at each.
-use Rattle.std.specs.Prelude.{◌≡◌, ◌≢◌, ℕ, ◌+◌, Bool, true, false, ◌||◌, nat_lt, nat_eq, if◌then◌else◌, List, [], ◌∷◌, ◌++◌, length, map, slice_index_or, Option, Some, None, Result, Ok, Err, pos}
+use Rattle.std.specs.Prelude.{◌≡◌, ◌≢◌, ℕ, suc, ◌+◌, Bool, true, false, ◌||◌, nat_lt, nat_eq, if◌then◌else◌, List, [], ◌∷◌, ◌++◌, length, map, slice_index_or, Option, Some, None, Result, Ok, Err, pos}
 use Rattle.qs_objects.specs.declared.Op.{Op}
 use Rattle.qs_objects.specs.declared.object.Kind.{Kind}
 use Rattle.qs_objects.specs.declared.object.Kind.TheVariants as k
@@ -259,7 +259,7 @@ fault_of_text t = fault_in (scope_or_fault start (text_places t))
 -- the objects that are given for the formals from a place on
 abbrev pub given_places : Name → ℕ → List Name → List TextPlace
 given_places n i [] = []
-given_places n i (o ∷ os) = given n i o ∷ given_places n (i + 1) os
+given_places n i (o ∷ os) = given n i o ∷ given_places n (suc i) os
 
 abbrev pub started_places : StartedItem → List TextPlace
 started_places c = client c.name ∷ starts c.template (length c.objects) ∷ given_places c.template 0 c.objects

@@ -1,10 +1,10 @@
 //! Blocks over formals, with each formal replaced by its object.
 
-ghost use Rattle.std.specs.Prelude.{◌≡◌, ◌≤◌, IfOk, map};
+ghost use Rattle.std.specs.Prelude.{◌≡◌, ◌≤◌, [], ◌∷◌, ◌++◌, if◌then◌else◌, IfOk, OnOk, map};
 ghost use Rattle.std.specs.List.{AllByRecursion};
 ghost use Rattle.qs_script.specs.Limits.{most_levels};
 ghost use Rattle.qs_program.specs.Binding.{bound as object_of, bound_call, bound_statements, bound_block, first_of_each};
-ghost use Rattle.qs_program.specs.Sound.{levels_of};
+ghost use Rattle.qs_program.specs.Sound.{is_in, levels_of};
 ghost use Rattle.qs_program.specs.Views.{single};
 
 use qs_program::{Atom, Atoms, Block, Body, Call, Stmt};
@@ -47,12 +47,19 @@ fn bind_list(alloc: Global, binding: &[u8], names: &[u8]) -> Result<Vec<u8>, All
 {
     let mut reserved = Vec::new(alloc);
     for name in names {
-        let object = bound(binding, *name);
-        if !reserved.contains(&object) {
-            reserved.push(object)?;
-        }
+        add_first(&mut reserved, bound(binding, *name))?;
     }
     Ok(reserved)
+}
+
+// Adds an object that is not there yet.
+fn add_first(reserved: &mut Vec<u8>, object: u8) -> Result<(), AllocError>
+    ensures added { OnOk result (reserved.new.items ≡ (if is_in reserved.old.items object then reserved.old.items else reserved.old.items ++ object ∷ [])) }
+{
+    if !reserved.contains(&object) {
+        reserved.push(object)?;
+    }
+    Ok(())
 }
 
 // The statements with each formal replaced by its object.

@@ -1,10 +1,10 @@
 //! Clients of templates, by number.
 
-ghost use Rattle.std.specs.Prelude.{◌≡◌, ◌≤◌, IfOk, length, option_copied, Some};
+ghost use Rattle.std.specs.Prelude.{◌≡◌, ◌≤◌, IfOk, length, option_copied, Ok, Some};
 ghost use Rattle.std.specs.List.{AllByRecursion};
 ghost use Rattle.qs_script.specs.Form.{HasForm, IsFormed};
 ghost use Rattle.qs_program.specs.Limits.{most_objects};
-ghost use Rattle.qs_check.specs.Places.{start as nothing_known};
+ghost use Rattle.qs_check.specs.Places.{scope_or_fault, start as nothing_known, text_places};
 ghost use Rattle.qs_check.specs.Resolve.{declared_formals, own_client, started_of, template_called, templates_in};
 
 use crate::bind::bind_blocks;
@@ -21,7 +21,7 @@ fn find_template(items: &[Item], name: Name) -> Option<&TemplateItem>
 {
     for item in items {
         if let Item::Template(template) = item {
-            if template.name == name {
+            if name == template.name {
                 return Some(template);
             }
         }
@@ -80,9 +80,25 @@ fn start_in(
     requires start { inner.old ≡ nothing_known }
     ensures client { IfOk result (λ c. c ≡ started_of objects.now (Some template.now) item.now) }
 {
-    if check_text(alloc, inner, template).is_err() {
-        return Err(AllocError);
+    match check_text(alloc, inner, template) {
+        Ok(()) => start_walked(alloc, objects, inner, template, item),
+        Err(_) => Err(AllocError),
     }
+}
+
+// The same, after that walk.
+fn start_walked(
+    alloc: Global,
+    objects: &Names,
+    inner: &mut Scope,
+    template: &TemplateItem,
+    item: &StartedItem,
+) -> Result<Client, AllocError>
+    requires formed { AllByRecursion IsFormed template.now.blocks }
+    requires objects { length objects.now ≤ most_objects }
+    requires walked { scope_or_fault nothing_known (text_places template.now) ≡ Ok inner.old }
+    ensures client { IfOk result (λ c. c ≡ started_of objects.now (Some template.now) item.now) }
+{
     let own = resolve_blocks(
         alloc,
         inner.objects(),
