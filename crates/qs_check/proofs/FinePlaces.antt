@@ -8,7 +8,7 @@ use Rattle.qs_check.specs.declared.fault.CheckFault.{CheckFault}
 use Rattle.qs_check.specs.declared.fault.CheckFault.TheVariants as f
 use Rattle.qs_program.specs.Numbering.{Name, is_among, with_name}
 use Rattle.qs_program.specs.Limits.{most_variables}
-use Rattle.qs_check.specs.Places.{Scope, TextPlace, ScopeOrFault, object, number, client, separate, listed, target, operation, arguments, variable, leaves, step, scope_or_fault, then_at, with_variable, op_at, is_known, takes}
+use Rattle.qs_check.specs.Places.{Scope, TextPlace, ScopeOrFault, object, number, client, separate, listed, target, operation, arguments, variable, leaves, template, text, starts, given, step, scope_or_fault, then_at, with_variable, op_at, is_known, takes}
 use Rattle.qs_check.specs.Resolve.{variables_at}
 use Rattle.qs_check.proofs.Inner.{Inner}
 use Rattle.qs_check.proofs.Steps.{with_names, fine, split}
@@ -25,6 +25,10 @@ module _ (os : List Name) (ks : List Kind) (R : List Name) where
   IsFine (arguments asks o op n) = takes (op_at os ks asks o op) n ≡ true
   IsFine (variable x) = Unit {0}
   IsFine (leaves inside) = inside ≡ true
+  IsFine (template m ks) = Unit {0}
+  IsFine (text fault) = Unit {0}
+  IsFine (starts m count) = Unit {0}
+  IsFine (given m i o) = Unit {0}
 
 abbrev pub AreFine : Scope → List TextPlace → Type 0
 AreFine s ps = AllByRecursion (IsFine s.objects s.kinds s.reserved) ps
@@ -56,6 +60,10 @@ are_fine s t (variable x ∷ ps) i h =
     let u = with_names s (with_name s.variables x) in
     (tt, are_fine u t ps i (again u t w.0 ps w.1.0 w.2))
 are_fine s t (leaves inside ∷ ps) i h = let w = split s t (leaves inside) ps h in (met_inside s t inside ps h, are_fine s t ps i (again s t w.0 ps w.1 w.2))
+are_fine s t (template m ks ∷ ps) i h = absurd i
+are_fine s t (text fault ∷ ps) i h = absurd i
+are_fine s t (starts m count ∷ ps) i h = absurd i
+are_fine s t (given m j o ∷ ps) i h = absurd i
 
 -- a list of names grows by what it lacks
 more_named : (names : List Name) (x : Name) (b : Bool) → length names ≤ length (if b then names else names ++ x ∷ [])
@@ -77,6 +85,10 @@ variables_more names (operation asks o op ∷ ps) i = variables_more names ps i
 variables_more names (arguments asks o op n ∷ ps) i = variables_more names ps i
 variables_more names (variable x ∷ ps) i = omega (arith, named_more names x, variables_more (with_name names x) ps i)
 variables_more names (leaves inside ∷ ps) i = variables_more names ps i
+variables_more names (template m ks ∷ ps) i = absurd i
+variables_more names (text fault ∷ ps) i = absurd i
+variables_more names (starts m count ∷ ps) i = absurd i
+variables_more names (given m j o ∷ ps) i = absurd i
 
 pub between : (low high n : ℕ) → low ≤ n → n ≤ high → (nat_lt n low || nat_lt high n) ≡ false
 between low high n h k = grind (arith, nat_tests)
@@ -130,3 +142,7 @@ fine_met s (variable x ∷ ps) i h few =
     let small : length names ≤ most_variables = omega (arith, few, variables_more names ps i) in
     leads s (with_names s names) (variable x) ps _ (variable_step s x small) (fine_met (with_names s names) ps i h.1 few)
 fine_met s (leaves inside ∷ ps) i h few = leads s s (leaves inside) ps _ (then_step inside s (Ok s) f.LeaveOutside h.0) (fine_met s ps i h.1 few)
+fine_met s (template m ks ∷ ps) i h few = absurd i
+fine_met s (text fault ∷ ps) i h few = absurd i
+fine_met s (starts m count ∷ ps) i h few = absurd i
+fine_met s (given m j o ∷ ps) i h few = absurd i

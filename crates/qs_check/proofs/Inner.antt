@@ -10,7 +10,7 @@ use Rattle.qs_script.specs.declared.tree.Test.{Test}
 use Rattle.qs_script.specs.declared.tree.Call.{Call}
 use Rattle.qs_script.specs.Tree.{Stmts, end, command, query, assign, choose, choose_else, again}
 use Rattle.qs_script.specs.Tree as tree
-use Rattle.qs_check.specs.Places.{Scope, TextPlace, object, number, client, separate, listed, target, operation, arguments, variable, leaves, scope_or_fault, places, atom_places, atoms_places, expr_places, test_places, call_places}
+use Rattle.qs_check.specs.Places.{Scope, TextPlace, object, number, client, separate, listed, target, operation, arguments, variable, leaves, template, text, starts, given, scope_or_fault, places, atom_places, atoms_places, expr_places, test_places, call_places}
 use Rattle.qs_check.proofs.Steps.{with_names, split, ok_same, then_at_ok}
 use Rattle.qs_check.proofs.Walks.{met-append}
 
@@ -26,6 +26,10 @@ Inner (operation asks o op ∷ ps) = Inner ps
 Inner (arguments asks o op n ∷ ps) = Inner ps
 Inner (variable x ∷ ps) = Inner ps
 Inner (leaves inside ∷ ps) = Inner ps
+Inner (template m ks ∷ ps) = ⊥
+Inner (text fault ∷ ps) = ⊥
+Inner (starts m count ∷ ps) = ⊥
+Inner (given m i o ∷ ps) = ⊥
 
 pub inner_append : (ps qs : List TextPlace) → Inner ps → Inner qs → Inner (ps ++ qs)
 inner_append [] qs h k = k
@@ -39,6 +43,10 @@ inner_append (operation asks o op ∷ ps) qs h k = inner_append ps qs h k
 inner_append (arguments asks o op n ∷ ps) qs h k = inner_append ps qs h k
 inner_append (variable x ∷ ps) qs h k = inner_append ps qs h k
 inner_append (leaves inside ∷ ps) qs h k = inner_append ps qs h k
+inner_append (template m ks ∷ ps) qs h k = h
+inner_append (text fault ∷ ps) qs h k = h
+inner_append (starts m count ∷ ps) qs h k = h
+inner_append (given m i o ∷ ps) qs h k = h
 
 inner_atom : (a : Atom) → Inner (atom_places a)
 inner_atom (Variable x) = tt
@@ -93,3 +101,7 @@ kept s t (operation asks o op ∷ ps) i h = let w = split s t (operation asks o 
 kept s t (arguments asks o op n ∷ ps) i h = let w = split s t (arguments asks o op n) ps h in after s w.0 t (w.1.1 ∙ ap (λ v. with_names s v.variables) (sym w.1.1)) (kept w.0 t ps i w.2)
 kept s t (variable x ∷ ps) i h = let w = split s t (variable x) ps h in after s w.0 t (w.1.0 ∙ ap (λ v. with_names s v.variables) (sym w.1.0)) (kept w.0 t ps i w.2)
 kept s t (leaves inside ∷ ps) i h = let w = split s t (leaves inside) ps h in after s w.0 t (w.1 ∙ ap (λ v. with_names s v.variables) (sym w.1)) (kept w.0 t ps i w.2)
+kept s t (template m ks ∷ ps) i h = absurd i
+kept s t (text fault ∷ ps) i h = absurd i
+kept s t (starts m count ∷ ps) i h = absurd i
+kept s t (given m j o ∷ ps) i h = absurd i

@@ -1,17 +1,17 @@
 -- After each client the check forgets that client's variables, and this changes neither the faults that it meets later nor what
 -- it knows of the rest. The loop of `check_items` over the items of a script stands on it. Its main lemma, `forget`, goes by
 -- induction on the items: an object looks at no variables, and a client begins with none.
-use Rattle.std.proofs.Common.{◌≡◌, ℕ, suc, ◌+◌, ◌<◌, Bool, true, false, ◌||◌, nat_lt, List, [], ◌∷◌, ◌++◌, length, get_or, drop, refl, ap, sym, ◌∙◌, add-one, append_assoc, Ok, Err, if◌then◌else◌}
+use Rattle.std.proofs.Common.{◌≡◌, ℕ, suc, ◌+◌, ◌<◌, Bool, true, false, ◌||◌, nat_lt, List, [], ◌∷◌, ◌++◌, length, get_or, drop, refl, ap, sym, ◌∙◌, add-one, append_assoc, Option, Some, None, Ok, Err, if◌then◌else◌}
 use Rattle.std.proofs.Math.Seq.{drop-cons}
 use Rattle.qs_script.specs.declared.tree.KindText.{KindText}
 use Rattle.qs_script.specs.declared.tree.KindText.TheVariants.{Account, Buffer, Grid}
 use Rattle.qs_script.specs.declared.tree.Item.{Item}
-use Rattle.qs_script.specs.declared.tree.Item.TheVariants.{Object, Client}
+use Rattle.qs_script.specs.declared.tree.Item.TheVariants.{Object, Client, Template, Started}
 use Rattle.qs_check.specs.declared.fault.CheckFault.{CheckFault}
 use Rattle.qs_check.specs.declared.fault.CheckFault.TheVariants as f
 use Rattle.qs_program.specs.Numbering.{Name, is_among}
 use Rattle.qs_program.specs.Limits.{most_objects}
-use Rattle.qs_check.specs.Places.{Scope, TextPlace, ScopeOrFault, number, scope_or_fault, then_at, over, without_variables, with_object, kind_of, kind_places, script_places, Fails}
+use Rattle.qs_check.specs.Places.{Scope, TextPlace, ScopeOrFault, number, text, fault_of_text, formal_kinds, most_templates, unless_fault, with_template, scope_or_fault, then_at, over, without_variables, with_object, kind_of, kind_places, script_places, Fails}
 use Rattle.qs_check.specs.Resolve.{lists_of}
 use Rattle.qs_check.proofs.Walks.{met-then, fails_first}
 
@@ -38,10 +38,19 @@ after_kind (Buffer n) s ps h = after_number (nat_lt n 1 || nat_lt 1024 n) s (λ 
 after_kind (Grid r c) s ps h =
     after_number (nat_lt r 1 || nat_lt 16 r) s (λ t. scope_or_fault t (number 1 16 c ∷ ps)) (after_number (nat_lt c 1 || nat_lt 16 c) s (λ t. scope_or_fault t ps) h)
 
+after_text : (fault : Option CheckFault) (s : Scope) (next : Scope → ScopeOrFault) → over (next s) ≡ over (next (without_variables s)) → over (then_at (unless_fault fault s) next) ≡ over (then_at (unless_fault fault (without_variables s)) next)
+after_text None s next h = h
+after_text (Some e) s next h = refl
+
 -- no item asks for the variables of the client before it
 pub forget : (items : List Item) (s : Scope) → over (scope_or_fault s (script_places items)) ≡ over (scope_or_fault (without_variables s) (script_places items))
 forget [] s = refl
 forget (Client c ∷ rest) s = refl
+forget (Started c ∷ rest) s = refl
+forget (Template c ∷ rest) s =
+    let u = with_template s c.name (formal_kinds c.formals) in
+    after_object (is_among s.templates c.name) (nat_lt (length s.templates) most_templates) u (λ t. scope_or_fault t (text (fault_of_text c) ∷ script_places rest))
+    (after_text (fault_of_text c) u (λ t. scope_or_fault t (script_places rest)) (forget rest u))
 forget (Object o ∷ rest) s =
     let k = kind_of o.kind in
     after_object (is_among s.objects o.name) (nat_lt (length s.objects) most_objects) (with_object s o.name k) (λ t. scope_or_fault t (kind_places o.kind ++ script_places rest))

@@ -1,5 +1,6 @@
 pub mod Walks
 pub mod Resolving
+pub mod Binds
 pub mod Steps
 pub mod Items
 pub mod Inner
@@ -12,5 +13,10 @@ pub mod TextNames
 pub mod TextRequests
 pub mod TextBlocks
 pub mod TextLoads
+pub mod TemplateTexts
+pub mod Starts
+pub mod BoundTexts
+pub mod SoundStarts
+pub mod TemplateSearch
 pub mod WellFormed
 pub mod SoundTexts

@@ -1,5 +1,5 @@
 -- Why the program of a script with no fault is sound: names apart, variables of the client, leaves inside repeats, few levels.
-use Rattle.std.proofs.Common.{◌≡◌, ◌≤◌, Bool, true, false, ◌||◌, List, [], ◌∷◌, ◌++◌, length, map, None, refl, ap, sym, ◌∙◌, subst, arith, Ok, Err}
+use Rattle.std.proofs.Common.{◌≡◌, ◌≤◌, Bool, true, false, ◌||◌, List, [], ◌∷◌, ◌++◌, length, map, Option, Some, None, append_assoc, refl, ap, sym, ◌∙◌, subst, arith, Ok, Err}
 use Rattle.std.proofs.lemmas.List.{length-map}
 use Rattle.std.specs.List.{AllByRecursion, IsDistinct}
 use Rattle.qs_objects.specs.declared.object.Kind.{Kind}
@@ -7,24 +7,27 @@ use Rattle.qs_script.specs.Form.{HasForm}
 use Rattle.qs_script.specs.declared.tree.Atom as text
 use Rattle.qs_script.specs.declared.tree.Atom.TheVariants.{Variable, Number}
 use Rattle.qs_script.specs.declared.tree.Block as text_block
-use Rattle.qs_script.specs.declared.tree.ClientItem.{ClientItem}
+use Rattle.qs_script.specs.declared.tree.StartedItem.{StartedItem}
+use Rattle.qs_script.specs.declared.tree.TemplateItem.{TemplateItem}
 use Rattle.qs_script.specs.declared.tree.Expr as text_expr
 use Rattle.qs_script.specs.declared.tree.Expr.TheVariants.{Plain, Binary}
 use Rattle.qs_script.specs.declared.tree.Item.{Item}
-use Rattle.qs_script.specs.declared.tree.Item.TheVariants.{Object, Client}
+use Rattle.qs_script.specs.declared.tree.Item.TheVariants.{Object, Client, Template, Started}
 use Rattle.qs_script.specs.Tree as tree
 use Rattle.qs_program.specs.declared.program.Declared.{Declared}
 use Rattle.qs_check.specs.Checked.{first_fault, text_fault, fault_of, excess_of}
 use Rattle.qs_program.specs.Numbering.{Name, same_name, is_among, found_at}
 use Rattle.qs_check.specs.Places.{Scope, ScopeOrFault, scope_or_fault, start, script_places}
 use Rattle.qs_program.specs.Program.{ClientShape, ProgramShape, whole_load, whole_weight}
-use Rattle.qs_check.specs.Resolve.{atom_of, expr_of, body_of, block_of, clients_of, names_of, kinds_of, variables_of, program_of_items}
+use Rattle.qs_check.specs.Resolve.{as_client, atom_of, binding_of, expr_of, body_of, block_of, clients_of, declared_formals, names_of, kinds_of, objects_of, own_client, started_of, template_called, templates_in, variables_of, program_of_items}
 use Rattle.qs_program.specs.Sound.{IsAtomBelow, IsExprBelow, AreVariablesBelow, AreLeavesInside, IsFormedBlock, IsFormedClient, AreNamesApart, IsFormedProgram, IsSound}
-use Rattle.qs_check.specs.WellFormed.{atom_names, atoms_names, expr_names, test_names, variables_in, variables_in_all, AreStatements, AreItems, IsWellFormedBlock, clients_in, IsWellFormed}
+use Rattle.qs_check.specs.WellFormed.{atom_names, atoms_names, expr_names, test_names, variables_in, variables_in_all, AreStatements, AreItems, IsWellFormedBlock, IsWellFormedTemplate, client_names, IsWellFormed}
 use Rattle.qs_program.proofs.Found.{found_within, or_true, same_name-refl}
 use Rattle.qs_program.specs.Limits.{most_requests, most_steps}
 use Rattle.qs_check.proofs.Resolving.{levels_same}
+use Rattle.qs_check.proofs.BoundTexts.{formed_bounds}
 use Rattle.qs_check.proofs.Soundness.{sound}
+use Rattle.qs_check.proofs.SoundStarts.{all_with, called_more, starts_sound, well_called}
 use Rattle.qs_check.proofs.TextNames.{distinct_variables, among_variables}
 use Rattle.qs_check.proofs.TextRequests.{all_first, all_later}
 use Rattle.qs_check.proofs.WellFormed.{well_formed_from, no_fault_left}
@@ -118,22 +121,50 @@ among_same : (vs ys xs : List Name) → ((x : Name) → is_among vs x ≡ is_amo
 among_same vs ys [] e h = tt
 among_same vs ys (x ∷ xs) e h = (e x ∙ h.0, among_same vs ys xs e h.1)
 
-clients_formed : (items : List Item) (D : List Declared) (N : List Name) (K : List Kind) → AreItems D items → AllByRecursion IsFormedClient (clients_of N K items)
-clients_formed [] D N K h = tt
-clients_formed (Object o ∷ rest) D N K (k, h) = clients_formed rest _ N K h
-clients_formed (Client c ∷ rest) D N K (one, h) =
+-- a client of a well-formed template
+formed_start : (N : List Name) (t : TemplateItem) (c : StartedItem) → IsWellFormedTemplate t → IsFormedClient (started_of N (Some t) c)
+formed_start N t c well =
+    let F = declared_formals t.formals in
+    let V = variables_of (as_client t) in
+    let all = variables_in_all t.blocks in
+    record {
+      variables = distinct_variables (as_client t);
+      each = formed_bounds (binding_of N c) (length V) (own_client t).blocks
+          (blocks_formed (map (λ (d : Declared). d.name) F) (map (λ (d : Declared). d.kind) F) V F t.blocks well.client.each (among_same V all all (among_variables (as_client t)) (among_themselves all)));
+    }
+
+clients_formed : (items : List Item) (D : List Declared) (T S : List TemplateItem) (N : List Name) (K : List Kind) → T ≡ S ++ templates_in items → AllByRecursion IsWellFormedTemplate S → AreItems D S items → AllByRecursion IsFormedClient (clients_of T N K items)
+clients_formed [] D T S N K f well h = tt
+clients_formed (Object o ∷ rest) D T S N K f well (k, h) = clients_formed rest _ T S N K f well h
+clients_formed (Client c ∷ rest) D T S N K f well (one, h) =
     let all = variables_in_all c.blocks in (
       record {
         variables = distinct_variables c;
         each = blocks_formed N K (variables_of c) D c.blocks one.each (among_same (variables_of c) all all (among_variables c) (among_themselves all));
       },
-      clients_formed rest D N K h,
+      clients_formed rest D T S N K f well h,
+    )
+clients_formed (Template c ∷ rest) D T S N K f well (one, h) =
+    clients_formed rest D T (S ++ c ∷ []) N K (f ∙ sym (append_assoc S (c ∷ []) (templates_in rest))) (all_with S c well one) h
+clients_formed (Started c ∷ rest) D T S N K f well (one, h) =
+    let called : template_called T c.template ≡ Some one.template =
+    ap (λ ts. template_called ts c.template) f ∙ called_more S (templates_in rest) c.template one.template one.called in
+    let Q : Option TemplateItem → Type 0 = λ r. IsFormedClient (started_of N r c) in (
+      subst Q (sym called) (formed_start N one.template c (well_called S c.template one.template well one.called)),
+      clients_formed rest D T S N K f well h,
     )
 
-names_same : (items : List Item) (N : List Name) (K : List Kind) → map (λ (c : ClientShape). c.name) (clients_of N K items) ≡ map (λ (c : ClientItem). c.name) (clients_in items)
-names_same [] N K = refl
-names_same (Object o ∷ rest) N K = names_same rest N K
-names_same (Client c ∷ rest) N K = ap (λ ns. c.name ∷ ns) (names_same rest N K)
+started_name : (N : List Name) (r : Option TemplateItem) (c : StartedItem) → (started_of N r c).name ≡ c.name
+started_name N None c = refl
+started_name N (Some t) c = refl
+
+names_same : (items : List Item) (T : List TemplateItem) (N : List Name) (K : List Kind) → map (λ (c : ClientShape). c.name) (clients_of T N K items) ≡ client_names items
+names_same [] T N K = refl
+names_same (Object o ∷ rest) T N K = names_same rest T N K
+names_same (Client c ∷ rest) T N K = ap (λ ns. c.name ∷ ns) (names_same rest T N K)
+names_same (Template c ∷ rest) T N K = names_same rest T N K
+names_same (Started c ∷ rest) T N K =
+    (λ i. started_name N (template_called T c.template) c i ∷ names_same rest T N K i)
 
 -- no fault in the text, so the walk ends
 walk_ends : (m : ScopeOrFault) → first_fault m None ≡ None → (t : Scope) × (m ≡ Ok t)
@@ -145,14 +176,16 @@ unfolding IsFormedProgram
 resolved_form items well =
     let P : List Name → Type 0 = λ ns. IsDistinct same_name ns in
     let apart : AreNamesApart (program_of_items items) =
-    record { objects = well.objects_apart; clients = subst P (sym (names_same items (names_of items) (kinds_of items))) well.clients_apart } in
-    (apart, clients_formed items [] (names_of items) (kinds_of items) well.each)
+    record { objects = well.objects_apart; clients = subst P (sym (names_same items (templates_in items) (names_of items) (kinds_of items))) well.clients_apart } in
+    (apart, clients_formed items [] (templates_in items) [] (names_of items) (kinds_of items) refl tt well.each)
 
 sound_resolved : (items : List Item) → HasForm items → text_fault items ≡ None → whole_load (program_of_items items) ≤ most_requests → whole_weight (program_of_items items) ≤ most_steps → IsSound (program_of_items items)
 sound_resolved items form h load weight =
     let w = walk_ends (scope_or_fault start (script_places items)) h in
     let faultless : fault_of items ≡ None = ap (λ m. first_fault m (excess_of (program_of_items items))) w.1 ∙ no_fault_left (program_of_items items) load weight in
-    sound items w.0 w.1 load weight (resolved_form items (well_formed_from items form faultless))
+    let well = well_formed_from items form faultless in
+    let starts = starts_sound (objects_of items) (templates_in items) well.objects_apart items [] [] refl refl tt well.each in
+    sound items w.0 w.1 load weight starts (resolved_form items well)
 
 pub sound_text : (items : List Item) (p : ProgramShape) → HasForm items → text_fault items ≡ None → p ≡ program_of_items items → whole_load p ≤ most_requests → whole_weight p ≤ most_steps → IsSound p
 sound_text items p form h e load weight =

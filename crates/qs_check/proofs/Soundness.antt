@@ -10,19 +10,21 @@ use Rattle.qs_objects.specs.declared.object.Kind.{Kind}
 use Rattle.qs_objects.specs.declared.object.Kind.TheVariants.{Account}
 use Rattle.qs_script.specs.declared.tree.Block.{Block}
 use Rattle.qs_script.specs.declared.tree.ClientItem.{ClientItem}
+use Rattle.qs_script.specs.declared.tree.TemplateItem.{TemplateItem}
 use Rattle.qs_script.specs.declared.tree.Item.{Item}
-use Rattle.qs_script.specs.declared.tree.Item.TheVariants.{Object, Client}
+use Rattle.qs_script.specs.declared.tree.Item.TheVariants.{Object, Client, Template, Started}
 use Rattle.qs_program.specs.declared.program.Declared.{Declared}
 use Rattle.qs_program.specs.Numbering.{Name, same_name, is_among, found_at}
 use Rattle.qs_check.specs.Places.{Scope, ScopeOrFault, separate, listed, scope_or_fault, places, listed_places, block_places, blocks_places, item_places, script_places, start, with_block, with_listed, with_client, kind_of, over, without_variables}
 use Rattle.qs_program.specs.Program.{whole_load, whole_weight}
-use Rattle.qs_check.specs.Resolve.{block_of, client_of, clients_of, objects_of, names_of, kinds_of, lists_of, variables_of, program_of_items}
+use Rattle.qs_check.specs.Resolve.{block_of, client_of, clients_of, objects_of, names_of, kinds_of, lists_of, started_of, template_called, templates_in, variables_of, program_of_items}
+use Rattle.qs_check.specs.WellFormed.{client_names}
 use Rattle.qs_program.specs.Sound.{IsSoundBlock, IsSoundClient, IsFormedProgram, IsSound, is_in}
 use Rattle.qs_program.proofs.Found.{apart, same, false_not_true, or_true, is_among-append, is_among-last, found_within, found_append, found_apart}
 use Rattle.qs_program.specs.Limits.{most_objects, most_requests, most_steps, most_variables}
 use Rattle.qs_check.proofs.Inner.{parted}
 use Rattle.qs_check.proofs.ScopesInBlocks.{block_stays, blocks_stay}
-use Rattle.qs_check.proofs.Scripts.{object_stays, client_stays, few_variables, scripted}
+use Rattle.qs_check.proofs.Scripts.{object_stays, client_stays, few_variables, scripted, started_stays, template_stays}
 use Rattle.qs_check.proofs.SoundStatements.{names, kinds, Known, Here, sound_body}
 use Rattle.qs_check.proofs.Steps.{split, ok_same}
 
@@ -102,7 +104,7 @@ module _ (D : List Declared) where
         body = sound_body D R V few b.body false v.0 t here v.2;
       }
 
-  sound_blocks : (V : List Name) → length V ≤ most_variables → (bs : List Block) (s t : Scope) → Known D s.objects s.kinds → scope_or_fault s (blocks_places bs) ≡ Ok t → AllByRecursion (IsSoundBlock D) (map (block_of (names D) (kinds D) V) bs)
+  pub sound_blocks : (V : List Name) → length V ≤ most_variables → (bs : List Block) (s t : Scope) → Known D s.objects s.kinds → scope_or_fault s (blocks_places bs) ≡ Ok t → AllByRecursion (IsSoundBlock D) (map (block_of (names D) (kinds D) V) bs)
   sound_blocks V few [] s t known h = tt
   sound_blocks V few (b ∷ bs) s t known h =
       let w = parted s t (block_places b) (blocks_places bs) h in
@@ -130,31 +132,59 @@ module _ (D : List Declared) where
             ∙ get_or-append ks others (Account (pos 0)) (found_at os o) (omega (arith, found_within os o h, same_length)),
       )
 
-  sound_items : (items : List Item) (s t : Scope) → names D ≡ s.objects ++ names_of items → kinds D ≡ s.kinds ++ kinds_of items → length s.kinds ≡ length s.objects → scope_or_fault s (script_places items) ≡ Ok t → AllByRecursion (IsSoundClient D) (clients_of (names D) (kinds D) items)
-  sound_items [] s t e f l h = tt
-  sound_items (Object o ∷ rest) s t e f l h =
+  -- the clients of templates are sound
+  abbrev pub AreStartsSound : List TemplateItem → List Item → Type 0
+  AreStartsSound T [] = Unit {0}
+  AreStartsSound T (Object o ∷ rest) = AreStartsSound T rest
+  AreStartsSound T (Client c ∷ rest) = AreStartsSound T rest
+  AreStartsSound T (Template c ∷ rest) = AreStartsSound T rest
+  AreStartsSound T (Started c ∷ rest) = IsSoundClient D (started_of (names D) (template_called T c.template) c) × AreStartsSound T rest
+
+  sound_items : (T : List TemplateItem) (items : List Item) (s t : Scope) → names D ≡ s.objects ++ names_of items → kinds D ≡ s.kinds ++ kinds_of items → length s.kinds ≡ length s.objects → AreStartsSound T items → scope_or_fault s (script_places items) ≡ Ok t → AllByRecursion (IsSoundClient D) (clients_of T (names D) (kinds D) items)
+  sound_items T [] s t e f l starts h = tt
+  sound_items T (Object o ∷ rest) s t e f l starts h =
       let w = parted s t (item_places (Object o)) (script_places rest) h in
       let one = (object_stays s w.0 o w.1).1 in
-      sound_items rest w.0 t
+      sound_items T rest w.0 t
       (e ∙ sym (append_assoc s.objects (o.name ∷ []) (names_of rest)) ∙ ap (λ os. os ++ names_of rest) (sym one.objects))
       (f ∙ sym (append_assoc s.kinds (kind_of o.kind ∷ []) (kinds_of rest)) ∙ ap (λ ks. ks ++ kinds_of rest) (sym one.kinds))
       (ap length one.kinds ∙ length-append s.kinds (kind_of o.kind ∷ []) ∙ ap (λ n. n + 1) l ∙ sym (length-append s.objects (o.name ∷ [])) ∙ sym (ap length one.objects))
-      w.2
-  sound_items (Client c ∷ rest) s t e f l h =
+      starts w.2
+  sound_items T (Client c ∷ rest) s t e f l starts h =
       let w = parted s t (item_places (Client c)) (script_places rest) h in
       let one = blocks_stay (with_client s c.name) w.0 c.blocks (client_stays s w.0 c w.1).1 in (
         sound_client c s w.0 (known_of s.objects (names_of (Client c ∷ rest)) s.kinds (kinds_of (Client c ∷ rest)) e f l) w.1,
-        sound_items rest w.0 t
+        sound_items T rest w.0 t
             (e ∙ ap (λ os. os ++ names_of rest) (sym one.objects))
             (f ∙ ap (λ ks. ks ++ kinds_of rest) (sym one.kinds))
             (ap length one.kinds ∙ l ∙ sym (ap length one.objects))
-            w.2,
+            starts w.2,
+      )
+  sound_items T (Template c ∷ rest) s t e f l starts h =
+      let w = parted s t (item_places (Template c)) (script_places rest) h in
+      let same = (template_stays s w.0 c w.1).2 in
+      sound_items T rest w.0 t
+      (e ∙ ap (λ (u : Scope). u.objects ++ names_of rest) (sym same))
+      (f ∙ ap (λ (u : Scope). u.kinds ++ kinds_of rest) (sym same))
+      (ap (λ (u : Scope). length u.kinds) same ∙ l ∙ sym (ap (λ (u : Scope). length u.objects) same))
+      starts w.2
+  sound_items T (Started c ∷ rest) s t e f l (one, starts) h =
+      let w = parted s t (item_places (Started c)) (script_places rest) h in
+      let same = (started_stays s w.0 c w.1).4 in (
+        one,
+        sound_items T rest w.0 t
+            (e ∙ ap (λ (u : Scope). u.objects ++ names_of rest) (sym same))
+            (f ∙ ap (λ (u : Scope). u.kinds ++ kinds_of rest) (sym same))
+            (ap (λ (u : Scope). length u.kinds) same ∙ l ∙ sym (ap (λ (u : Scope). length u.objects) same))
+            starts w.2,
       )
 
-length-clients : (os : List Name) (ks : List Kind) (items : List Item) → length (clients_of os ks items) ≡ length (lists_of items)
-length-clients os ks [] = refl
-length-clients os ks (Object o ∷ rest) = length-clients os ks rest
-length-clients os ks (Client c ∷ rest) = ap suc (length-clients os ks rest)
+length-clients : (T : List TemplateItem) (os : List Name) (ks : List Kind) (items : List Item) → length (clients_of T os ks items) ≡ length (client_names items)
+length-clients T os ks [] = refl
+length-clients T os ks (Object o ∷ rest) = length-clients T os ks rest
+length-clients T os ks (Client c ∷ rest) = ap suc (length-clients T os ks rest)
+length-clients T os ks (Template c ∷ rest) = length-clients T os ks rest
+length-clients T os ks (Started c ∷ rest) = ap suc (length-clients T os ks rest)
 
 -- the end of a walk over a whole script, but for the variables of the clients that are over
 pub record Walked (items : List Item) (s : Scope) : Type 0 where
@@ -184,15 +214,15 @@ walked items s h =
     }
 
 -- a script with no fault in its text, whose load and weight are in their limits
-pub sound : (items : List Item) (t : Scope) → scope_or_fault start (script_places items) ≡ Ok t → whole_load (program_of_items items) ≤ most_requests → whole_weight (program_of_items items) ≤ most_steps → IsFormedProgram (program_of_items items) → IsSound (program_of_items items)
-sound items t h load weight form =
+pub sound : (items : List Item) (t : Scope) → scope_or_fault start (script_places items) ≡ Ok t → whole_load (program_of_items items) ≤ most_requests → whole_weight (program_of_items items) ≤ most_steps → AreStartsSound (objects_of items) (templates_in items) items → IsFormedProgram (program_of_items items) → IsSound (program_of_items items)
+sound items t h load weight starts form =
     let known = scripted items start t h in
     let count : length t.objects ≤ most_objects = known.few_objects (omega arith) in
     record {
       objects = omega (arith, count, ap length known.objects, length-map (objects_of items) (λ (o : Declared). o.name));
-      clients = omega (arith, known.few_clients (omega arith), length-clients (names_of items) (kinds_of items) items);
+      clients = omega (arith, known.few_clients (omega arith), length-clients (templates_in items) (names_of items) (kinds_of items) items);
       kinds = known.starting;
-      each = sound_items (objects_of items) items start t refl refl refl h;
+      each = sound_items (objects_of items) (templates_in items) items start t refl refl refl starts h;
       load = load;
       weight = weight;
       form = form;

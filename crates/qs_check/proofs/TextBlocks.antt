@@ -1,14 +1,16 @@
 -- Blocks are walked without a fault exactly where they are right: their lists, their statements, their number and their variables.
-use Rattle.std.proofs.Common.{◌≡◌, ℕ, ◌+◌, ◌<◌, ◌≤◌, Bool, true, false, ◌||◌, nat_lt, List, [], ◌∷◌, ◌++◌, length, refl, ap, sym, ◌∙◌, arith, append_assoc, append-nil, Ok, Err, if◌then◌else◌}
+use Rattle.std.proofs.Common.{◌≡◌, ℕ, ◌+◌, ◌<◌, ◌≤◌, Bool, true, false, ◌||◌, nat_lt, List, [], ◌∷◌, ◌++◌, length, map, refl, ap, sym, ◌∙◌, arith, append_assoc, append-nil, Ok, Err, if◌then◌else◌}
 use Rattle.std.proofs.lemmas.Cmp.{nat_list_eq_equiv}
 use Rattle.std.proofs.lemmas.List.Folds.{list_any-append}
 use Rattle.std.specs.List.{AllByRecursion, IsDistinct}
+use Rattle.qs_objects.specs.declared.object.Kind.{Kind}
 use Rattle.qs_script.specs.declared.tree.Block.{Block}
+use Rattle.qs_script.specs.declared.tree.TemplateItem.{TemplateItem}
 use Rattle.qs_check.specs.declared.fault.CheckFault.TheVariants as f
 use Rattle.qs_program.specs.declared.program.Declared.{Declared}
 use Rattle.qs_program.specs.Numbering.{Name, same_name, is_among, with_name}
 use Rattle.qs_program.specs.Limits.{most_blocks, most_variables}
-use Rattle.qs_check.specs.Places.{Scope, listed, separate, scope_or_fault, places, listed_places, block_places, blocks_places, with_listed}
+use Rattle.qs_check.specs.Places.{Scope, formal_kinds, listed, separate, scope_or_fault, places, listed_places, block_places, blocks_places, with_listed}
 use Rattle.qs_check.specs.Resolve.{variables_at}
 use Rattle.qs_check.specs.WellFormed.{AreStatements, variables_in_all}
 use Rattle.qs_check.proofs.FinePlaces.{then_step, else_step, below, again, leads, named_more, are_fine, fine_met}
@@ -20,9 +22,15 @@ use Rattle.qs_check.proofs.TextNames.{all_named, or_false, or_false_first, or_fa
 use Rattle.qs_check.proofs.TextRequests.{statements_from, statements_to}
 use Rattle.qs_check.proofs.Walks.{met-then}
 
--- what is known with these objects declared
-abbrev pub scope : List Declared → List Name → ℕ → List Name → List Name → Scope
-scope D clients blocks variables reserved = record { objects = names D; kinds = kinds D; clients = clients; blocks = blocks; variables = variables; reserved = reserved }
+-- what is known with these objects and templates declared
+abbrev pub template_names : List TemplateItem → List Name
+template_names T = map (λ (t : TemplateItem). t.name) T
+
+abbrev pub template_formals : List TemplateItem → List (List Kind)
+template_formals T = map (λ (t : TemplateItem). formal_kinds t.formals) T
+
+abbrev pub scope : List Declared → List TemplateItem → List Name → ℕ → List Name → List Name → Scope
+scope D T clients blocks variables reserved = record { objects = names D; kinds = kinds D; clients = clients; templates = template_names T; formals = template_formals T; blocks = blocks; variables = variables; reserved = reserved }
 
 -- names that are none of those seen, and none the same as another
 abbrev pub Fresh : List Name → List Name → Type 0
@@ -88,19 +96,19 @@ pub record IsRight (D : List Declared) (b : Block) : Type 0 where
 block_variables : (V : List Name) (b : Block) → variables_at V (block_places b) ≡ variables_at V (places false b.body)
 block_variables V b = variables_at-append V (listed_places b.reserved) (places false b.body) ∙ ap (λ ns. variables_at ns (places false b.body)) (tell_list b.reserved V)
 
-module _ (D : List Declared) (C : List Name) where
+module _ (D : List Declared) (T : List TemplateItem) (C : List Name) where
   module _ (n : ℕ) (V R : List Name) (b : Block) where
     -- after the beginning of the block, and after its list
     abbrev scope_in_block : Scope
-    scope_in_block = scope D C (n + 1) V []
+    scope_in_block = scope D T C (n + 1) V []
 
     abbrev listing : Scope
-    listing = scope D C (n + 1) V b.reserved
+    listing = scope D T C (n + 1) V b.reserved
 
-    module _ (t : Scope) (h : scope_or_fault (scope D C n V R) (block_places b) ≡ Ok t) where
+    module _ (t : Scope) (h : scope_or_fault (scope D T C n V R) (block_places b) ≡ Ok t) where
       body_met : (scope_or_fault scope_in_block (listed_places b.reserved) ≡ Ok listing) × (scope_or_fault listing (places false b.body) ≡ Ok t)
       body_met =
-          let w = split (scope D C n V R) t separate (listed_places b.reserved ++ places false b.body) h in
+          let w = split (scope D T C n V R) t separate (listed_places b.reserved ++ places false b.body) h in
           let v = parted scope_in_block t (listed_places b.reserved) (places false b.body) (again scope_in_block t w.0 (listed_places b.reserved ++ places false b.body) w.1.1 w.2) in
           let e : v.0 ≡ listing = list_kept b.reserved scope_in_block v.0 v.1 in
           (v.1 ∙ ap (λ u. Ok u) e, again listing t v.0 (places false b.body) e v.2)
@@ -113,11 +121,11 @@ module _ (D : List Declared) (C : List Name) where
             statements = statements_from D b.reserved false b.body (are_fine listing t (places false b.body) (inner_body false b.body) w.1);
           }
 
-      pub scope_after : t ≡ scope D C (n + 1) (variables_at V (block_places b)) b.reserved
+      pub scope_after : t ≡ scope D T C (n + 1) (variables_at V (block_places b)) b.reserved
       scope_after =
           let w = body_met in
           kept listing t (places false b.body) (inner_body false b.body) w.1
-          ∙ ap (with_names listing) (variables_met (scope D C n V R) t (block_places b) h)
+          ∙ ap (with_names listing) (variables_met (scope D T C n V R) t (block_places b) h)
 
     module _ (distinct : IsDistinct same_name (names D)) (right : IsRight D b) (room : n < most_blocks) (few : length (variables_at V (block_places b)) ≤ most_variables) where
       list_met : scope_or_fault scope_in_block (listed_places b.reserved) ≡ Ok listing
@@ -127,28 +135,28 @@ module _ (D : List Declared) (C : List Name) where
           unseen [] = tt
           unseen (m ∷ ns) = (refl, unseen ns)
 
-      pub right_to : scope_or_fault (scope D C n V R) (block_places b) ≡ Ok (scope D C (n + 1) (variables_at V (block_places b)) b.reserved)
+      pub right_to : scope_or_fault (scope D T C n V R) (block_places b) ≡ Ok (scope D T C (n + 1) (variables_at V (block_places b)) b.reserved)
       right_to =
           let names_are = block_variables V b in
           let small : length (variables_at V (places false b.body)) ≤ most_variables = omega (arith, few, ap length names_are) in
           let body = fine_met listing (places false b.body) (inner_body false b.body) (statements_to D b.reserved distinct false b.body right.statements) small in
-          leads (scope D C n V R) scope_in_block separate (listed_places b.reserved ++ places false b.body) _
+          leads (scope D T C n V R) scope_in_block separate (listed_places b.reserved ++ places false b.body) _
           (then_step (nat_lt n most_blocks) scope_in_block (Ok scope_in_block) f.Limit (below n 64 room))
           (met-then scope_in_block listing (listed_places b.reserved) (places false b.body) list_met ∙ body ∙ ap (λ v. Ok (with_names listing v)) (sym names_are))
 
-  pub blocks_from : (bs : List Block) (n : ℕ) (V R : List Name) (t : Scope) → scope_or_fault (scope D C n V R) (blocks_places bs) ≡ Ok t → AllByRecursion (IsRight D) bs
+  pub blocks_from : (bs : List Block) (n : ℕ) (V R : List Name) (t : Scope) → scope_or_fault (scope D T C n V R) (blocks_places bs) ≡ Ok t → AllByRecursion (IsRight D) bs
   blocks_from [] n V R t h = tt
   blocks_from (b ∷ bs) n V R t h =
-      let w = parted (scope D C n V R) t (block_places b) (blocks_places bs) h in
+      let w = parted (scope D T C n V R) t (block_places b) (blocks_places bs) h in
       let V1 = variables_at V (block_places b) in
-      (right_from n V R b w.0 w.1, blocks_from bs (n + 1) V1 b.reserved t (again (scope D C (n + 1) V1 b.reserved) t w.0 (blocks_places bs) (scope_after n V R b w.0 w.1) w.2))
+      (right_from n V R b w.0 w.1, blocks_from bs (n + 1) V1 b.reserved t (again (scope D T C (n + 1) V1 b.reserved) t w.0 (blocks_places bs) (scope_after n V R b w.0 w.1) w.2))
 
   all_more : (old xs : List Name) → length old ≤ length (all_named old xs)
   all_more old [] = omega arith
   all_more old (x ∷ xs) = omega (arith, named_more old x, all_more (with_name old x) xs)
 
-  pub blocks_to : IsDistinct same_name (names D) → (bs : List Block) (n : ℕ) (V R : List Name) → n + length bs ≤ most_blocks → length (variables_at V (blocks_places bs)) ≤ most_variables → AllByRecursion (IsRight D) bs → (t : Scope) × (scope_or_fault (scope D C n V R) (blocks_places bs) ≡ Ok t) × (m : ℕ) × (Q : List Name) × (t ≡ scope D C m (variables_at V (blocks_places bs)) Q)
-  blocks_to distinct [] n V R room few right = (scope D C n V R, refl, n, R, refl)
+  pub blocks_to : IsDistinct same_name (names D) → (bs : List Block) (n : ℕ) (V R : List Name) → n + length bs ≤ most_blocks → length (variables_at V (blocks_places bs)) ≤ most_variables → AllByRecursion (IsRight D) bs → (t : Scope) × (scope_or_fault (scope D T C n V R) (blocks_places bs) ≡ Ok t) × (m : ℕ) × (Q : List Name) × (t ≡ scope D T C m (variables_at V (blocks_places bs)) Q)
+  blocks_to distinct [] n V R room few right = (scope D T C n V R, refl, n, R, refl)
   blocks_to distinct (b ∷ bs) n V R room few right =
       let V1 = variables_at V (block_places b) in
       let parts : variables_at V (blocks_places (b ∷ bs)) ≡ variables_at V1 (blocks_places bs) = variables_at-append V (block_places b) (blocks_places bs) in
@@ -157,4 +165,4 @@ module _ (D : List Declared) (C : List Name) where
       let few_later : length (variables_at V1 (blocks_places bs)) ≤ most_variables = omega (arith, few, ap length parts) in
       let one = right_to n V R b distinct right.0 (omega arith) few_now in
       let w = blocks_to distinct bs (n + 1) V1 b.reserved (omega arith) few_later right.1 in
-      (w.0, met-then (scope D C n V R) (scope D C (n + 1) V1 b.reserved) (block_places b) (blocks_places bs) one ∙ w.1, w.2, w.3, w.4 ∙ ap (λ vs. scope D C w.2 vs w.3) (sym parts))
+      (w.0, met-then (scope D T C n V R) (scope D T C (n + 1) V1 b.reserved) (block_places b) (blocks_places bs) one ∙ w.1, w.2, w.3, w.4 ∙ ap (λ vs. scope D T C w.2 vs w.3) (sym parts))

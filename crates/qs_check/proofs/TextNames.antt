@@ -18,7 +18,7 @@ use Rattle.qs_script.specs.declared.tree.Block.{Block}
 use Rattle.qs_script.specs.declared.tree.ClientItem.{ClientItem}
 use Rattle.qs_script.specs.Tree as tree
 use Rattle.qs_program.specs.Numbering.{Name, same_name, is_among, with_name}
-use Rattle.qs_check.specs.Places.{TextPlace, object, number, client, separate, listed, target, operation, arguments, variable, leaves, places, atom_places, atoms_places, expr_places, test_places, call_places, listed_places, block_places, blocks_places}
+use Rattle.qs_check.specs.Places.{TextPlace, object, number, client, separate, listed, target, operation, arguments, variable, leaves, template, text, starts, given, places, atom_places, atoms_places, expr_places, test_places, call_places, listed_places, block_places, blocks_places}
 use Rattle.qs_check.specs.Resolve.{variables_at, variables_of}
 use Rattle.qs_check.specs.WellFormed.{atom_names, atoms_names, expr_names, test_names, variables_in, variables_in_all}
 
@@ -43,6 +43,10 @@ variables_at-append names (operation asks o op ∷ ps) qs = variables_at-append 
 variables_at-append names (arguments asks o op n ∷ ps) qs = variables_at-append names ps qs
 variables_at-append names (variable x ∷ ps) qs = variables_at-append (with_name names x) ps qs
 variables_at-append names (leaves inside ∷ ps) qs = variables_at-append names ps qs
+variables_at-append names (template m ks ∷ ps) qs = variables_at-append names ps qs
+variables_at-append names (text fault ∷ ps) qs = variables_at-append names ps qs
+variables_at-append names (starts m count ∷ ps) qs = variables_at-append names ps qs
+variables_at-append names (given m i o ∷ ps) qs = variables_at-append names ps qs
 
 -- the places name these variables
 abbrev Tell : List TextPlace → List Name → Type 0

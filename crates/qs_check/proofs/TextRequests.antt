@@ -52,11 +52,11 @@ among_at [] k within = absurd (omega arith)
 among_at (x ∷ xs) zero within = ap (λ b. b || is_among xs x) (same_name-refl x)
 among_at (x ∷ xs) (suc k) within = or_true (same_name (get_or xs k []) x) (is_among xs (get_or xs k [])) (among_at xs k (omega arith))
 
-place_later : (b : Bool) (i j : ℕ) → b ≡ false → i ≡ j → cond (not b) (1 + i) 0 ≡ suc j
+pub place_later : (b : Bool) (i j : ℕ) → b ≡ false → i ≡ j → cond (not b) (1 + i) 0 ≡ suc j
 place_later true i j e f = cc
 place_later false i j e f = omega (arith, f)
 
-place_here : (b : Bool) (i : ℕ) → b ≡ true → cond (not b) (1 + i) 0 ≡ 0
+pub place_here : (b : Bool) (i : ℕ) → b ≡ true → cond (not b) (1 + i) 0 ≡ 0
 place_here true i e = refl
 place_here false i e = cc
 

@@ -1,5 +1,5 @@
 -- The places of a script where something may be wrong, in text order, and what is wrong at each.
-use Rattle.std.specs.Prelude.{◌≡◌, ◌≢◌, ℕ, ◌+◌, Bool, true, false, ◌||◌, nat_lt, nat_eq, if◌then◌else◌, List, [], ◌∷◌, ◌++◌, length, slice_index_or, Option, Some, None, Result, Ok, Err, pos}
+use Rattle.std.specs.Prelude.{◌≡◌, ◌≢◌, ℕ, suc, ◌+◌, Bool, true, false, ◌||◌, nat_lt, nat_eq, if◌then◌else◌, List, [], ◌∷◌, ◌++◌, length, map, slice_index_or, Option, Some, None, Result, Ok, Err, pos}
 use Rattle.qs_objects.specs.declared.Op.{Op}
 use Rattle.qs_objects.specs.declared.object.Kind.{Kind}
 use Rattle.qs_objects.specs.declared.object.Kind.TheVariants as k
@@ -13,22 +13,35 @@ use Rattle.qs_script.specs.declared.tree.Call.{Call}
 use Rattle.qs_script.specs.declared.tree.Block.{Block}
 use Rattle.qs_script.specs.declared.tree.KindText.{KindText}
 use Rattle.qs_script.specs.declared.tree.KindText.TheVariants.{Account, Buffer, Grid}
+use Rattle.qs_script.specs.declared.tree.KindWord.{KindWord}
+use Rattle.qs_script.specs.declared.tree.KindWord.TheVariants as word
+use Rattle.qs_script.specs.declared.tree.Formal.{Formal}
+use Rattle.qs_script.specs.declared.tree.TemplateItem.{TemplateItem}
+use Rattle.qs_script.specs.declared.tree.StartedItem.{StartedItem}
 use Rattle.qs_script.specs.declared.tree.Item.{Item}
-use Rattle.qs_script.specs.declared.tree.Item.TheVariants.{Object, Client}
+use Rattle.qs_script.specs.declared.tree.Item.TheVariants.{Object, Client, Template, Started}
 use Rattle.qs_script.specs.Tree.{Stmts, end, command, query, assign, choose, choose_else, again, leave}
 use Rattle.qs_objects.specs.Limits.{greatest_balance, most_lines, most_values}
 use Rattle.qs_program.specs.Limits.{most_blocks, most_clients, most_objects, most_turns, most_variables}
 use Rattle.qs_check.specs.declared.fault.CheckFault.{CheckFault}
 use Rattle.qs_check.specs.declared.fault.CheckFault.TheVariants as f
+use Rattle.qs_program.specs.Kinds.{same_kind}
 use Rattle.qs_program.specs.Numbering.{Name, is_among, found_at}
 use Rattle.qs_check.specs.Operators.{op_of}
 
--- what is known at a place: the objects declared so far with their kinds, the clients so far,
+-- of a program
+abbrev pub most_templates : ℕ
+most_templates = 8
+
+-- what is known at a place: the objects declared so far with their kinds, the clients so far, the templates so far with their
+-- formals' kinds,
 -- how many blocks and which variables the current client has so far, and the current block's list so far
 pub record Scope : Type 0 where
   pub objects : List Name
   pub kinds : List Kind
   pub clients : List Name
+  pub templates : List Name
+  pub formals : List (List Kind)
   pub blocks : ℕ
   pub variables : List Name
   pub reserved : List Name
@@ -52,6 +65,14 @@ pub data TextPlace : Type 0 where
   variable : (name : Name) → TextPlace
   -- a leave, inside a repeat or not
   leaves : (inside : Bool) → TextPlace
+  -- a template's name, with its formals' kinds
+  template : (name : Name) → (formals : List Kind) → TextPlace
+  -- a template's formals and blocks, which are walked by themselves, with their first fault
+  text : (fault : Option CheckFault) → TextPlace
+  -- the template's name after a client's, with the number of objects that are given
+  starts : (template : Name) → (count : ℕ) → TextPlace
+  -- an object that is given for the formal at a place
+  given : (template : Name) → (place : ℕ) → (object : Name) → TextPlace
 
 abbrev pub ScopeOrFault : Type 0
 ScopeOrFault = Result Scope CheckFault
@@ -75,6 +96,9 @@ with_object s n kind = record s { objects = s.objects ++ n ∷ []; kinds = s.kin
 abbrev pub with_client : Scope → Name → Scope
 with_client s n = record s { clients = s.clients ++ n ∷ []; blocks = 0; variables = []; reserved = [] }
 
+abbrev pub with_template : Scope → Name → List Kind → Scope
+with_template s n formals = record s { templates = s.templates ++ n ∷ []; formals = s.formals ++ formals ∷ [] }
+
 abbrev pub with_block : Scope → Scope
 with_block s = record s { blocks = s.blocks + 1; reserved = [] }
 
@@ -87,6 +111,21 @@ with_variable s x = record s { variables = s.variables ++ x ∷ [] }
 -- what is known after a client, whose variables are its own
 abbrev pub without_variables : Scope → Scope
 without_variables s = record s { variables = [] }
+
+abbrev pub kind_in : List Kind → ℕ → Kind
+kind_in kinds i = slice_index_or kinds i (k.Account (pos 0))
+
+-- the kinds of the formals of a template
+abbrev pub formals_at : List Name → List (List Kind) → Name → List Kind
+formals_at templates formals n = slice_index_or formals (found_at templates n) []
+
+-- whether a declared object is of the kind of a template's formal
+abbrev pub is_given : Scope → Name → ℕ → Name → Bool
+is_given s n i o = same_kind (kind_in (formals_at s.templates s.formals n) i) (kind_in s.kinds (found_at s.objects o))
+
+abbrev pub unless_fault : Option CheckFault → Scope → ScopeOrFault
+unless_fault None s = Ok s
+unless_fault (Some fault) s = Err fault
 
 -- the faults of each place in their order, and else what is known after it: at most 8 objects and 8 clients,
 -- 64 blocks and 16 variables of a client
@@ -111,6 +150,16 @@ step s (variable x) =
     if is_among s.variables x then Ok s
     else (if nat_lt (length s.variables) most_variables then Ok (with_variable s x) else Err f.Limit)
 step s (leaves inside) = if inside then Ok s else Err f.LeaveOutside
+step s (template n formals) =
+    if is_among s.templates n then Err f.Twice
+    else (if nat_lt (length s.templates) most_templates then Ok (with_template s n formals) else Err f.Limit)
+step s (text fault) = unless_fault fault s
+step s (starts n count) =
+    if is_among s.templates n then (if nat_eq (length (formals_at s.templates s.formals n)) count then Ok s else Err f.Count)
+    else Err f.UnknownTemplate
+step s (given n i o) =
+    if is_among s.objects o then (if is_given s n i o then Ok s else Err f.OtherKind)
+    else Err f.UnknownObject
 
 abbrev pub then_at : ScopeOrFault → (Scope → ScopeOrFault) → ScopeOrFault
 then_at (Ok s) next = next s
@@ -179,17 +228,51 @@ kind_places (Account n) = number 0 greatest_balance n ∷ []
 kind_places (Buffer n) = number 1 most_values n ∷ []
 kind_places (Grid r c) = number 1 most_lines r ∷ number 1 most_lines c ∷ []
 
+-- a formal's kind; its numbers say nothing
+abbrev pub formal_kind : KindWord → Kind
+formal_kind word.Account = k.Account (pos 0)
+formal_kind word.Buffer = k.Buffer (pos 1)
+formal_kind word.Grid = k.Grid (pos 1) (pos 1)
+
+abbrev pub formal_kinds : List Formal → List Kind
+formal_kinds fs = map (λ f. formal_kind f.kind) fs
+
+-- formals stand for objects in their template
+abbrev pub formals_places : List Formal → List TextPlace
+formals_places = at_each (λ f. object f.name (formal_kind f.kind) ∷ [])
+
+abbrev pub text_places : TemplateItem → List TextPlace
+text_places t = formals_places t.formals ++ blocks_places t.blocks
+
+-- nothing is known at the start
+abbrev pub start : Scope
+start = record { objects = []; kinds = []; clients = []; templates = []; formals = []; blocks = 0; variables = []; reserved = [] }
+
+abbrev pub fault_in : ScopeOrFault → Option CheckFault
+fault_in (Ok s) = None
+fault_in (Err fault) = Some fault
+
+-- the first fault of a template's formals and blocks, of which nothing outside is known
+abbrev pub fault_of_text : TemplateItem → Option CheckFault
+fault_of_text t = fault_in (scope_or_fault start (text_places t))
+
+-- the objects that are given for the formals from a place on
+abbrev pub given_places : Name → ℕ → List Name → List TextPlace
+given_places n i [] = []
+given_places n i (o ∷ os) = given n i o ∷ given_places n (suc i) os
+
+abbrev pub started_places : StartedItem → List TextPlace
+started_places c = client c.name ∷ starts c.template (length c.objects) ∷ given_places c.template 0 c.objects
+
 abbrev pub item_places : Item → List TextPlace
 item_places (Object o) = object o.name (kind_of o.kind) ∷ kind_places o.kind
 item_places (Client c) = client c.name ∷ blocks_places c.blocks
+item_places (Template t) = template t.name (formal_kinds t.formals) ∷ text (fault_of_text t) ∷ []
+item_places (Started c) = started_places c
 
 -- the places of a whole script
 abbrev pub script_places : List Item → List TextPlace
 script_places = at_each item_places
-
--- nothing is known at the start
-abbrev pub start : Scope
-start = record { objects = []; kinds = []; clients = []; blocks = 0; variables = []; reserved = [] }
 
 -- what is met, when the last client is over
 abbrev pub over : ScopeOrFault → ScopeOrFault

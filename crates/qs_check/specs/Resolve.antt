@@ -1,8 +1,8 @@
 -- Scripts with each name replaced by its number.
-use Rattle.std.specs.Prelude.{Bool, true, false, List, [], ◌∷◌, map, None}
+use Rattle.std.specs.Prelude.{ℕ, Bool, true, false, List, [], ◌∷◌, map, Option, Some, None, if◌then◌else◌}
 use Rattle.qs_objects.specs.declared.object.Kind.{Kind}
 use Rattle.qs_script.specs.Tree as tree
-use Rattle.qs_script.specs.declared.tree.Atom as text
+use Rattle.qs_script.specs.declared.tree.Atom as text_atom
 use Rattle.qs_script.specs.declared.tree.Atom.TheVariants as atoms
 use Rattle.qs_script.specs.declared.tree.Expr as text_expr
 use Rattle.qs_script.specs.declared.tree.Expr.TheVariants as exprs
@@ -10,6 +10,9 @@ use Rattle.qs_script.specs.declared.tree.Test as text_test
 use Rattle.qs_script.specs.declared.tree.Call as text_call
 use Rattle.qs_script.specs.declared.tree.Block as text_block
 use Rattle.qs_script.specs.declared.tree.ClientItem.{ClientItem}
+use Rattle.qs_script.specs.declared.tree.Formal.{Formal}
+use Rattle.qs_script.specs.declared.tree.StartedItem.{StartedItem}
+use Rattle.qs_script.specs.declared.tree.TemplateItem.{TemplateItem}
 use Rattle.qs_script.specs.declared.tree.Item.{Item}
 use Rattle.qs_script.specs.declared.tree.Item.TheVariants as items
 use Rattle.qs_program.specs.declared.code.Atom.{Atom}
@@ -19,15 +22,16 @@ use Rattle.qs_program.specs.declared.code.Expr.TheVariants.{Plain, Binary}
 use Rattle.qs_program.specs.declared.code.Test.{Test}
 use Rattle.qs_program.specs.declared.code.Call.{Call}
 use Rattle.qs_program.specs.declared.program.Declared.{Declared}
-use Rattle.qs_program.specs.Numbering.{Name, with_name, found_at}
+use Rattle.qs_program.specs.Binding.{bound_block}
+use Rattle.qs_program.specs.Numbering.{Name, same_name, with_name, found_at}
 use Rattle.qs_check.specs.Operators.{op_or_refused}
 use Rattle.qs_program.specs.Statements.{Statements, end, command, query, assign, choose, again, leave}
 use Rattle.qs_program.specs.Program.{BlockShape, ClientShape, ProgramShape}
-use Rattle.qs_check.specs.Places.{TextPlace, object, number, client, separate, listed, target, operation, arguments, variable, leaves, op_at, kind_of, blocks_places}
+use Rattle.qs_check.specs.Places.{TextPlace, object, number, client, separate, listed, target, operation, arguments, variable, leaves, template, text, starts, given, op_at, formal_kind, kind_of, blocks_places}
 
 -- variables by the list of the client's
 module _ (variables : List Name) where
-  abbrev pub atom_of : text.Atom → Atom
+  abbrev pub atom_of : text_atom.Atom → Atom
   atom_of (atoms.Variable x) = Variable (found_at variables x)
   atom_of (atoms.Number z) = Number z
 
@@ -69,6 +73,10 @@ variables_at names (operation asks o op ∷ ps) = variables_at names ps
 variables_at names (arguments asks o op n ∷ ps) = variables_at names ps
 variables_at names (variable x ∷ ps) = variables_at (with_name names x) ps
 variables_at names (leaves inside ∷ ps) = variables_at names ps
+variables_at names (template n formals ∷ ps) = variables_at names ps
+variables_at names (text fault ∷ ps) = variables_at names ps
+variables_at names (starts n count ∷ ps) = variables_at names ps
+variables_at names (given n i o ∷ ps) = variables_at names ps
 
 abbrev pub variables_of : ClientItem → List Name
 variables_of c = variables_at [] (blocks_places c.blocks)
@@ -78,11 +86,53 @@ client_of objects kinds c =
     let variables = variables_of c in
     record { name = c.name; variables = variables; blocks = map (block_of objects kinds variables) c.blocks; start = None }
 
+-- a template's blocks, as those of a client
+abbrev pub as_client : TemplateItem → ClientItem
+as_client t = record { name = t.name; blocks = t.blocks }
+
+abbrev pub declared_formals : List Formal → List Declared
+declared_formals fs = map (λ f. record { name = f.name; kind = formal_kind f.kind }) fs
+
+-- a template by number, as a client over its formals
+abbrev pub own_client : TemplateItem → ClientShape
+own_client t = client_of (map (λ d. d.name) (declared_formals t.formals)) (map (λ d. d.kind) (declared_formals t.formals)) (as_client t)
+
+-- the templates of a script, in text order
+abbrev pub templates_in : List Item → List TemplateItem
+templates_in [] = []
+templates_in (items.Object o ∷ rest) = templates_in rest
+templates_in (items.Client c ∷ rest) = templates_in rest
+templates_in (items.Template t ∷ rest) = t ∷ templates_in rest
+templates_in (items.Started c ∷ rest) = templates_in rest
+
+-- the first template of a name
+abbrev pub template_called : List TemplateItem → Name → Option TemplateItem
+template_called [] n = None
+template_called (t ∷ ts) n = if same_name n t.name then Some t else template_called ts n
+
+abbrev pub binding_of : List Name → StartedItem → List ℕ
+binding_of objects c = map (found_at objects) c.objects
+
+-- a client of a template: the template's blocks with each formal replaced by its object
+abbrev pub started_of : List Name → Option TemplateItem → StartedItem → ClientShape
+started_of objects None c = record { name = c.name; variables = []; blocks = []; start = None }
+started_of objects (Some t) c =
+    let own = own_client t in
+    let binding = binding_of objects c in
+    record {
+      name = c.name;
+      variables = own.variables;
+      blocks = map (bound_block binding) own.blocks;
+      start = Some (record { formals = declared_formals t.formals; binding = binding; blocks = own.blocks });
+    }
+
 -- the objects of a script, in text order
 abbrev pub objects_of : List Item → List Declared
 objects_of [] = []
 objects_of (items.Object o ∷ rest) = record { name = o.name; kind = kind_of o.kind } ∷ objects_of rest
 objects_of (items.Client c ∷ rest) = objects_of rest
+objects_of (items.Template t ∷ rest) = objects_of rest
+objects_of (items.Started c ∷ rest) = objects_of rest
 
 abbrev pub names_of : List Item → List Name
 names_of is = map (λ o. o.name) (objects_of is)
@@ -90,17 +140,22 @@ names_of is = map (λ o. o.name) (objects_of is)
 abbrev pub kinds_of : List Item → List Kind
 kinds_of is = map (λ o. o.kind) (objects_of is)
 
-abbrev pub clients_of : List Name → List Kind → List Item → List ClientShape
-clients_of objects kinds [] = []
-clients_of objects kinds (items.Object o ∷ rest) = clients_of objects kinds rest
-clients_of objects kinds (items.Client c ∷ rest) = client_of objects kinds c ∷ clients_of objects kinds rest
+abbrev pub clients_of : List TemplateItem → List Name → List Kind → List Item → List ClientShape
+clients_of templates objects kinds [] = []
+clients_of templates objects kinds (items.Object o ∷ rest) = clients_of templates objects kinds rest
+clients_of templates objects kinds (items.Client c ∷ rest) = client_of objects kinds c ∷ clients_of templates objects kinds rest
+clients_of templates objects kinds (items.Template t ∷ rest) = clients_of templates objects kinds rest
+clients_of templates objects kinds (items.Started c ∷ rest) =
+    started_of objects (template_called templates c.template) c ∷ clients_of templates objects kinds rest
 
--- each client's variables, in text order
+-- the variables of each client with blocks of its own, in text order
 abbrev pub lists_of : List Item → List (List Name)
 lists_of [] = []
 lists_of (items.Object o ∷ rest) = lists_of rest
 lists_of (items.Client c ∷ rest) = variables_of c ∷ lists_of rest
+lists_of (items.Template t ∷ rest) = lists_of rest
+lists_of (items.Started c ∷ rest) = lists_of rest
 
 -- a whole script by number
 abbrev pub program_of_items : List Item → ProgramShape
-program_of_items is = record { objects = objects_of is; clients = clients_of (names_of is) (kinds_of is) is }
+program_of_items is = record { objects = objects_of is; clients = clients_of (templates_in is) (names_of is) (kinds_of is) is }

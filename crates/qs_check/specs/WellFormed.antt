@@ -15,21 +15,25 @@ use Rattle.qs_script.specs.declared.tree.Block.{Block}
 use Rattle.qs_script.specs.declared.tree.KindText.{KindText}
 use Rattle.qs_script.specs.declared.tree.KindText.TheVariants.{Account, Buffer, Grid}
 use Rattle.qs_script.specs.declared.tree.ClientItem.{ClientItem}
+use Rattle.qs_script.specs.declared.tree.Formal.{Formal}
+use Rattle.qs_script.specs.declared.tree.StartedItem.{StartedItem}
+use Rattle.qs_script.specs.declared.tree.TemplateItem.{TemplateItem}
 use Rattle.qs_script.specs.declared.tree.Item.{Item}
-use Rattle.qs_script.specs.declared.tree.Item.TheVariants.{Object, Client}
+use Rattle.qs_script.specs.declared.tree.Item.TheVariants.{Object, Client, Template, Started}
 use Rattle.qs_script.specs.Tree.{Stmts, end, command, query, assign, choose, choose_else, again, leave}
 use Rattle.qs_script.specs.Form.{levels_of, HasForm}
 use Rattle.qs_objects.specs.Limits.{greatest_balance, most_lines, most_values}
 use Rattle.qs_script.specs.Limits.{most_levels}
-use Rattle.qs_program.specs.Limits.{most_blocks, most_clients, most_objects, most_requests, most_steps, most_turns, most_variables}
+use Rattle.qs_program.specs.Limits.{most_blocks, most_clients, most_formals, most_objects, most_requests, most_steps, most_turns, most_variables}
 use Rattle.qs_check.specs.declared.fault.CheckFault.{CheckFault}
 use Rattle.qs_check.specs.declared.fault.CheckFault.TheVariants as f
 use Rattle.qs_program.specs.declared.program.Declared.{Declared}
+use Rattle.qs_program.specs.Kinds.{same_kind}
 use Rattle.qs_program.specs.Numbering.{Name, same_name}
 use Rattle.qs_check.specs.Operators.{op_of}
-use Rattle.qs_check.specs.Places.{kind_of}
+use Rattle.qs_check.specs.Places.{formal_kind, kind_of, most_templates}
 use Rattle.qs_program.specs.Program.{ProgramShape}
-use Rattle.qs_check.specs.Resolve.{objects_of, names_of}
+use Rattle.qs_check.specs.Resolve.{as_client, declared_formals, names_of, objects_of, template_called, templates_in}
 use Rattle.qs_check.specs.TextLoads.{text_load, text_weight}
 use Rattle.qs_check.specs.Checked.{fault_of}
 
@@ -109,26 +113,58 @@ pub record IsWellFormedClient (declared : List Declared) (c : ClientItem) : Type
   pub variables : distinct_count same_name (variables_in_all c.blocks) ≤ most_variables
   pub each : AllByRecursion (IsWellFormedBlock declared) c.blocks
 
--- items after the objects that are declared
-abbrev pub AreItems : (declared : List Declared) → List Item → Type 0
-AreItems declared [] = Unit {0}
-AreItems declared (Object o ∷ rest) = IsKindInRange o.kind × AreItems (declared ++ record { name = o.name; kind = kind_of o.kind } ∷ []) rest
-AreItems declared (Client c ∷ rest) = IsWellFormedClient declared c × AreItems declared rest
+-- at most 8 formals, each by a name of its own; its blocks are those of a client that has the formals for objects
+pub record IsWellFormedTemplate (t : TemplateItem) : Type 0 where
+  pub formals : length t.formals ≤ most_formals
+  pub apart : IsDistinct same_name (map (λ f. f.name) t.formals)
+  pub client : IsWellFormedClient (declared_formals t.formals) (as_client t)
 
-abbrev pub clients_in : List Item → List ClientItem
-clients_in [] = []
-clients_in (Object o ∷ rest) = clients_in rest
-clients_in (Client c ∷ rest) = c ∷ clients_in rest
+-- a declared object of the formal's kind
+pub record IsGiven (declared : List Declared) (f : Formal) (o : Name) : Type 0 where
+  pub kind : Kind
+  pub declares : Contains declared (record { name = o; kind = kind })
+  pub same : same_kind (formal_kind f.kind) kind ≡ true
 
--- at most 8 objects and 8 clients, each by a name of its own; load and weight have their limits
+-- for each formal such an object
+abbrev pub AreGiven : List Declared → List Formal → List Name → Type 0
+AreGiven declared [] [] = Unit {0}
+AreGiven declared (f ∷ fs) (o ∷ os) = IsGiven declared f o × AreGiven declared fs os
+AreGiven declared _ _ = ⊥
+
+-- a client of a template that is declared before it
+pub record IsWellFormedStart (templates : List TemplateItem) (declared : List Declared) (c : StartedItem) : Type 0 where
+  pub template : TemplateItem
+  pub called : template_called templates c.template ≡ Some template
+  pub objects : AreGiven declared template.formals c.objects
+
+-- items after the objects and the templates that are declared
+abbrev pub AreItems : (declared : List Declared) → (templates : List TemplateItem) → List Item → Type 0
+AreItems declared templates [] = Unit {0}
+AreItems declared templates (Object o ∷ rest) =
+    IsKindInRange o.kind × AreItems (declared ++ record { name = o.name; kind = kind_of o.kind } ∷ []) templates rest
+AreItems declared templates (Client c ∷ rest) = IsWellFormedClient declared c × AreItems declared templates rest
+AreItems declared templates (Template t ∷ rest) = IsWellFormedTemplate t × AreItems declared (templates ++ t ∷ []) rest
+AreItems declared templates (Started c ∷ rest) = IsWellFormedStart templates declared c × AreItems declared templates rest
+
+-- the names of all clients
+abbrev pub client_names : List Item → List Name
+client_names [] = []
+client_names (Object o ∷ rest) = client_names rest
+client_names (Client c ∷ rest) = c.name ∷ client_names rest
+client_names (Template t ∷ rest) = client_names rest
+client_names (Started c ∷ rest) = c.name ∷ client_names rest
+
+-- at most 8 objects, 8 clients and 8 templates, each by a name of its own; load and weight have their limits
 pub record IsWellFormed (items : List Item) : Type 0 where
   pub objects : length (objects_of items) ≤ most_objects
   pub objects_apart : IsDistinct same_name (names_of items)
-  pub clients : length (clients_in items) ≤ most_clients
-  pub clients_apart : IsDistinct same_name (map (λ c. c.name) (clients_in items))
-  pub each : AreItems [] items
-  pub load : text_load (clients_in items) ≤ most_requests
-  pub weight : text_weight (clients_in items) ≤ most_steps
+  pub clients : length (client_names items) ≤ most_clients
+  pub clients_apart : IsDistinct same_name (client_names items)
+  pub templates : length (templates_in items) ≤ most_templates
+  pub templates_apart : IsDistinct same_name (map (λ t. t.name) (templates_in items))
+  pub each : AreItems [] [] items
+  pub load : text_load (templates_in items) (names_of items) items ≤ most_requests
+  pub weight : text_weight (templates_in items) (names_of items) items ≤ most_steps
 
 -- well formed are the scripts that have the grammar's form and no fault
 abbrev pub FaultlessAreWellFormed : Type 0

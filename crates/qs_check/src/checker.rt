@@ -6,7 +6,7 @@ ghost use Rattle.qs_script.specs.Form.{HasForm};
 ghost use Rattle.qs_program.specs.Limits.{most_objects, most_requests, most_steps, most_variables};
 ghost use Rattle.qs_check.specs.Checked.{IsCheckOf, text_fault, excess_of, shape_of};
 ghost use Rattle.qs_check.specs.Places.{Meets, scope_or_fault, over, start, without_variables, script_places};
-ghost use Rattle.qs_check.specs.Resolve.{program_of_items as resolved_of, clients_of, lists_of, objects_of};
+ghost use Rattle.qs_check.specs.Resolve.{program_of_items as resolved_of, clients_of, lists_of, objects_of, templates_in};
 ghost use Rattle.qs_program.specs.Program.{whole_load, whole_weight};
 ghost use Rattle.qs_program.specs.Sound.{IsSound};
 ghost use Rattle.qs_check.specs.WellFormed.{AcceptsWellFormed};
@@ -14,7 +14,7 @@ ghost use Rattle.qs_check.specs.WellFormed.{AcceptsWellFormed};
 use crate::fault::CheckFault;
 use crate::resolve::{resolve_clients, resolve_objects};
 use crate::scope::Scope;
-use crate::walk::{check_client, check_object};
+use crate::walk::{check_client, check_object, check_started, check_template};
 use qs_program::{
     Client, Declared, MOST_REQUESTS, MOST_STEPS, Names, Program, all_load, all_weight,
 };
@@ -94,7 +94,7 @@ fn numbered(
     requires variables { variables.old.items ≡ lists_of items.now }
     requires limit { AllByRecursion (λ v. length v ≤ most_variables) variables.old.items }
     ensures objects { IfOk result (λ r. r.objects.items ≡ objects_of items.now) }
-    ensures clients { IfOk result (λ r. r.clients.items ≡ clients_of scope.now.objects scope.now.kinds items.now) }
+    ensures clients { IfOk result (λ r. r.clients.items ≡ clients_of (templates_in items.now) scope.now.objects scope.now.kinds items.now) }
 {
     let objects = resolve_objects(alloc, items)?;
     match resolve_clients(alloc, scope.objects(), scope.kinds(), variables, items) {
@@ -141,6 +141,8 @@ fn check_items(
                 check_client(alloc, scope, client)?;
                 add_variables(variables, scope.end_client(alloc))?;
             }
+            Item::Template(template) => check_template(alloc, scope, template)?,
+            Item::Started(started) => check_started(alloc, scope, started)?,
         }
     }
     Ok(())

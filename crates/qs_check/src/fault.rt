@@ -8,7 +8,7 @@ use thiserror::Error;
 /// The first fault of a script in text order; `Load` and `Weight` come after the whole text, in this order.
 #[derive(Clone, Copy, Debug, PartialEq, Eq, Error)]
 pub enum CheckFault {
-    /// An earlier object, or an earlier client, has the name.
+    /// An earlier object, client, template, or formal of the same template has the name.
     Twice,
     /// No object of the name was declared before.
     UnknownObject,
@@ -22,7 +22,7 @@ pub enum CheckFault {
     Arity,
     /// A `leave` stands inside no `repeat`.
     LeaveOutside,
-    /// A ninth object or client, a 65th block or a 17th variable of a client.
+    /// A ninth object, client, template, or formal of a template; a 65th block or a 17th variable of a client or a template.
     Limit,
     /// A number is out of its range.
     Range,
@@ -32,6 +32,12 @@ pub enum CheckFault {
     Weight,
     /// An allocation failed.
     Memory,
+    /// No template of the name was declared before.
+    UnknownTemplate,
+    /// The template has another number of formals.
+    Count,
+    /// The object is of another kind than the formal for which it is given.
+    OtherKind,
 }
 
 /// A fault's text is the name of its variant; what the program prints of it is written by `qs_report`.

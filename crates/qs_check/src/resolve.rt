@@ -7,11 +7,12 @@ ghost use Rattle.qs_script.specs.Views.{single as single_text};
 ghost use Rattle.qs_script.specs.Limits.{most_levels};
 ghost use Rattle.qs_program.specs.Limits.{most_objects, most_variables};
 ghost use Rattle.qs_program.specs.Numbering.{found_at};
-ghost use Rattle.qs_check.specs.Resolve.{atom_of, expr_of, test_of, call_of, body_of, block_of, client_of, clients_of, objects_of, lists_of};
+ghost use Rattle.qs_check.specs.Resolve.{atom_of, expr_of, test_of, call_of, body_of, block_of, client_of, clients_of, objects_of, lists_of, templates_in};
 ghost use Rattle.qs_program.specs.Views.{single};
 
 use crate::operators::find_op;
 use crate::scope::kind_at;
+use crate::start::resolve_started;
 use crate::walk::kind_value;
 use qs_objects::{Kind, Op};
 use qs_program::{Atom, Atoms, Block, Body, Call, Client, Declared, Expr, Names, Stmt, Test};
@@ -47,15 +48,21 @@ pub(crate) fn resolve_clients(
     requires objects { length objects.now ≤ most_objects }
     requires variables { variables.old.items ≡ lists_of items.now }
     requires limit { AllByRecursion (λ v. length v ≤ most_variables) variables.old.items }
-    ensures clients { IfOk result (λ v. v.items ≡ clients_of objects.now kinds.now items.now) }
+    ensures clients { IfOk result (λ v. v.items ≡ clients_of (templates_in items.now) objects.now kinds.now items.now) }
 {
     let mut clients = Vec::new(alloc);
     for item in items {
-        if let Item::Client(client) = item {
-            let Some(names) = variables.pop_front() else {
-                unreachable!()
-            };
-            clients.push(resolve_client(alloc, objects, kinds, names, client)?)?;
+        match item {
+            Item::Client(client) => {
+                let Some(names) = variables.pop_front() else {
+                    unreachable!()
+                };
+                clients.push(resolve_client(alloc, objects, kinds, names, client)?)?;
+            }
+            Item::Started(started) => {
+                clients.push(resolve_started(alloc, objects, items, started)?)?;
+            }
+            Item::Object(_) | Item::Template(_) => {}
         }
     }
     Ok(clients)
@@ -85,7 +92,7 @@ fn resolve_client(
     }
 }
 
-fn resolve_blocks(
+pub(crate) fn resolve_blocks(
     alloc: Global,
     objects: &Names,
     kinds: &[Kind],
@@ -121,7 +128,7 @@ fn resolve_block(
     Ok(Block::new(reserved, body))
 }
 
-fn resolve_list(alloc: Global, objects: &Names, names: &[Name]) -> Result<Vec<u8>, AllocError>
+pub(crate) fn resolve_list(alloc: Global, objects: &Names, names: &[Name]) -> Result<Vec<u8>, AllocError>
     requires objects { length objects.now ≤ most_objects }
     ensures list { IfOk result (λ v. v.items ≡ map (found_at objects.now) names.now) }
 {

@@ -2,15 +2,16 @@
 
 ghost use Rattle.std.specs.Prelude.{◌≡◌, OnOk};
 ghost use Rattle.qs_script.specs.Views.{single};
-ghost use Rattle.qs_check.specs.Places.{Scope as Known, Meets, scope_or_fault, places, call_places, atom_places, atoms_places, expr_places, test_places, listed_places, block_places, blocks_places, item_places, kind_of, kind_places};
+ghost use Rattle.qs_check.specs.Places.{Scope as Known, Meets, scope_or_fault, places, call_places, atom_places, atoms_places, expr_places, test_places, listed_places, block_places, blocks_places, item_places, kind_of, kind_places, step, text, start, fault_of_text, text_places, formals_places, given_places};
 ghost use Rattle.qs_check.specs.Resolve.{variables_of};
 
 use crate::fault::CheckFault;
-use crate::scope::{Scope, check_number};
+use crate::scope::{Scope, check_number, formal_value};
 use qs_objects::{GREATEST_BALANCE, Kind, MOST_LINES, MOST_VALUES};
 use qs_program::MOST_TURNS;
 use qs_script::{
-    Atom, Block, Body, Call, ClientItem, Expr, Item, KindText, Name, ObjectItem, Stmt, Test,
+    Atom, Block, Body, Call, ClientItem, Expr, Formal, Item, KindText, Name, ObjectItem,
+    StartedItem, Stmt, TemplateItem, Test,
 };
 use std::alloc::Global;
 
@@ -144,6 +145,74 @@ pub(crate) fn check_client(
 {
     scope.client(alloc, &item.name)?;
     check_blocks(alloc, scope, item.blocks.as_slice())
+}
+
+// Checks a template: its name, and then its formals and blocks by themselves.
+pub(crate) fn check_template(
+    alloc: Global,
+    scope: &mut Scope,
+    item: &TemplateItem,
+) -> Result<(), CheckFault>
+    ensures meets { Meets result (scope_or_fault scope.old (item_places (Item.Template item.now))) scope.new }
+{
+    scope.template(alloc, &item.name, item.formals.as_slice())?;
+    check_text_alone(alloc, item)
+}
+
+fn check_text_alone(alloc: Global, item: &TemplateItem) -> Result<(), CheckFault>
+    ensures meets { (s : Known) → Meets result (step s (text (fault_of_text item.now))) s }
+{
+    let mut inner = Scope::new(alloc);
+    let checked = check_text(alloc, &mut inner, item);
+    drop(inner);
+    checked
+}
+
+// Checks a template's formals and blocks, where nothing else is known.
+pub(crate) fn check_text(
+    alloc: Global,
+    scope: &mut Scope,
+    item: &TemplateItem,
+) -> Result<(), CheckFault>
+    ensures meets { Meets result (scope_or_fault scope.old (text_places item.now)) scope.new }
+{
+    check_formals(scope, item.formals.as_slice())?;
+    check_blocks(alloc, scope, item.blocks.as_slice())
+}
+
+fn check_formals(scope: &mut Scope, formals: &[Formal]) -> Result<(), CheckFault>
+    ensures meets { Meets result (scope_or_fault scope.old (formals_places formals.now)) scope.new }
+{
+    for formal in formals {
+        scope.object(&formal.name, formal_value(formal.kind))?;
+    }
+    Ok(())
+}
+
+// Checks a client of a template.
+pub(crate) fn check_started(
+    alloc: Global,
+    scope: &mut Scope,
+    item: &StartedItem,
+) -> Result<(), CheckFault>
+    ensures meets { Meets result (scope_or_fault scope.old (item_places (Item.Started item.now))) scope.new }
+{
+    let objects = item.objects.as_slice();
+    scope.client(alloc, &item.name)?;
+    scope.starts(&item.template, objects.len())?;
+    check_given(scope, &item.template, objects)
+}
+
+// Checks the objects that are given for a template's formals.
+fn check_given(scope: &Scope, template: &Name, objects: &[Name]) -> Result<(), CheckFault>
+    ensures meets { Meets result (scope_or_fault scope.now (given_places template.now 0 objects.now)) scope.now }
+{
+    let mut place = 0;
+    for object in objects {
+        scope.given(template, place, object)?;
+        place += 1;
+    }
+    Ok(())
 }
 
 // A kind with its numbers.

@@ -184,6 +184,9 @@ pub record FaultExamples : Type 0 where
   pub check_load : Says (Check check.Load) (codes "refused: check 10 Load\n") 2
   pub check_weight : Says (Check check.Weight) (codes "refused: check 11 Weight\n") 2
   pub check_memory : Says (Check check.Memory) (codes "refused: check 12 Memory\n") 3
+  pub check_unknown_template : Says (Check check.UnknownTemplate) (codes "refused: check 13 UnknownTemplate\n") 2
+  pub check_count : Says (Check check.Count) (codes "refused: check 14 Count\n") 2
+  pub check_other_kind : Says (Check check.OtherKind) (codes "refused: check 15 OtherKind\n") 2
   pub play_memory : Says (Play play.Memory) (codes "refused: play 1 Memory\n") 3
   pub play_actor : Says (Play play.Actor) (codes "refused: play 2 Actor\n") 2
   pub play_rounds : Says (Play play.Rounds) (codes "refused: play 3 Rounds\n") 2

@@ -43,6 +43,9 @@ check_words check.Range = codes "check 9 Range"
 check_words check.Load = codes "check 10 Load"
 check_words check.Weight = codes "check 11 Weight"
 check_words check.Memory = codes "check 12 Memory"
+check_words check.UnknownTemplate = codes "check 13 UnknownTemplate"
+check_words check.Count = codes "check 14 Count"
+check_words check.OtherKind = codes "check 15 OtherKind"
 
 abbrev pub play_words : PlayFault → List ℕ
 play_words play.Memory = codes "play 1 Memory"

@@ -76,6 +76,9 @@ fn words_of_check(fault: CheckFault) -> &'static [u8]
         CheckFault::Load => b"check 10 Load",
         CheckFault::Weight => b"check 11 Weight",
         CheckFault::Memory => b"check 12 Memory",
+        CheckFault::UnknownTemplate => b"check 13 UnknownTemplate",
+        CheckFault::Count => b"check 14 Count",
+        CheckFault::OtherKind => b"check 15 OtherKind",
     }
 }
 

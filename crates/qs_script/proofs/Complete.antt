@@ -17,13 +17,16 @@ use Rattle.qs_script.specs.declared.tree.Call.{Call}
 use Rattle.qs_script.specs.declared.tree.Block.{Block}
 use Rattle.qs_script.specs.declared.tree.KindText.{KindText}
 use Rattle.qs_script.specs.declared.tree.KindText.TheVariants.{Account, Buffer, Grid}
+use Rattle.qs_script.specs.declared.tree.KindWord.{KindWord}
+use Rattle.qs_script.specs.declared.tree.KindWord.TheVariants as kind
+use Rattle.qs_script.specs.declared.tree.Formal.{Formal}
 use Rattle.qs_script.specs.declared.tree.Item.{Item}
-use Rattle.qs_script.specs.declared.tree.Item.TheVariants.{Object, Client}
+use Rattle.qs_script.specs.declared.tree.Item.TheVariants.{Object, Client, Template, Started}
 use Rattle.qs_script.specs.Tree.{Stmts, end, command, query, assign, choose, choose_else, again, leave}
-use Rattle.qs_script.specs.Reading.{Read, run, one, list_loop, open_brace_at, close_brace_at, close_paren_at, atom_at, further_at, more_loop, args_at, call_at, operator_at, relation_at, expr_at, test_at, assign_at, assigned_at, other_at, stmt_at, body_loop, names_loop, name_at, separate_at, blocks_loop, kind_at, item_at, end_at, items_loop}
-use Rattle.qs_script.specs.Grammar.{IsAtom, AreMore, AreArgs, IsCall, operator_token, relation_token, IsExpr, IsTest, AreStmts, AreNames, AreSomeNames, IsBlock, AreBlocks, IsKind, IsItem, AreItems, IsScript}
+use Rattle.qs_script.specs.Reading.{Read, run, one, list_loop, open_brace_at, close_brace_at, close_paren_at, atom_at, further_at, more_loop, args_at, call_at, operator_at, relation_at, expr_at, test_at, assign_at, assigned_at, other_at, stmt_at, body_loop, names_loop, name_at, separate_at, blocks_loop, kind_at, kind_word_at, formal_at, further_formal_at, formals_loop, formals_at, further_name_at, given_loop, given_at, item_at, end_at, items_loop}
+use Rattle.qs_script.specs.Grammar.{IsAtom, AreMore, AreArgs, IsCall, operator_token, relation_token, IsExpr, IsTest, AreStmts, AreNames, AreSomeNames, IsBlock, AreBlocks, IsKind, kind_token, IsFormal, AreMoreFormals, AreFormals, AreMoreNames, AreGiven, IsItem, AreItems, IsScript}
 use Rattle.qs_script.proofs.Loops.{Runs, run_is, runs_stop, runs_element}
-use Rattle.qs_script.proofs.Counts.{atom_shorter, call_shorter, expr_shorter, test_shorter, stmts_counted, block_counted, item_counted}
+use Rattle.qs_script.proofs.Counts.{atom_shorter, call_shorter, expr_shorter, test_shorter, stmts_counted, block_counted, formal_shorter, item_counted}
 
 atom_complete : (a : Atom) (ts rest : List Token) → IsAtom a ts rest → atom_at ts ≡ Some (a, rest)
 atom_complete (Variable n) ts rest h = rw h refl
@@ -187,14 +190,47 @@ kind_complete (Account n) ts rest h = rw h refl
 kind_complete (Buffer n) ts rest h = rw h refl
 kind_complete (Grid n m) ts rest h = rw h refl
 
+-- formals, and objects that are given
+kind_word_complete : (k : KindWord) (ts : List Token) → kind_word_at (kind_token k ∷ ts) ≡ Some (k, ts)
+kind_word_complete kind.Account ts = refl
+kind_word_complete kind.Buffer ts = refl
+kind_word_complete kind.Grid ts = refl
+
+formal_complete : (f : Formal) (ts rest : List Token) → IsFormal f ts rest → formal_at ts ≡ Some (f, rest)
+formal_complete f ts rest h = rw (h, kind_word_complete f.kind (t.Name f.name ∷ rest)) refl
+
+more_formals_complete : (fs : List Formal) (ts rest : List Token) → AreMoreFormals fs ts (t.CloseParen ∷ rest) → Runs formals_loop ts (Some (fs, rest))
+more_formals_complete [] ts rest h = list_stops close_paren_at further_formal_at ts rest (rw h refl)
+more_formals_complete (f ∷ fs) ts rest (x, y, e, h, k) =
+    list_element close_paren_at further_formal_at ts f y fs rest (rw e refl) (rw (e, formal_complete f x y h) refl) (rw e (omega (arith, formal_shorter f x y h))) (more_formals_complete fs y rest k)
+
+formals_complete : (fs : List Formal) (ts rest : List Token) → AreFormals fs ts (t.CloseParen ∷ rest) → formals_at ts ≡ Some (fs, rest)
+formals_complete [] ts rest h = absurd h
+formals_complete (f ∷ fs) ts rest (y, h, k) =
+    rw (formal_complete f ts y h, run_is formals_loop y (Some (fs, rest)) (more_formals_complete fs y rest k)) refl
+
+more_names_complete : (ns : List (List ℕ)) (ts rest : List Token) → AreMoreNames ns ts (t.CloseParen ∷ rest) → Runs given_loop ts (Some (ns, rest))
+more_names_complete [] ts rest h = list_stops close_paren_at further_name_at ts rest (rw h refl)
+more_names_complete (n ∷ ns) ts rest (x, e, h) =
+    list_element close_paren_at further_name_at ts n x ns rest (rw e refl) (rw e refl) (rw e (omega arith)) (more_names_complete ns x rest h)
+
+given_complete : (ns : List (List ℕ)) (ts rest : List Token) → AreGiven ns ts (t.CloseParen ∷ rest) → given_at ts ≡ Some (ns, rest)
+given_complete [] ts rest h = absurd h
+given_complete (n ∷ ns) ts rest (y, e, h) = rw (e, run_is given_loop y (Some (ns, rest)) (more_names_complete ns y rest h)) refl
+
 item_complete : (i : Item) (ts rest : List Token) → IsItem i ts rest → item_at ts ≡ Some (i, rest)
 item_complete (Object x) ts rest (y, e, h) = rw (e, kind_complete x.kind y rest h) refl
 item_complete (Client c) ts rest (y, e, h) =
     rw (e, run_is blocks_loop y (Some (c.blocks, rest)) (blocks_complete c.blocks y rest h)) refl
+item_complete (Template c) ts rest (x, y, e, f, h) =
+    rw (e, formals_complete c.formals x (t.OpenBrace ∷ y) f, run_is blocks_loop y (Some (c.blocks, rest)) (blocks_complete c.blocks y rest h)) refl
+item_complete (Started c) ts rest (x, e, h) = rw (e, given_complete c.objects x rest h) refl
 
 item_opens : (i : Item) (ts rest : List Token) → IsItem i ts rest → end_at ts ≡ None
 item_opens (Object x) ts rest (y, e, h) = rw e refl
 item_opens (Client c) ts rest (y, e, h) = rw e refl
+item_opens (Template c) ts rest (x, y, e, f, h) = rw e refl
+item_opens (Started c) ts rest (x, e, h) = rw e refl
 
 items_runs : (is : List Item) (ts : List Token) → AreItems is ts [] → Runs items_loop ts (Some (is, []))
 items_runs [] ts h = list_stops end_at item_at ts [] (rw h refl)

@@ -13,12 +13,13 @@ use Rattle.qs_script.specs.declared.tree.Call.{Call}
 use Rattle.qs_script.specs.declared.tree.Block.{Block}
 use Rattle.qs_script.specs.declared.tree.KindText.{KindText}
 use Rattle.qs_script.specs.declared.tree.KindText.TheVariants.{Account, Buffer, Grid}
+use Rattle.qs_script.specs.declared.tree.Formal.{Formal}
 use Rattle.qs_script.specs.declared.tree.Item.{Item}
-use Rattle.qs_script.specs.declared.tree.Item.TheVariants.{Object, Client}
+use Rattle.qs_script.specs.declared.tree.Item.TheVariants.{Object, Client, Template, Started}
 use Rattle.qs_script.specs.Tree.{Stmts, end, command, query, assign, choose, choose_else, again, leave}
 use Rattle.qs_script.specs.Views.{size_of}
 use Rattle.qs_script.specs.Sizes.{blocks_size, item_size, statements}
-use Rattle.qs_script.specs.Grammar.{IsAtom, AreMore, AreArgs, IsCall, operator_token, relation_token, IsExpr, IsTest, AreStmts, AreNames, AreSomeNames, IsBlock, AreBlocks, IsKind, IsItem, AreItems}
+use Rattle.qs_script.specs.Grammar.{IsAtom, AreMore, AreArgs, IsCall, operator_token, relation_token, IsExpr, IsTest, AreStmts, AreNames, AreSomeNames, IsBlock, AreBlocks, IsKind, IsFormal, AreMoreFormals, AreFormals, AreMoreNames, AreGiven, IsItem, AreItems}
 
 pub atom_shorter : (a : Atom) (ts rest : List Token) → IsAtom a ts rest → length rest < length ts
 atom_shorter (Variable n) ts rest h = rw h (omega arith)
@@ -83,9 +84,31 @@ kind_shorter (Account n) ts rest h = rw h (omega arith)
 kind_shorter (Buffer n) ts rest h = rw h (omega arith)
 kind_shorter (Grid n m) ts rest h = rw h (omega arith)
 
+pub formal_shorter : (f : Formal) (ts rest : List Token) → IsFormal f ts rest → length rest < length ts
+formal_shorter f ts rest h = rw h (omega arith)
+
+more_formals_shorter : (fs : List Formal) (ts rest : List Token) → AreMoreFormals fs ts rest → length rest ≤ length ts
+more_formals_shorter [] ts rest h = rw h (omega arith)
+more_formals_shorter (f ∷ fs) ts rest (x, y, e, h, k) = rw e (omega (arith, formal_shorter f x y h, more_formals_shorter fs y rest k))
+
+formals_shorter : (fs : List Formal) (ts rest : List Token) → AreFormals fs ts rest → length rest ≤ length ts
+formals_shorter [] ts rest h = absurd h
+formals_shorter (f ∷ fs) ts rest (y, h, k) = omega (arith, formal_shorter f ts y h, more_formals_shorter fs y rest k)
+
+more_names_shorter : (ns : List (List ℕ)) (ts rest : List Token) → AreMoreNames ns ts rest → length rest ≤ length ts
+more_names_shorter [] ts rest h = rw h (omega arith)
+more_names_shorter (n ∷ ns) ts rest (x, e, h) = rw e (omega (arith, more_names_shorter ns x rest h))
+
+given_shorter : (ns : List (List ℕ)) (ts rest : List Token) → AreGiven ns ts rest → length rest ≤ length ts
+given_shorter [] ts rest h = absurd h
+given_shorter (n ∷ ns) ts rest (y, e, h) = rw e (omega (arith, more_names_shorter ns y rest h))
+
 pub item_counted : (i : Item) (ts rest : List Token) → IsItem i ts rest → item_size i + length rest < length ts
 item_counted (Object x) ts rest (y, e, h) = rw e (omega (arith, kind_shorter x.kind y rest h))
 item_counted (Client c) ts rest (y, e, h) = rw e (omega (arith, blocks_counted c.blocks y (t.CloseBrace ∷ rest) h))
+item_counted (Template c) ts rest (x, y, e, f, h) =
+    rw e (omega (arith, formals_shorter c.formals x (t.CloseParen ∷ t.OpenBrace ∷ y) f, blocks_counted c.blocks y (t.CloseBrace ∷ rest) h))
+item_counted (Started c) ts rest (x, e, h) = rw e (omega (arith, given_shorter c.objects x (t.CloseParen ∷ rest) h))
 
 pub items_counted : (is : List Item) (ts rest : List Token) → AreItems is ts rest → statements is + length rest ≤ length ts
 items_counted [] ts rest h = rw h (omega arith)

@@ -7,7 +7,7 @@ use Rattle.qs_script.specs.declared.token.Token.{Token}
 use Rattle.qs_script.specs.declared.token.Token.TheVariants as t
 use Rattle.qs_script.specs.declared.tree.Block.{Block}
 use Rattle.qs_script.specs.declared.tree.Item.{Item}
-use Rattle.qs_script.specs.declared.tree.Item.TheVariants.{Object, Client}
+use Rattle.qs_script.specs.declared.tree.Item.TheVariants.{Object, Client, Template, Started}
 use Rattle.qs_script.specs.Tree.{Stmts, end, command, query, assign, choose, choose_else, again, leave}
 use Rattle.qs_script.specs.Grammar.{AreStmts, AreSomeNames, AreBlocks, AreItems}
 use Rattle.qs_script.specs.Form.{levels_of, IsFormed, HasForm}
@@ -52,3 +52,5 @@ pub formed : (items : List Item) (ts rest : List Token) → AreItems items ts re
 formed [] ts rest h = tt
 formed (Object o ∷ items) ts rest (x, i, h) = (tt, formed items x rest h)
 formed (Client c ∷ items) ts rest (x, (y, e, blocks), h) = (formed_blocks c.blocks y (t.CloseBrace ∷ x) blocks, formed items x rest h)
+formed (Template c ∷ items) ts rest (x, (w, y, e, formals, blocks), h) = (formed_blocks c.blocks y (t.CloseBrace ∷ x) blocks, formed items x rest h)
+formed (Started c ∷ items) ts rest (x, i, h) = (tt, formed items x rest h)

@@ -17,10 +17,13 @@ use Rattle.qs_script.specs.declared.tree.Call.{Call}
 use Rattle.qs_script.specs.declared.tree.Block.{Block}
 use Rattle.qs_script.specs.declared.tree.KindText.{KindText}
 use Rattle.qs_script.specs.declared.tree.KindText.TheVariants.{Account, Buffer, Grid}
+use Rattle.qs_script.specs.declared.tree.KindWord.{KindWord}
+use Rattle.qs_script.specs.declared.tree.KindWord.TheVariants as kind
+use Rattle.qs_script.specs.declared.tree.Formal.{Formal}
 use Rattle.qs_script.specs.declared.tree.Item.{Item}
 use Rattle.qs_script.specs.Tree.{Stmts, end, command, query, assign, again, leave, join_statements}
-use Rattle.qs_script.specs.Reading.{Read, ◌>>=◌, Loop, after, stop_or, then_more, many_at, run, one, list_loop, name_at, number_at, open_brace_at, close_brace_at, open_paren_at, close_paren_at, comma_at, semicolon_at, negative_at, atom_at, further_at, more_loop, first_arg, args_at, call_of, call_at, operator_at, relation_at, expr_with, expr_at, test_of, test_at, query_at, assign_at, assigned_at, command_at, named_at, braced_at, other_at, choice_of, choice_at, repeat_at, stmt_at, body_loop, names_loop, block_of, block_at, separate_at, blocks_loop, kind_at, object_of, client_of, object_called_at, object_at, client_at, item_at, end_at, items_loop}
-use Rattle.qs_script.specs.Grammar.{IsAtom, AreMore, AreArgs, IsCall, operator_token, relation_token, IsExpr, IsTest, AreStmts, AreNames, AreSomeNames, IsBlock, AreBlocks, IsKind, IsItem, AreItems, IsScript}
+use Rattle.qs_script.specs.Reading.{Read, ◌>>=◌, Loop, after, stop_or, then_more, many_at, run, one, list_loop, name_at, number_at, open_brace_at, close_brace_at, open_paren_at, close_paren_at, comma_at, semicolon_at, negative_at, atom_at, further_at, more_loop, first_arg, args_at, call_of, call_at, operator_at, relation_at, expr_with, expr_at, test_of, test_at, query_at, assign_at, assigned_at, command_at, named_at, braced_at, other_at, choice_of, choice_at, repeat_at, stmt_at, body_loop, names_loop, block_of, block_at, separate_at, blocks_loop, kind_at, object_of, client_of, object_called_at, object_at, own_blocks_at, formal_of, kind_word_at, formal_at, further_formal_at, formals_loop, formals_at, further_name_at, given_loop, given_at, template_of, started_of, template_blocks_at, template_called_at, template_at, started_with_at, started_at, client_called_at, client_at, item_at, end_at, items_loop}
+use Rattle.qs_script.specs.Grammar.{IsAtom, AreMore, AreArgs, IsCall, operator_token, relation_token, IsExpr, IsTest, AreStmts, AreNames, AreSomeNames, IsBlock, AreBlocks, IsKind, kind_token, IsFormal, AreMoreFormals, AreFormals, AreMoreNames, AreGiven, IsItem, AreItems, IsScript}
 
 bind_some : {A B : Type 0} (r : Option A) (f : A → Option B) (y : B) → (r >>= f) ≡ Some y → (x : A) × (r ≡ Some x) × f x ≡ Some y
 bind_some None f y p = cc
@@ -337,17 +340,89 @@ object_sound ts x p =
     let (k, s, v) = bind_last (kind_at n.1) (λ k. (object_of n.0 k.0, k.1)) x p' in
     subst (λ z. IsItem z.0 (t.Object ∷ ts) z.1) v (n.1, ap (λ us. t.Object ∷ us) (name_sound ts n q), kind_sound n.1 k s)
 
+own_blocks_sound : (n : List ℕ) (ts : List Token) (x : Item × List Token) → own_blocks_at n ts ≡ Some x → IsItem x.0 (t.Client ∷ t.Name n ∷ t.OpenBrace ∷ ts) x.1
+own_blocks_sound n ts x p =
+    let (bs, u, v) = bind_last (run blocks_loop ts) (λ bs. (client_of n bs.0, bs.1)) x p in
+    subst (λ z. IsItem z.0 (t.Client ∷ t.Name n ∷ t.OpenBrace ∷ ts) z.1) v (ts, refl, blocks_sound ts bs u)
+
+-- formals, and objects that are given
+kind_word_sound : (ts : List Token) (x : KindWord × List Token) → kind_word_at ts ≡ Some x → ts ≡ kind_token x.0 ∷ x.1
+kind_word_sound (t.Account ∷ ts) x p = let e : (kind.Account, ts) ≡ x = cc in ap (λ y. kind_token y.0 ∷ y.1) e
+kind_word_sound (t.Buffer ∷ ts) x p = let e : (kind.Buffer, ts) ≡ x = cc in ap (λ y. kind_token y.0 ∷ y.1) e
+kind_word_sound (t.Grid ∷ ts) x p = let e : (kind.Grid, ts) ≡ x = cc in ap (λ y. kind_token y.0 ∷ y.1) e
+kind_word_sound _ x p = cc
+
+formal_sound : (ts : List Token) (x : Formal × List Token) → formal_at ts ≡ Some x → IsFormal x.0 ts x.1
+formal_sound ts x p =
+    let (k, q, p') = bind_some (kind_word_at ts) (λ k. name_at k.1 >>= λ n. Some (formal_of k.0 n.0, n.1)) x p in
+    let (n, s, v) = bind_last (name_at k.1) (λ n. (formal_of k.0 n.0, n.1)) x p' in
+    subst (λ z. IsFormal z.0 ts z.1) v (kind_word_sound ts k q ∙ ap (λ us. kind_token k.0 ∷ us) (name_sound k.1 n s))
+
+formal_goes : (ts : List Token) (x : Formal × List Token) (xs : List Formal) (rest : List Token) → further_formal_at ts ≡ Some x → AreMoreFormals xs x.1 (t.CloseParen ∷ rest) → AreMoreFormals (x.0 ∷ xs) ts (t.CloseParen ∷ rest)
+formal_goes ts x xs rest p h =
+    let (u, q, s) = bind_some (comma_at ts) formal_at x p in (u, x.1, comma_sound ts u q, formal_sound u x s, h)
+
+formals_sound : (ts : List Token) (x : List Formal × List Token) → formals_at ts ≡ Some x → AreFormals x.0 ts (t.CloseParen ∷ x.1)
+formals_sound ts x p =
+    let (f, q, s) = bind_some (formal_at ts) (λ f. after formals_loop (f.0 ∷ []) (run formals_loop f.1)) x p in
+    let (y, h, e) = list_after close_paren_at further_formal_at (λ xs ts rest. AreMoreFormals xs ts (t.CloseParen ∷ rest)) close_paren_sound formal_goes f.0 f.1 x s in
+    subst (λ z. AreFormals z.0 ts (t.CloseParen ∷ z.1)) e (f.1, formal_sound ts f q, h)
+
+given_goes : (ts : List Token) (x : List ℕ × List Token) (xs : List (List ℕ)) (rest : List Token) → further_name_at ts ≡ Some x → AreMoreNames xs x.1 (t.CloseParen ∷ rest) → AreMoreNames (x.0 ∷ xs) ts (t.CloseParen ∷ rest)
+given_goes ts x xs rest p h =
+    let (u, q, s) = bind_some (comma_at ts) name_at x p in (x.1, comma_sound ts u q ∙ ap (λ us. t.Comma ∷ us) (name_sound u x s), h)
+
+given_sound : (ts : List Token) (x : List (List ℕ) × List Token) → given_at ts ≡ Some x → AreGiven x.0 ts (t.CloseParen ∷ x.1)
+given_sound ts x p =
+    let (n, q, s) = bind_some (name_at ts) (λ n. after given_loop (n.0 ∷ []) (run given_loop n.1)) x p in
+    let (y, h, e) = list_after close_paren_at further_name_at (λ xs ts rest. AreMoreNames xs ts (t.CloseParen ∷ rest)) close_paren_sound given_goes n.0 n.1 x s in
+    subst (λ z. AreGiven z.0 ts (t.CloseParen ∷ z.1)) e (n.1, name_sound ts n q, h)
+
+template_blocks_sound : (n : List ℕ) (fs : List Formal) (ts start : List Token) (x : Item × List Token) → AreFormals fs start (t.CloseParen ∷ ts) → template_blocks_at n fs ts ≡ Some x → IsItem x.0 (t.Template ∷ t.Name n ∷ t.OpenParen ∷ start) x.1
+template_blocks_sound n fs ts start x formals p =
+    let (y, q, p') = bind_some (open_brace_at ts) (λ x. run blocks_loop x >>= λ bs. Some (template_of n fs bs.0, bs.1)) x p in
+    let (bs, u, v) = bind_last (run blocks_loop y) (λ bs. (template_of n fs bs.0, bs.1)) x p' in
+    let opened : AreFormals fs start (t.CloseParen ∷ t.OpenBrace ∷ y) = subst (λ us. AreFormals fs start (t.CloseParen ∷ us)) (open_brace_sound ts y q) formals in
+    subst (λ z. IsItem z.0 (t.Template ∷ t.Name n ∷ t.OpenParen ∷ start) z.1) v (start, y, refl, opened, blocks_sound y bs u)
+
+template_called_sound : (n : List ℕ) (ts : List Token) (x : Item × List Token) → template_called_at n ts ≡ Some x → IsItem x.0 (t.Template ∷ t.Name n ∷ t.OpenParen ∷ ts) x.1
+template_called_sound n ts x p =
+    let (fs, q, p') = bind_some (formals_at ts) (λ fs. template_blocks_at n fs.0 fs.1) x p in
+    template_blocks_sound n fs.0 fs.1 ts x (formals_sound ts fs q) p'
+
+template_sound : (ts : List Token) (x : Item × List Token) → template_at ts ≡ Some x → IsItem x.0 (t.Template ∷ ts) x.1
+template_sound ts x p =
+    let (n, q, p') = bind_some (name_at ts) (λ n. open_paren_at n.1 >>= λ x. template_called_at n.0 x) x p in
+    let (y, s, p'') = bind_some (open_paren_at n.1) (λ x. template_called_at n.0 x) x p' in
+    let ts_is : ts ≡ t.Name n.0 ∷ t.OpenParen ∷ y = name_sound ts n q ∙ ap (λ us. t.Name n.0 ∷ us) (open_paren_sound n.1 y s) in
+    subst (λ us. IsItem x.0 (t.Template ∷ us) x.1) (sym ts_is) (template_called_sound n.0 y x p'')
+
+started_with_sound : (n m : List ℕ) (ts : List Token) (x : Item × List Token) → started_with_at n m ts ≡ Some x → IsItem x.0 (t.Client ∷ t.Name n ∷ t.Assign ∷ t.Name m ∷ t.OpenParen ∷ ts) x.1
+started_with_sound n m ts x p =
+    let (os, q, v) = bind_last (given_at ts) (λ os. (started_of n m os.0, os.1)) x p in
+    subst (λ z. IsItem z.0 (t.Client ∷ t.Name n ∷ t.Assign ∷ t.Name m ∷ t.OpenParen ∷ ts) z.1) v (ts, refl, given_sound ts os q)
+
+started_sound : (n : List ℕ) (ts : List Token) (x : Item × List Token) → started_at n ts ≡ Some x → IsItem x.0 (t.Client ∷ t.Name n ∷ t.Assign ∷ ts) x.1
+started_sound n ts x p =
+    let (m, q, p') = bind_some (name_at ts) (λ m. open_paren_at m.1 >>= λ x. started_with_at n m.0 x) x p in
+    let (y, s, p'') = bind_some (open_paren_at m.1) (λ x. started_with_at n m.0 x) x p' in
+    let ts_is : ts ≡ t.Name m.0 ∷ t.OpenParen ∷ y = name_sound ts m q ∙ ap (λ us. t.Name m.0 ∷ us) (open_paren_sound m.1 y s) in
+    subst (λ us. IsItem x.0 (t.Client ∷ t.Name n ∷ t.Assign ∷ us) x.1) (sym ts_is) (started_with_sound n m.0 y x p'')
+
+client_called_sound : (n : List ℕ) (ts : List Token) (x : Item × List Token) → client_called_at n ts ≡ Some x → IsItem x.0 (t.Client ∷ t.Name n ∷ ts) x.1
+client_called_sound n (t.OpenBrace ∷ ts) x p = own_blocks_sound n ts x p
+client_called_sound n (t.Assign ∷ ts) x p = started_sound n ts x p
+client_called_sound n _ x p = cc
+
 client_sound : (ts : List Token) (x : Item × List Token) → client_at ts ≡ Some x → IsItem x.0 (t.Client ∷ ts) x.1
 client_sound ts x p =
-    let (n, q, p') = bind_some (name_at ts) (λ n. open_brace_at n.1 >>= λ x. run blocks_loop x >>= λ bs. Some (client_of n.0 bs.0, bs.1)) x p in
-    let (y, s, p'') = bind_some (open_brace_at n.1) (λ x. run blocks_loop x >>= λ bs. Some (client_of n.0 bs.0, bs.1)) x p' in
-    let (bs, u, v) = bind_last (run blocks_loop y) (λ bs. (client_of n.0 bs.0, bs.1)) x p'' in
-    let ts_is : ts ≡ t.Name n.0 ∷ t.OpenBrace ∷ y = name_sound ts n q ∙ ap (λ us. t.Name n.0 ∷ us) (open_brace_sound n.1 y s) in
-    subst (λ z. IsItem z.0 (t.Client ∷ ts) z.1) v (y, ap (λ us. t.Client ∷ us) ts_is, blocks_sound y bs u)
+    let (n, q, p') = bind_some (name_at ts) (λ n. client_called_at n.0 n.1) x p in
+    subst (λ us. IsItem x.0 (t.Client ∷ us) x.1) (sym (name_sound ts n q)) (client_called_sound n.0 n.1 x p')
 
 item_sound : (ts : List Token) (x : Item × List Token) → item_at ts ≡ Some x → IsItem x.0 ts x.1
 item_sound (t.Object ∷ ts) x p = object_sound ts x p
 item_sound (t.Client ∷ ts) x p = client_sound ts x p
+item_sound (t.Template ∷ ts) x p = template_sound ts x p
 item_sound _ x p = cc
 
 end_sound : (ts rest : List Token) → end_at ts ≡ Some rest → ts ≡ []

@@ -8,8 +8,9 @@ use Rattle.qs_script.specs.declared.tree.Expr.TheVariants.{Plain, Binary}
 use Rattle.qs_script.specs.declared.tree.Operator.TheVariants.{Times}
 use Rattle.qs_script.specs.declared.tree.Relation.TheVariants.{Less}
 use Rattle.qs_script.specs.declared.tree.Item.{Item}
-use Rattle.qs_script.specs.declared.tree.Item.TheVariants.{Object, Client}
+use Rattle.qs_script.specs.declared.tree.Item.TheVariants.{Object, Client, Template, Started}
 use Rattle.qs_script.specs.declared.tree.KindText.TheVariants.{Account, Grid}
+use Rattle.qs_script.specs.declared.tree.KindWord.TheVariants as kind
 use Rattle.qs_script.specs.Tree.{Stmts, end, command, query, assign, choose, choose_else, again, leave}
 use Rattle.qs_script.specs.Tokens.{tokens_of}
 use Rattle.qs_script.specs.Reads.{IsScriptText}
@@ -55,6 +56,17 @@ pub record ScriptExamples : Type 0 where
       (client_with (choose (record { left = a.Variable (codes "x"); relation = Less; right = a.Number (pos 1) }) end
       (choose_else (record { left = a.Variable (codes "x"); relation = Less; right = a.Number (pos 1) }) end end end)))
   pub loops : IsScriptText (codes "client c{separate a{repeat 3{leave;}}}") (client_with (again 3 (leave end) end))
+  pub template : IsScriptText (codes "template t(account f,grid g){separate f{f.put();}}client c=t(a,a)")
+      (Template (record {
+        name = codes "t";
+        formals = record { kind = kind.Account; name = codes "f" } ∷ record { kind = kind.Grid; name = codes "g" } ∷ [];
+        blocks = record { reserved = codes "f" ∷ []; body = command (record { object = codes "f"; op = codes "put"; args = [] }) end } ∷ [];
+      })
+      ∷ Started (record { name = codes "c"; template = codes "t"; objects = codes "a" ∷ codes "a" ∷ [] })
+      ∷ [])
+  pub no_formals : IsNoScript (codes "template t() { }")
+  pub no_objects : IsNoScript (codes "client c = t()")
+  pub formal_with_number : IsNoScript (codes "template t(account f 1) { }")
   pub no_names : IsNoScript (codes "client c { separate { } }")
   pub cut : IsNoScript (codes "object acc account 1 client c { separate acc {")
   pub else_alone : IsNoScript (codes "client c { separate a { else { } } }")

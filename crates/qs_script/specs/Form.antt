@@ -3,7 +3,7 @@ use Rattle.std.specs.Prelude.{ℕ, ◌+◌, ◌<◌, ◌≤◌, max, List, lengt
 use Rattle.std.specs.List.{AllByRecursion}
 use Rattle.qs_script.specs.declared.tree.Block.{Block}
 use Rattle.qs_script.specs.declared.tree.Item.{Item}
-use Rattle.qs_script.specs.declared.tree.Item.TheVariants.{Object, Client}
+use Rattle.qs_script.specs.declared.tree.Item.TheVariants.{Object, Client, Template, Started}
 use Rattle.qs_script.specs.Tree.{Stmts, end, command, query, assign, choose, choose_else, again, leave}
 use Rattle.qs_script.specs.Limits.{most_levels}
 
@@ -26,6 +26,8 @@ pub record IsFormed (b : Block) : Type 0 where
 abbrev pub IsFormedItem : Item → Type 0
 IsFormedItem (Object o) = Unit {0}
 IsFormedItem (Client c) = AllByRecursion IsFormed c.blocks
+IsFormedItem (Template c) = AllByRecursion IsFormed c.blocks
+IsFormedItem (Started c) = Unit {0}
 
 -- the form of every script
 abbrev pub HasForm : List Item → Type 0

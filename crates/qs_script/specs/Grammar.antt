@@ -16,8 +16,11 @@ use Rattle.qs_script.specs.declared.tree.Call.{Call}
 use Rattle.qs_script.specs.declared.tree.Block.{Block}
 use Rattle.qs_script.specs.declared.tree.KindText.{KindText}
 use Rattle.qs_script.specs.declared.tree.KindText.TheVariants.{Account, Buffer, Grid}
+use Rattle.qs_script.specs.declared.tree.KindWord.{KindWord}
+use Rattle.qs_script.specs.declared.tree.KindWord.TheVariants as kind
+use Rattle.qs_script.specs.declared.tree.Formal.{Formal}
 use Rattle.qs_script.specs.declared.tree.Item.{Item}
-use Rattle.qs_script.specs.declared.tree.Item.TheVariants.{Object, Client}
+use Rattle.qs_script.specs.declared.tree.Item.TheVariants.{Object, Client, Template, Started}
 use Rattle.qs_script.specs.Tree.{Stmts, end, command, query, assign, choose, choose_else, again, leave}
 use Rattle.qs_script.specs.Limits.{most_levels}
 
@@ -115,11 +118,47 @@ IsKind (Account n) ts rest = ts ≡ t.Account ∷ t.Number n ∷ rest
 IsKind (Buffer n) ts rest = ts ≡ t.Buffer ∷ t.Number n ∷ rest
 IsKind (Grid rows columns) ts rest = ts ≡ t.Grid ∷ t.Number rows ∷ t.Number columns ∷ rest
 
--- "object" name kind | "client" name "{" block* "}"
+abbrev pub kind_token : KindWord → Token
+kind_token kind.Account = t.Account
+kind_token kind.Buffer = t.Buffer
+kind_token kind.Grid = t.Grid
+
+-- ("account" | "buffer" | "grid") name
+abbrev pub IsFormal : Formal → List Token → List Token → Type 0
+IsFormal f ts rest = ts ≡ kind_token f.kind ∷ t.Name f.name ∷ rest
+
+-- ("," formal)*
+abbrev pub AreMoreFormals : List Formal → List Token → List Token → Type 0
+AreMoreFormals [] ts rest = ts ≡ rest
+AreMoreFormals (f ∷ fs) ts rest = (x y : List Token) × (ts ≡ t.Comma ∷ x) × IsFormal f x y × AreMoreFormals fs y rest
+
+-- formal ("," formal)*
+abbrev pub AreFormals : List Formal → List Token → List Token → Type 0
+AreFormals [] ts rest = ⊥
+AreFormals (f ∷ fs) ts rest = (y : List Token) × IsFormal f ts y × AreMoreFormals fs y rest
+
+-- ("," name)*
+abbrev pub AreMoreNames : List (List ℕ) → List Token → List Token → Type 0
+AreMoreNames [] ts rest = ts ≡ rest
+AreMoreNames (n ∷ ns) ts rest = (x : List Token) × (ts ≡ t.Comma ∷ t.Name n ∷ x) × AreMoreNames ns x rest
+
+-- name ("," name)*
+abbrev pub AreGiven : List (List ℕ) → List Token → List Token → Type 0
+AreGiven [] ts rest = ⊥
+AreGiven (n ∷ ns) ts rest = (y : List Token) × (ts ≡ t.Name n ∷ y) × AreMoreNames ns y rest
+
+-- "object" name kind | "client" name "{" block* "}" | "template" name "(" formal ("," formal)* ")" "{" block* "}"
+-- | "client" name "=" name "(" name ("," name)* ")"
 abbrev pub IsItem : Item → List Token → List Token → Type 0
 IsItem (Object x) ts rest = (y : List Token) × (ts ≡ t.Object ∷ t.Name x.name ∷ y) × IsKind x.kind y rest
 IsItem (Client c) ts rest =
     (y : List Token) × (ts ≡ t.Client ∷ t.Name c.name ∷ t.OpenBrace ∷ y) × AreBlocks c.blocks y (t.CloseBrace ∷ rest)
+IsItem (Template c) ts rest =
+    (x y : List Token) × (ts ≡ t.Template ∷ t.Name c.name ∷ t.OpenParen ∷ x)
+    × AreFormals c.formals x (t.CloseParen ∷ t.OpenBrace ∷ y) × AreBlocks c.blocks y (t.CloseBrace ∷ rest)
+IsItem (Started c) ts rest =
+    (x : List Token) × (ts ≡ t.Client ∷ t.Name c.name ∷ t.Assign ∷ t.Name c.template ∷ t.OpenParen ∷ x)
+    × AreGiven c.objects x (t.CloseParen ∷ rest)
 
 -- item*
 abbrev pub AreItems : List Item → List Token → List Token → Type 0

@@ -16,8 +16,11 @@ use Rattle.qs_script.specs.declared.tree.Call.{Call}
 use Rattle.qs_script.specs.declared.tree.Block.{Block}
 use Rattle.qs_script.specs.declared.tree.KindText.{KindText}
 use Rattle.qs_script.specs.declared.tree.KindText.TheVariants.{Account, Buffer, Grid}
+use Rattle.qs_script.specs.declared.tree.KindWord.{KindWord}
+use Rattle.qs_script.specs.declared.tree.KindWord.TheVariants as kind
+use Rattle.qs_script.specs.declared.tree.Formal.{Formal}
 use Rattle.qs_script.specs.declared.tree.Item.{Item}
-use Rattle.qs_script.specs.declared.tree.Item.TheVariants.{Object, Client}
+use Rattle.qs_script.specs.declared.tree.Item.TheVariants.{Object, Client, Template, Started}
 use Rattle.qs_script.specs.declared.fault.Fault.{Fault}
 use Rattle.qs_script.specs.declared.fault.Fault.TheVariants.{Form, Memory}
 use Rattle.qs_script.specs.Tree.{Stmts, end, command, query, assign, choose, choose_else, again, leave, join_statements}
@@ -284,13 +287,81 @@ object_called_at name ts = kind_at ts >>= λ k. Some (object_of name k.0, k.1)
 abbrev pub object_at : List Token → Read Item
 object_at ts = name_at ts >>= λ n. object_called_at n.0 n.1
 
+-- a client's own blocks, after the brace that opens them
+abbrev pub own_blocks_at : List ℕ → List Token → Read Item
+own_blocks_at name ts = run blocks_loop ts >>= λ bs. Some (client_of name bs.0, bs.1)
+
+-- a formal: its kind and its name
+abbrev pub formal_of : KindWord → List ℕ → Formal
+formal_of kind name = record { kind = kind; name = name }
+
+abbrev pub kind_word_at : List Token → Read KindWord
+kind_word_at (t.Account ∷ ts) = Some (kind.Account, ts)
+kind_word_at (t.Buffer ∷ ts) = Some (kind.Buffer, ts)
+kind_word_at (t.Grid ∷ ts) = Some (kind.Grid, ts)
+kind_word_at _ = None
+
+abbrev pub formal_at : List Token → Read Formal
+formal_at ts = kind_word_at ts >>= λ k. name_at k.1 >>= λ n. Some (formal_of k.0 n.0, n.1)
+
+abbrev pub further_formal_at : List Token → Read Formal
+further_formal_at ts = comma_at ts >>= λ x. formal_at x
+
+-- the formals after the first, and the bracket that closes them
+abbrev pub formals_loop : Loop (List Formal)
+formals_loop = list_loop close_paren_at further_formal_at
+
+abbrev pub formals_at : List Token → Read (List Formal)
+formals_at ts = formal_at ts >>= λ f. after formals_loop (f.0 ∷ []) (run formals_loop f.1)
+
+abbrev pub further_name_at : List Token → Read (List ℕ)
+further_name_at ts = comma_at ts >>= λ x. name_at x
+
+-- the names after the first, and the bracket that closes them
+abbrev pub given_loop : Loop (List (List ℕ))
+given_loop = list_loop close_paren_at further_name_at
+
+abbrev pub given_at : List Token → Read (List (List ℕ))
+given_at ts = name_at ts >>= λ n. after given_loop (n.0 ∷ []) (run given_loop n.1)
+
+abbrev pub template_of : List ℕ → List Formal → List Block → Item
+template_of name formals blocks = Template (record { name = name; formals = formals; blocks = blocks })
+
+abbrev pub started_of : List ℕ → List ℕ → List (List ℕ) → Item
+started_of name template objects = Started (record { name = name; template = template; objects = objects })
+
+-- a template's blocks, with the brace that opens them
+abbrev pub template_blocks_at : List ℕ → List Formal → List Token → Read Item
+template_blocks_at name formals ts = open_brace_at ts >>= λ x. run blocks_loop x >>= λ bs. Some (template_of name formals bs.0, bs.1)
+
+-- the template of that name, from its first formal on
+abbrev pub template_called_at : List ℕ → List Token → Read Item
+template_called_at name ts = formals_at ts >>= λ fs. template_blocks_at name fs.0 fs.1
+
+abbrev pub template_at : List Token → Read Item
+template_at ts = name_at ts >>= λ n. open_paren_at n.1 >>= λ x. template_called_at n.0 x
+
+-- the client of that name, from its first object on
+abbrev pub started_with_at : List ℕ → List ℕ → List Token → Read Item
+started_with_at name template ts = given_at ts >>= λ os. Some (started_of name template os.0, os.1)
+
+-- the client of that name, from its template on
+abbrev pub started_at : List ℕ → List Token → Read Item
+started_at name ts = name_at ts >>= λ n. open_paren_at n.1 >>= λ x. started_with_at name n.0 x
+
+-- the client of that name: with blocks of its own, or of a template
+abbrev pub client_called_at : List ℕ → List Token → Read Item
+client_called_at name (t.OpenBrace ∷ ts) = own_blocks_at name ts
+client_called_at name (t.Assign ∷ ts) = started_at name ts
+client_called_at name _ = None
+
 abbrev pub client_at : List Token → Read Item
-client_at ts =
-    name_at ts >>= λ n. open_brace_at n.1 >>= λ x. run blocks_loop x >>= λ bs. Some (client_of n.0 bs.0, bs.1)
+client_at ts = name_at ts >>= λ n. client_called_at n.0 n.1
 
 abbrev pub item_at : List Token → Read Item
 item_at (t.Object ∷ ts) = object_at ts
 item_at (t.Client ∷ ts) = client_at ts
+item_at (t.Template ∷ ts) = template_at ts
 item_at _ = None
 
 -- nothing, at the end

@@ -36,7 +36,7 @@ abbrev pub reserved_words : List (List ℕ × Token)
 reserved_words =
     (codes "object", t.Object) ∷ (codes "client", t.Client) ∷ (codes "separate", t.Separate) ∷ (codes "if", t.If)
     ∷ (codes "else", t.Else) ∷ (codes "repeat", t.Repeat) ∷ (codes "leave", t.Leave) ∷ (codes "account", t.Account)
-    ∷ (codes "buffer", t.Buffer) ∷ (codes "grid", t.Grid) ∷ []
+    ∷ (codes "buffer", t.Buffer) ∷ (codes "grid", t.Grid) ∷ (codes "template", t.Template) ∷ []
 
 abbrev pub same : List ℕ → List ℕ → Bool
 same = pointwise nat_eq

@@ -1,7 +1,7 @@
 // Items: objects, and clients with their blocks.
 
 ghost use Rattle.std.specs.Prelude.{◌≡◌, ◌<◌, ◌≤◌, [], ◌∷◌, length, IfOk, IfSome};
-ghost use Rattle.qs_script.specs.Reading.{Gives, Finds, after, run, names_loop, block_at, separate_at, blocks_loop, object_at, object_called_at, client_at, item_at, items_loop};
+ghost use Rattle.qs_script.specs.Reading.{Gives, Finds, after, run, names_loop, block_at, separate_at, blocks_loop, object_at, object_called_at, client_at, client_called_at, own_blocks_at, item_at, items_loop};
 
 use crate::expect::{name, past_close_brace, past_open_brace};
 use crate::fault::Fault;
@@ -9,6 +9,7 @@ use crate::limits::MOST_LEVELS;
 use crate::lists::add;
 use crate::name::Name;
 use crate::statements::body;
+use crate::templates::{started, template};
 use crate::token::Token;
 use crate::tree::{Block, Blocks, ClientItem, Item, KindText, NameList, ObjectItem, Script};
 use std::alloc::Global;
@@ -54,7 +55,7 @@ fn separate(alloc: Global, tokens: &[Token]) -> Result<(Block, &[Token]), Fault>
 }
 
 // Blocks and the brace that closes them.
-fn blocks(alloc: Global, tokens: &[Token]) -> Result<(Blocks, &[Token]), Fault>
+pub(crate) fn blocks(alloc: Global, tokens: &[Token]) -> Result<(Blocks, &[Token]), Fault>
     ensures exact { Gives (λ x. (x.0, x.1.now)) result (run blocks_loop tokens.now) }
     ensures shorter { IfOk result (λ x. length x.1.now < length tokens.now) }
 {
@@ -116,14 +117,30 @@ fn client(alloc: Global, tokens: &[Token]) -> Result<(Item, &[Token]), Fault>
     ensures shorter { IfOk result (λ x. length x.1.now < length tokens.now) }
 {
     match tokens {
-        [Token::Name(name), Token::OpenBrace, rest @ ..] => {
-            let (blocks, rest) = blocks(alloc, rest)?;
-            let name = name.copied();
-            Ok((Item::Client(ClientItem { name, blocks }), rest))
-        }
-        [Token::Name(_), rest @ ..] => Err(Fault::Form(rest.len())),
+        [Token::Name(name), rest @ ..] => client_called(alloc, name.copied(), rest),
         _ => Err(Fault::Form(tokens.len())),
     }
+}
+
+// The client of that name: with blocks of its own, or of a template.
+fn client_called(alloc: Global, name: Name, tokens: &[Token]) -> Result<(Item, &[Token]), Fault>
+    ensures exact { Gives (λ x. (x.0, x.1.now)) result (client_called_at name tokens.now) }
+    ensures shorter { IfOk result (λ x. length x.1.now < length tokens.now) }
+{
+    match tokens {
+        [Token::OpenBrace, rest @ ..] => own_blocks(alloc, name, rest),
+        [Token::Assign, rest @ ..] => started(alloc, name, rest),
+        _ => Err(Fault::Form(tokens.len())),
+    }
+}
+
+// The client of that name, after the brace that opens its blocks.
+fn own_blocks(alloc: Global, name: Name, tokens: &[Token]) -> Result<(Item, &[Token]), Fault>
+    ensures exact { Gives (λ x. (x.0, x.1.now)) result (own_blocks_at name tokens.now) }
+    ensures shorter { IfOk result (λ x. length x.1.now < length tokens.now) }
+{
+    let (blocks, rest) = blocks(alloc, tokens)?;
+    Ok((Item::Client(ClientItem { name, blocks }), rest))
 }
 
 fn item(alloc: Global, tokens: &[Token]) -> Result<(Item, &[Token]), Fault>
@@ -133,6 +150,7 @@ fn item(alloc: Global, tokens: &[Token]) -> Result<(Item, &[Token]), Fault>
     match tokens {
         [Token::Object, rest @ ..] => object(rest),
         [Token::Client, rest @ ..] => client(alloc, rest),
+        [Token::Template, rest @ ..] => template(alloc, rest),
         _ => Err(Fault::Form(tokens.len())),
     }
 }

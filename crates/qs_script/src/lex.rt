@@ -119,6 +119,8 @@ fn token_of(word: &[u8]) -> Token
         Token::Buffer
     } else if word == b"grid".as_slice() {
         Token::Grid
+    } else if word == b"template".as_slice() {
+        Token::Template
     } else {
         Token::Name(Name::new(word))
     }

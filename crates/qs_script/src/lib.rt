@@ -12,6 +12,7 @@ mod name;
 mod number;
 mod reader;
 mod statements;
+mod templates;
 mod token;
 mod tree;
 mod values;
@@ -24,6 +25,7 @@ pub use number::Number;
 pub use reader::read;
 pub use token::Token;
 pub use tree::{
-    Args, Atom, Block, Blocks, Body, Call, ClientItem, Expr, Item, KindText, NameList, ObjectItem,
-    Operator, Relation, Script, Stmt, Test,
+    Args, Atom, Block, Blocks, Body, Call, ClientItem, Expr, Formal, Formals, Item, KindText,
+    KindWord, NameList, ObjectItem, Operator, Relation, Script, StartedItem, Stmt, TemplateItem,
+    Test,
 };

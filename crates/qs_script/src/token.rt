@@ -18,6 +18,7 @@ pub enum Token {
     Account,
     Buffer,
     Grid,
+    Template,
     OpenBrace,
     CloseBrace,
     OpenParen,

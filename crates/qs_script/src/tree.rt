@@ -229,11 +229,68 @@ pub struct ClientItem {
     pub blocks: Blocks,
 }
 
+/// An object's kind without its numbers.
+#[derive(Clone, Copy, Debug)]
+pub enum KindWord {
+    Account,
+    Buffer,
+    Grid,
+}
+
+/// A formal of a template: a name for an object of the kind.
+#[derive(Drop)]
+pub struct Formal {
+    pub kind: KindWord,
+    pub name: Name,
+}
+
+/// A template's formals in the order in which they are written.
+#[derive(Drop)]
+pub struct Formals {
+    pub(crate) formals: Vec<Formal>,
+}
+
+impl Model for Formals {
+    ghost use Rattle.std.specs.Prelude.{List};
+    ghost use Rattle.qs_script.specs.declared.tree.Formal.{Formal};
+
+    ghost Value = { List Formal };
+
+    ghost view = { λ f. f.formals.items };
+}
+
+impl Formals {
+    /// The formals in order.
+    pub fn as_slice(&self) -> &[Formal]
+        ensures same { result.now ≡ self.now }
+    {
+        self.formals.as_slice()
+    }
+}
+
+/// A template: the blocks of a client over formals.
+#[derive(Drop)]
+pub struct TemplateItem {
+    pub name: Name,
+    pub formals: Formals,
+    pub blocks: Blocks,
+}
+
+/// A client of a template, with the objects that the formals stand for.
+#[derive(Drop)]
+pub struct StartedItem {
+    pub name: Name,
+    pub template: Name,
+    pub objects: NameList,
+}
+
 /// What a script consists of.
 #[derive(Drop)]
 pub enum Item {
     Object(ObjectItem),
     Client(ClientItem),
+    Template(TemplateItem),
+    Started(StartedItem),
 }
 
 /// A script, which `read` alone makes. Contracts see it as the list of its items. Its type keeps that each block names an object and

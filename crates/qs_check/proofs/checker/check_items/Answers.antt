@@ -5,7 +5,7 @@ use Rattle.qs_check.specs.Resolve.{lists_of, variables_of}
 use Rattle.qs_check.proofs.Walks.{parts_at, meets_err}
 use Rattle.qs_check.proofs.Items.{over_fails, over_goes_on, forget, lists_at, list_added, list_kept}
 use Rattle.qs_check.proofs.checker.check_items.Goals as goal
-use Rattle.qs_check.proofs.checker.check_items.Goals.{in-Object+in_ok-check_object-in-Object, in-Client+in_ok-check_client-in-Client+in_ok-add_variables-in-Client}
+use Rattle.qs_check.proofs.checker.check_items.Goals.{in-Object+in_ok-check_object-in-Object, in-Client+in_ok-check_client-in-Client+in_ok-add_variables-in-Client, in-Template+in_ok-check_template-in-Template, in-Started+in_ok-check_started-in-Started}
 
 pub returns-in_err-check_client-in-Client-clause-meets : goal.returns-in_err-check_client-in-Client-clause-meets
 returns-in_err-check_client-in-Client-clause-meets c =
@@ -15,6 +15,16 @@ returns-in_err-check_client-in-Client-clause-meets c =
     let fault = c.in_err-check_client-in-Client.field-0.0 in
     let h : Fails fault (scope_or_fault c.loop-item.scope (item_places c.item-item.result)) = rw c.in-Client.is c.in_err-check_client-in-Client.ensures.meets in
     meets_err c.from_residual-in_err-check_client-in-Client.result p.0 fault (over (scope_or_fault c.args.scope.now (script_places xs))) (without_variables c.check_client.new.scope) p.1 p.2
+    (over_fails c.args.scope.now c.loop-item.scope (script_places xs) (script_places (drop i xs)) (item_places c.item-item.result) (script_places (drop (i + 1) xs)) c.loop-item.invariant.walk (parts_at item_places xs i c.item-item.result c.loop-item-test.true c.item-item.is) fault h)
+
+pub returns-in_err-check_started-in-Started-clause-meets : goal.returns-in_err-check_started-in-Started-clause-meets
+returns-in_err-check_started-in-Started-clause-meets c =
+    let p = err_from_is_err_and c.from_residual-in_err-check_started-in-Started.result c.from_residual-in_err-check_started-in-Started.ensures.1 in
+    let xs = c.args.items.now in
+    let i = c.loop-item.item-index in
+    let fault = c.in_err-check_started-in-Started.field-0.0 in
+    let h : Fails fault (scope_or_fault c.loop-item.scope (item_places c.item-item.result)) = rw c.in-Started.is c.in_err-check_started-in-Started.ensures.meets in
+    meets_err c.from_residual-in_err-check_started-in-Started.result p.0 fault (over (scope_or_fault c.args.scope.now (script_places xs))) (without_variables c.check_started.new.scope) p.1 p.2
     (over_fails c.args.scope.now c.loop-item.scope (script_places xs) (script_places (drop i xs)) (item_places c.item-item.result) (script_places (drop (i + 1) xs)) c.loop-item.invariant.walk (parts_at item_places xs i c.item-item.result c.loop-item-test.true c.item-item.is) fault h)
 
 pub loop-item-preserved : goal.loop-item-preserved
@@ -45,5 +55,19 @@ loop-item-preserved c =
           record {
             walk = rw (w.scope-is, w.end_client.ensures.rest) (over_goes_on c.args.scope.now c.loop-item.scope (script_places xs) (script_places (drop i xs)) (item_places item) later so_far.walk parts u h ∙ forget rest u);
             lists = list_added c.args.variables.now.items (lists_of xs) c.loop-item.variables.items (lists_of (drop i xs)) (lists_of rest) c.match-item.variables.items (variables_of w.in-Client.client) so_far.lists (lists ∙ here) added;
+          }
+      | in-Template+in_ok-check_template-in-Template w ↦
+          let h : scope_or_fault c.loop-item.scope (item_places item) ≡ Ok w.check_template.new.scope = rw w.in-Template.is w.in_ok-check_template-in-Template.ensures.meets in
+          let here : lists_of (item ∷ rest) ≡ lists_of rest = ap (λ x. lists_of (x ∷ rest)) w.in-Template.is in
+          record {
+            walk = rw w.scope-is (over_goes_on c.args.scope.now c.loop-item.scope (script_places xs) (script_places (drop i xs)) (item_places item) later so_far.walk parts w.check_template.new.scope h);
+            lists = list_kept c.args.variables.now.items (lists_of xs) c.loop-item.variables.items (lists_of (drop i xs)) (lists_of rest) c.match-item.variables.items so_far.lists (lists ∙ here) (ap (λ v. v.items) w.variables-is);
+          }
+      | in-Started+in_ok-check_started-in-Started w ↦
+          let h : scope_or_fault c.loop-item.scope (item_places item) ≡ Ok w.check_started.new.scope = rw w.in-Started.is w.in_ok-check_started-in-Started.ensures.meets in
+          let here : lists_of (item ∷ rest) ≡ lists_of rest = ap (λ x. lists_of (x ∷ rest)) w.in-Started.is in
+          record {
+            walk = rw w.scope-is (over_goes_on c.args.scope.now c.loop-item.scope (script_places xs) (script_places (drop i xs)) (item_places item) later so_far.walk parts w.check_started.new.scope h);
+            lists = list_kept c.args.variables.now.items (lists_of xs) c.loop-item.variables.items (lists_of (drop i xs)) (lists_of rest) c.match-item.variables.items so_far.lists (lists ∙ here) (ap (λ v. v.items) w.variables-is);
           }
     ]

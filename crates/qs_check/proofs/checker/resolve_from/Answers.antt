@@ -4,7 +4,7 @@ use Rattle.qs_objects.specs.declared.object.Kind.{Kind}
 use Rattle.qs_program.specs.Numbering.{Name}
 use Rattle.qs_program.specs.Limits.{most_variables}
 use Rattle.qs_check.specs.Places.{scope_or_fault, start, script_places}
-use Rattle.qs_check.specs.Resolve.{clients_of, lists_of, names_of}
+use Rattle.qs_check.specs.Resolve.{clients_of, lists_of, names_of, templates_in}
 use Rattle.qs_check.specs.Checked.{first_fault}
 use Rattle.qs_check.proofs.Soundness.{walked}
 use Rattle.qs_check.proofs.checker.resolve_from.Goals as goal
@@ -31,5 +31,5 @@ returns c =
     let w = walked c.args.items.now c.check_items.new.scope (rw c.requires.start at c.in_ok-check_items.ensures.meets) in
     let none : first_fault (scope_or_fault start (script_places c.args.items.now)) None ≡ None = ap (λ m. first_fault m None) w.met_all in
     let clients =
-    c.in_ok-numbered.ensures.clients ∙ ap (λ (ns : List Name). clients_of ns c.check_items.new.scope.kinds c.args.items.now) w.objects ∙ ap (λ (ks : List Kind). clients_of (names_of c.args.items.now) ks c.args.items.now) w.kinds in
+    c.in_ok-numbered.ensures.clients ∙ ap (λ (ns : List Name). clients_of (templates_in c.args.items.now) ns c.check_items.new.scope.kinds c.args.items.now) w.objects ∙ ap (λ (ks : List Kind). clients_of (templates_in c.args.items.now) (names_of c.args.items.now) ks c.args.items.now) w.kinds in
     record { text = (none, λ i. record { objects = c.in_ok-numbered.ensures.objects i; clients = clients i }) }

@@ -1,0 +1,218 @@
+-- A template's formals and blocks are walked by themselves without a fault exactly where the template is well formed. The proof
+-- that well-formed scripts are those without a fault needs both directions. Formals are walked as objects, by induction on their
+-- list; then the blocks are those of a client that has these objects.
+use Rattle.std.proofs.Common.{◌≡◌, ℕ, ◌+◌, ◌<◌, ◌≤◌, false, true, nat_lt, List, [], ◌∷◌, ◌++◌, length, map, Option, Some, None, refl, ap, sym, ◌∙◌, subst, arith, append_assoc, append-nil, Ok, Err, if◌then◌else◌}
+use Rattle.std.proofs.lemmas.List.{length-map}
+use Rattle.std.proofs.lemmas.Map.Made.{is_member-Decides}
+use Rattle.std.specs.List.{AllByRecursion, IsDistinct}
+use Rattle.qs_objects.specs.declared.object.Kind.{Kind}
+use Rattle.qs_script.specs.Form.{IsFormed}
+use Rattle.qs_script.specs.declared.tree.Block.{Block}
+use Rattle.qs_script.specs.declared.tree.Formal.{Formal}
+use Rattle.qs_script.specs.declared.tree.TemplateItem.{TemplateItem}
+use Rattle.qs_program.specs.declared.program.Declared.{Declared}
+use Rattle.qs_program.specs.Limits.{most_blocks, most_formals, most_objects, most_variables}
+use Rattle.qs_program.specs.Numbering.{Name, same_name, is_among}
+use Rattle.qs_check.specs.declared.fault.CheckFault.TheVariants as f
+use Rattle.qs_check.specs.Places.{Scope, ScopeOrFault, object, scope_or_fault, start, fault_in, fault_of_text, formal_kind, formal_kinds, formals_places, blocks_places, text_places, with_object, with_template}
+use Rattle.qs_check.specs.Resolve.{as_client, declared_formals, variables_of}
+use Rattle.qs_check.specs.WellFormed.{IsDeclared, IsWellFormedBlock, IsWellFormedClient, IsWellFormedTemplate}
+use Rattle.qs_check.proofs.FinePlaces.{then_step, else_step, below, again, leads}
+use Rattle.qs_check.proofs.Inner.{parted}
+use Rattle.qs_check.proofs.ScopesInBlocks.{blocks_stay}
+use Rattle.qs_check.proofs.SoundStatements.{names, kinds}
+use Rattle.qs_check.proofs.Steps.{split, ok_same, variables_met}
+use Rattle.qs_check.proofs.TextBlocks.{scope, template_names, template_formals, Fresh, fresh_more, fresh_rest, no_fresh, IsRight, blocks_from, blocks_to}
+use Rattle.qs_check.proofs.TextNames.{count_variables, distinct_last, no_names}
+use Rattle.qs_check.proofs.TextRequests.{same_decides}
+use Rattle.qs_check.proofs.Walks.{met-then}
+
+pub names_with : (D : List Declared) (d : Declared) → names D ++ d.name ∷ [] ≡ names (D ++ d ∷ [])
+names_with [] d = refl
+names_with (e ∷ D) d = ap (λ ns. e.name ∷ ns) (names_with D d)
+
+kinds_with : (D : List Declared) (d : Declared) → kinds D ++ d.kind ∷ [] ≡ kinds (D ++ d ∷ [])
+kinds_with [] d = refl
+kinds_with (e ∷ D) d = ap (λ ks. e.kind ∷ ks) (kinds_with D d)
+
+pub grown : (D : List Declared) (T : List TemplateItem) (C : List Name) (n : ℕ) (V R : List Name) (d : Declared) → with_object (scope D T C n V R) d.name d.kind ≡ scope (D ++ d ∷ []) T C n V R
+grown D T C n V R d = λ i. record { objects = names_with D d i; kinds = kinds_with D d i; clients = C; templates = template_names T; formals = template_formals T; blocks = n; variables = V; reserved = R }
+
+-- one more template
+pub template_names_with : (T : List TemplateItem) (t : TemplateItem) → template_names T ++ t.name ∷ [] ≡ template_names (T ++ t ∷ [])
+template_names_with [] t = refl
+template_names_with (u ∷ T) t = ap (λ ns. u.name ∷ ns) (template_names_with T t)
+
+formals_with : (T : List TemplateItem) (t : TemplateItem) → template_formals T ++ formal_kinds t.formals ∷ [] ≡ template_formals (T ++ t ∷ [])
+formals_with [] t = refl
+formals_with (u ∷ T) t = ap (λ ks. formal_kinds u.formals ∷ ks) (formals_with T t)
+
+pub with_last : (D : List Declared) (T : List TemplateItem) (C : List Name) (n : ℕ) (V R : List Name) (t : TemplateItem) → with_template (scope D T C n V R) t.name (formal_kinds t.formals) ≡ scope D (T ++ t ∷ []) C n V R
+with_last D T C n V R t = λ i. record { objects = names D; kinds = kinds D; clients = C; templates = template_names_with T t i; formals = formals_with T t i; blocks = n; variables = V; reserved = R }
+
+-- lists of declared names
+pub declared_from : (D : List Declared) (ns : List Name) → AllByRecursion (λ o. is_among (names D) o ≡ true) ns → AllByRecursion (IsDeclared D) ns
+declared_from D [] h = tt
+declared_from D (n ∷ ns) h = ((is_member-Decides same_decides (names D) n).0 h.0, declared_from D ns h.1)
+
+pub declared_to : (D : List Declared) (ns : List Name) → AllByRecursion (IsDeclared D) ns → AllByRecursion (λ o. is_among (names D) o ≡ true) ns
+declared_to D [] h = tt
+declared_to D (n ∷ ns) h = ((is_member-Decides same_decides (names D) n).1 h.0, declared_to D ns h.1)
+
+pub well_blocks : (D : List Declared) (bs : List Block) → AllByRecursion (IsRight D) bs → AllByRecursion IsFormed bs → AllByRecursion (IsWellFormedBlock D) bs
+well_blocks D [] h k = tt
+well_blocks D (b ∷ bs) h k = (
+  record { some = k.0.some; declares = declared_from D b.reserved h.0.declares; distinct = h.0.distinct; statements = h.0.statements; levels = k.0.shallow },
+  well_blocks D bs h.1 k.1,
+)
+
+pub right_blocks : (D : List Declared) (bs : List Block) → AllByRecursion (IsWellFormedBlock D) bs → AllByRecursion (IsRight D) bs
+right_blocks D [] h = tt
+right_blocks D (b ∷ bs) h =
+    (record { declares = declared_to D b.reserved h.0.declares; distinct = h.0.distinct; statements = h.0.statements }, right_blocks D bs h.1)
+
+-- ---- formals as objects
+
+abbrev formal_names : List Formal → List Name
+formal_names fs = map (λ (x : Formal). x.name) fs
+
+abbrev declared : Formal → Declared
+declared x = record { name = x.name; kind = formal_kind x.kind }
+
+abbrev pub formals_scope : List Declared → Scope
+formals_scope D = scope D [] [] 0 [] []
+
+formals_from : (fs : List Formal) (D : List Declared) (t : Scope) → scope_or_fault (formals_scope D) (formals_places fs) ≡ Ok t → (t ≡ formals_scope (D ++ declared_formals fs)) × Fresh (names D) (formal_names fs) × (length D ≤ most_objects → length D + length fs ≤ most_objects)
+formals_from [] D t h = (ok_same (formals_scope D) t h ∙ ap formals_scope (sym (append-nil D)), no_fresh (names D), λ l. omega arith)
+formals_from (x ∷ fs) D t h =
+    let s = formals_scope D in
+    let w = split s t (object x.name (formal_kind x.kind)) (formals_places fs) h in
+    let E = D ++ declared x ∷ [] in
+    let e : w.0 ≡ formals_scope E = w.1.2 ∙ grown D [] [] 0 [] [] (declared x) in
+    let more = formals_from fs E t (again (formals_scope E) t w.0 (formals_places fs) e w.2) in
+    let P : List Name → Type 0 = λ ns. Fresh ns (formal_names fs) in
+    let longer : length E ≡ length D + 1 = length_last D (declared x) in
+    let here : length D < most_objects = omega (arith, w.1.1, length-map D (λ (o : Declared). o.name)) in (
+      more.0 ∙ ap formals_scope (append_assoc D (declared x ∷ []) (declared_formals fs)),
+      fresh_more (names D) x.name (formal_names fs) w.1.0 (subst P (sym (names_with D (declared x))) more.1),
+      λ l. omega (arith, longer, more.2 (omega (arith, longer, here))),
+    )
+  where
+    length_last : (ds : List Declared) (d : Declared) → length (ds ++ d ∷ []) ≡ length ds + 1
+    length_last [] d = refl
+    length_last (e ∷ ds) d = omega (arith, length_last ds d)
+
+formals_to : (fs : List Formal) (D : List Declared) → Fresh (names D) (formal_names fs) → length (names D) + length fs ≤ most_objects → scope_or_fault (formals_scope D) (formals_places fs) ≡ Ok (formals_scope (D ++ declared_formals fs))
+formals_to [] D fresh few = ap (λ E. Ok (formals_scope E)) (sym (append-nil D))
+formals_to (x ∷ fs) D fresh few =
+    let s = formals_scope D in
+    let w = fresh_rest (names D) x.name (formal_names fs) fresh in
+    let E = D ++ declared x ∷ [] in
+    let u = with_object s x.name (formal_kind x.kind) in
+    let Q : List Name → Type 0 = λ ns. Fresh ns (formal_names fs) in
+    let with_name = names_with D (declared x) in
+    let room : length (names D) < most_objects = omega arith in
+    let fewer : length (names E) + length fs ≤ most_objects = omega (arith, few, ap length (sym with_name), length_last (names D) x.name) in
+    leads s u (object x.name (formal_kind x.kind)) (formals_places fs) (Ok (formals_scope (D ++ declared_formals (x ∷ fs))))
+    (else_step (is_among (names D) x.name) (if nat_lt (length (names D)) most_objects then Ok u else Err f.Limit) f.Twice w.0
+    ∙ then_step (nat_lt (length (names D)) most_objects) s (Ok u) f.Limit (below (length (names D)) 8 room))
+    (ap (λ v. scope_or_fault v (formals_places fs)) (grown D [] [] 0 [] [] (declared x))
+    ∙ formals_to fs E (subst Q with_name w.1) fewer
+    ∙ ap (λ F. Ok (formals_scope F)) (append_assoc D (declared x ∷ []) (declared_formals fs)))
+  where
+    length_last : (ns : List Name) (n : Name) → length (ns ++ n ∷ []) ≡ length ns + 1
+    length_last [] n = refl
+    length_last (m ∷ ns) n = omega (arith, length_last ns n)
+
+-- ---- the text of a template
+
+faultless : (m : ScopeOrFault) → fault_in m ≡ None → (t : Scope) × (m ≡ Ok t)
+faultless (Ok t) h = (t, refl)
+faultless (Err e) h = cc
+
+-- where a template's text has no fault: its formals, and the walk over its blocks
+pub record TextWalked (t : TemplateItem) : Type 0 where
+  pub last : Scope
+  pub walk : scope_or_fault (formals_scope (declared_formals t.formals)) (blocks_places t.blocks) ≡ Ok last
+  pub fresh : Fresh [] (formal_names t.formals)
+  pub few_formals : length t.formals ≤ most_formals
+  pub few_variables : length (variables_of (as_client t)) ≤ most_variables
+  pub all : scope_or_fault start (text_places t) ≡ Ok last
+
+pub text_walked : (t : TemplateItem) (u : Scope) → scope_or_fault start (text_places t) ≡ Ok u → TextWalked t
+text_walked t u h =
+    let w = parted start u (formals_places t.formals) (blocks_places t.blocks) h in
+    let g = formals_from t.formals [] w.0 w.1 in
+    let s = formals_scope (declared_formals t.formals) in
+    let walk = again s u w.0 (blocks_places t.blocks) g.0 w.2 in
+    let small : length u.variables ≤ most_variables = (blocks_stay s u t.blocks walk).few (omega arith) in
+    record {
+      last = u;
+      walk = walk;
+      fresh = g.1;
+      few_formals = omega (arith, g.2 (omega arith));
+      few_variables = rw (← variables_met s u (blocks_places t.blocks) walk) small;
+      all = h;
+    }
+
+-- what is known after a template's text
+pub record TextKnown (t : TemplateItem) (u : Scope) : Type 0 where
+  pub objects : u.objects ≡ names (declared_formals t.formals)
+  pub kinds : u.kinds ≡ kinds (declared_formals t.formals)
+  pub variables : u.variables ≡ variables_of (as_client t)
+  pub few_objects : length u.objects ≤ most_objects
+  pub few_variables : length u.variables ≤ most_variables
+
+pub text_known : (t : TemplateItem) (u : Scope) → scope_or_fault start (text_places t) ≡ Ok u → TextKnown t u
+text_known t u h =
+    let w = parted start u (formals_places t.formals) (blocks_places t.blocks) h in
+    let g = formals_from t.formals [] w.0 w.1 in
+    let F = declared_formals t.formals in
+    let s = formals_scope F in
+    let walk = again s u w.0 (blocks_places t.blocks) g.0 w.2 in
+    let stay = blocks_stay s u t.blocks walk in
+    record {
+      objects = stay.objects;
+      kinds = stay.kinds;
+      variables = variables_met s u (blocks_places t.blocks) walk;
+      few_objects = omega (arith, ap length stay.objects, length-map F (λ (o : Declared). o.name), length-map t.formals declared, g.2 (omega arith));
+      few_variables = stay.few (omega arith);
+    }
+
+pub template_from : (t : TemplateItem) → AllByRecursion IsFormed t.blocks → fault_of_text t ≡ None → IsWellFormedTemplate t
+template_from t form h =
+    let m = faultless (scope_or_fault start (text_places t)) h in
+    let w = text_walked t m.0 m.1 in
+    let F = declared_formals t.formals in
+    record {
+      formals = w.few_formals;
+      apart = w.fresh.1;
+      client = record {
+        blocks = omega (arith, (blocks_stay (formals_scope F) w.last t.blocks w.walk).count (omega arith));
+        variables = omega (arith, w.few_variables, count_variables (as_client t));
+        each = well_blocks F t.blocks (blocks_from F [] [] t.blocks 0 [] [] w.last w.walk) form;
+      };
+    }
+
+unseen : (ns : List Name) → AllByRecursion (λ m. is_among [] m ≡ false) ns
+unseen [] = tt
+unseen (m ∷ ns) = (refl, unseen ns)
+
+formal_names_same : (fs : List Formal) → names (declared_formals fs) ≡ formal_names fs
+formal_names_same [] = refl
+formal_names_same (x ∷ fs) = ap (λ ns. x.name ∷ ns) (formal_names_same fs)
+
+pub formals_apart : (t : TemplateItem) → IsWellFormedTemplate t → IsDistinct same_name (names (declared_formals t.formals))
+formals_apart t well = let P : List Name → Type 0 = λ ns. IsDistinct same_name ns in subst P (sym (formal_names_same t.formals)) well.apart
+
+pub text_to : (t : TemplateItem) → IsWellFormedTemplate t → (u : Scope) × (scope_or_fault start (text_places t) ≡ Ok u)
+text_to t well =
+    let F = declared_formals t.formals in
+    let s = formals_scope F in
+    let g = formals_to t.formals [] (unseen (formal_names t.formals), well.apart) (omega (arith, well.formals)) in
+    let small : length (variables_of (as_client t)) ≤ most_variables = omega (arith, well.client.variables, count_variables (as_client t)) in
+    let b = blocks_to F [] [] (formals_apart t well) t.blocks 0 [] [] (omega (arith, well.client.blocks)) small (right_blocks F t.blocks well.client.each) in
+    (b.0, met-then start s (formals_places t.formals) (blocks_places t.blocks) g ∙ b.1)
+
+pub template_to : (t : TemplateItem) → IsWellFormedTemplate t → fault_of_text t ≡ None
+template_to t well = ap fault_in (text_to t well).1

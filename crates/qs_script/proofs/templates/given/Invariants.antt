@@ -1,0 +1,13 @@
+use Rattle.std.proofs.Common.{◌≤◌, length, [], ◌∷◌}
+use Rattle.qs_script.specs.Reading.{given_loop}
+use Rattle.qs_script.proofs.Loops.{Continues}
+use Rattle.qs_script.proofs.templates.given.Given as goal
+
+abbrev pub invariant-each : goal.invariant-each
+invariant-each l = record {
+  whole : Continues given_loop (l.fn.first ∷ []) l.tokens l.rest l.names.items;
+  shorter : length l.rest ≤ length l.tokens;
+}
+
+abbrev pub decreases-each : goal.decreases-each
+decreases-each l = length l.rest
