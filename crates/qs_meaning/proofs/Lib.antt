@@ -15,3 +15,4 @@ pub mod Swaps
 pub mod Groups
 pub mod Reductions
 pub mod Unnamed
+pub mod Unions

@@ -1,7 +1,7 @@
 -- A legal order leads to the configuration that its serial run describes, and it is complete exactly where it leaves no client a block.
 -- The search for all outcomes goes by configurations alone, and this is what ties it to orders. Both go by induction on the order: a legal
 -- ticket names its client's next block, so a client's tickets are those from its count of begun blocks up to its count at the end.
-use Rattle.std.proofs.Common.{◌≡◌, ℕ, suc, ◌<◌, ◌≤◌, arith, Bool, true, false, if◌then◌else◌, ◌==◌, ◌&&◌, List, [], ◌∷◌, length, filter, refl, sym, ap, ◌∙◌, subst, ⊎_elim}
+use Rattle.std.proofs.Common.{◌≡◌, ℕ, suc, ◌<◌, ◌≤◌, arith, Bool, true, false, if◌then◌else◌, ◌==◌, ◌&&◌, List, [], ◌∷◌, ◌++◌, length, filter, refl, sym, ap, ◌∙◌, subst, ⊎_elim}
 use Rattle.qs_objects.specs.Parts.{same}
 use Rattle.qs_objects.specs.declared.held.Ticket.{Ticket}
 use Rattle.qs_objects.proofs.Choices.{eqb_apart, eqb_self, num_cases}
@@ -145,3 +145,26 @@ complete_orders_leave_none p order legal = (whole, complete)
       legal = legal;
       once = λ t less. (counts p (first_configuration p) order t legal).inside (omega arith) (let e = ends t.client in omega (arith, e, less));
     }
+
+-- ---- an order in two parts
+
+pub configuration-append : (p : ProgramShape) (g : Configuration) (ts us : List Ticket) → configuration_from p g (ts ++ us) ≡ configuration_from p (configuration_from p g ts) us
+configuration-append p g [] us = refl
+configuration-append p g (t ∷ ts) us = configuration-append p (one_block_on p t.client g) ts us
+
+pub legal-rest : (p : ProgramShape) (g : Configuration) (ts us : List Ticket) → LegalFrom p g.begun (ts ++ us) → LegalFrom p (configuration_from p g ts).begun us
+legal-rest p g [] us legal = legal
+legal-rest p g (t ∷ ts) us legal = legal-rest p (one_block_on p t.client g) ts us (legal_on p g t (ts ++ us) legal)
+
+-- a legal ticket, and what is legal after it
+pub legal_first : (p : ProgramShape) (g : Configuration) (t : Ticket) (ts : List Ticket) → t.index ≡ g.begun t.client → t.index < blocks_of p t.client
+    → LegalFrom p (one_block_on p t.client g).begun ts → LegalFrom p g.begun (t ∷ ts)
+legal_first p g t ts is less rest = (is, less, subst (λ n. LegalFrom p n ts) (sym (put_same g.begun t is)) rest)
+
+pub legal-front : (p : ProgramShape) (g : Configuration) (ts us : List Ticket) → LegalFrom p g.begun (ts ++ us) → LegalFrom p g.begun ts
+legal-front p g [] us legal = tt
+legal-front p g (t ∷ ts) us legal = legal_first p g t ts legal.0 legal.1 (legal-front p (one_block_on p t.client g) ts us (legal_on p g t (ts ++ us) legal))
+
+pub legal-join : (p : ProgramShape) (g : Configuration) (ts us : List Ticket) → LegalFrom p g.begun ts → LegalFrom p (configuration_from p g ts).begun us → LegalFrom p g.begun (ts ++ us)
+legal-join p g [] us legal rest = rest
+legal-join p g (t ∷ ts) us legal rest = legal_first p g t (ts ++ us) legal.0 legal.1 (legal-join p (one_block_on p t.client g) ts us (legal_on p g t ts legal) rest)

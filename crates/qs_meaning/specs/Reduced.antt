@@ -1,12 +1,12 @@
 -- Reduced orders: at each configuration only some clients go on, those for whom it can matter who comes first, and yet every outcome is
 -- reached. They are a smallest set of clients of which nobody else comes in the way: nobody else has a block left that shares an object
 -- with the next block of one of them.
-use Rattle.std.specs.Prelude.{◌≡◌, ◌<◌, ℕ, zero, suc, Bool, true, false, ◌==◌, ◌&&◌, ◌||◌, if◌then◌else◌, List, [], ◌∷◌, length, drop, nat_lt}
+use Rattle.std.specs.Prelude.{◌≡◌, ◌<◌, ◌↔◌, ◌++◌, ℕ, zero, suc, Bool, true, false, ◌==◌, ◌&&◌, ◌||◌, if◌then◌else◌, List, [], ◌∷◌, length, drop, nat_lt}
 use Rattle.std.specs.List.{list_any}
 use Rattle.qs_objects.specs.declared.held.Ticket.{Ticket}
 use Rattle.qs_program.specs.Program.{BlockShape, ProgramShape, block_at, blocks_of, client_at}
 use Rattle.qs_program.specs.Sound.{IsSound, is_in}
-use Rattle.qs_meaning.specs.Configurations.{Configuration, IsComplete, first_configuration, one_block_on, outcome_of}
+use Rattle.qs_meaning.specs.Configurations.{Configuration, IsComplete, OrderOutcome, configuration_after, first_configuration, one_block_on, outcome_of}
 
 -- how many blocks each client has begun
 abbrev pub Counts : Type 0
@@ -111,3 +111,23 @@ pub record HasReduced (p : ProgramShape) (order : List Ticket) : Type 0 where
 -- Every complete order comes to what a reduced one comes to.
 abbrev pub ReducedOrdersSuffice : Type 0
 ReducedOrdersSuffice = (p : ProgramShape) → IsSound p → (order : List Ticket) → IsComplete p order → HasReduced p order
+
+-- what some complete order that begins with a front comes to
+abbrev pub IsOutcomeAfter : ProgramShape → List Ticket → OrderOutcome → Type 0
+IsOutcomeAfter p front x = (rest : List Ticket) × IsComplete p (front ++ rest) × (outcome_of p (front ++ rest) ≡ x)
+
+-- a front and the next block of a client
+abbrev pub with_next : ProgramShape → List Ticket → ℕ → List Ticket
+with_next p front c = front ++ record { client = c; index = (configuration_after p front).begun c } ∷ []
+
+-- one of those who go on after the front, and what can come after its next block
+pub record GoesOnTo (p : ProgramShape) (front : List Ticket) (x : OrderOutcome) : Type 0 where
+  pub client : ℕ
+  pub goes : goes_on p (configuration_after p front).begun client ≡ true
+  pub outcome : IsOutcomeAfter p (with_next p front client) x
+
+-- Where a block is left after a front, the outcomes after it are all those after it and the next block of one who goes on.
+abbrev pub OutcomesAreUnion : Type 0
+OutcomesAreUnion =
+    (p : ProgramShape) → IsSound p → (front : List Ticket) (c : ℕ) → (configuration_after p front).begun c < blocks_of p c
+    → (x : OrderOutcome) → IsOutcomeAfter p front x ↔ GoesOnTo p front x

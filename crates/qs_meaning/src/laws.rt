@@ -8,7 +8,7 @@ ghost use Rattle.qs_meaning.specs.Following.{BlocksAskOnly, HonestTracesRun};
 ghost use Rattle.qs_meaning.specs.Interaction.{TreesAgree};
 ghost use Rattle.qs_meaning.specs.MeaningExamples.{MeaningExamples};
 ghost use Rattle.qs_meaning.specs.Paths.{RequestsWithinLoad};
-ghost use Rattle.qs_meaning.specs.Reduced.{NeighboursSwap, ReducedOrdersSuffice, SomeGoOn};
+ghost use Rattle.qs_meaning.specs.Reduced.{NeighboursSwap, OutcomesAreUnion, ReducedOrdersSuffice, SomeGoOn};
 ghost use Rattle.qs_meaning.specs.ReducedExamples.{ReducedExamples};
 ghost use Rattle.qs_meaning.specs.StateKinds.{SerialKeepsKinds};
 ghost use Rattle.qs_meaning.specs.TraceLoads.{SerialWithinLoad, TracesWithinLoad};
@@ -94,6 +94,12 @@ pub fn reduced_orders()
     ensures some { SomeGoOn }
     ensures swap { NeighboursSwap }
     ensures suffice { ReducedOrdersSuffice }
+{}
+
+/// What a checked program can come to after a front of an order is what it can come to after the front and the next block of one who goes
+/// on there, for each of these, as long as a block is left. It does nothing.
+pub fn outcomes_are_union()
+    ensures union { OutcomesAreUnion }
 {}
 
 /// Who goes on in a program of two accounts, where a block that is left for later counts, computed by the definitions; it does nothing.
