@@ -1,6 +1,6 @@
 -- A variable that its client's text does not name stays 0, since a block sets no other variables than those that its text names. A row of the
 -- search for all outcomes leaves such variables out. It goes by induction on the statements, on turns and on the order.
-use Rattle.std.proofs.Common.{◌≡◌, ◌<◌, ℕ, zero, suc, Bool, true, false, if◌then◌else◌, ◌==◌, List, [], ◌∷◌, ◌++◌, length, take, drop, refl, sym, ap, ◌∙◌, subst, arith, slice_set, ⊎_elim, ℤ}
+use Rattle.std.proofs.Common.{◌≡◌, ◌<◌, ℕ, zero, suc, Bool, true, false, if◌then◌else◌, ◌==◌, List, [], ◌∷◌, ◌++◌, length, take, drop, refl, sym, ap, ◌∙◌, arith, slice_set, ⊎_elim, ℤ}
 use Rattle.std.proofs.lemmas.List.{length-set, length-replicate}
 use Rattle.std.proofs.Common.{pos}
 use Rattle.qs_program.specs.Limits.{most_variables}
@@ -12,8 +12,7 @@ use Rattle.qs_program.specs.Sound.{AreVariablesBelow, IsSound}
 use Rattle.qs_program.specs.Statements.{Statements, end, command, query, assign, choose, again, leave}
 use Rattle.qs_program.specs.Values.{Locals, expr_value, request_of, test_value}
 use Rattle.qs_meaning.specs.Configurations.{Configuration, UnnamedStayZero, configuration_from, first_configuration, one_block_on}
-use Rattle.qs_meaning.specs.Serial.{zeros}
-use Rattle.qs_meaning.specs.Solo.{Ending, Runs, States, exec, put, solo, states_after, then_run, turns_run, value_of}
+use Rattle.qs_meaning.specs.Solo.{Ending, Runs, States, exec, solo, states_after, then_run, turns_run, value_of}
 use Rattle.qs_meaning.proofs.AlikeTraces.{variables_below}
 use Rattle.qs_meaning.proofs.TreeWalks.{put_here, put_there}
 

@@ -5,9 +5,8 @@ use Rattle.std.proofs.Common.{◌≡◌, ◌<◌, ◌≤◌, ◌+◌, ℕ, suc, 
 use Rattle.std.specs.List.{AllByRecursion}
 use Rattle.qs_objects.specs.declared.held.Ticket.{Ticket}
 use Rattle.qs_program.specs.Program.{ClientShape, ProgramShape, blocks_of, no_client}
-use Rattle.qs_meaning.proofs.Groups.{some_go_on}
 use Rattle.qs_meaning.proofs.Each.{each_back, each_front, each_join, each_map, each_snoc}
-use Rattle.qs_outcomes.specs.Search.{AreNextFrom, HasOne, IsExplored, IsFound, IsLonger, IsNoted, IsPushed, IsReached, IsSeen, NoTwo, NoneNext, work_left}
+use Rattle.qs_outcomes.specs.Search.{AreNextFrom, HasOne, IsExplored, IsFound, IsLonger, IsNoted, IsPushed, IsReached, IsSeen, NoTwo, NoneNext, WasSeen, work_left}
 use Rattle.qs_outcomes.specs.Standings.{GoesOn, HasNext, IsFirst, IsNext, IsStanding, StandingShape, configuration_in, row_of}
 use Rattle.qs_outcomes.proofs.Lists.{has_back, has_either, has_front, has_map, none_of, two_snoc}
 use Rattle.qs_outcomes.proofs.Stands.{below_or_past, goes_left, past_end}
@@ -67,7 +66,7 @@ module _ (p : ProgramShape) (front : List Ticket) (rows : List (List ℤ)) (stac
     apart = explored.apart;
   }
 
-  module _ (new : HasOne (λ r. row_of p s ≡ r) rows → ⊥) (added results : List StandingShape) (next : AreNextFrom p front s 0 added)
+  module _ (new : HasOne (λ r. row_of p s ≡ r) rows → ⊥) (added results : List StandingShape) (next : AreNextFrom p front (rows ++ row_of p s ∷ []) s 0 added)
       (more : (P : StandingShape → Type 0) → HasOne P found → HasOne P results) (over : NoneNext p s → HasOne (λ x. configuration_in x ≡ configuration_in s) results)
       (all : AllByRecursion (IsFound p front (rows ++ row_of p s ∷ [])) results) (apart : NoTwo (λ x y. row_of p x ≡ row_of p y) results) where
     here : HasOne (λ r. row_of p s ≡ r) (rows ++ row_of p s ∷ [])
@@ -75,6 +74,10 @@ module _ (p : ProgramShape) (front : List Ticket) (rows : List (List ℤ)) (stac
 
     onward : (Q : StandingShape → Type 0) → IsReached p Q rows (stack ++ s ∷ []) → IsReached p Q (rows ++ row_of p s ∷ []) (stack ++ added)
     onward Q = reached_on p Q rows (rows ++ row_of p s ∷ []) stack (stack ++ added) s here (λ P. has_front P rows (row_of p s ∷ [])) (λ P. has_front P stack added)
+
+    ahead : (c : ℕ) → IsReached p (IsNext p front s c) (rows ++ row_of p s ∷ []) added → IsReached p (IsNext p front s c) (rows ++ row_of p s ∷ []) (stack ++ added)
+    ahead c (inl h) = inl (has_back (IsNext p front s c) stack added h)
+    ahead c (inr h) = inr h
 
     -- a new one is seen now, with what its next blocks lead to on the stack
     pub sees : IsExplored p front (rows ++ row_of p s ∷ []) (stack ++ added) results
@@ -95,7 +98,7 @@ module _ (p : ProgramShape) (front : List Ticket) (rows : List (List ℤ)) (stac
             record {
               standing = taken;
               row = refl;
-              closed = λ c left. inl (has_back (IsNext p front s c) stack added (next.each c (omega arith) (in_program p s c (goes_left p s c left)) left));
+              closed = λ c goes. ahead c (next.each c (omega arith) (in_program p s c (goes_left p s c goes)) goes);
               found = over;
             },
           );
@@ -105,7 +108,7 @@ module _ (p : ProgramShape) (front : List Ticket) (rows : List (List ℤ)) (stac
     }
 
   -- where blocks are left, nothing more is found
-  pub sees_on : (HasOne (λ r. row_of p s ≡ r) rows → ⊥) → (added : List StandingShape) → AreNextFrom p front s 0 added → (NoneNext p s → ⊥)
+  pub sees_on : (HasOne (λ r. row_of p s ≡ r) rows → ⊥) → (added : List StandingShape) → AreNextFrom p front (rows ++ row_of p s ∷ []) s 0 added → (NoneNext p s → ⊥)
       → IsExplored p front (rows ++ row_of p s ∷ []) (stack ++ added) found
   sees_on new added next some = sees new added found next (λ P h. h) (λ none. absurd (some none)) (found_on found explored.found) explored.apart
     where
@@ -113,7 +116,7 @@ module _ (p : ProgramShape) (front : List Ticket) (rows : List (List ℤ)) (stac
       found_on xs h = each_map (λ x (f : IsFound p front rows x). record { standing = f.standing; over = f.over; seen = has_front (λ r. row_of p x ≡ r) rows (row_of p s ∷ []) f.seen }) xs h
 
   -- where none is left, the standing is found
-  pub sees_end : (HasOne (λ r. row_of p s ≡ r) rows → ⊥) → (added : List StandingShape) → AreNextFrom p front s 0 added → NoneNext p s
+  pub sees_end : (HasOne (λ r. row_of p s ≡ r) rows → ⊥) → (added : List StandingShape) → AreNextFrom p front (rows ++ row_of p s ∷ []) s 0 added → NoneNext p s
       → IsExplored p front (rows ++ row_of p s ∷ []) (stack ++ added) (found ++ s ∷ [])
   sees_end new added next none =
       sees new added (found ++ s ∷ []) next (λ P. has_front P found (s ∷ []))
@@ -125,55 +128,66 @@ module _ (p : ProgramShape) (front : List Ticket) (rows : List (List ℤ)) (stac
       (each_map {Q = λ x. row_of p x ≡ row_of p s → ⊥} (λ x (f : IsFound p front rows x) e. new (has_map (λ r (is : row_of p x ≡ r). sym e ∙ is) rows f.seen)) found explored.found))
 
 -- one more pushed: those of one more client
-pub pushed_on : (p : ProgramShape) (front : List Ticket) (s : StandingShape) (c : ℕ) (before middle after : List StandingShape) → c < length p.clients
-    → IsLonger p front s (suc c) before middle → IsPushed p front s c middle after → IsLonger p front s c before after
-pushed_on p front s c before middle after client (added, is, next) (inl (goes, left, (n, on, now))) = (
+pub pushed_on : (p : ProgramShape) (front : List Ticket) (rows : List (List ℤ)) (s : StandingShape) (c : ℕ) (before middle after : List StandingShape) → c < length p.clients
+    → IsLonger p front rows s (suc c) before middle → IsPushed p front rows s c middle after → IsLonger p front rows s c before after
+pushed_on p front rows s c before middle after client (added, is, next) (inl (n, on, now)) = (
   added ++ n ∷ [],
   now ∙ (ap (λ xs. xs ++ n ∷ []) is ∙ append_assoc before added (n ∷ [])),
   record {
     standing = each_snoc (IsStanding p front) added n next.standing on.standing;
-    each = λ d from within has.
+    each = λ d from within goes.
         ⊎_elim
-        (λ (same : c ≡ d). has_back (IsNext p front s d) added (n ∷ []) (inl (subst (λ e. IsNext p front s e n) same on)))
-        (λ (above : suc c ≤ d). has_front (IsNext p front s d) added (n ∷ []) (next.each d above within has))
+        (λ (same : c ≡ d). inl (has_back (IsNext p front s d) added (n ∷ []) (inl (subst (λ e. IsNext p front s e n) same on))))
+        (λ (above : suc c ≤ d). longer d (next.each d above within goes))
         (here_or_above c d from);
     few = (let few = next.few in omega (arith, few, length-append added (n ∷ [])));
-    none = λ over. absurd (over c left);
   },
 )
-pushed_on p front s c before middle after client (added, is, next) (inr (none, now)) = (
+  where
+    longer : (d : ℕ) → IsReached p (IsNext p front s d) rows added → IsReached p (IsNext p front s d) rows (added ++ n ∷ [])
+    longer d (inl h) = inl (has_front (IsNext p front s d) added (n ∷ []) h)
+    longer d (inr h) = inr h
+pushed_on p front rows s c before middle after client (added, is, next) (inr (why, now)) = (
   added,
   now ∙ is,
   record {
     standing = next.standing;
-    each = λ d from within has.
+    each = λ d from within goes.
         ⊎_elim
-        (λ (same : c ≡ d). absurd (none (subst (λ e. GoesOn p s e) (sym same) has)))
-        (λ (above : suc c ≤ d). next.each d above within has)
+        (λ (same : c ≡ d). subst (λ e. GoesOn p s e → IsReached p (IsNext p front s e) rows added) same (λ here. seen_or_not why here) goes)
+        (λ (above : suc c ≤ d). next.each d above within goes)
         (here_or_above c d from);
     few = (let few = next.few in omega (arith, few));
-    none = next.none;
   },
 )
+  where
+    seen_or_not : WasSeen p front rows s c ⊎ (GoesOn p s c → ⊥) → GoesOn p s c → IsReached p (IsNext p front s c) rows added
+    seen_or_not (inl seen) goes = inr seen
+    seen_or_not (inr not) goes = absurd (not goes)
 
-pub none_pushed : (p : ProgramShape) (front : List Ticket) (s : StandingShape) (before : List StandingShape) → IsLonger p front s (length p.clients) before before
-none_pushed p front s before = (
+pub none_pushed : (p : ProgramShape) (front : List Ticket) (rows : List (List ℤ)) (s : StandingShape) (before : List StandingShape)
+    → IsLonger p front rows s (length p.clients) before before
+none_pushed p front rows s before = (
   [],
   sym (append-nil before),
   record {
     standing = tt;
     each = λ c from within. absurd (omega (arith, from, within));
     few = omega arith;
-    none = λ _. refl;
   },
 )
 
--- nothing was added exactly where no block is left: else somebody goes on
-pub none_added : (p : ProgramShape) (front : List Ticket) (s : StandingShape) (added : List StandingShape) → AreNextFrom p front s 0 added → length added ≡ 0 → NoneNext p s
-none_added p front s [] next long c left =
-    let one = (some_go_on p (configuration_in s).begun).some c left in
-    next.each one.0 (omega arith) (in_program p s one.0 (goes_left p s one.0 one.1)) one.1
-none_added p front s (n ∷ added) next long c left = (let e : length (n ∷ added) ≡ 0 = long in omega (arith, e))
+-- where no block is left nobody goes on
+pub none_next : (p : ProgramShape) (front : List Ticket) (rows : List (List ℤ)) (s : StandingShape) → NoneNext p s → AreNextFrom p front rows s 0 []
+none_next p front rows s none = record {
+  standing = tt;
+  each = λ c from within goes. absurd (none c (goes_left p s c goes));
+  few = omega arith;
+}
+
+-- a client that is not there has none left
+pub nobody_left : (p : ProgramShape) (s : StandingShape) (n : ℕ) → length p.clients ≤ n → ((c : ℕ) → c < n → HasNext p s c → ⊥) → NoneNext p s
+nobody_left p s n all none c left = none c (let less = in_program p s c left in omega (arith, less, all)) left
 
 -- a standing that was taken up, by what was noted of it and what was added
 module _ (p : ProgramShape) (front : List Ticket) (limit : ℕ) (rows later : List (List ℤ)) (stack now found : List StandingShape) (s : StandingShape) (explored : IsExplored p front rows (stack ++ s ∷ []) found) (new : Bool)
@@ -186,24 +200,22 @@ module _ (p : ProgramShape) (front : List Ticket) (limit : ℕ) (rows later : Li
   fresh : new ≡ true → IsNoted rows (row_of p s) limit true later
   fresh is = subst (λ b. IsNoted rows (row_of p s) limit b later) is noted
 
-  pub gone_on : new ≡ true → IsLonger p front s 0 stack now → (length now ≡ length stack → ⊥) → IsExplored p front later now found
-  gone_on is (added, e, next) more =
+  pub gone_on : new ≡ true → IsLonger p front later s 0 stack now → (NoneNext p s → ⊥) → IsExplored p front later now found
+  gone_on is (added, e, next) some =
       let n = fresh is in
       subst (λ rs. IsExplored p front rs now found) (sym n.0.0)
       (subst (λ ts. IsExplored p front (rows ++ row_of p s ∷ []) ts found) (sym e)
-      (sees_on p front rows stack found s explored n.0.1 added next
-      (λ none. more (let zero_long = next.none none in let long = ap length e in omega (arith, zero_long, long, length-append stack added)))))
+      (sees_on p front rows stack found s explored n.0.1 added (subst (λ rs. AreNextFrom p front rs s 0 added) n.0.0 next) some))
 
-  pub ended : new ≡ true → IsLonger p front s 0 stack now → length now ≡ length stack → (results : List StandingShape) → results ≡ found ++ s ∷ [] → IsExplored p front later now results
-  ended is (added, e, next) same results last =
+  pub ended : new ≡ true → NoneNext p s → (results : List StandingShape) → results ≡ found ++ s ∷ [] → IsExplored p front later stack results
+  ended is none results last =
       let n = fresh is in
-      subst (λ rs. IsExplored p front rs now results) (sym n.0.0)
-      (subst (λ ts. IsExplored p front (rows ++ row_of p s ∷ []) ts results) (sym e)
-      (subst (λ xs. IsExplored p front (rows ++ row_of p s ∷ []) (stack ++ added) xs) (sym last)
-      (sees_end p front rows stack found s explored n.0.1 added next
-      (none_added p front s added next (let long = ap length e in omega (arith, same, long, length-append stack added))))))
+      subst (λ rs. IsExplored p front rs stack results) (sym n.0.0)
+      (subst (λ ts. IsExplored p front (rows ++ row_of p s ∷ []) ts results) (append-nil stack)
+      (subst (λ xs. IsExplored p front (rows ++ row_of p s ∷ []) (stack ++ []) xs) (sym last)
+      (sees_end p front rows stack found s explored n.0.1 [] (none_next p front (rows ++ row_of p s ∷ []) s none) none)))
 
-  pub less_left : new ≡ true → IsLonger p front s 0 stack now → length p.clients ≤ 8 → work_left limit later now < work_left limit rows stack + 1
+  pub less_left : new ≡ true → IsLonger p front later s 0 stack now → length p.clients ≤ 8 → work_left limit later now < work_left limit rows stack + 1
   less_left is (added, e, next) clients =
       let n = fresh is in let few = next.few in let within = n.1 in
       let one : length later ≡ length rows + 1 = ap length n.0.0 ∙ length-append rows (row_of p s ∷ []) in

@@ -10,7 +10,7 @@ use Rattle.qs_outcomes.specs.Rows.{rows_in}
 use Rattle.qs_outcomes.specs.Search.{HasOne, IsInserted}
 
 module _ (E : Vec ℤ Global → Vec ℤ Global → Bool) (tells : (v w : Vec ℤ Global) → E v w ≡ true → v.items ≡ w.items) (holds : (v w : Vec ℤ Global) → v.items ≡ w.items → E v w ≡ true) where
-  among : (v : Vec ℤ Global) (keys : List (Vec ℤ Global)) → list_any (E v) keys ≡ true → HasOne (λ r. v.items ≡ r) (rows_in keys)
+  pub among : (v : Vec ℤ Global) (keys : List (Vec ℤ Global)) → list_any (E v) keys ≡ true → HasOne (λ r. v.items ≡ r) (rows_in keys)
   among v [] h = absurd (true≢false (sym h))
   among v (w ∷ keys) h = by_case (E v w) refl h (among v keys)
     where

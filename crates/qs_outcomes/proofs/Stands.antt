@@ -19,7 +19,7 @@ use Rattle.qs_program.specs.Statements.{Statements, end, command, query, assign,
 use Rattle.qs_meaning.specs.Configurations.{Configuration, configuration_after, configuration_from, first_configuration, one_block_on}
 use Rattle.qs_meaning.specs.Serial.{IsLegal, LegalFrom, declared_states, no_state, state_or_none, zeros}
 use Rattle.qs_meaning.specs.Solo.{BlockResult, put, solo}
-use Rattle.qs_meaning.proofs.Orders.{legal_on}
+use Rattle.qs_meaning.proofs.Orders.{configuration-append, legal_on}
 use Rattle.qs_meaning.proofs.TreeWalks.{put_here, put_there}
 use Rattle.qs_outcomes.specs.Alone.{AreCallsWithin, IsCallWithin, states_in}
 use Rattle.qs_meaning.specs.Reduced.{IsReducedFrom, goes_on}
@@ -67,15 +67,6 @@ legal-snoc p g (u ∷ ts) t legal is less = (
   subst (λ k. LegalFrom p (put g.begun u.client (suc k)) (ts ++ t ∷ [])) (sym legal.0)
       (legal-snoc p (one_block_on p u.client g) ts t (legal_on p g u ts legal) is less),
 )
-
-pub configuration-append : (p : ProgramShape) (g : Configuration) (ts us : List Ticket) → configuration_from p g (ts ++ us) ≡ configuration_from p (configuration_from p g ts) us
-configuration-append p g [] us = refl
-configuration-append p g (t ∷ ts) us = configuration-append p (one_block_on p t.client g) ts us
-
--- the rest of a legal order is legal from where its front leads
-pub legal-rest : (p : ProgramShape) (g : Configuration) (ts us : List Ticket) → LegalFrom p g.begun (ts ++ us) → LegalFrom p (configuration_from p g ts).begun us
-legal-rest p g [] us legal = legal
-legal-rest p g (t ∷ ts) us legal = legal-rest p (one_block_on p t.client g) ts us (legal_on p g t (ts ++ us) legal)
 
 reduced-snoc : (p : ProgramShape) (g : Configuration) (ts : List Ticket) (t : Ticket) → IsReducedFrom p g ts → goes_on p (configuration_from p g ts).begun t.client ≡ true
     → IsReducedFrom p g (ts ++ t ∷ [])

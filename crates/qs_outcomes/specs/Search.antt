@@ -44,22 +44,25 @@ pub record IsExplored (p : ProgramShape) (front : List Ticket) (rows : List (Lis
   pub found : AllByRecursion (IsFound p front rows) results
   pub apart : NoTwo (λ x y. row_of p x ≡ row_of p y) results
 
--- these were added: one for each client from a number on that goes on, and nothing where no block is left
-pub record AreNextFrom (p : ProgramShape) (front : List Ticket) (s : StandingShape) (from : ℕ) (added : List StandingShape) : Type 0 where
+-- these were added: for each client from a number on that goes on, where its next block leads is among them, or its row was seen
+pub record AreNextFrom (p : ProgramShape) (front : List Ticket) (rows : List (List ℤ)) (s : StandingShape) (from : ℕ) (added : List StandingShape) : Type 0 where
   pub standing : AllByRecursion (IsStanding p front) added
-  pub each : (c : ℕ) → from ≤ c → c < length p.clients → GoesOn p s c → HasOne (IsNext p front s c) added
+  pub each : (c : ℕ) → from ≤ c → c < length p.clients → GoesOn p s c → IsReached p (IsNext p front s c) rows added
   pub few : length added + from ≤ length p.clients
-  pub none : NoneNext p s → length added ≡ 0
 
 -- a list with these after it
-abbrev pub IsLonger : ProgramShape → List Ticket → StandingShape → ℕ → List StandingShape → List StandingShape → Type 0
-IsLonger p front s from before after = (added : List StandingShape) × (after ≡ before ++ added) × AreNextFrom p front s from added
+abbrev pub IsLonger : ProgramShape → List Ticket → List (List ℤ) → StandingShape → ℕ → List StandingShape → List StandingShape → Type 0
+IsLonger p front rows s from before after = (added : List StandingShape) × (after ≡ before ++ added) × AreNextFrom p front rows s from added
 
--- one more where the client goes on
-abbrev pub IsPushed : ProgramShape → List Ticket → StandingShape → ℕ → List StandingShape → List StandingShape → Type 0
-IsPushed p front s c before after =
-    (GoesOn p s c × HasNext p s c × ((n : StandingShape) × IsNext p front s c n × (after ≡ before ++ n ∷ [])))
-    ⊎ ((GoesOn p s c → ⊥) × (after ≡ before))
+-- where the client's next block leads, and its row was seen
+abbrev pub WasSeen : ProgramShape → List Ticket → List (List ℤ) → StandingShape → ℕ → Type 0
+WasSeen p front rows s c = HasOne (λ r. (n : StandingShape) × IsNext p front s c n × (row_of p n ≡ r)) rows
+
+-- one more where the client goes on and leads to what was not seen
+abbrev pub IsPushed : ProgramShape → List Ticket → List (List ℤ) → StandingShape → ℕ → List StandingShape → List StandingShape → Type 0
+IsPushed p front rows s c before after =
+    ((n : StandingShape) × IsNext p front s c n × (after ≡ before ++ n ∷ []))
+    ⊎ ((WasSeen p front rows s c ⊎ (GoesOn p s c → ⊥)) × (after ≡ before))
 
 -- whether a row is new, and the rows with it
 abbrev pub IsInserted : List (List ℤ) → List ℤ → Bool → List (List ℤ) → Type 0

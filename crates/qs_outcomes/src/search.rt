@@ -100,7 +100,14 @@ fn note(
     Ok(new)
 }
 
-// Adds where a client's next block leads, if the client is one of those who go on.
+// Whether a row was seen.
+fn was_seen(seen: &IndexSet<Vec<i64>>, row: &Vec<i64>) -> bool
+    ensures seen { result ≡ true → HasOne (λ r. row.now.items ≡ r) (rows_in seen.now.keys) }
+{
+    seen.contains(row)
+}
+
+// Adds where a client's next block leads, if the client is one of those who go on and this was not seen.
 fn push_one(
     alloc: Global,
     program: &Program,
@@ -108,16 +115,23 @@ fn push_one(
     standing: &Standing,
     goes: u8,
     client: u8,
+    row: &mut Vec<i64>,
+    seen: &IndexSet<Vec<i64>>,
     stack: &mut Vec<Standing>,
 ) -> Result<(), AllocError>
     requires client { client < length program.now.clients }
     requires standing { IsStanding program.now front.now standing.now }
     requires goes { in_byte goes ≡ goes_on program.now (configuration_in standing.now).begun }
-    ensures pushed { OnOk result (IsPushed program.now front.now standing.now client stack.old.items stack.new.items) }
+    ensures pushed { OnOk result (IsPushed program.now front.now (rows_in seen.now.keys) standing.now client stack.old.items stack.new.items) }
 {
     program.is_sound();
     if (goes >> client) & 1 == 1 {
-        stack.push(standing.next(alloc, program, front, client)?)?;
+        let next = standing.next(alloc, program, front, client)?;
+        next.write_row(program, front, row)?;
+        if was_seen(seen, row) {
+            return Ok(());
+        }
+        stack.push(next)?;
     }
     Ok(())
 }
@@ -129,17 +143,19 @@ fn push_next(
     last: &[Last],
     front: &[Ticket],
     standing: &Standing,
+    row: &mut Vec<i64>,
+    seen: &IndexSet<Vec<i64>>,
     stack: &mut Vec<Standing>,
 ) -> Result<(), AllocError>
     requires last { AreLast program.now last.now }
     requires standing { IsStanding program.now front.now standing.now }
-    ensures longer { OnOk result (IsLonger program.now front.now standing.now 0 stack.old.items stack.new.items) }
+    ensures longer { OnOk result (IsLonger program.now front.now (rows_in seen.now.keys) standing.now 0 stack.old.items stack.new.items) }
 {
     program.is_sound();
     let goes = standing.goes_on(program, last, front);
     let clients = program.clients() as u8;
     for back in 0..clients {
-        push_one(alloc, program, front, standing, goes, clients - 1 - back, stack)?;
+        push_one(alloc, program, front, standing, goes, clients - 1 - back, row, seen, stack)?;
     }
     Ok(())
 }
@@ -180,11 +196,11 @@ fn visit(
         Ok(false) => return Ok(()),
         Ok(true) => {}
     }
-    let before = stack.len();
-    push_next(alloc, program, last, front, &standing, stack)?;
-    if stack.len() == before {
+    if standing.is_over(program, front) {
         add(found, standing)?;
+        return Ok(());
     }
+    push_next(alloc, program, last, front, &standing, row, seen, stack)?;
     Ok(())
 }
 

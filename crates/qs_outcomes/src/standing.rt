@@ -1,6 +1,6 @@
 //! Configurations with the orders that lead there.
 
-ghost use Rattle.std.specs.Prelude.{◌≡◌, ◌<◌, ◌↔◌, true, ℕ, IfOk, OnOk, [], ◌∷◌, ◌++◌, length, replicate, slice_index_or, slice_set};
+ghost use Rattle.std.specs.Prelude.{◌≡◌, ◌<◌, ◌↔◌, true, false, ℕ, IfOk, OnOk, [], ◌∷◌, ◌++◌, length, replicate, slice_index_or, slice_set};
 ghost use Rattle.qs_meaning.specs.Serial.{declared_states, no_state, zeros};
 ghost use Rattle.qs_meaning.specs.Solo.{solo};
 ghost use Rattle.qs_outcomes.specs.Alone.{AreCallsWithin, states_in};
@@ -101,7 +101,7 @@ fn run_block(
 fn longer(alloc: Global, order: &[Ticket], ticket: Ticket) -> Result<Vec<Ticket>, AllocError>
     ensures longer { IfOk result (λ longer. longer.items ≡ order.now ++ ticket ∷ []) }
 {
-    let mut longer = Vec::with_capacity(alloc, order.len())?;
+    let mut longer = Vec::with_capacity(alloc, order.len() + 1)?;
     longer.extend_from_slice(order)?;
     longer.push(ticket)?;
     Ok(longer)
@@ -155,6 +155,7 @@ fn fresh_locals(alloc: Global, clients: usize) -> Result<Vec<Locals>, AllocError
 impl Standing {
     ghost use Rattle.qs_meaning.specs.Reduced.{goes_on};
     ghost use Rattle.qs_outcomes.specs.Going.{AreLast, in_byte};
+    ghost use Rattle.qs_outcomes.specs.Search.{NoneNext};
     ghost use Rattle.qs_outcomes.specs.Standings.{GoesOn, HasNext, IsFirst, IsNext, IsStanding, configuration_in, row_of};
 
     /// The order of blocks that leads there.
@@ -192,6 +193,30 @@ impl Standing {
             locals: fresh_locals(alloc, clients)?,
             objects: declared_objects(alloc, program)?,
         })
+    }
+
+    // Whether a client has a block left.
+    fn has_next(&self, program: &Program, front: &[Ticket], client: u8) -> bool
+        requires client { client < length program.now.clients }
+        requires standing { IsStanding program.now front.now self.now }
+        ensures next { (result ≡ true) ↔ HasNext program.now self.now client }
+    {
+        usize::from(self.begun[usize::from(client)]) < program.blocks_of(client)
+    }
+
+    // Whether no client has a block left.
+    pub(crate) fn is_over(&self, program: &Program, front: &[Ticket]) -> bool
+        requires standing { IsStanding program.now front.now self.now }
+        ensures over { result ≡ true → NoneNext program.now self.now }
+        ensures left { result ≡ false → NoneNext program.now self.now → ⊥ }
+    {
+        program.is_sound();
+        for client in 0..program.clients() as u8 {
+            if self.has_next(program, front, client) {
+                return false;
+            }
+        }
+        true
     }
 
     // Who goes on. It takes no memory.

@@ -1,6 +1,8 @@
 use Rattle.std.proofs.Common.{◌≡◌, ap, inl, inr, sym, ◌∙◌, true≢false, refl, subst, true}
-use Rattle.qs_outcomes.specs.Standings.{GoesOn}
+use Rattle.qs_outcomes.specs.Rows.{rows_in}
+use Rattle.qs_outcomes.specs.Standings.{GoesOn, row_of}
 use Rattle.qs_outcomes.proofs.GoingSets.{in_set, out_of_set}
+use Rattle.qs_outcomes.proofs.Lists.{has_map}
 use Rattle.qs_outcomes.proofs.Stands.{goes_left}
 use Rattle.qs_outcomes.proofs.search.push_one.Goals as goal
 use Rattle.qs_outcomes.proofs.search.push_one.Goals.{Then-goes-client-eq1}
@@ -14,11 +16,17 @@ next-requires c =
     record { client = c.requires.client; standing = c.requires.standing; left = goes_left c.args.program.now c.args.standing.now c.args.client (on a); goes = on a }
 
 pub returns-in_ok-push : goal.returns-in_ok-push
-returns-in_ok-push c =
-    let a = (goal.at.returns-in_ok-push c).Then-goes-client-eq1 in
-    record { pushed = inl (on a, goes_left c.args.program.now c.args.standing.now c.args.client (on a), (c.in_ok-next.field-0, c.in_ok-next.ensures.next, c.in_ok-push.ensures.items)) }
+returns-in_ok-push c = record { pushed = inl (c.in_ok-next.next, c.in_ok-next.ensures.next, c.in_ok-push.ensures.items) }
+
+pub returns-then-was_seen : goal.returns-then-was_seen
+returns-then-was_seen c = record {
+  pushed = inr (
+    inl (has_map (λ r (e : c.write_row.new.row.items ≡ r). (c.in_ok-next.next, c.in_ok-next.ensures.next, sym c.in_ok-write_row.ensures.row ∙ e)) (rows_in c.args.seen.now.keys) (c.was_seen.ensures.seen c.if-was_seen.true)),
+    refl,
+  );
+}
 
 pub returns-else-goes-client-eq1 : goal.returns-else-goes-client-eq1
 returns-else-goes-client-eq1 c = record {
-  pushed = inr (λ goes. true≢false (sym goes ∙ ((λ i. sym c.requires.goes i c.args.client) ∙ out_of_set c.args.goes c.args.client c.if-goes-client-eq1.false)), refl);
+  pushed = inr (inr (λ goes. true≢false (sym goes ∙ ((λ i. sym c.requires.goes i c.args.client) ∙ out_of_set c.args.goes c.args.client c.if-goes-client-eq1.false))), refl);
 }

@@ -20,12 +20,15 @@ returns-in-Ok-false-clause-explored c =
     skipped c.args.program.now c.args.front.now c.args.limit (rows_in c.args.seen.now.keys) (rows_in c.note.new.seen.keys) c.args.stack.now.items c.args.stack.now.items c.args.found.now.items c.args.standing
     c.requires.explored c.in-Ok-false.field-0 c.in-Ok-false.ensures.noted c.in-Ok-false.field-0-test
 
-pub returns-in_ok-add-clause-explored : goal.returns-in_ok-add-clause-explored
-returns-in_ok-add-clause-explored c =
-    ended c.args.program.now c.args.front.now c.args.limit (rows_in c.args.seen.now.keys) (rows_in c.note.new.seen.keys) c.args.stack.now.items c.push_next.new.stack.items c.args.found.now.items c.args.standing
-    c.requires.explored c.in-Ok-true.field-0 c.in-Ok-true.ensures.noted c.in-Ok-true.field-0-test c.in_ok-push_next.ensures.longer (search rules) c.add.new.list.items c.in_ok-add.ensures.added
+pub is_over-requires : goal.is_over-requires
+is_over-requires c = record { standing = taken c.args.program.now c.args.front.now _ c.args.stack.now.items c.args.found.now.items c.args.standing c.requires.explored }
 
-pub returns-else-len-before-clause-explored : goal.returns-else-len-before-clause-explored
-returns-else-len-before-clause-explored c =
+pub returns-then-is_over-clause-explored : goal.returns-then-is_over-clause-explored
+returns-then-is_over-clause-explored c =
+    ended c.args.program.now c.args.front.now c.args.limit (rows_in c.args.seen.now.keys) (rows_in c.note.new.seen.keys) c.args.stack.now.items c.args.stack.now.items c.args.found.now.items c.args.standing
+    c.requires.explored c.in-Ok-true.field-0 c.in-Ok-true.ensures.noted c.in-Ok-true.field-0-test (c.is_over.ensures.over c.if-is_over.true) c.add.new.list.items c.in_ok-add.ensures.added
+
+pub returns-clause-explored : goal.returns-clause-explored
+returns-clause-explored c =
     gone_on c.args.program.now c.args.front.now c.args.limit (rows_in c.args.seen.now.keys) (rows_in c.note.new.seen.keys) c.args.stack.now.items c.push_next.new.stack.items c.args.found.now.items c.args.standing
-    c.requires.explored c.in-Ok-true.field-0 c.in-Ok-true.ensures.noted c.in-Ok-true.field-0-test c.in_ok-push_next.ensures.longer (search rules)
+    c.requires.explored c.in-Ok-true.field-0 c.in-Ok-true.ensures.noted c.in-Ok-true.field-0-test c.in_ok-push_next.ensures.longer (c.is_over.ensures.left c.if-is_over.false)
