@@ -8,8 +8,10 @@ use Rattle.qs_script.specs.declared.tree.Call.{Call}
 use Rattle.qs_script.specs.declared.tree.Test.{Test}
 use Rattle.qs_script.specs.declared.tree.KindText.{KindText}
 use Rattle.qs_script.specs.declared.tree.KindText.TheVariants.{Account, Buffer, Grid}
+use Rattle.qs_script.specs.declared.tree.KindWord.TheVariants as kind
+use Rattle.qs_script.specs.declared.tree.Formal.{Formal}
 use Rattle.qs_script.specs.declared.tree.Item.{Item}
-use Rattle.qs_script.specs.declared.tree.Item.TheVariants.{Object, Client}
+use Rattle.qs_script.specs.declared.tree.Item.TheVariants.{Object, Client, Template, Started}
 use Rattle.qs_check.specs.declared.fault.CheckFault.TheVariants as f
 use Rattle.qs_program.specs.Numbering.{Name}
 use Rattle.qs_program.specs.Program.{whole_load, whole_weight}
@@ -45,6 +47,23 @@ assignment rest = assign (codes "x") (Plain (Number (pos 1))) rest
 abbrev pub below_one : Test
 below_one = record { left = Variable (codes "x"); relation = Less; right = Number (pos 1) }
 
+abbrev pub account : Name → Formal
+account n = record { kind = kind.Account; name = n }
+
+-- a template t of two accounts a and b, whose one block reserves both
+abbrev pub template : Stmts → Item
+template body = Template (record {
+  name = codes "t";
+  formals = account a ∷ account b ∷ [];
+  blocks = record { reserved = a ∷ b ∷ []; body = body } ∷ [];
+})
+
+abbrev pub started : List Name → Item
+started objects = Started (record { name = codes "c"; template = codes "t"; objects = objects })
+
+abbrev pub deposits : Stmts
+deposits = command (deposit a) (command (deposit b) end)
+
 -- n repeats, one in another
 abbrev pub nested_repeats : ℕ → ℕ → Stmts → Stmts
 nested_repeats zero count body = body
@@ -71,5 +90,14 @@ pub record CheckExamples : Type 0 where
   pub greatest_weight : whole_weight (program_of_items (one_block (again 999 (again 1000 (assignment end) end) end))) ≡ 1000000
   pub at_greatest_weight : fault_of (one_block (again 999 (again 1000 (assignment end) end) end)) ≡ None
   pub too_much_weight : fault_of (one_block (again 999 (again 1000 (assignment end) end) (assignment end))) ≡ Some f.Weight
+  pub unstarted : fault_of (template (nested_repeats 8 1000 deposits) ∷ []) ≡ None
+  pub unknown_template : fault_of (object a (Account 0) ∷ started (a ∷ a ∷ []) ∷ template deposits ∷ []) ≡ Some f.UnknownTemplate
+  pub count : fault_of (template deposits ∷ started (a ∷ []) ∷ []) ≡ Some f.Count
+  pub given_unknown : fault_of (template deposits ∷ started (a ∷ a ∷ []) ∷ []) ≡ Some f.UnknownObject
+  pub other_kind : fault_of (object a (Buffer 1) ∷ template deposits ∷ started (a ∷ b ∷ []) ∷ []) ≡ Some f.OtherKind
+  pub objects_in_text : fault_of (object a (Account 0) ∷ Template (record { name = b; formals = account b ∷ []; blocks = record { reserved = a ∷ []; body = end } ∷ [] }) ∷ []) ≡ Some f.UnknownObject
+  -- two formals that are one object, which is in the list once
+  pub one_object : whole_load (program_of_items (object a (Account 0) ∷ template deposits ∷ started (a ∷ a ∷ []) ∷ [])) ≡ 2
+  pub two_objects : fault_of (object a (Account 0) ∷ object b (Account 0) ∷ template deposits ∷ started (b ∷ a ∷ []) ∷ []) ≡ None
   pub nested_requests : fault_of (one_block (nested_repeats 8 1000 (command (deposit a) end))) ≡ Some f.Load
   pub nested_steps : fault_of (one_block (nested_repeats 8 1000 (assignment end))) ≡ Some f.Weight

@@ -24,6 +24,14 @@ returns c = record {
     greatest_weight = refl;
     at_greatest_weight = refl;
     too_much_weight = refl;
+    unstarted = refl;
+    unknown_template = refl;
+    count = refl;
+    given_unknown = refl;
+    other_kind = refl;
+    objects_in_text = refl;
+    one_object = refl;
+    two_objects = refl;
     nested_requests = refl;
     nested_steps = refl;
   };
