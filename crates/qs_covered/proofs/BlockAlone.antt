@@ -3,6 +3,7 @@
 -- a block. It goes by induction on the block's interaction tree; each request is on an object of the block's list.
 use Rattle.std.proofs.Common.{◌≡◌, ◌<◌, ◌∙◌, ◌==◌, ◌||◌, ◌⊎◌, ℕ, suc, Bool, true, false, if◌then◌else◌, nat_lt, ℤ, List, [], ◌∷◌, refl, sym, ap, subst, inl, inr, length, map, length-set, ⊎_elim, arith}
 use Rattle.std.proofs.Math.ListN.{set}
+use Rattle.std.proofs.lemmas.Bool.{lt-ltb}
 use Rattle.std.specs.List.{AllByRecursion}
 use Rattle.qs_objects.specs.Journals.{run_one}
 use Rattle.qs_objects.specs.declared.held.Ticket.{Ticket}
@@ -21,9 +22,6 @@ use Rattle.qs_plain_laws.specs.declared.item.QueueItem.TheVariants as item
 use Rattle.qs_plain_laws.specs.Plain.{Handler, Plain, Private, Stage, after_reply, asks, at_each, calls, client_at, current, ends, handler_at, leaves_queue, log_in, out, put_item, queue_step, reply_to, runs_command, runs_query, waiting, within}
 use Rattle.qs_plain_laws.proofs.PlainPreserved.{each_is, in_list, reserved_list}
 use Rattle.qs_covered.proofs.Steps.{IsAlone, IsOut, IsQuiet, Reaches, client_moved, handler_moved, move, onward, queue_set, requeued, stay}
-
-pub lt_true : (m n : ℕ) → m < n → nat_lt m n ≡ true
-lt_true m n less = grind (arith, less)
 
 -- each handler of a list changed: there are as many
 pub each_long : (f : Handler → Handler) (hs : List Handler) (ks : List ℕ) → length (at_each f hs ks) ≡ length hs
@@ -55,10 +53,10 @@ module _ (p : ProgramShape) (sound : IsSound p) (order : List Ticket) (begun : �
   is_mine queue stage s now = ticket_path refl (let b = now.begun t.client in omega (arith, b, current_is))
 
   named : nat_lt t.client (length p.clients) ≡ true
-  named = lt_true t.client (length p.clients) client
+  named = lt-ltb t.client (length p.clients) client
 
   is_there : (queue : ℕ → List Private) (stage : Stage) (s : Plain) → At queue stage s → nat_lt t.client (length s.clients) ≡ true
-  is_there queue stage s now = lt_true t.client (length s.clients) (let long = now.clients in omega (arith, client, long))
+  is_there queue stage s now = lt-ltb t.client (length s.clients) (let long = now.clients in omega (arith, client, long))
 
   logged : (u : Ticket) (i : QueueItem) (g : Handler) → u ≡ t → g.queues ≡ private [] ∷ [] → (log_in u i g).queues ≡ private (i ∷ []) ∷ []
   logged u i g is e =
@@ -106,7 +104,7 @@ module _ (p : ProgramShape) (sound : IsSound p) (order : List Ticket) (begun : �
       requeued p order begun t (put (put served h (private (item.Command r ∷ []) ∷ [])) h (private [] ∷ [])) served (within next) m (after h (item.Command r) e)
       (handler_moved p order begun t (put served h (private (item.Command r ∷ []) ∷ [])) (within next) n h _ (inside h e) logged_now) in
       move p s (actor.Client t.client) n Over named (rw (there, now.stage) refl)
-      (move p n (actor.Handler h) m Over (lt_true h (length p.objects) (inside h e))
+      (move p n (actor.Handler h) m Over (lt-ltb h (length p.objects) (inside h e))
       (ap (queue_step n h it) (first_of n (within next) h (item.Command r) logged_now)) (rest m done))
 
   -- a query
@@ -134,7 +132,7 @@ module _ (p : ProgramShape) (sound : IsSound p) (order : List Ticket) (begun : �
       let done : At served (within (next (value_of v))) m =
       subst (λ g. At served g m) (ap (λ g. (reply_to you r v g).stage) logged_now.stage) replied in
       move p s (actor.Client t.client) n Over named (rw (there, now.stage) refl)
-      (move p n (actor.Handler h) m Over (lt_true h (length p.objects) (inside h e))
+      (move p n (actor.Handler h) m Over (lt-ltb h (length p.objects) (inside h e))
       (ap (queue_step n h it) (first_of n (waiting next) h (item.Query r) logged_now)) (rest (value_of v) m done))
 
   -- the end marks are taken away, one after another
@@ -180,7 +178,7 @@ module _ (p : ProgramShape) (sound : IsSound p) (order : List Ticket) (begun : �
       (λ (one : queue k ≡ marked).
       let it = handler_at s.handlers k in
       let n = leaves_queue s k it [] in
-      move p s (actor.Handler k) n goal (lt_true k (length p.objects) within_all.0) (ap (queue_step s k it) (now.queues k ∙ one))
+      move p s (actor.Handler k) n goal (lt-ltb k (length p.objects) within_all.0) (ap (queue_step s k it) (now.queues k ∙ one))
       (later n (handler_moved p order begun t queue (out l) s k _ within_all.0 now)))
       (each k)
 

@@ -3,6 +3,7 @@
 -- counts the blocks that each client has begun. At the end nobody has a block left, and the run is finished.
 use Rattle.std.proofs.Common.{◌≡◌, ◌<◌, ◌∙◌, ◌+◌, ◌==◌, ℕ, suc, Bool, true, false, if◌then◌else◌, nat_lt, List, [], ◌∷◌, ◌++◌, Ok, Some, refl, sym, ap, subst, length, get_or, get_or-set_same, get_or-set_other, length-set, append_assoc, append-nil, ⊎_elim, arith}
 use Rattle.std.proofs.Math.ListN.{set}
+use Rattle.std.proofs.lemmas.Bool.{lt-ltb}
 use Rattle.std.proofs.lemmas.List.{get_or_past, length-append}
 use Rattle.std.proofs.lemmas.List.FromFn.{get_or-map-range_with_len, length-map-range_with_len}
 use Rattle.std.specs.List.{AllByRecursion}
@@ -25,7 +26,7 @@ use Rattle.qs_plain_laws.specs.Plain.{Client, Handler, Plain, Private, Stage, at
 use Rattle.qs_plain_laws.specs.PlainSchedule.{IsPlayed, all_done, all_idle, is_done, is_finished, is_out, played_of, plays, scheduled}
 use Rattle.qs_plain_laws.proofs.PlainPreserved.{each_is, reserved_list}
 use Rattle.qs_covered.specs.Reached.{CompleteOrdersAreReached}
-use Rattle.qs_covered.proofs.BlockAlone.{block_over, each_long, lt_true}
+use Rattle.qs_covered.proofs.BlockAlone.{block_over, each_long}
 use Rattle.qs_covered.proofs.Covering.{plain_covered}
 use Rattle.qs_covered.proofs.Steps.{IsAlone, IsOut, IsQuiet, Reaches, move, onward, stay}
 
@@ -70,8 +71,8 @@ module _ (p : ProgramShape) (sound : IsSound p) (order : List Ticket) (blocks : 
   enters s l now stage =
       let it = client_at s t.client in
       let same : begun_blocks it ≡ t.index = now.begun t.client ∙ sym index in
-      let there : nat_lt t.client (length s.clients) ≡ true = lt_true t.client (length s.clients) (let long = now.clients in let c = client in omega (arith, c, long)) in
-      let some : nat_lt (begun_blocks it) (blocks_of p t.client) ≡ true = lt_true (begun_blocks it) (blocks_of p t.client) (omega (arith, left, same)) in
+      let there : nat_lt t.client (length s.clients) ≡ true = lt-ltb t.client (length s.clients) (let long = now.clients in let c = client in omega (arith, c, long)) in
+      let some : nat_lt (begun_blocks it) (blocks_of p t.client) ≡ true = lt-ltb (begun_blocks it) (blocks_of p t.client) (omega (arith, left, same)) in
       let is : record { client = t.client; index = begun_blocks it } ≡ t = ticket_path refl same in
       rw (there, stage, some)
       (ap (λ (u : Ticket). Some (record {
@@ -123,7 +124,7 @@ module _ (p : ProgramShape) (sound : IsSound p) (order : List Ticket) (blocks : 
   block_reached s now =
       let had = variables_of (client_at s t.client).stage (now.stages t.client) in
       let l = had.0 in
-      move p s (actor.Client t.client) (entered s l) (IsQuiet p (order ++ t ∷ []) begun) (lt_true t.client (length p.clients) client) (enters s l now had.1)
+      move p s (actor.Client t.client) (entered s l) (IsQuiet p (order ++ t ∷ []) begun) (lt-ltb t.client (length p.clients) client) (enters s l now had.1)
       (block_over p sound (order ++ t ∷ []) begun t client now_begun (block_tree p t l) (blocks_ask_only p sound t l) (entered s l) (entered_at s l now had.1))
 
 -- one block after another
