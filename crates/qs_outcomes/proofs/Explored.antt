@@ -7,14 +7,14 @@ use Rattle.qs_objects.specs.declared.held.Ticket.{Ticket}
 use Rattle.qs_program.specs.Program.{ProgramShape, blocks_of}
 use Rattle.qs_program.specs.Sound.{IsSound}
 use Rattle.qs_meaning.specs.Configurations.{Configuration, OrderOutcome, configuration_after, configuration_from, first_configuration, one_block_on, outcome_in}
-use Rattle.qs_meaning.specs.Serial.{IsLegal, LegalFrom, no_state, zeros}
+use Rattle.qs_meaning.specs.Serial.{LegalFrom, no_state, zeros}
 use Rattle.qs_meaning.specs.Reduced.{IsReducedFrom, goes_on}
 use Rattle.qs_meaning.proofs.Reductions.{reduced_from}
 use Rattle.qs_meaning.proofs.Each.{each_map, each_snoc}
 use Rattle.qs_meaning.proofs.Orders.{begun_within, complete_orders_leave_none, configuration-append, configurations_follow_orders, legal-rest, legal_on}
 use Rattle.qs_outcomes.specs.Outcomes.{AreAllOutcomesAfter, AreApart, AreDifferent, HasConfigurationsAfter, HasMoreThanAfter, IsListedAfter, outcome_at}
 use Rattle.qs_outcomes.specs.Search.{HasOne, IsExplored, IsFound, IsReached, IsSeen, NoTwo, NoneNext}
-use Rattle.qs_outcomes.specs.Standings.{GoesOn, HasNext, IsFirst, IsNext, IsStanding, StandingShape, configuration_in, row_of}
+use Rattle.qs_outcomes.specs.Standings.{GoesOn, IsFirst, IsNext, IsStanding, StandingShape, configuration_in, row_of}
 use Rattle.qs_outcomes.proofs.Lists.{has_map, has_some, none_of, same_list, two_snoc}
 use Rattle.qs_outcomes.proofs.RowTells.{row_tells, same_row}
 

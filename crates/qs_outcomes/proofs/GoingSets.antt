@@ -1,10 +1,10 @@
 -- Sets as bytes, and the last block of a client that reserves an object: what each step of the loops that find who goes on does to the set
 -- that it stands for. It goes by cases on bits, and by induction on lists and rounds.
-use Rattle.std.proofs.Common.{◌≡◌, ◌≢◌, ◌<◌, ◌≤◌, ◌+◌, ◌*◌, ◌%◌, ◌/◌, ◌^◌, ℕ, zero, suc, Bool, true, false, true≢false, if◌then◌else◌, ◌==◌, ◌&&◌, ◌||◌, nat_lt, max, List, [], ◌∷◌, ◌++◌, length, get_or, drop, take, refl, sym, ap, ap₂, add-one, ◌∙◌, subst, arith, ◌⊎◌, inl, inr, ⊎_elim, bit_and, bit_or, w8, get_or-set_same, get_or-set_other}
+use Rattle.std.proofs.Common.{◌≡◌, ◌<◌, ◌≤◌, ◌+◌, ◌*◌, ◌%◌, ◌/◌, ◌^◌, ℕ, zero, suc, Bool, true, false, if◌then◌else◌, ◌==◌, ◌&&◌, ◌||◌, nat_lt, max, List, [], ◌∷◌, ◌++◌, length, get_or, drop, take, refl, sym, ap, ap₂, add-one, ◌∙◌, subst, arith, ◌⊎◌, inl, inr, bit_and, bit_or, w8, get_or-set_same, get_or-set_other}
 use Rattle.std.specs.Prelude.{slice_set}
 use Rattle.std.specs.Int.{bit_at}
 use Rattle.std.specs.List.{list_any}
-use Rattle.std.proofs.lemmas.Bool.{cases_Bool, cases_eq}
+use Rattle.std.proofs.lemmas.Bool.{cases_eq}
 use Rattle.std.proofs.lemmas.Bool.Decides.{nat_tests}
 use Rattle.std.proofs.lemmas.List.{get_or_past}
 use Rattle.std.proofs.lemmas.Nat.Bits.{bit_at_or, bit_at-lt, bit_at-zero, bit_at_set_same, bit_at_set_other, shr_and_one}
@@ -18,7 +18,7 @@ use Rattle.qs_program.proofs.Bounds.{sound_block}
 use Rattle.qs_meaning.proofs.Each.{each_map}
 use Rattle.qs_program.specs.Limits.{most_clients, most_objects}
 use Rattle.qs_outcomes.specs.Going.{AreLast, counts_in, in_byte}
-use Rattle.qs_outcomes.proofs.RowSteps.{take_more, take_whole}
+use Rattle.qs_outcomes.proofs.RowSteps.{take_more}
 
 zero_or_one : (x : ℕ) → x < 2 → (x ≡ 0) ⊎ (x ≡ 1)
 zero_or_one x small = elim (cases_eq x 0) [ inl e ↦ inl e | inr ne ↦ inr (omega arith) ]

@@ -1,7 +1,7 @@
 -- Where a client's next block has run on what the lists of a standing hold, they hold the next configuration, and the order that is longer
 -- by one ticket leads there. The functions that make standings rest on it. Lists by number are functions that are changed at one place, and
 -- the last ticket of an order is taken last.
-use Rattle.std.proofs.Common.{◌≡◌, ◌<◌, ◌≤◌, ℕ, zero, suc, Bool, true, false, ◌==◌, List, [], ◌∷◌, ◌++◌, length, get_or, replicate, refl, sym, ap, ◌∙◌, subst, arith, ⊎_elim, append_assoc, append-nil, ◌⊎◌, inl, inr, ◌≢◌, ◌||◌, ℤ}
+use Rattle.std.proofs.Common.{◌≡◌, ◌<◌, ◌≤◌, ℕ, zero, suc, Bool, true, false, ◌==◌, List, [], ◌∷◌, ◌++◌, length, get_or, replicate, refl, sym, ap, ◌∙◌, subst, arith, ⊎_elim, append_assoc, ◌⊎◌, inl, inr, ◌≢◌, ◌||◌, ℤ}
 use Rattle.std.proofs.Common.{get_or-set_same, get_or-set_other}
 use Rattle.std.proofs.lemmas.List.{length-set, length-replicate}
 use Rattle.std.specs.Prelude.{slice_set}

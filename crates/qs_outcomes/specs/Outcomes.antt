@@ -52,7 +52,7 @@ abbrev pub HasConfigurationsAfter : ProgramShape → List Ticket → ℕ → Typ
 HasConfigurationsAfter p front count =
     (ss : List StandingShape) × AreDifferent p front ss count
     × ((rest : List Ticket) → IsLegal p (front ++ rest) → IsReducedFrom p (configuration_after p front) rest
-        → HasOne (λ s. configuration_in s ≡ configuration_after p (front ++ rest)) ss)
+    → HasOne (λ s. configuration_in s ≡ configuration_after p (front ++ rest)) ss)
 
 -- and to more than so many
 abbrev pub HasMoreThanAfter : ProgramShape → List Ticket → ℕ → Type 0

@@ -32,7 +32,11 @@ fn last_of(program: &Program, client: u8) -> Last
     program.is_sound();
     let mut last = [0; MOST_OBJECTS];
     for index in 0..program.blocks_of(client) as u8 {
-        mark(&mut last, program.block(client, index).reserved(), index + 1);
+        mark(
+            &mut last,
+            program.block(client, index).reserved(),
+            index + 1,
+        );
     }
     last
 }
@@ -107,7 +111,12 @@ fn all_comers(program: &Program, last: &[Last], begun: &[u8]) -> [u8; MOST_CLIEN
     for client in 0..program.clients() as u8 {
         let place = usize::from(client);
         if usize::from(begun[place]) < program.blocks_of(client) {
-            rows[place] = comers(program, begun, &holders, program.block(client, begun[place]).reserved());
+            rows[place] = comers(
+                program,
+                begun,
+                &holders,
+                program.block(client, begun[place]).reserved(),
+            );
         }
     }
     rows

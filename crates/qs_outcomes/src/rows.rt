@@ -30,7 +30,11 @@ pub(crate) fn add_locals(
 {
     program.is_sound();
     for client in 0..program.clients() as u8 {
-        add_named(row, &locals[usize::from(client)], program.variables(client).len())?;
+        add_named(
+            row,
+            &locals[usize::from(client)],
+            program.variables(client).len(),
+        )?;
     }
     Ok(())
 }

@@ -155,7 +155,17 @@ fn push_next(
     let goes = standing.goes_on(program, last, front);
     let clients = program.clients() as u8;
     for back in 0..clients {
-        push_one(alloc, program, front, standing, goes, clients - 1 - back, row, seen, stack)?;
+        push_one(
+            alloc,
+            program,
+            front,
+            standing,
+            goes,
+            clients - 1 - back,
+            row,
+            seen,
+            stack,
+        )?;
     }
     Ok(())
 }
@@ -223,7 +233,16 @@ pub fn outcomes(alloc: Global, program: &Program, limit: u32) -> Result<AllOutco
     add(&mut stack, Standing::first(alloc, program)?)?;
     while let Some(standing) = stack.pop() {
         visit(
-            alloc, program, last.as_slice(), &[], limit, standing, &mut row, &mut seen, &mut stack, &mut found,
+            alloc,
+            program,
+            last.as_slice(),
+            &[],
+            limit,
+            standing,
+            &mut row,
+            &mut seen,
+            &mut stack,
+            &mut found,
         )?;
     }
     Ok(AllOutcomes {

@@ -260,7 +260,12 @@ impl Standing {
     }
 
     // Writes its numbers as one row. An error says that memory was refused.
-    pub(crate) fn write_row(&self, program: &Program, front: &[Ticket], row: &mut Vec<i64>) -> Result<(), AllocError>
+    pub(crate) fn write_row(
+        &self,
+        program: &Program,
+        front: &[Ticket],
+        row: &mut Vec<i64>,
+    ) -> Result<(), AllocError>
         requires standing { IsStanding program.now front.now self.now }
         ensures row { OnOk result (row.new.items ≡ row_of program.now self.now) }
     {

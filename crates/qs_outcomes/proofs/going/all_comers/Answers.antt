@@ -1,10 +1,10 @@
 use Rattle.std.proofs.Common.{◌≡◌, ◌<◌, ◌≤◌, ◌+◌, arith, ap, get_or, length, slice_set, subst, sym, ◌∙◌}
-use Rattle.std.specs.List.{AllByRecursion, list_any}
-use Rattle.qs_program.specs.Limits.{most_clients, most_objects}
+use Rattle.std.specs.List.{list_any}
+use Rattle.qs_program.specs.Limits.{most_clients}
 use Rattle.qs_program.specs.Program.{BlockShape, block_at, blocks_of}
 use Rattle.qs_meaning.specs.Reduced.{comes_in, still_reserves}
 use Rattle.qs_outcomes.specs.Going.{counts_in, in_byte}
-use Rattle.qs_outcomes.proofs.GoingSets.{RowsUpTo, few_objects, row_left, row_written}
+use Rattle.qs_outcomes.proofs.GoingSets.{RowsUpTo, row_left, row_written}
 use Rattle.qs_outcomes.proofs.going.all_comers.Goals as goal
 use Rattle.qs_outcomes.proofs.going.all_comers.Goals.{then-from-blocks_of, else-from-blocks_of}
 

@@ -1,4 +1,4 @@
-use Rattle.std.proofs.Common.{◌≡◌, ℕ, arith, ◌∙◌}
+use Rattle.std.proofs.Common.{◌≡◌, arith, ◌∙◌}
 use Rattle.std.proofs.lemmas.List.{length-set}
 use Rattle.qs_meaning.specs.Reduced.{still_reserves}
 use Rattle.qs_outcomes.specs.Going.{counts_in, in_byte}

@@ -1,6 +1,6 @@
-use Rattle.std.proofs.Common.{◌≡◌, ap, inl, inr, sym, ◌∙◌, true≢false, refl, subst, true}
+use Rattle.std.proofs.Common.{◌≡◌, inl, inr, sym, ◌∙◌, true≢false, refl}
 use Rattle.qs_outcomes.specs.Rows.{rows_in}
-use Rattle.qs_outcomes.specs.Standings.{GoesOn, row_of}
+use Rattle.qs_outcomes.specs.Standings.{GoesOn}
 use Rattle.qs_outcomes.proofs.GoingSets.{in_set, out_of_set}
 use Rattle.qs_outcomes.proofs.Lists.{has_map}
 use Rattle.qs_outcomes.proofs.Stands.{goes_left}

@@ -1,4 +1,4 @@
-use Rattle.std.proofs.Common.{◌≡◌, ap, rules, Err}
+use Rattle.std.proofs.Common.{◌≡◌, ap, Err}
 use Rattle.qs_outcomes.specs.declared.fault.OutcomesFault.TheVariants.{Limit}
 use Rattle.qs_outcomes.specs.Rows.{rows_in}
 use Rattle.qs_outcomes.proofs.Exploring.{ended, gone_on, skipped, taken}
