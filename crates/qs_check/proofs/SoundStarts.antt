@@ -1,7 +1,7 @@
 -- A client of a template is sound where its template is well formed and each object that is given is declared and of its formal's
 -- kind. The soundness of whole programs stands on it. The template's blocks are sound over its formals, since its text is walked
 -- without a fault, and stay so once each formal stands for its object.
-use Rattle.std.proofs.Common.{◌≡◌, ℕ, zero, suc, ◌<◌, ◌≤◌, true, false, if◌then◌else◌, Bool, List, [], ◌∷◌, ◌++◌, length, map, slice_index_or, Option, Some, None, refl, ap, sym, ◌∙◌, subst, arith, append_assoc, length-append, pos}
+use Rattle.std.proofs.Common.{◌≡◌, ℕ, zero, suc, ◌<◌, true, false, if◌then◌else◌, Bool, List, [], ◌∷◌, ◌++◌, length, map, slice_index_or, Option, Some, refl, ap, sym, ◌∙◌, subst, arith, append_assoc, length-append, pos}
 use Rattle.std.proofs.Math.ListN.{get_or-append}
 use Rattle.std.proofs.lemmas.List.{length-map}
 use Rattle.std.specs.List.{AllByRecursion, Contains, IsDistinct}
@@ -14,14 +14,13 @@ use Rattle.qs_script.specs.declared.tree.Item.TheVariants.{Object, Client, Templ
 use Rattle.qs_program.specs.declared.program.Declared.{Declared}
 use Rattle.qs_program.specs.Binding.{bound_block}
 use Rattle.qs_program.specs.Kinds.{same_kind}
-use Rattle.qs_program.specs.Limits.{most_variables}
-use Rattle.qs_program.specs.Numbering.{Name, same_name, is_among, found_at}
-use Rattle.qs_program.specs.Program.{BlockShape, no_object}
+use Rattle.qs_program.specs.Numbering.{Name, same_name, found_at}
+use Rattle.qs_program.specs.Program.{no_object}
 use Rattle.qs_program.specs.Sound.{IsSoundBlock, IsSoundClient}
 use Rattle.qs_program.proofs.Found.{found_within}
 use Rattle.qs_check.specs.Places.{formal_kind, kind_of}
 use Rattle.qs_check.specs.Resolve.{as_client, binding_of, block_of, declared_formals, objects_of, own_client, started_of, template_called, templates_in, variables_of}
-use Rattle.qs_check.specs.WellFormed.{AreGiven, AreItems, IsGiven, IsWellFormedStart, IsWellFormedTemplate}
+use Rattle.qs_check.specs.WellFormed.{AreGiven, AreItems, IsWellFormedTemplate}
 use Rattle.qs_check.proofs.BoundTexts.{sound_bounds}
 use Rattle.qs_check.proofs.SoundStatements.{names, kinds, Known}
 use Rattle.qs_check.proofs.Soundness.{AreStartsSound, sound_blocks}

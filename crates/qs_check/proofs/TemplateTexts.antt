@@ -1,29 +1,28 @@
 -- A template's formals and blocks are walked by themselves without a fault exactly where the template is well formed. The proof
 -- that well-formed scripts are those without a fault needs both directions. Formals are walked as objects, by induction on their
 -- list; then the blocks are those of a client that has these objects.
-use Rattle.std.proofs.Common.{◌≡◌, ℕ, ◌+◌, ◌<◌, ◌≤◌, false, true, nat_lt, List, [], ◌∷◌, ◌++◌, length, map, Option, Some, None, refl, ap, sym, ◌∙◌, subst, arith, append_assoc, append-nil, Ok, Err, if◌then◌else◌}
+use Rattle.std.proofs.Common.{◌≡◌, ℕ, ◌+◌, ◌<◌, ◌≤◌, false, true, nat_lt, List, [], ◌∷◌, ◌++◌, length, map, None, refl, ap, sym, ◌∙◌, subst, arith, append_assoc, append-nil, Ok, Err, if◌then◌else◌}
 use Rattle.std.proofs.lemmas.List.{length-map}
 use Rattle.std.proofs.lemmas.Map.Made.{is_member-Decides}
 use Rattle.std.specs.List.{AllByRecursion, IsDistinct}
-use Rattle.qs_objects.specs.declared.object.Kind.{Kind}
 use Rattle.qs_script.specs.Form.{IsFormed}
 use Rattle.qs_script.specs.declared.tree.Block.{Block}
 use Rattle.qs_script.specs.declared.tree.Formal.{Formal}
 use Rattle.qs_script.specs.declared.tree.TemplateItem.{TemplateItem}
 use Rattle.qs_program.specs.declared.program.Declared.{Declared}
-use Rattle.qs_program.specs.Limits.{most_blocks, most_formals, most_objects, most_variables}
+use Rattle.qs_program.specs.Limits.{most_formals, most_objects, most_variables}
 use Rattle.qs_program.specs.Numbering.{Name, same_name, is_among}
 use Rattle.qs_check.specs.declared.fault.CheckFault.TheVariants as f
 use Rattle.qs_check.specs.Places.{Scope, ScopeOrFault, object, scope_or_fault, start, fault_in, fault_of_text, formal_kind, formal_kinds, formals_places, blocks_places, text_places, with_object, with_template}
 use Rattle.qs_check.specs.Resolve.{as_client, declared_formals, variables_of}
-use Rattle.qs_check.specs.WellFormed.{IsDeclared, IsWellFormedBlock, IsWellFormedClient, IsWellFormedTemplate}
+use Rattle.qs_check.specs.WellFormed.{IsDeclared, IsWellFormedBlock, IsWellFormedTemplate}
 use Rattle.qs_check.proofs.FinePlaces.{then_step, else_step, below, again, leads}
 use Rattle.qs_check.proofs.Inner.{parted}
 use Rattle.qs_check.proofs.ScopesInBlocks.{blocks_stay}
 use Rattle.qs_check.proofs.SoundStatements.{names, kinds}
 use Rattle.qs_check.proofs.Steps.{split, ok_same, variables_met}
 use Rattle.qs_check.proofs.TextBlocks.{scope, template_names, template_formals, Fresh, fresh_more, fresh_rest, no_fresh, IsRight, blocks_from, blocks_to}
-use Rattle.qs_check.proofs.TextNames.{count_variables, distinct_last, no_names}
+use Rattle.qs_check.proofs.TextNames.{count_variables}
 use Rattle.qs_check.proofs.TextRequests.{same_decides}
 use Rattle.qs_check.proofs.Walks.{met-then}
 

@@ -1,7 +1,7 @@
 -- A script has no fault exactly where it is well formed, so the check refuses nothing that is right. The contract of `check` and
 -- the law on faultless scripts stand on it. One direction reads the facts off a walk without a fault, the other leads a walk
 -- through a well-formed script, both by induction on the items; then the load and the weight are compared.
-use Rattle.std.proofs.Common.{◌≡◌, ℕ, suc, ◌+◌, ◌<◌, ◌≤◌, Bool, true, false, nat_lt, List, [], ◌∷◌, ◌++◌, length, map, Option, Some, None, refl, ap, sym, ◌∙◌, subst, arith, append_assoc, length-append, Result, Ok, Err, if◌then◌else◌, sum_by}
+use Rattle.std.proofs.Common.{◌≡◌, ℕ, ◌+◌, ◌<◌, ◌≤◌, Bool, true, false, nat_lt, List, [], ◌∷◌, ◌++◌, length, Option, Some, None, refl, ap, sym, ◌∙◌, subst, arith, append_assoc, length-append, Result, Ok, Err, if◌then◌else◌, sum_by}
 use Rattle.std.proofs.lemmas.Bool.Decides.{nat_tests}
 use Rattle.std.proofs.lemmas.List.{length-map}
 use Rattle.std.proofs.lemmas.List.Sums.{sum_by-cons}
@@ -10,7 +10,6 @@ use Rattle.qs_objects.specs.declared.object.Kind.{Kind}
 use Rattle.qs_objects.specs.Limits.{most_lines}
 use Rattle.qs_script.specs.Form.{IsFormed, HasForm}
 use Rattle.qs_script.specs.declared.tree.Block.{Block}
-use Rattle.qs_script.specs.declared.tree.ClientItem.{ClientItem}
 use Rattle.qs_script.specs.declared.tree.Item.{Item}
 use Rattle.qs_script.specs.declared.tree.Item.TheVariants.{Object, Client, Template, Started}
 use Rattle.qs_script.specs.declared.tree.KindText.{KindText}
@@ -33,7 +32,7 @@ use Rattle.qs_check.proofs.FinePlaces.{then_step, else_step, between, below, aga
 use Rattle.qs_check.proofs.Inner.{parted}
 use Rattle.qs_check.proofs.ScopesInBlocks.{blocks_stay}
 use Rattle.qs_check.proofs.Scripts.{few_variables, scripted, started_stays, template_stays}
-use Rattle.qs_check.proofs.SoundStatements.{names, kinds}
+use Rattle.qs_check.proofs.SoundStatements.{names}
 use Rattle.qs_check.proofs.Steps.{split, ok_same}
 use Rattle.qs_check.proofs.TextBlocks.{scope, template_names, Fresh, fresh_more, fresh_rest, no_fresh, blocks_from, blocks_to}
 use Rattle.qs_check.proofs.TemplateTexts.{names_with, grown, right_blocks, well_blocks, template_from, template_to, template_names_with, with_last}

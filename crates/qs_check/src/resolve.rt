@@ -128,7 +128,11 @@ fn resolve_block(
     Ok(Block::new(reserved, body))
 }
 
-pub(crate) fn resolve_list(alloc: Global, objects: &Names, names: &[Name]) -> Result<Vec<u8>, AllocError>
+pub(crate) fn resolve_list(
+    alloc: Global,
+    objects: &Names,
+    names: &[Name],
+) -> Result<Vec<u8>, AllocError>
     requires objects { length objects.now ≤ most_objects }
     ensures list { IfOk result (λ v. v.items ≡ map (found_at objects.now) names.now) }
 {

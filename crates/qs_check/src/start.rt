@@ -43,11 +43,7 @@ pub(crate) fn resolve_started(
     match find_template(items, item.template.copied()) {
         Some(template) => start(alloc, objects, template, item),
         // no script whose text has no fault comes here
-        None => Ok(Client::new(
-            item.name.copied(),
-            Names::new(alloc),
-            Vec::new(alloc),
-        )),
+        None => Ok(Client::new(item.name.copied(), Names::new(alloc), Vec::new(alloc))),
     }
 }
 

@@ -1,6 +1,5 @@
-use Rattle.std.proofs.Common.{◌≡◌, ◌∙◌, [], map, drop, length, ap, sym}
-use Rattle.std.proofs.Common.{◌≤◌}
-use Rattle.qs_program.specs.Binding.{bound, first_of_each}
+use Rattle.std.proofs.Common.{◌∙◌, map, ap, sym}
+use Rattle.qs_program.specs.Binding.{bound}
 use Rattle.qs_check.proofs.Binds.{first_more, firsts_are, with_firsts}
 use Rattle.qs_script.proofs.Sizes.{drop_past}
 use Rattle.qs_check.proofs.bind.bind_list.Goals as goal
@@ -14,8 +13,8 @@ pub returns : goal.returns
 returns c = record {
   list =
       sym (
-        sym (firsts_are (map (bound c.args.binding.now) c.args.names.now))
-        ∙ c.loop-name.invariant
-        ∙ ap (λ ns. with_firsts c.loop-name.reserved.items (map (bound c.args.binding.now) ns)) (drop_past c.args.names.now c.loop-name.name-index c.loop-name-test.false)
+      sym (firsts_are (map (bound c.args.binding.now) c.args.names.now))
+      ∙ c.loop-name.invariant
+      ∙ ap (λ ns. with_firsts c.loop-name.reserved.items (map (bound c.args.binding.now) ns)) (drop_past c.args.names.now c.loop-name.name-index c.loop-name-test.false)
       );
 }

@@ -1,4 +1,4 @@
-use Rattle.std.proofs.Common.{◌≡◌, ◌∙◌, ◌≤◌, List, length, map, Some, ap, sym, subst}
+use Rattle.std.proofs.Common.{◌∙◌, ◌≤◌, List, length, map, Some, ap, sym, subst}
 use Rattle.std.specs.List.{AllByRecursion}
 use Rattle.qs_script.specs.Limits.{most_levels}
 use Rattle.qs_program.specs.Binding.{bound_block}
