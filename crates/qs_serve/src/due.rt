@@ -192,9 +192,7 @@ fn due_of_program<T: Threads + Wait + Sync>(
             counts,
             mode,
             chunk,
-        } => due_of_run(
-            rt, alloc, program, *counts, *mode, *chunk, &mut FreeStart,
-        ),
+        } => due_of_run(rt, alloc, program, *counts, *mode, *chunk, &mut FreeStart),
         Settings::Outcomes { limit } => due_of_outcomes(alloc, program, *limit),
         Settings::Check => due_of_bytes(check_text(alloc, program)),
         Settings::Graph => due_of_bytes(graph_text(alloc, program)),
