@@ -16,7 +16,7 @@ use crate::holdings::Holdings;
 use crate::run::Run;
 use crate::stage::{Outgoing, Stage};
 use qs_chunk::{Chunk, Parcel};
-use qs_graph::{Graph, Node, bound};
+use qs_graph::{Graph, Node};
 use qs_objects::{Held, Request, Ticket};
 use qs_syncset::Code;
 
@@ -77,11 +77,11 @@ impl Run {
         graph.is_graph();
         match graph.node(self.position.node()) {
             Node::Call(call) => {
-                let object = bound(call.object);
+                let object = call.object;
                 self.holdings.clear(object, Act::NeedChunk(object))
             }
             Node::Sync(name) => {
-                let handler = bound(*name);
+                let handler = *name;
                 let sync = Act::Send(handler, Parcel::Sync);
                 self.holdings.clear(handler, sync)
             }
@@ -153,7 +153,7 @@ impl Run {
         let Node::Call(call) = graph.node(self.position.node()) else {
             unreachable!();
         };
-        self.holdings.put_chunk(bound(call.object), chunk);
+        self.holdings.put_chunk(call.object, chunk);
         self.resume(code, ticket);
     }
 }

@@ -9,7 +9,7 @@ ghost use Rattle.qs_client_run.specs.Running.{IsRunning};
 
 use crate::run::{BlockContext, Run};
 use crate::stage::{Outgoing, Stage};
-use qs_graph::{Graph, Node, bound};
+use qs_graph::{Graph, Node};
 use qs_objects::Ticket;
 use qs_syncset::Code;
 
@@ -39,9 +39,8 @@ impl Run {
     {
         let node = self.position.node();
         if let Node::Sync(name) = graph.node(node) {
-            let handler = bound(*name);
             self.position.go_to(graph.first_target(node));
-            self.stage = Stage::Awaits(handler);
+            self.stage = Stage::Awaits(*name);
         }
     }
 

@@ -5,7 +5,7 @@ ghost use Rattle.qs_program.specs.Values.{request_of};
 ghost use Rattle.qs_graph.specs.Walk.{after_local, at_node, after_branch, with_value};
 ghost use Rattle.qs_client_run.specs.Restart.{restart};
 
-use qs_graph::{Action, Choice, bound};
+use qs_graph::{Action, Choice};
 use qs_objects::Request;
 use qs_program::{Call, Locals};
 use std::marker::Model;
@@ -66,9 +66,7 @@ impl Position {
         requires few { length call.now.args ≤ 3 }
         ensures value { result ≡ request_of self.now.locals call.now }
     {
-        let mut request = call.request(*self.counts.allocator(), &self.locals);
-        request.object = bound(call.object);
-        request
+        call.request(*self.counts.allocator(), &self.locals)
     }
 
     /// To the first node, with all counts 0.

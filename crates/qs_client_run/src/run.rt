@@ -14,7 +14,7 @@ ghost use Rattle.qs_client_run.specs.declared.stage.Stage.TheVariants as stages;
 use crate::holdings::Holdings;
 use crate::position::Position;
 use crate::stage::Stage;
-use qs_graph::{Graph, Node, bound};
+use qs_graph::{Graph, Node};
 use qs_objects::{Event, Held, Ticket, Traces};
 use qs_program::{Call, Locals};
 use std::marker::Model;
@@ -110,7 +110,7 @@ impl Run {
         ensures new { self.new ≡ (call block (request_of self.old.position.locals command.now) (at_node self.old.position next) self.old).0 }
         ensures on { result ≡ (call block (request_of self.old.position.locals command.now) (at_node self.old.position next) self.old).1 }
     {
-        let object = bound(command.object);
+        let object = command.object;
         if self.holdings.holds(object) {
             return false;
         }
@@ -146,7 +146,7 @@ impl Run {
         ensures new { self.new
             ≡ (query ticket (request_of self.old.position.locals call.now) (λ v. at_node (with_value self.old.position variable v) next) self.old).0 }
     {
-        let object = bound(call.object);
+        let object = call.object;
         let Some(mut held) = self.holdings.take_held(object) else {
             unreachable!();
         };
@@ -199,7 +199,7 @@ impl Run {
                 self.query(context.ticket, *variable, call, next);
                 true
             }
-            Node::Sync(name) => self.sync(context.dynamic, bound(*name), next),
+            Node::Sync(name) => self.sync(context.dynamic, *name, next),
             Node::Exit => {
                 self.end_block(reserved);
                 false

@@ -10,7 +10,6 @@ use Rattle.qs_graph.specs.declared.node.Choice.{Choice}
 use Rattle.qs_graph.specs.declared.node.Choice.TheVariants.{If, Repeat}
 use Rattle.qs_graph.specs.Nodes.{GraphNode, place_at, first_target, second_target}
 use Rattle.qs_graph.specs.Synced.{Synced, Done, Call, Sync, Query}
-use Rattle.qs_program.specs.declared.code.Call as calls
 
 -- where a walk stands: its node, the client's variables, and for each node the count of the repeat whose branch it is
 pub record Spot : Type 0 where
@@ -55,22 +54,14 @@ abbrev pub after_branch : Choice → Spot → (first second : ℕ) → Spot
 after_branch (If t) s first second = at_node s (if test_value s.locals t then first else second)
 after_branch Repeat s first second = after_repeat (slice_index_or s.counts s.node 0) s first second
 
--- the object that a name of a block stands for: in a client's own block a name is the number of its object
-abbrev pub bound : ℕ → ℕ
-bound name = name
-
--- the request that a call makes, on the object that its name stands for
-abbrev pub bound_request : Locals → calls.Call → Request
-bound_request l c = record (request_of l c) { object = bound c.object }
-
--- what a node does; here alone a walk reads the names of nodes
+-- what a node does
 abbrev pub move_by : Node → Spot → (first second : ℕ) → Move
 move_by node.Entry s first second = Goes (at_node s first)
 move_by (node.Local a) s first second = Goes (after_local a s first)
 move_by (node.Branch c) s first second = Goes (after_branch c s first second)
-move_by (node.Sync h) s first second = Syncs (bound h) (at_node s first)
-move_by (node.Query x c) s first second = Queries (bound_request s.locals c) (λ v. at_node (with_value s x v) first)
-move_by (node.Call c) s first second = Calls (bound_request s.locals c) (at_node s first)
+move_by (node.Sync h) s first second = Syncs h (at_node s first)
+move_by (node.Query x c) s first second = Queries (request_of s.locals c) (λ v. at_node (with_value s x v) first)
+move_by (node.Call c) s first second = Calls (request_of s.locals c) (at_node s first)
 move_by node.Exit s first second = Ends
 
 abbrev pub move_at : GraphNode → Spot → Move

@@ -11,4 +11,4 @@ mod node;
 
 pub use build::graph;
 pub use graphs::Graph;
-pub use node::{Action, Choice, Named, Node, bound};
+pub use node::{Action, Choice, Named, Node};

@@ -1,8 +1,5 @@
 //! What the nodes of a graph do, with the expressions of their statements.
 
-ghost use Rattle.std.specs.Prelude.{◌≡◌};
-ghost use Rattle.qs_graph.specs.Walk.{bound as object_of};
-
 use qs_objects::Kind;
 use qs_program::{Call, Expr, Test};
 
@@ -46,12 +43,4 @@ pub enum Node {
     /// An asynchronous call.
     Call(Call),
     Exit,
-}
-
-/// The number of the object that a name in a block's nodes stands for: in a client's own block a name is the number of its object.
-/// Whoever makes requests along a walk reads the names of nodes through this call alone.
-pub fn bound(name: u8) -> u8
-    ensures object { result ≡ object_of name }
-{
-    name
 }

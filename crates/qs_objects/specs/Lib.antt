@@ -9,3 +9,4 @@ pub mod Examples
 pub mod Sums
 pub mod Rows
 pub mod Traces
+pub mod ByteSets

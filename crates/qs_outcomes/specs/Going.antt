@@ -1,14 +1,10 @@
 -- Sets of clients as bytes, and the last block of each client that reserves an object: by these who goes on is found without memory.
-use Rattle.std.specs.Prelude.{◌≡◌, ◌<◌, ℕ, ◌==◌, List, [], length, drop, nat_lt, slice_index_or}
-use Rattle.std.specs.Int.{bit_at}
+use Rattle.std.specs.Prelude.{◌≡◌, ◌<◌, ℕ, List, [], length, drop, nat_lt, slice_index_or}
 use Rattle.std.specs.List.{list_any}
+pub use Rattle.qs_objects.specs.ByteSets.{in_byte}
 use Rattle.qs_program.specs.Limits.{most_objects}
 use Rattle.qs_program.specs.Program.{ProgramShape, client_at}
-use Rattle.qs_meaning.specs.Reduced.{Clients, Counts, block_reserves, comes_in}
-
--- whether a client is in a set: its bit of the byte
-abbrev pub in_byte : ℕ → Clients
-in_byte set c = bit_at set c == 1
+use Rattle.qs_meaning.specs.Reduced.{Counts, block_reserves, comes_in}
 
 -- how many blocks each client has begun, by a list
 abbrev pub counts_in : List ℕ → Counts

@@ -8,7 +8,8 @@ use Rattle.std.proofs.lemmas.Bool.{cases_eq, cases_lt}
 use Rattle.std.proofs.lemmas.Nat.Bits.{bit_at_and, bit_at-lt, bit_at_set_same, bit_at_set_other, bit_at_clear_same, bit_at_clear_other, bit_at-zero, same_from_bits_below}
 use Rattle.qs_program.specs.Limits.{most_handlers}
 use Rattle.qs_meaning.specs.Solo.{put}
-use Rattle.qs_syncset.specs.Bytes.{in_set, size, total_below, truths}
+use Rattle.qs_objects.specs.ByteSets.{in_byte}
+use Rattle.qs_syncset.specs.Bytes.{size, total_below, truths}
 use Rattle.qs_syncset.specs.Flow.{without}
 use Rattle.qs_syncset.proofs.Paths.{put_same, put_other, without_called, without_other}
 
@@ -22,33 +23,33 @@ both_one x y (inr a) (inl b) = rw (a, b) refl
 both_one x y (inr a) (inr b) = rw (a, b) refl
 
 -- a handler is in the bits that two sets share where it is in both
-pub in_both : (a b h : ℕ) → in_set (bit_and a b) h ≡ in_set a h && in_set b h
+pub in_both : (a b h : ℕ) → in_byte (bit_and a b) h ≡ in_byte a h && in_byte b h
 in_both a b h =
     ap (λ x. x == 1) (bit_at_and a b h)
     ∙ both_one (bit_at a h) (bit_at b h) (zero_or_one (bit_at a h) (bit_at-lt a h)) (zero_or_one (bit_at b h) (bit_at-lt b h))
 
 -- with handler h
-pub with_handler : (s h k : ℕ) → h < most_handlers → in_set (bit_or s (1 * 2 ^ h % 256)) k ≡ put (in_set s) h true k
+pub with_handler : (s h k : ℕ) → h < most_handlers → in_byte (bit_or s (1 * 2 ^ h % 256)) k ≡ put (in_byte s) h true k
 with_handler s h k below = elim (cases_eq h k) [
-  | inl same ↦ subst (λ j. in_set (bit_or s (1 * 2 ^ h % 256)) j ≡ put (in_set s) h true j) same
-      (ap (λ x. x == 1) (bit_at_set_same w8 s h below) ∙ sym (put_same (in_set s) h true))
-  | inr other ↦ ap (λ x. x == 1) (bit_at_set_other w8 s h below k (λ e. other (sym e))) ∙ sym (put_other (in_set s) h k true other)
+  | inl same ↦ subst (λ j. in_byte (bit_or s (1 * 2 ^ h % 256)) j ≡ put (in_byte s) h true j) same
+      (ap (λ x. x == 1) (bit_at_set_same w8 s h below) ∙ sym (put_same (in_byte s) h true))
+  | inr other ↦ ap (λ x. x == 1) (bit_at_set_other w8 s h below k (λ e. other (sym e))) ∙ sym (put_other (in_byte s) h k true other)
 ]
 
 -- without handler h
-pub without_handler : (s h k : ℕ) → h < most_handlers → k < most_handlers → in_set (bit_and s (255 - 1 * 2 ^ h % 256)) k ≡ put (in_set s) h false k
+pub without_handler : (s h k : ℕ) → h < most_handlers → k < most_handlers → in_byte (bit_and s (255 - 1 * 2 ^ h % 256)) k ≡ put (in_byte s) h false k
 without_handler s h k below small = elim (cases_eq h k) [
-  | inl same ↦ subst (λ j. in_set (bit_and s (255 - 1 * 2 ^ h % 256)) j ≡ put (in_set s) h false j) same
-      (ap (λ x. x == 1) (bit_at_clear_same w8 s h below) ∙ sym (put_same (in_set s) h false))
-  | inr other ↦ ap (λ x. x == 1) (bit_at_clear_other w8 s h below k small (λ e. other (sym e))) ∙ sym (put_other (in_set s) h k false other)
+  | inl same ↦ subst (λ j. in_byte (bit_and s (255 - 1 * 2 ^ h % 256)) j ≡ put (in_byte s) h false j) same
+      (ap (λ x. x == 1) (bit_at_clear_same w8 s h below) ∙ sym (put_same (in_byte s) h false))
+  | inr other ↦ ap (λ x. x == 1) (bit_at_clear_other w8 s h below k small (λ e. other (sym e))) ∙ sym (put_other (in_byte s) h k false other)
 ]
 
 -- ---- a call takes names out one after another
 
 -- of the names before n those that are called are out, and all others are as they were
 pub record AreOutBelow (called : ℕ → Bool) (set left n : ℕ) : Type 0 where
-  pub before : (h : ℕ) → h < n → in_set left h ≡ without called (in_set set) h
-  pub rest : (h : ℕ) → n ≤ h → h < most_handlers → in_set left h ≡ in_set set h
+  pub before : (h : ℕ) → h < n → in_byte left h ≡ without called (in_byte set) h
+  pub rest : (h : ℕ) → n ≤ h → h < most_handlers → in_byte left h ≡ in_byte set h
 
 module _ (called : ℕ → Bool) (set left n : ℕ) (inside : n < most_handlers) (out : AreOutBelow called set left n) where
   -- the next name is called
@@ -56,14 +57,14 @@ module _ (called : ℕ → Bool) (set left n : ℕ) (inside : n < most_handlers)
   out_next is = record {
     before = λ h below. elim (cases_eq n h) [
       | inl same ↦
-          subst (λ k. in_set (bit_and left (255 - 1 * 2 ^ n % 256)) k ≡ without called (in_set set) k) same
-          (without_handler left n n inside inside ∙ (put_same (in_set left) n false ∙ sym (without_called called (in_set set) n is)))
+          subst (λ k. in_byte (bit_and left (255 - 1 * 2 ^ n % 256)) k ≡ without called (in_byte set) k) same
+          (without_handler left n n inside inside ∙ (put_same (in_byte left) n false ∙ sym (without_called called (in_byte set) n is)))
       | inr other ↦
-          without_handler left n h inside (omega (arith, inside, below)) ∙ (put_other (in_set left) n h false other ∙ out.before h (omega (arith, below)))
+          without_handler left n h inside (omega (arith, inside, below)) ∙ (put_other (in_byte left) n h false other ∙ out.before h (omega (arith, below)))
     ];
     rest = λ h least small.
         let other : n ≢ h = λ e. omega arith in
-        without_handler left n h inside small ∙ (put_other (in_set left) n h false other ∙ out.rest h (omega (arith, least)) small);
+        without_handler left n h inside small ∙ (put_other (in_byte left) n h false other ∙ out.rest h (omega (arith, least)) small);
   }
 
   -- the next name is not
@@ -71,14 +72,14 @@ module _ (called : ℕ → Bool) (set left n : ℕ) (inside : n < most_handlers)
   kept_next is = record {
     before = λ h below. elim (cases_eq n h) [
       | inl same ↦
-          subst (λ k. in_set left k ≡ without called (in_set set) k) same
-          (out.rest n (omega arith) inside ∙ sym (without_other called (in_set set) n is))
+          subst (λ k. in_byte left k ≡ without called (in_byte set) k) same
+          (out.rest n (omega arith) inside ∙ sym (without_other called (in_byte set) n is))
       | inr other ↦ out.before h (omega (arith, below, other))
     ];
     rest = λ h least small. out.rest h (omega (arith, least)) small;
   }
 
-pub truths_at : (s h : ℕ) → h < most_handlers → get_or (truths s) h true ≡ in_set s h
+pub truths_at : (s h : ℕ) → h < most_handlers → get_or (truths s) h true ≡ in_byte s h
 truths_at s zero below = refl
 truths_at s (suc zero) below = refl
 truths_at s (suc (suc zero)) below = refl

@@ -11,7 +11,8 @@ use Rattle.qs_graph.specs.Nodes.{ControlGraph, place_at}
 use Rattle.qs_graph.specs.declared.node.Node.{Node}
 use Rattle.qs_graph.specs.Paths.{HasEdge}
 use Rattle.qs_syncset.specs.Flow.{Holding, held_after, IsReached, IsMissed, AreWitnessed, HasArrived, IsAtEntry, IsPassedOn}
-use Rattle.qs_syncset.specs.Bytes.{in_set, truths, truths_of}
+use Rattle.qs_objects.specs.ByteSets.{in_byte}
+use Rattle.qs_syncset.specs.Bytes.{truths, truths_of}
 use Rattle.qs_syncset.specs.Dataflow.{State, held_at, reached_at, set_at}
 use Rattle.qs_syncset.specs.Table.{AreSetsOf, has}
 use Rattle.qs_syncset.proofs.Bits.{in_both, truths_at}
@@ -20,7 +21,7 @@ use Rattle.qs_syncset.proofs.Paths.{held_is, missed_past, reached_past}
 -- what goes to n lacks only what some path to n misses
 pub record IsFair (g : ControlGraph) (n out : ℕ) : Type 0 where
   pub reached : IsReached g n
-  pub lacks : (h : ℕ) → h < most_handlers → in_set out h ≡ false → IsMissed g n h
+  pub lacks : (h : ℕ) → h < most_handlers → in_byte out h ≡ false → IsMissed g n h
 
 -- what comes in has met the set of n, and nothing else has changed
 pub record IsMetAt (old new : State) (n out : ℕ) : Type 0 where
@@ -42,11 +43,11 @@ module _ (old new : State) (n out : ℕ) (m : IsMetAt old new n out) where
   pub set_elsewhere : (x : ℕ) → x ≢ n → set_at new x ≡ set_at old x
   set_elsewhere x other = ap (λ s. get_or s x 255) m.sets ∙ get_or-set_other old.sets n x (bit_and (set_at old n) out) 255 other
 
-  held_there : (h : ℕ) → held_at new n h ≡ held_at old n h && in_set out h
-  held_there h = ap (λ s. in_set s h) set_there ∙ in_both (set_at old n) out h
+  held_there : (h : ℕ) → held_at new n h ≡ held_at old n h && in_byte out h
+  held_there h = ap (λ s. in_byte s h) set_there ∙ in_both (set_at old n) out h
 
   held_elsewhere : (x : ℕ) → x ≢ n → (h : ℕ) → held_at new x h ≡ held_at old x h
-  held_elsewhere x other h = ap (λ s. in_set s h) (set_elsewhere x other)
+  held_elsewhere x other h = ap (λ s. in_byte s h) (set_elsewhere x other)
 
   pub reached_was : (x : ℕ) → x ≢ n → reached_at new x ≡ true → reached_at old x ≡ true
   reached_was x other r = sym (reached_elsewhere x other) ∙ r
@@ -59,7 +60,7 @@ module _ (old new : State) (n out : ℕ) (m : IsMetAt old new n out) where
 
   missed_there : (g : ControlGraph) → AreWitnessed g (reached_at old) (held_at old) → IsFair g n out
       → (h : ℕ) → h < most_handlers → held_at new n h ≡ false → IsMissed g n h
-  missed_there g w f h below e = elim (and_cases (held_at old n h) (in_set out h) (sym (held_there h) ∙ e)) [
+  missed_there g w f h below e = elim (and_cases (held_at old n h) (in_byte out h) (sym (held_there h) ∙ e)) [
     | inl before ↦ w.miss n h below before
     | inr lacking ↦ f.lacks h below lacking
   ]
@@ -81,7 +82,7 @@ module _ (old new : State) (n out : ℕ) (m : IsMetAt old new n out) where
   entry_still entry = record {
     reach = reached_still 0 entry.reach;
     none = λ h below. elim (cases_eq 0 n) [
-      | inl same ↦ rw same (held_there h ∙ ap (λ b. b && in_set out h) (rw same at (entry.none h below)))
+      | inl same ↦ rw same (held_there h ∙ ap (λ b. b && in_byte out h) (rw same at (entry.none h below)))
       | inr other ↦ held_elsewhere 0 other h ∙ entry.none h below
     ];
   }
@@ -93,16 +94,16 @@ module _ (old new : State) (n out : ℕ) (m : IsMetAt old new n out) where
     reach = reached_still x a.reach;
     below = λ h below t. elim (cases_eq x n) [
       | inl same ↦
-          a.below h below (rw same (and_parts (held_at old n h) (in_set out h) (sym (held_there h) ∙ (rw same at t))).0)
+          a.below h below (rw same (and_parts (held_at old n h) (in_byte out h) (sym (held_there h) ∙ (rw same at t))).0)
       | inr other ↦ a.below h below (sym (held_elsewhere x other h) ∙ t)
     ];
   }
 
   -- what comes in has come
-  pub arrived_there : HasArrived (reached_at new) (held_at new) n (in_set out)
+  pub arrived_there : HasArrived (reached_at new) (held_at new) n (in_byte out)
   arrived_there = record {
     reach = reached_there;
-    below = λ h below t. (and_parts (held_at old n h) (in_set out h) (sym (held_there h) ∙ t)).1;
+    below = λ h below t. (and_parts (held_at old n h) (in_byte out h) (sym (held_there h) ∙ t)).1;
   }
 
   -- another node has passed on what it has, as before
@@ -114,12 +115,12 @@ module _ (old new : State) (n out : ℕ) (m : IsMetAt old new n out) where
       record {
         reach = before.reach;
         below = λ h below t.
-            ap (λ s. held_after g (place_at g.nodes x).node (in_set s) h) (set_elsewhere x other) ∙ before.below h below t;
+            ap (λ s. held_after g (place_at g.nodes x).node (in_byte s) h) (set_elsewhere x other) ∙ before.below h below t;
       }
 
 -- what goes along an edge of a node that is reached is fair
 pub fair_edge : (g : ControlGraph) (s : State) (m n out : ℕ) → AreWitnessed g (reached_at s) (held_at s) → HasEdge g.nodes m n
-    → reached_at s m ≡ true → ((h : ℕ) → h < most_handlers → in_set out h ≡ held_after g (place_at g.nodes m).node (held_at s m) h) → IsFair g n out
+    → reached_at s m ≡ true → ((h : ℕ) → h < most_handlers → in_byte out h ≡ held_after g (place_at g.nodes m).node (held_at s m) h) → IsFair g n out
 fair_edge g s m n out w edge r is = record {
   reached = reached_past g (reached_at s) (held_at s) w m n edge r;
   lacks = λ h below e. missed_past g (reached_at s) (held_at s) w m n h edge r below (sym (is h below) ∙ e);
@@ -134,14 +135,14 @@ reached_inside s n r = elim (cases_lt n (length s.reached)) [
 
 -- what goes out of a node, by the byte that the code reads
 pub sent_from : (g : ControlGraph) (v : Node) (out : ℕ) (s : State) (x d : ℕ) → v ≡ (place_at g.nodes x).node → x < length s.sets
-    → ((h : ℕ) → h < most_handlers → in_set out h ≡ held_after g v (in_set (get_or s.sets x d)) h)
-    → (h : ℕ) → h < most_handlers → in_set out h ≡ held_after g (place_at g.nodes x).node (held_at s x) h
+    → ((h : ℕ) → h < most_handlers → in_byte out h ≡ held_after g v (in_byte (get_or s.sets x d)) h)
+    → (h : ℕ) → h < most_handlers → in_byte out h ≡ held_after g (place_at g.nodes x).node (held_at s x) h
 sent_from g v out s x d e inside is h below =
     let read : get_or s.sets x d ≡ set_at s x = get_or_default s.sets x d 255 inside in
-    subst (λ (w : Node). in_set out h ≡ held_after g w (held_at s x) h) e
-    (is h below ∙ ap (λ n. held_after g v (in_set n) h) read)
+    subst (λ (w : Node). in_byte out h ≡ held_after g w (held_at s x) h) e
+    (is h below ∙ ap (λ n. held_after g v (in_byte n) h) read)
 
-has_byte : (sets : List ℕ) (n h d : ℕ) → n < length sets → h < most_handlers → has (truths_of sets) n h ≡ in_set (get_or sets n d) h
+has_byte : (sets : List ℕ) (n h d : ℕ) → n < length sets → h < most_handlers → has (truths_of sets) n h ≡ in_byte (get_or sets n d) h
 has_byte sets n h d inside below =
     ap (λ r. get_or r h true) (get_or-map truths sets n d [] inside) ∙ truths_at (get_or sets n d) h below
 
@@ -150,7 +151,7 @@ pub has_bit : (sets : List ℕ) (n h set : ℕ) → n < length (truths_of sets) 
     → (bit_and (set / 2 ^ h) 1 == 1) ≡ has (truths_of sets) n h
 has_bit sets n h set inside below read =
     let within : n < length sets = omega (arith, inside, length-map sets truths) in
-    ap (λ b. b == 1) (shr_and_one set h) ∙ ap (λ s. in_set s h) read ∙ sym (has_byte sets n h set within below)
+    ap (λ b. b == 1) (shr_and_one set h) ∙ ap (λ s. in_byte s h) read ∙ sym (has_byte sets n h set within below)
 
 -- where everything is passed on, the bytes are the held sets
 pub bytes_are_sets : (g : ControlGraph) (s : State) → length s.sets ≡ length g.nodes → AreWitnessed g (reached_at s) (held_at s)

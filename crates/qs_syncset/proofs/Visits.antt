@@ -12,7 +12,8 @@ use Rattle.std.proofs.lemmas.Nat.Bits.{bit_at_ones, bit_at-zero}
 use Rattle.qs_program.specs.Limits.{most_handlers}
 use Rattle.qs_graph.specs.Nodes.{ControlGraph, place_at}
 use Rattle.qs_graph.specs.Paths.{IsAmong, HasEdge}
-use Rattle.qs_syncset.specs.Bytes.{in_set, size, truths_of}
+use Rattle.qs_objects.specs.ByteSets.{in_byte}
+use Rattle.qs_syncset.specs.Bytes.{size, truths_of}
 use Rattle.qs_syncset.specs.Dataflow.{State, IsKnown, IsPassed, IsSettled, IsTaken, IsWork, held_at, reached_at, set_at, state, turns_left, unreached_count}
 use Rattle.qs_syncset.specs.Flow.{held_after, HasArrived}
 use Rattle.qs_syncset.specs.Table.{AreSetsOf}
@@ -148,19 +149,19 @@ visit_passed g x first listed most old new to out inside v fair p =
 
 -- what goes out of x has come to each node that it leads to, unless x was put on the list again
 pub visit_done : (g : ControlGraph) (x first listed most : ℕ) (s : State) (out : ℕ) → IsVisit g x first listed most s
-    → ((n : ℕ) → HasEdge g.nodes x n → HasArrived (reached_at s) (held_at s) n (in_set out))
-    → ((h : ℕ) → h < most_handlers → in_set out h ≡ held_after g (place_at g.nodes x).node (in_set first) h) → IsWork g s
+    → ((n : ℕ) → HasEdge g.nodes x n → HasArrived (reached_at s) (held_at s) n (in_byte out))
+    → ((h : ℕ) → h < most_handlers → in_byte out h ≡ held_after g (place_at g.nodes x).node (in_byte first) h) → IsWork g s
 visit_done g x first listed most s out v arrived is = record {
   known = v.known;
   settled = λ m r. elim (cases_eq m x) [
     | inl same ↦ subst (IsSettled g s) (sym same) (elim v.tracked [
       | inl again ↦ inl again
       | inr unchanged ↦ inr (λ n edge.
-          let a : HasArrived (reached_at s) (held_at s) n (in_set out) = arrived n edge in
+          let a : HasArrived (reached_at s) (held_at s) n (in_byte out) = arrived n edge in
           record {
             reach = a.reach;
             below = λ h below t.
-                ap (λ set. held_after g (place_at g.nodes x).node (in_set set) h) unchanged ∙ sym (is h below) ∙ a.below h below t;
+                ap (λ set. held_after g (place_at g.nodes x).node (in_byte set) h) unchanged ∙ sym (is h below) ∙ a.below h below t;
           })
     ])
     | inr other ↦ v.settled m r other
@@ -224,7 +225,7 @@ module _ (n : ℕ) (some : 0 < n) where
   begun_full : (m h : ℕ) → m ≢ 0 → h < most_handlers → held_at (first_state n) m h ≡ false → ⊥
   begun_full m h other below missing =
       let full : set_at (first_state n) m ≡ 255 = get_or-set_other (replicate n 255) 0 m 0 255 other ∙ replicated 255 m in
-      let all : held_at (first_state n) m h ≡ true = ap (λ s. in_set s h) full ∙ ap (λ x. x == 1) (bit_at_ones 8 h below) in
+      let all : held_at (first_state n) m h ≡ true = ap (λ s. in_byte s h) full ∙ ap (λ x. x == 1) (bit_at_ones 8 h below) in
       let never : true ≡ false = sym all ∙ missing in cc
 
   pub begun_known : (g : ControlGraph) → n ≡ length g.nodes → IsKnown g (first_state n)
@@ -243,7 +244,7 @@ module _ (n : ℕ) (some : 0 < n) where
     };
     entry = record {
       reach = begun_first;
-      none = λ h below. ap (λ s. in_set s h) begun_empty ∙ ap (λ x. x == 1) (bit_at-zero h);
+      none = λ h below. ap (λ s. in_byte s h) begun_empty ∙ ap (λ x. x == 1) (bit_at-zero h);
     };
     listed = All-cons (λ m. reached_at (first_state n) m ≡ true) 0 [] begun_first (All-nil (λ m. reached_at (first_state n) m ≡ true));
   }

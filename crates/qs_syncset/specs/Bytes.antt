@@ -1,16 +1,12 @@
 -- Sets of handlers as bytes.
-use Rattle.std.specs.Prelude.{ℕ, zero, suc, ◌+◌, ◌==◌, Bool, List, [], ◌∷◌, map}
+use Rattle.std.specs.Prelude.{ℕ, zero, suc, ◌+◌, Bool, List, [], ◌∷◌, map}
 use Rattle.std.specs.Int.{bit_at}
+use Rattle.qs_objects.specs.ByteSets.{in_byte}
 use Rattle.qs_program.specs.Limits.{most_handlers}
-use Rattle.qs_syncset.specs.Flow.{Holding}
-
--- whether a set has handler h: bit h of its byte
-abbrev pub in_set : ℕ → Holding
-in_set set h = bit_at set h == 1
 
 -- for each of 8 handlers whether a set has it
 abbrev pub truths : ℕ → List Bool
-truths set = in_set set 0 ∷ in_set set 1 ∷ in_set set 2 ∷ in_set set 3 ∷ in_set set 4 ∷ in_set set 5 ∷ in_set set 6 ∷ in_set set 7 ∷ []
+truths set = in_byte set 0 ∷ in_byte set 1 ∷ in_byte set 2 ∷ in_byte set 3 ∷ in_byte set 4 ∷ in_byte set 5 ∷ in_byte set 6 ∷ in_byte set 7 ∷ []
 
 abbrev pub truths_of : List ℕ → List (List Bool)
 truths_of sets = map truths sets

@@ -3,7 +3,8 @@ use Rattle.std.specs.Prelude.{◌≡◌, ◌≢◌, ℕ, ◌+◌, ◌<◌, ◌^�
 use Rattle.std.specs.List.{sum_by}
 use Rattle.qs_program.specs.Limits.{most_handlers}
 use Rattle.qs_graph.specs.Nodes.{ControlGraph}
-use Rattle.qs_syncset.specs.Bytes.{in_set, size}
+use Rattle.qs_objects.specs.ByteSets.{in_byte}
+use Rattle.qs_syncset.specs.Bytes.{size}
 use Rattle.qs_syncset.specs.Flow.{Holding, AreWitnessed, IsAtEntry, IsPassedOn}
 
 -- for each node whether it is reached, and the handlers that no path yet shows to be missing; and the worklist
@@ -22,7 +23,7 @@ abbrev pub set_at : State → ℕ → ℕ
 set_at s n = slice_index_or s.sets n 255
 
 abbrev pub held_at : State → ℕ → Holding
-held_at s n = in_set (set_at s n)
+held_at s n = in_byte (set_at s n)
 
 abbrev pub unreached_count : Bool → ℕ
 unreached_count r = cond r 0 1

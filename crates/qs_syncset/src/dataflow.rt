@@ -5,7 +5,7 @@ ghost use Rattle.std.specs.Prelude.{◌≡◌, ℕ, ◌+◌, ◌<◌, ◌≤◌,
 ghost use Rattle.qs_program.specs.Limits.{most_handlers};
 ghost use Rattle.qs_graph.specs.Names.{may_be_one};
 ghost use Rattle.qs_graph.specs.WellFormed.{IsInRange};
-ghost use Rattle.qs_syncset.specs.Bytes.{in_set};
+ghost use Rattle.qs_objects.specs.ByteSets.{in_byte};
 ghost use Rattle.qs_syncset.specs.Dataflow.{IsPassed, IsTaken, IsWork, state, turns_left};
 ghost use Rattle.qs_syncset.specs.Flow.{held_after, without};
 
@@ -16,7 +16,7 @@ use std::sync::ledger::Ledger;
 
 // What is held after a call of a name, from what is held before it.
 fn without_called(graph: &Graph, called: u8, set: u8) -> u8
-    ensures value { (h : ℕ) → h < most_handlers → in_set result h ≡ without (may_be_one graph.now called) (in_set set) h }
+    ensures value { (h : ℕ) → h < most_handlers → in_byte result h ≡ without (may_be_one graph.now called) (in_byte set) h }
 {
     let mut left = set;
     for name in 0..8u8 {
@@ -30,7 +30,7 @@ fn without_called(graph: &Graph, called: u8, set: u8) -> u8
 // What is held after a node, from what is held before it.
 fn after(graph: &Graph, node: &Node, set: u8) -> u8
     requires in_range { IsInRange node.now }
-    ensures value { (h : ℕ) → h < most_handlers → in_set result h ≡ held_after graph.now node.now (in_set set) h }
+    ensures value { (h : ℕ) → h < most_handlers → in_byte result h ≡ held_after graph.now node.now (in_byte set) h }
 {
     match node {
         Node::Sync(handler) => set | (1 << *handler),

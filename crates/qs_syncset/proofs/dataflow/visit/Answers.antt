@@ -4,7 +4,7 @@ use Rattle.qs_program.specs.Limits.{most_handlers}
 use Rattle.qs_graph.specs.Nodes.{place_at}
 use Rattle.qs_graph.specs.Paths.{IsAmong, HasEdge}
 use Rattle.qs_graph.proofs.Inside.{edge_inside}
-use Rattle.qs_syncset.specs.Bytes.{in_set}
+use Rattle.qs_objects.specs.ByteSets.{in_byte}
 use Rattle.qs_syncset.specs.Dataflow.{held_at, reached_at, set_at, state, turns_left}
 use Rattle.qs_syncset.specs.Flow.{HasArrived, held_after}
 use Rattle.qs_syncset.proofs.Transfer.{arrived_still, arrived_there, fair_edge, reached_inside, sent_from}
@@ -14,7 +14,7 @@ use Rattle.qs_syncset.proofs.dataflow.visit.Goals.{After-after-out}
 
 -- what the loop passes on is what goes out of the node
 sent : (c : After-after-out) (h : ℕ) → h < most_handlers
-    → in_set c.after-out.result h
+    → in_byte c.after-out.result h
     ≡ held_after c.args.graph.now (place_at c.args.graph.now.nodes c.args.node).node (held_at (state c.args.reached.now c.args.sets.now c.args.list.now) c.args.node) h
 sent c =
     let first = state c.args.reached.now c.args.sets.now c.args.list.now in
@@ -44,8 +44,8 @@ loop-to-preserved c =
     let met = passed_met old new to out (omega (arith, visit.known.each_reached)) (omega (arith, visit.known.each_set)) passed in
     record {
       visit = visit_passed g x (set_at first x) (length first.list) (turns_left first) old new to out inside visit fair passed;
-      arrived = arrived_more (λ n. HasArrived (reached_at new) (held_at new) n (in_set out)) edges c.loop-to.to-index c.loop-to-test.true
-          (λ n among. arrived_still old new to out met n (in_set out) (c.loop-to.invariant.arrived n among))
+      arrived = arrived_more (λ n. HasArrived (reached_at new) (held_at new) n (in_byte out)) edges c.loop-to.to-index c.loop-to-test.true
+          (λ n among. arrived_still old new to out met n (in_byte out) (c.loop-to.invariant.arrived n among))
           (arrived_there old new to out met);
     }
 

@@ -1,6 +1,6 @@
 use Rattle.std.proofs.Common.{ℕ, length, take}
 use Rattle.qs_graph.specs.Paths.{IsAmong}
-use Rattle.qs_syncset.specs.Bytes.{in_set}
+use Rattle.qs_objects.specs.ByteSets.{in_byte}
 use Rattle.qs_syncset.specs.Dataflow.{held_at, reached_at, set_at, state, turns_left}
 use Rattle.qs_syncset.specs.Flow.{HasArrived}
 use Rattle.qs_syncset.proofs.Visits.{IsVisit}
@@ -12,5 +12,5 @@ invariant-loop-to l =
     let now = state l.reached l.sets l.list in
     record {
       visit : IsVisit l.graph l.node (set_at before l.node) (length before.list) (turns_left before) now;
-      arrived : (n : ℕ) → IsAmong n (take l.to-index l.to-items) → HasArrived (reached_at now) (held_at now) n (in_set l.out);
+      arrived : (n : ℕ) → IsAmong n (take l.to-index l.to-items) → HasArrived (reached_at now) (held_at now) n (in_byte l.out);
     }

@@ -41,8 +41,8 @@ returns-in-Call c =
     let is = ap (λ n. (place_at g n).node) (sym c.node.ensures.value) ∙ sym c.node-2.ensures.value ∙ c.in-Call.is in
     let at = sym (moves g s.position (nodes.Call c.in-Call.call) is) in
     record {
-      act = c.clear.ensures.act ∙ ap (λ n. clear s.holdings n (acts.NeedChunk n)) c.bound-object.ensures.object ∙ ap (λ (m : Move). act_by s.holdings m) at;
-      rest = ap (with_holdings s) (c.clear.ensures.rest ∙ ap (without s.holdings) c.bound-object.ensures.object ∙ ap (λ (m : Move). holdings_by s.holdings m) at);
+      act = c.clear.ensures.act ∙ ap (λ (m : Move). act_by s.holdings m) at;
+      rest = ap (with_holdings s) (c.clear.ensures.rest ∙ ap (λ (m : Move). holdings_by s.holdings m) at);
     }
     )
 
@@ -55,7 +55,7 @@ returns-in-Sync c =
     let is = ap (λ n. (place_at g n).node) (sym c.node.ensures.value) ∙ sym c.node-2.ensures.value ∙ c.in-Sync.is in
     let at = sym (moves g s.position (nodes.Sync c.in-Sync.name) is) in
     record {
-      act = c.clear-in-Sync.ensures.act ∙ ap (λ n. clear s.holdings n (acts.Send n parcels.Sync)) c.bound-handler.ensures.object ∙ ap (λ (m : Move). act_by s.holdings m) at;
-      rest = ap (with_holdings s) (c.clear-in-Sync.ensures.rest ∙ ap (without s.holdings) c.bound-handler.ensures.object ∙ ap (λ (m : Move). holdings_by s.holdings m) at);
+      act = c.clear-in-Sync.ensures.act ∙ ap (λ (m : Move). act_by s.holdings m) at;
+      rest = ap (with_holdings s) (c.clear-in-Sync.ensures.rest ∙ ap (λ (m : Move). holdings_by s.holdings m) at);
     }
     )

@@ -18,7 +18,7 @@ returns-in-Sync c =
     let next = c.go_to.ensures.value ∙ ap (at_node s.position) (c.first_target.ensures.value ∙ ap (λ n. first_target (place_at g n)) c.node-node.ensures.value) in
     let is = ap (λ n. (place_at g n).node) (sym c.node-node.ensures.value) ∙ sym c.node.ensures.value ∙ c.in-Sync.is in
     record {
-      new = (λ i. record s { position = next i; stage = stages.Awaits (c.bound-handler.ensures.object i) })
+      new = (λ i. record s { position = next i; stage = stages.Awaits c.in-Sync.name })
           ∙ ap (λ (m : Move). await_by m s) (sym (moves g s.position (v.Sync c.in-Sync.name) is));
     }
     )

@@ -20,10 +20,9 @@ returns-clause-new c =
     rw (← c.self.view_is)
     (
     let s : RunState = the_view c.self.inside in
-    let h = c.bound-object.result in
-    let to = λ (n : ℕ). record (request_of s.position.locals c.args.command.now) { object = n } in
-    let r : Request = to h in
-    let same : c.request-request.result ≡ r = c.request-request.ensures.value ∙ ap to (sym c.bound-object.ensures.object) in
+    let h = c.args.command.now.object in
+    let r : Request = request_of s.position.locals c.args.command.now in
+    let same : c.request-request.result ≡ r = c.request-request.ensures.value in
     let more : c.push.new.self ≡ batch (c.in-Some.chunk.items ++ r ∷ []) c.in-Some.chunk.capacity =
     c.in-Ok.ensures.ok ∙ ap (λ (q : Request). batch (c.in-Some.chunk.items ++ q ∷ []) c.in-Some.chunk.capacity) same in
     let holdings : c.put_chunk.new.self ≡ with_chunk s.holdings h (Some c.push.new.self) =
@@ -32,8 +31,7 @@ returns-clause-new c =
     let full = ap (λ n. n == c.capacity.result) c.len.ensures.count ∙ ap (λ n. length c.push.new.self.items == n) c.capacity.ensures.capacity in
     let rest =
     call_fills c.args.block r (at_node s.position c.args.next) s c.in-Some.chunk c.push.new.self (c.len.result == c.capacity.result) c.put_chunk.new.self
-    (none_of _ (sym c.holds.ensures.value ∙ c.if-holds.false)) (sym c.take_chunk.ensures.value ∙ c.in-Some.is) more full holdings
-    ∙ ap (λ n. (call c.args.block (to n) (at_node s.position c.args.next) s).0) c.bound-object.ensures.object in
+    (none_of _ (sym c.holds.ensures.value ∙ c.if-holds.false)) (sym c.take_chunk.ensures.value ∙ c.in-Some.is) more full holdings in
     let position : c.go_to.new.self ≡ at_node s.position c.args.next = c.go_to.ensures.value in
     let event : c.note.new.self ≡ noted_at s.traces c.args.block (command_event r) =
     c.note.ensures.noted ∙ ap (λ (q : Request). noted_at s.traces c.args.block (command_event q)) (c.copied.ensures.same ∙ same) in

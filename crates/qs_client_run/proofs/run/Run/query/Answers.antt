@@ -25,11 +25,10 @@ returns c =
     rw (← c.self.view_is)
     (
     let s : RunState = the_view c.self.inside in
-    let h = c.bound-object.result in
+    let h = c.args.call.now.object in
     let u = c.args.ticket in
-    let to = λ (n : ℕ). record (request_of s.position.locals c.args.call.now) { object = n } in
-    let r : Request = to h in
-    let same : c.request-request.result ≡ r = c.request-request.ensures.value ∙ ap to (sym c.bound-object.ensures.object) in
+    let r : Request = request_of s.position.locals c.args.call.now in
+    let same : c.request-request.result ≡ r = c.request-request.ensures.value in
     let holdings : c.put_held.new.self ≡ with_held s.holdings h (Some c.run-reply.new.self) =
     c.put_held.ensures.value ∙ ap (λ (x : HoldingsState). with_held x h (Some c.run-reply.new.self)) c.take_held.ensures.rest
     ∙ ap (λ xs. record { held = xs; chunks = s.holdings.chunks }) (set-set s.holdings.held h None (Some c.run-reply.new.self)) in
@@ -46,7 +45,6 @@ returns c =
     record {
       new =
           (λ i. record { position = position i; holdings = c.put_held.new.self; traces = event i; stage = s.stage })
-          ∙ query_runs u r spot s c.in-Some.held c.run-reply.new.self c.run-reply.result c.put_held.new.self (sym c.take_held.ensures.value ∙ c.in-Some.is) done holdings
-          ∙ ap (λ n. (query u (to n) spot s).0) c.bound-object.ensures.object;
+          ∙ query_runs u r spot s c.in-Some.held c.run-reply.new.self c.run-reply.result c.put_held.new.self (sym c.take_held.ensures.value ∙ c.in-Some.is) done holdings;
     }
     )

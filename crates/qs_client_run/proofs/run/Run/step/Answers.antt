@@ -47,13 +47,13 @@ returns-in-Call-clause-on c =
 pub returns-in-Sync-clause-new : goal.returns-in-Sync-clause-new
 returns-in-Sync-clause-new c =
     let s : RunState = c.args.self.now in
-    c.sync.ensures.new ∙ ap (λ h. (sync c.args.context.dynamic h (at_node s.position c.first_target-next.result) s).0) c.bound.ensures.object ∙
+    c.sync.ensures.new ∙
     ap (λ (p : RunState × Bool). p.0) (step_at c.args.graph.now.nodes c.args.context c.args.reserved.now s c.node-node.result c.first_target-next.result (second_target (place_at c.args.graph.now.nodes c.node-node.result)) (v.Sync c.in-Sync.name) (c.node-node.ensures.value ∙ ap (λ (x : RunState). x.position.node) c.self.view_is) c.first_target-next.ensures.value refl (sym c.node.ensures.value ∙ c.in-Sync.is))
 
 pub returns-in-Sync-clause-on : goal.returns-in-Sync-clause-on
 returns-in-Sync-clause-on c =
     let s : RunState = c.args.self.now in
-    c.sync.ensures.on ∙ ap (λ h. (sync c.args.context.dynamic h (at_node s.position c.first_target-next.result) s).1) c.bound.ensures.object ∙
+    c.sync.ensures.on ∙
     ap (λ (p : RunState × Bool). p.1) (step_at c.args.graph.now.nodes c.args.context c.args.reserved.now s c.node-node.result c.first_target-next.result (second_target (place_at c.args.graph.now.nodes c.node-node.result)) (v.Sync c.in-Sync.name) (c.node-node.ensures.value ∙ ap (λ (x : RunState). x.position.node) c.self.view_is) c.first_target-next.ensures.value refl (sym c.node.ensures.value ∙ c.in-Sync.is))
 
 pub returns-in-Exit-clause-new : goal.returns-in-Exit-clause-new
