@@ -15,25 +15,8 @@ use Rattle.qs_program.specs.declared.code.Stmt.{Stmt}
 use Rattle.qs_program.specs.Sound.{levels_of}
 use Rattle.qs_program.specs.Statements.{Statements, end, command, query, assign, choose, again, leave, join_statements}
 use Rattle.qs_program.specs.Views.{single}
+use Rattle.qs_program.proofs.StatementLists.{joined_assoc, joined-end}
 use Rattle.qs_check.specs.Resolve.{body_of}
-
-pub joined_assoc : (xs ys zs : Statements) → join_statements (join_statements xs ys) zs ≡ join_statements xs (join_statements ys zs)
-joined_assoc end ys zs = refl
-joined_assoc (command c xs) ys zs = ap (command c) (joined_assoc xs ys zs)
-joined_assoc (query x c xs) ys zs = ap (query x c) (joined_assoc xs ys zs)
-joined_assoc (assign x e xs) ys zs = ap (assign x e) (joined_assoc xs ys zs)
-joined_assoc (choose t b first other xs) ys zs = ap (choose t b first other) (joined_assoc xs ys zs)
-joined_assoc (again n body xs) ys zs = ap (again n body) (joined_assoc xs ys zs)
-joined_assoc (leave xs) ys zs = ap leave (joined_assoc xs ys zs)
-
-pub joined-end : (xs : Statements) → join_statements xs end ≡ xs
-joined-end end = refl
-joined-end (command c xs) = ap (command c) (joined-end xs)
-joined-end (query x c xs) = ap (query x c) (joined-end xs)
-joined-end (assign x e xs) = ap (assign x e) (joined-end xs)
-joined-end (choose t b first other xs) = ap (choose t b first other) (joined-end xs)
-joined-end (again n body xs) = ap (again n body) (joined-end xs)
-joined-end (leave xs) = ap leave (joined-end xs)
 
 -- a list is nested as deep as its first statement, or as the others
 first_levels : (s : text.Stmt) (xs : List text.Stmt) → form.levels_of (views.single s) ≤ form.levels_of (views.stmts_of (s ∷ xs))

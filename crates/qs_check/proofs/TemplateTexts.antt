@@ -12,19 +12,20 @@ use Rattle.qs_script.specs.declared.tree.TemplateItem.{TemplateItem}
 use Rattle.qs_program.specs.declared.program.Declared.{Declared}
 use Rattle.qs_program.specs.Limits.{most_formals, most_objects, most_variables}
 use Rattle.qs_program.specs.Numbering.{Name, same_name, is_among}
-use Rattle.qs_check.specs.declared.fault.CheckFault.TheVariants as f
-use Rattle.qs_check.specs.Places.{Scope, ScopeOrFault, object, scope_or_fault, start, fault_in, fault_of_text, formal_kind, formal_kinds, formals_places, blocks_places, text_places, with_object, with_template}
-use Rattle.qs_check.specs.Resolve.{as_client, declared_formals, variables_of}
+use Rattle.qs_places.specs.declared.fault.CheckFault.TheVariants as f
+use Rattle.qs_places.specs.Places.{Scope, ScopeOrFault, object, scope_or_fault, start, fault_in, fault_of_text, formal_kind, formal_kinds, formals_places, blocks_places, text_places, with_object, with_template}
+use Rattle.qs_places.specs.Variables.{variables_of}
+use Rattle.qs_check.specs.Resolve.{as_client, declared_formals}
 use Rattle.qs_check.specs.WellFormed.{IsDeclared, IsWellFormedBlock, IsWellFormedTemplate}
-use Rattle.qs_check.proofs.FinePlaces.{then_step, else_step, below, again, leads}
-use Rattle.qs_check.proofs.Inner.{parted}
-use Rattle.qs_check.proofs.ScopesInBlocks.{blocks_stay}
+use Rattle.qs_places.proofs.FinePlaces.{then_step, else_step, below, again, leads}
+use Rattle.qs_places.proofs.Inner.{parted}
+use Rattle.qs_places.proofs.ScopesInBlocks.{blocks_stay}
 use Rattle.qs_check.proofs.SoundStatements.{names, kinds}
-use Rattle.qs_check.proofs.Steps.{split, ok_same, variables_met}
+use Rattle.qs_places.proofs.Steps.{split, ok_same, variables_met}
 use Rattle.qs_check.proofs.TextBlocks.{scope, template_names, template_formals, Fresh, fresh_more, fresh_rest, no_fresh, IsRight, blocks_from, blocks_to}
 use Rattle.qs_check.proofs.TextNames.{count_variables}
 use Rattle.qs_check.proofs.TextRequests.{same_decides}
-use Rattle.qs_check.proofs.Walks.{met-then}
+use Rattle.qs_places.proofs.Walks.{met-then}
 
 pub names_with : (D : List Declared) (d : Declared) → names D ++ d.name ∷ [] ≡ names (D ++ d ∷ [])
 names_with [] d = refl

@@ -6,21 +6,21 @@ use Rattle.std.specs.List.{AllByRecursion, IsDistinct}
 use Rattle.qs_objects.specs.declared.object.Kind.{Kind}
 use Rattle.qs_script.specs.declared.tree.Block.{Block}
 use Rattle.qs_script.specs.declared.tree.TemplateItem.{TemplateItem}
-use Rattle.qs_check.specs.declared.fault.CheckFault.TheVariants as f
+use Rattle.qs_places.specs.declared.fault.CheckFault.TheVariants as f
 use Rattle.qs_program.specs.declared.program.Declared.{Declared}
 use Rattle.qs_program.specs.Numbering.{Name, same_name, is_among, with_name}
 use Rattle.qs_program.specs.Limits.{most_blocks, most_variables}
-use Rattle.qs_check.specs.Places.{Scope, formal_kinds, listed, separate, scope_or_fault, places, listed_places, block_places, blocks_places, with_listed}
-use Rattle.qs_check.specs.Resolve.{variables_at}
+use Rattle.qs_places.specs.Places.{Scope, formal_kinds, listed, separate, scope_or_fault, places, listed_places, block_places, blocks_places, with_listed}
+use Rattle.qs_places.specs.Variables.{variables_at}
 use Rattle.qs_check.specs.WellFormed.{AreStatements, variables_in_all}
-use Rattle.qs_check.proofs.FinePlaces.{then_step, else_step, below, again, leads, named_more, are_fine, fine_met}
-use Rattle.qs_check.proofs.Inner.{parted, inner_body, kept}
+use Rattle.qs_places.proofs.FinePlaces.{then_step, else_step, below, again, leads, named_more, are_fine, fine_met}
+use Rattle.qs_places.proofs.Inner.{parted, inner_body, kept}
 use Rattle.qs_check.proofs.SoundStatements.{names, kinds}
 use Rattle.qs_check.proofs.Soundness.{with_list, listed_first, list_kept}
-use Rattle.qs_check.proofs.Steps.{with_names, split, variables_met}
+use Rattle.qs_places.proofs.Steps.{with_names, split, variables_met}
 use Rattle.qs_check.proofs.TextNames.{all_named, or_false, or_false_first, or_false_later, variables_at-append, tell_list, tell_blocks}
 use Rattle.qs_check.proofs.TextRequests.{statements_from, statements_to}
-use Rattle.qs_check.proofs.Walks.{met-then}
+use Rattle.qs_places.proofs.Walks.{met-then}
 
 -- what is known with these objects and templates declared
 abbrev pub template_names : List TemplateItem → List Name

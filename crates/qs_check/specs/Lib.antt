@@ -1,5 +1,3 @@
-pub mod Operators
-pub mod Places
 pub mod Resolve
 pub mod Checked
 pub mod TextLoads

@@ -23,11 +23,12 @@ use Rattle.qs_program.specs.declared.code.Test.{Test}
 use Rattle.qs_program.specs.declared.code.Call.{Call}
 use Rattle.qs_program.specs.declared.program.Declared.{Declared}
 use Rattle.qs_program.specs.Binding.{bound_block}
-use Rattle.qs_program.specs.Numbering.{Name, same_name, with_name, found_at}
-use Rattle.qs_check.specs.Operators.{op_or_refused}
+use Rattle.qs_program.specs.Numbering.{Name, same_name, found_at}
+use Rattle.qs_places.specs.Operators.{op_or_refused}
 use Rattle.qs_program.specs.Statements.{Statements, end, command, query, assign, choose, again, leave}
 use Rattle.qs_program.specs.Program.{BlockShape, ClientShape, ProgramShape}
-use Rattle.qs_check.specs.Places.{TextPlace, object, number, client, separate, listed, target, operation, arguments, variable, leaves, template, text, starts, given, op_at, formal_kind, kind_of, blocks_places}
+use Rattle.qs_places.specs.Places.{op_at, formal_kind, kind_of}
+use Rattle.qs_places.specs.Variables.{variables_of}
 
 -- variables by the list of the client's
 module _ (variables : List Name) where
@@ -59,27 +60,6 @@ module _ (objects : List Name) (kinds : List Kind) (variables : List Name) where
 
   abbrev pub block_of : text_block.Block → BlockShape
   block_of b = record { reserved = map (found_at objects) b.reserved; body = body_of b.body }
-
--- the client's variables after these places, in the order of their first appearance; a new client has none yet
-abbrev pub variables_at : List Name → List TextPlace → List Name
-variables_at names [] = names
-variables_at names (object n kind ∷ ps) = variables_at names ps
-variables_at names (number low high n ∷ ps) = variables_at names ps
-variables_at names (client n ∷ ps) = variables_at [] ps
-variables_at names (separate ∷ ps) = variables_at names ps
-variables_at names (listed o ∷ ps) = variables_at names ps
-variables_at names (target o ∷ ps) = variables_at names ps
-variables_at names (operation asks o op ∷ ps) = variables_at names ps
-variables_at names (arguments asks o op n ∷ ps) = variables_at names ps
-variables_at names (variable x ∷ ps) = variables_at (with_name names x) ps
-variables_at names (leaves inside ∷ ps) = variables_at names ps
-variables_at names (template n formals ∷ ps) = variables_at names ps
-variables_at names (text fault ∷ ps) = variables_at names ps
-variables_at names (starts n count ∷ ps) = variables_at names ps
-variables_at names (given n i o ∷ ps) = variables_at names ps
-
-abbrev pub variables_of : ClientItem → List Name
-variables_of c = variables_at [] (blocks_places c.blocks)
 
 abbrev pub client_of : List Name → List Kind → ClientItem → ClientShape
 client_of objects kinds c =

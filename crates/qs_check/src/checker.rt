@@ -5,16 +5,14 @@ ghost use Rattle.std.specs.Prelude.{◌≡◌, ◌≢◌, ◌≤◌, [], ◌∷�
 ghost use Rattle.qs_script.specs.Form.{HasForm};
 ghost use Rattle.qs_program.specs.Limits.{most_objects, most_requests, most_steps, most_variables};
 ghost use Rattle.qs_check.specs.Checked.{IsCheckOf, text_fault, excess_of, shape_of};
-ghost use Rattle.qs_check.specs.Places.{Meets, scope_or_fault, over, start, without_variables, script_places};
+ghost use Rattle.qs_places.specs.Places.{Meets, scope_or_fault, over, start, without_variables, script_places};
 ghost use Rattle.qs_check.specs.Resolve.{program_of_items as resolved_of, clients_of, lists_of, objects_of, templates_in};
 ghost use Rattle.qs_program.specs.Program.{whole_load, whole_weight};
 ghost use Rattle.qs_program.specs.Sound.{IsSound};
 ghost use Rattle.qs_check.specs.WellFormed.{AcceptsWellFormed};
 
-use crate::fault::CheckFault;
 use crate::resolve::{resolve_clients, resolve_objects};
-use crate::scope::Scope;
-use crate::walk::{check_client, check_object, check_started, check_template};
+use qs_places::{CheckFault, Scope, check_client, check_object, check_started, check_template};
 use qs_program::{
     Client, Declared, MOST_REQUESTS, MOST_STEPS, Names, Program, all_load, all_weight,
 };

@@ -10,11 +10,9 @@ ghost use Rattle.qs_program.specs.Numbering.{found_at};
 ghost use Rattle.qs_check.specs.Resolve.{atom_of, expr_of, test_of, call_of, body_of, block_of, client_of, clients_of, objects_of, lists_of, templates_in};
 ghost use Rattle.qs_program.specs.Views.{single};
 
-use crate::operators::find_op;
-use crate::scope::kind_at;
 use crate::start::resolve_started;
-use crate::walk::kind_value;
 use qs_objects::{Kind, Op};
+use qs_places::{find_op, kind_at, kind_value};
 use qs_program::{Atom, Atoms, Block, Body, Call, Client, Declared, Expr, Names, Stmt, Test};
 use qs_script::{ClientItem, Item, Name};
 use std::alloc::{AllocError, Global};

@@ -4,13 +4,12 @@ ghost use Rattle.std.specs.Prelude.{◌≡◌, ◌≤◌, IfOk, length, option_c
 ghost use Rattle.std.specs.List.{AllByRecursion};
 ghost use Rattle.qs_script.specs.Form.{HasForm, IsFormed};
 ghost use Rattle.qs_program.specs.Limits.{most_objects};
-ghost use Rattle.qs_check.specs.Places.{scope_or_fault, start as nothing_known, text_places};
+ghost use Rattle.qs_places.specs.Places.{scope_or_fault, start as nothing_known, text_places};
 ghost use Rattle.qs_check.specs.Resolve.{declared_formals, own_client, started_of, template_called, templates_in};
 
-use crate::bind::bind_blocks;
 use crate::resolve::{resolve_blocks, resolve_list};
-use crate::scope::{Scope, formal_value};
-use crate::walk::check_text;
+use qs_binding::bind_blocks;
+use qs_places::{Scope, check_text, formal_value};
 use qs_program::{Block, Client, Declared, Names, Start};
 use qs_script::{Formal, Item, Name, StartedItem, TemplateItem};
 use std::alloc::{AllocError, Global};

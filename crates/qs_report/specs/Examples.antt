@@ -8,7 +8,7 @@ use Rattle.qs_objects.specs.declared.held.Ticket.{Ticket}
 use Rattle.qs_objects.specs.declared.object.Kind.{Kind}
 use Rattle.qs_objects.specs.declared.object.Kind.TheVariants as kinds
 use Rattle.qs_script.specs.declared.fault.ReadFault.TheVariants as read
-use Rattle.qs_check.specs.declared.fault.CheckFault.TheVariants as check
+use Rattle.qs_places.specs.declared.fault.CheckFault.TheVariants as check
 use Rattle.qs_played.specs.declared.fault.PlayFault.TheVariants as play
 use Rattle.qs_outcomes.specs.declared.fault.OutcomesFault.TheVariants as outcomes
 use Rattle.qs_program.specs.declared.program.Declared.{Declared}

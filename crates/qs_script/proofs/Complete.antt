@@ -2,8 +2,8 @@
 -- refuses no script stands on it. It goes by induction on the tree; the first token of each part tells it from all others, and
 -- each part takes a token, so that the loops have steps enough.
 use Rattle.std.proofs.Common.{◌≡◌, ℕ, zero, suc, ◌<◌, inl, inr, List, [], ◌∷◌, length, refl, ap, sym, ◌∙◌, arith, Option, Some, None}
-use Rattle.qs_script.specs.declared.token.Token.{Token}
-use Rattle.qs_script.specs.declared.token.Token.TheVariants as t
+use Rattle.qs_tokens.specs.declared.token.Token.{Token}
+use Rattle.qs_tokens.specs.declared.token.Token.TheVariants as t
 use Rattle.qs_script.specs.declared.tree.Atom.{Atom}
 use Rattle.qs_script.specs.declared.tree.Atom.TheVariants.{Variable, Number}
 use Rattle.qs_script.specs.declared.tree.Operator.{Operator}

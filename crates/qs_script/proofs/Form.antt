@@ -3,8 +3,8 @@
 -- since the grammar counts one level less for each body.
 use Rattle.std.proofs.Common.{ℕ, zero, suc, ◌<◌, ◌≤◌, List, [], ◌∷◌, length, arith}
 use Rattle.std.specs.List.{AllByRecursion}
-use Rattle.qs_script.specs.declared.token.Token.{Token}
-use Rattle.qs_script.specs.declared.token.Token.TheVariants as t
+use Rattle.qs_tokens.specs.declared.token.Token.{Token}
+use Rattle.qs_tokens.specs.declared.token.Token.TheVariants as t
 use Rattle.qs_script.specs.declared.tree.Block.{Block}
 use Rattle.qs_script.specs.declared.tree.Item.{Item}
 use Rattle.qs_script.specs.declared.tree.Item.TheVariants.{Object, Client, Template, Started}

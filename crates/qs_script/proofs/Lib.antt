@@ -1,7 +1,5 @@
 pub mod Trees
 pub mod Sizes
-pub mod Powers
-pub mod Lexemes
 pub mod Loops
 pub mod Counts
 pub mod Complete

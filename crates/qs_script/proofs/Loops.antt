@@ -2,7 +2,7 @@
 -- functions that read arguments, names, blocks, statements and items stand on it. Their invariant is `Continues`: what is done,
 -- joined with what the rest is read as, is what the whole is read as.
 use Rattle.std.proofs.Common.{◌≡◌, ℕ, zero, suc, ◌<◌, List, [], ◌∷◌, ◌++◌, length, refl, ap, sym, ◌∙◌, arith, append_assoc, append-nil, Option, Some, None}
-use Rattle.qs_script.specs.declared.token.Token.{Token}
+use Rattle.qs_tokens.specs.declared.token.Token.{Token}
 use Rattle.qs_script.specs.declared.fault.Fault.{Fault}
 use Rattle.qs_script.specs.declared.fault.Fault.TheVariants.{Form, Memory}
 use Rattle.qs_script.specs.Reading.{Loop, Read, after, many_at, run, Fails, body_loop, list_loop, one, end_at}

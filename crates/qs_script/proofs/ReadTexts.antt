@@ -2,14 +2,14 @@
 -- `read` and the worked examples stand on it. It joins the two directions that are proved of the grammar: whatever is read is a
 -- script, and every script is read.
 use Rattle.std.proofs.Common.{◌≡◌, ℕ, ◌≤◌, List, [], length, refl, sym, subst, arith, Option, Some, None, Result, Ok, Err, true}
-use Rattle.qs_script.specs.declared.token.Token.{Token}
+use Rattle.qs_tokens.specs.declared.token.Token.{Token}
 use Rattle.qs_script.specs.declared.tree.Item.{Item}
 use Rattle.qs_script.specs.declared.fault.ReadFault.{ReadFault}
 use Rattle.qs_script.specs.declared.fault.ReadFault.TheVariants as f
-use Rattle.qs_script.specs.declared.lex.TokenFault.{TokenFault}
-use Rattle.qs_script.specs.declared.lex.TokenFault.TheVariants as e
+use Rattle.qs_tokens.specs.declared.lex.TokenFault.{TokenFault}
+use Rattle.qs_tokens.specs.declared.lex.TokenFault.TheVariants as e
 use Rattle.std.proofs.Math.Dec.{ltb}
-use Rattle.qs_script.specs.Tokens.{tokens_of}
+use Rattle.qs_tokens.specs.Tokens.{tokens_of}
 use Rattle.qs_script.specs.Reading.{run, items_loop, Read}
 use Rattle.qs_script.specs.Grammar.{IsScript}
 use Rattle.qs_script.specs.Reads.{IsScriptText, IsRefused}

@@ -2,8 +2,8 @@
 -- result belongs to the text stands on `items_sound`. There is a lemma for each construct of the language; the lists go by
 -- induction on the steps of their loop, and bodies by induction on the levels that are left.
 use Rattle.std.proofs.Common.{◌≡◌, ℕ, zero, suc, inl, inr, List, [], ◌∷◌, ◌++◌, length, refl, ap, sym, ◌∙◌, Option, Some, None, subst, neg_ℤ, pos}
-use Rattle.qs_script.specs.declared.token.Token.{Token}
-use Rattle.qs_script.specs.declared.token.Token.TheVariants as t
+use Rattle.qs_tokens.specs.declared.token.Token.{Token}
+use Rattle.qs_tokens.specs.declared.token.Token.TheVariants as t
 use Rattle.qs_script.specs.declared.tree.Atom.{Atom}
 use Rattle.qs_script.specs.declared.tree.Atom.TheVariants.{Variable, Number}
 use Rattle.qs_script.specs.declared.tree.Operator.{Operator}

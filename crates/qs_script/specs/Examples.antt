@@ -1,8 +1,8 @@
 -- Texts, their tokens and their scripts.
 use Rattle.std.specs.Prelude.{◌≡◌, ℕ, List, [], ◌∷◌, ◌++◌, Ok, Err, codes, replicate, pos}
 use Rattle.std.proofs.Common.{neg_ℤ}
-use Rattle.qs_script.specs.declared.lex.TokenFault.TheVariants.{Byte, Number, Name}
-use Rattle.qs_script.specs.declared.token.Token.TheVariants as t
+use Rattle.qs_tokens.specs.declared.lex.TokenFault.TheVariants.{Byte, Number, Name}
+use Rattle.qs_tokens.specs.declared.token.Token.TheVariants as t
 use Rattle.qs_script.specs.declared.tree.Atom.TheVariants as a
 use Rattle.qs_script.specs.declared.tree.Expr.TheVariants.{Plain, Binary}
 use Rattle.qs_script.specs.declared.tree.Operator.TheVariants.{Times}
@@ -12,7 +12,7 @@ use Rattle.qs_script.specs.declared.tree.Item.TheVariants.{Object, Client, Templ
 use Rattle.qs_script.specs.declared.tree.KindText.TheVariants.{Account, Grid}
 use Rattle.qs_script.specs.declared.tree.KindWord.TheVariants as kind
 use Rattle.qs_script.specs.Tree.{Stmts, end, command, query, assign, choose, choose_else, again, leave}
-use Rattle.qs_script.specs.Tokens.{tokens_of}
+use Rattle.qs_tokens.specs.Tokens.{tokens_of}
 use Rattle.qs_script.specs.Reads.{IsScriptText}
 
 pub record TokenExamples : Type 0 where

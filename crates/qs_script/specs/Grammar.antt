@@ -1,8 +1,8 @@
 -- The grammar. In each relation a tree stands from the first of the tokens ts up to before the first of the tokens rest.
 use Rattle.std.specs.Prelude.{◌≡◌, ◌⊎◌, ℕ, zero, suc, List, [], ◌∷◌, pos}
 use Rattle.std.proofs.Common.{neg_ℤ}
-use Rattle.qs_script.specs.declared.token.Token.{Token}
-use Rattle.qs_script.specs.declared.token.Token.TheVariants as t
+use Rattle.qs_tokens.specs.declared.token.Token.{Token}
+use Rattle.qs_tokens.specs.declared.token.Token.TheVariants as t
 use Rattle.qs_script.specs.declared.tree.Atom.{Atom}
 use Rattle.qs_script.specs.declared.tree.Atom.TheVariants.{Variable, Number}
 use Rattle.qs_script.specs.declared.tree.Operator.{Operator}

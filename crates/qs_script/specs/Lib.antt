@@ -1,5 +1,4 @@
 pub mod Limits
-pub mod Padding
 pub mod Tree
 pub mod TreeCode
 pub mod Views
@@ -7,8 +6,6 @@ pub mod Form
 pub mod SizeDecreases
 pub mod BlockCode
 pub mod ScriptCode
-pub mod Tokens
-pub mod Cutting
 pub mod Grammar
 pub mod Reading
 pub mod Reads

@@ -1,8 +1,8 @@
 -- What the parser makes of a list of tokens: a tree and the tokens after it, or nothing.
 use Rattle.std.specs.Prelude.{◌≡◌, ℕ, zero, suc, length, List, [], ◌∷◌, ◌++◌, Option, Some, None, option_and_then, Result, Ok, Err, pos}
 use Rattle.std.proofs.Common.{neg_ℤ}
-use Rattle.qs_script.specs.declared.token.Token.{Token}
-use Rattle.qs_script.specs.declared.token.Token.TheVariants as t
+use Rattle.qs_tokens.specs.declared.token.Token.{Token}
+use Rattle.qs_tokens.specs.declared.token.Token.TheVariants as t
 use Rattle.qs_script.specs.declared.tree.Atom.{Atom}
 use Rattle.qs_script.specs.declared.tree.Atom.TheVariants.{Variable, Number}
 use Rattle.qs_script.specs.declared.tree.Operator.{Operator}

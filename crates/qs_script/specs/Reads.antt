@@ -1,12 +1,12 @@
 -- What reading a text answers.
 use Rattle.std.specs.Prelude.{◌≡◌, ℕ, ◌≤◌, ◌<◌, List, length, Result, Ok, Err}
-use Rattle.qs_script.specs.declared.token.Token.{Token}
+use Rattle.qs_tokens.specs.declared.token.Token.{Token}
 use Rattle.qs_script.specs.declared.tree.Item.{Item}
 use Rattle.qs_script.specs.declared.fault.ReadFault.{ReadFault}
 use Rattle.qs_script.specs.declared.fault.ReadFault.TheVariants as f
-use Rattle.qs_script.specs.declared.lex.TokenFault.{TokenFault}
-use Rattle.qs_script.specs.declared.lex.TokenFault.TheVariants as token
-use Rattle.qs_script.specs.Tokens.{tokens_of}
+use Rattle.qs_tokens.specs.declared.lex.TokenFault.{TokenFault}
+use Rattle.qs_tokens.specs.declared.lex.TokenFault.TheVariants as token
+use Rattle.qs_tokens.specs.Tokens.{tokens_of}
 use Rattle.qs_script.specs.Grammar.{IsScript}
 use Rattle.qs_script.specs.Limits.{longest_text}
 

@@ -4,8 +4,7 @@ ghost use Rattle.std.specs.Prelude.{◌≡◌, ◌<◌, length, IfOk, IfSome};
 ghost use Rattle.qs_script.specs.Reading.{Gives, Finds, name_at, open_brace_at, close_brace_at, close_paren_at};
 
 use crate::fault::Fault;
-use crate::name::Name;
-use crate::token::Token;
+use qs_tokens::{Name, Token};
 
 pub(crate) fn name(tokens: &[Token]) -> Result<(Name, &[Token]), Fault>
     ensures exact { Gives (λ x. (x.0, x.1.now)) result (name_at tokens.now) }

@@ -7,11 +7,10 @@ use crate::expect::{name, past_close_brace, past_open_brace};
 use crate::fault::Fault;
 use crate::limits::MOST_LEVELS;
 use crate::lists::add;
-use crate::name::Name;
 use crate::statements::body;
 use crate::templates::{started, template};
-use crate::token::Token;
 use crate::tree::{Block, Blocks, ClientItem, Item, KindText, NameList, ObjectItem, Script};
+use qs_tokens::{Name, Token};
 use std::alloc::Global;
 
 // The names after the first, and the brace that opens after them.

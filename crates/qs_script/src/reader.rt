@@ -1,16 +1,15 @@
 // From a text to a script.
 
 ghost use Rattle.std.specs.Prelude.{◌≡◌, ◌<◌, ◌≤◌, ◌↔◌, [], ◌++◌, length, OnOk, IsErrOf};
-ghost use Rattle.qs_script.specs.Cutting.{tokens_in};
+ghost use Rattle.qs_tokens.specs.Cutting.{tokens_in};
 ghost use Rattle.qs_script.specs.Reads.{IsReadOf, IsPlaced, AreTokensOf};
 ghost use Rattle.qs_script.specs.Limits.{longest_text};
 
 use crate::fault::{Fault, ReadFault};
 use crate::items::script;
-use crate::lex::{Piece, TokenFault, front};
 use crate::limits::LONGEST_TEXT;
-use crate::token::Token;
 use crate::tree::Script;
+use qs_tokens::{Piece, Token, TokenFault, front};
 use std::alloc::{AllocError, Global};
 use std::marker::Model;
 
@@ -24,7 +23,7 @@ struct Tokens {
 
 impl Model for Tokens {
     ghost use Rattle.std.specs.Prelude.{List};
-    ghost use Rattle.qs_script.specs.declared.token.Token.{Token};
+    ghost use Rattle.qs_tokens.specs.declared.token.Token.{Token};
 
     ghost Value = { List Token };
 

@@ -6,10 +6,9 @@ ghost use Rattle.qs_script.specs.Reading.{Gives, run, body_loop, stmt_in, stmt_a
 
 use crate::expect::past_close_brace;
 use crate::fault::Fault;
-use crate::name::Name;
-use crate::token::Token;
 use crate::tree::{Body, Stmt};
 use crate::values::{call, expr, test};
+use qs_tokens::{Name, Token};
 use std::alloc::Global;
 
 // Statements, at most `levels` one inside another, and the brace that closes them.

@@ -7,9 +7,8 @@ use crate::expect::{name as expect_name, past_close_paren};
 use crate::fault::Fault;
 use crate::items::blocks;
 use crate::lists::add;
-use crate::name::Name;
-use crate::token::Token;
 use crate::tree::{Formal, Formals, Item, KindWord, NameList, StartedItem, TemplateItem};
+use qs_tokens::{Name, Token};
 use std::alloc::Global;
 
 // A formal: its kind and its name.

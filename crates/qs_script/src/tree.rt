@@ -5,8 +5,7 @@ ghost use Rattle.qs_script.specs.Tree.{end, join_statements};
 ghost use Rattle.qs_script.specs.Views.{single, stmts_of};
 ghost use Rattle.qs_script.specs.Form.{HasForm};
 
-use crate::name::Name;
-use crate::number::Number;
+use qs_tokens::{Name, Number};
 use std::alloc::{AllocError, Global};
 use std::marker::Model;
 

@@ -6,9 +6,8 @@ ghost use Rattle.qs_script.specs.Reading.{Gives, Finds, after, run, atom_at, fur
 use crate::expect::past_close_paren;
 use crate::fault::Fault;
 use crate::lists::add;
-use crate::name::Name;
-use crate::token::Token;
 use crate::tree::{Args, Atom, Call, Expr, Operator, Relation, Test};
+use qs_tokens::{Name, Token};
 use std::alloc::Global;
 
 fn atom(tokens: &[Token]) -> Result<(Atom, &[Token]), Fault>

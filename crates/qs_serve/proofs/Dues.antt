@@ -12,7 +12,7 @@ use Rattle.qs_report.specs.declared.faults.Fault.{Fault}
 use Rattle.qs_report.specs.declared.faults.Fault.TheVariants as fault
 use Rattle.qs_report.specs.Faults.{fault_status}
 use Rattle.qs_script.specs.declared.fault.ReadFault.TheVariants as read
-use Rattle.qs_check.specs.declared.fault.CheckFault.TheVariants as check_fault
+use Rattle.qs_places.specs.declared.fault.CheckFault.TheVariants as check_fault
 use Rattle.qs_played.specs.declared.fault.PlayFault.TheVariants as play_fault
 use Rattle.qs_run_laws.specs.Outcomes.{IsOutcome}
 use Rattle.qs_outcomes.specs.Outcomes.{OutcomesShape}

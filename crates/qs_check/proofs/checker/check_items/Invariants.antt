@@ -1,5 +1,5 @@
 use Rattle.std.proofs.Common.{◌≡◌, ◌++◌, drop}
-use Rattle.qs_check.specs.Places.{scope_or_fault, over, script_places}
+use Rattle.qs_places.specs.Places.{scope_or_fault, over, script_places}
 use Rattle.qs_check.specs.Resolve.{lists_of}
 use Rattle.qs_check.proofs.checker.check_items.Given as goal
 

@@ -1,5 +1,5 @@
 use Rattle.std.proofs.Common.{◌≡◌, length}
-use Rattle.qs_script.specs.Tokens.{tokens_of, after}
+use Rattle.qs_tokens.specs.Tokens.{tokens_of, after}
 use Rattle.qs_script.proofs.reader.tokenize.Given as goal
 
 abbrev pub invariant-each : goal.invariant-each

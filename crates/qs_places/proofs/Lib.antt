@@ -1,0 +1,5 @@
+pub mod Walks
+pub mod Steps
+pub mod Inner
+pub mod ScopesInBlocks
+pub mod FinePlaces

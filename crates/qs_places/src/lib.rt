@@ -1,0 +1,12 @@
+//! The places of a script where something may be wrong, in text order, and the first fault among them.
+#![tactic(auto)]
+
+mod fault;
+mod operators;
+mod scope;
+mod walk;
+
+pub use fault::CheckFault;
+pub use operators::find_op;
+pub use scope::{Scope, formal_value, kind_at};
+pub use walk::{check_client, check_object, check_started, check_template, check_text, kind_value};

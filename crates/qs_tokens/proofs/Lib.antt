@@ -1,0 +1,3 @@
+pub mod Powers
+pub mod Lexemes
+pub mod TokenCounts

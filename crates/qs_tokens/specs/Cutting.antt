@@ -1,0 +1,31 @@
+-- What the tokenizer cuts off at the front of a text.
+use Rattle.std.specs.Borrow.{Bor}
+use Rattle.std.specs.Prelude.{◌≡◌, ℕ, ◌+◌, Bool, not, nat_eq, if◌then◌else◌, List, [], ◌∷◌, Result, Ok, Err}
+use Rattle.qs_tokens.specs.declared.token.Token.{Token}
+use Rattle.qs_tokens.specs.declared.lex.TokenFault.{TokenFault}
+use Rattle.qs_tokens.specs.declared.lex.Run.{Run}
+use Rattle.qs_tokens.specs.declared.lex.Run.TheVariants as r
+use Rattle.qs_tokens.specs.declared.lex.Piece.{Piece}
+use Rattle.qs_tokens.specs.declared.lex.Piece.TheVariants as p
+use Rattle.qs_tokens.specs.Tokens.{is_name_byte, is_digit, tokens_of, after}
+
+-- whether a byte goes on with the run
+abbrev pub in_run : Run → ℕ → Bool
+in_run r.Name b = is_name_byte b
+in_run r.Digits b = is_digit b
+in_run r.Comment b = not (nat_eq b 10)
+
+-- how many bytes at the front pass the test
+abbrev pub run_of : (ℕ → Bool) → List ℕ → ℕ
+run_of test [] = 0
+run_of test (b ∷ bs) = if test b then 1 + run_of test bs else 0
+
+abbrev pub tokens_in : Piece → List Token
+tokens_in (p.Token t) = t ∷ []
+tokens_in p.Line = []
+tokens_in p.Gap = []
+
+-- what all the tokens are: those of the piece and those of the bytes after it, or the first fault
+abbrev pub Cuts : Result (Piece × Bor (List ℕ)) TokenFault → Result (List Token) TokenFault → Type 0
+Cuts (Ok x) all = all ≡ after (tokens_in x.0) (tokens_of x.1.now)
+Cuts (Err e) all = all ≡ Err e

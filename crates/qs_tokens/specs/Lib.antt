@@ -1,0 +1,4 @@
+pub mod Limits
+pub mod Padding
+pub mod Tokens
+pub mod Cutting

@@ -1,0 +1,13 @@
+//! Tokens of scripts: names, numbers, reserved words and signs, and what is cut off at the front of a text.
+#![tactic(auto)]
+
+mod lex;
+mod limits;
+mod name;
+mod number;
+mod token;
+
+pub use lex::{Piece, TokenFault, front};
+pub use name::Name;
+pub use number::Number;
+pub use token::Token;
