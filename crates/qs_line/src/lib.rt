@@ -6,6 +6,8 @@ mod help;
 pub mod laws;
 mod line;
 mod picks;
+mod told;
 
 pub use line::{LineFault, Settings, read_line};
 pub use qs_played::Actor;
+pub use told::{refusal, value_after};

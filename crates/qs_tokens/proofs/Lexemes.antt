@@ -20,7 +20,7 @@ abbrev pub then_tokens : Tokens → List ℕ → Tokens
 then_tokens (Ok ts) bs = after ts (tokens_of bs)
 then_tokens (Err e) bs = Err e
 
-after-after : (ts us : List Token) (r : Tokens) → after ts (after us r) ≡ after (ts ++ us) r
+pub after-after : (ts us : List Token) (r : Tokens) → after ts (after us r) ≡ after (ts ++ us) r
 after-after ts us (Ok vs) = rw append_assoc refl
 after-after ts us (Err e) = refl
 

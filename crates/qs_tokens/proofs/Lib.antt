@@ -1,3 +1,4 @@
 pub mod Powers
 pub mod Lexemes
 pub mod TokenCounts
+pub mod Suffixes

@@ -1,6 +1,6 @@
 //! From bytes to tokens.
 
-ghost use Rattle.std.specs.Prelude.{◌≡◌, ℕ, ◌<◌, ◌≤◌, ◌≢◌, length, slice_index, IsTrue, IfOk, All, false};
+ghost use Rattle.std.specs.Prelude.{◌≡◌, ◌-◌, drop, ℕ, ◌<◌, ◌≤◌, ◌≢◌, length, slice_index, IsTrue, IfOk, All, false};
 ghost use Rattle.qs_tokens.specs.Limits.{most_digits};
 ghost use Rattle.qs_tokens.specs.Tokens.{is_digit as digit, is_letter as letter, is_space as space, at, signs, equals_signs, value_of, word_token, tokens_of, tokens_from, going_on, single_sign, sign};
 ghost use Rattle.qs_tokens.specs.Cutting.{Cuts, in_run, run_of};
@@ -63,6 +63,7 @@ pub fn front(text: &[u8]) -> Result<(Piece, &[u8]), TokenFault>
     requires some { 0 < length text.now }
     ensures exact { Cuts result (tokens_of text.now) }
     ensures shorter { IfOk result (λ x. length x.1.now < length text.now) }
+    ensures suffix { IfOk result (λ x. x.1.now ≡ drop (length text.now - length x.1.now) text.now) }
 {
     let first = text[0];
     if first.is_ascii_lowercase() {
@@ -86,6 +87,7 @@ fn front_word(text: &[u8]) -> Result<(Piece, &[u8]), TokenFault>
     requires letter { IsTrue (letter (slice_index text.now 0)) }
     ensures exact { Cuts result (tokens_of text.now) }
     ensures shorter { IfOk result (λ x. length x.1.now < length text.now) }
+    ensures suffix { IfOk result (λ x. x.1.now ≡ drop (length text.now - length x.1.now) text.now) }
 {
     let (word, rest) = text.split_at(run_end(Run::Name, text));
     if word.len() > LONGEST_NAME {
@@ -133,6 +135,7 @@ fn front_number(text: &[u8]) -> Result<(Piece, &[u8]), TokenFault>
     requires digit { IsTrue (digit (slice_index text.now 0)) }
     ensures exact { Cuts result (tokens_of text.now) }
     ensures shorter { IfOk result (λ x. length x.1.now < length text.now) }
+    ensures suffix { IfOk result (λ x. x.1.now ≡ drop (length text.now - length x.1.now) text.now) }
 {
     let (digits, rest) = text.split_at(run_end(Run::Digits, text));
     if digits.len() > MOST_DIGITS {
@@ -153,6 +156,7 @@ fn front_sign(text: &[u8]) -> Result<(Piece, &[u8]), TokenFault>
     requires not_comment { slice_index text.now 0 ≢ 35 }
     ensures exact { Cuts result (tokens_of text.now) }
     ensures shorter { IfOk result (λ x. length x.1.now < length text.now) }
+    ensures suffix { IfOk result (λ x. x.1.now ≡ drop (length text.now - length x.1.now) text.now) }
 {
     let rest = &text[1..];
     match sign_with_equals(text[0]) {
@@ -169,6 +173,7 @@ fn equals_sign(
 ) -> Result<(Piece, &[u8]), TokenFault>
     ensures exact { Cuts result (tokens_from (sign alone with_equals) rest.now) }
     ensures within { IfOk result (λ x. length x.1.now ≤ length rest.now) }
+    ensures suffix { IfOk result (λ x. x.1.now ≡ drop (length rest.now - length x.1.now) rest.now) }
 {
     if !rest.is_empty() && rest[0] == b'=' {
         return Ok((Piece::Token(with_equals), &rest[1..]));
@@ -180,6 +185,7 @@ fn equals_sign(
 fn lone_sign(sign: Option<Token>, rest: &[u8]) -> Result<(Piece, &[u8]), TokenFault>
     ensures exact { Cuts result (going_on (single_sign sign) (λ p. tokens_from p rest.now)) }
     ensures within { IfOk result (λ x. length x.1.now ≤ length rest.now) }
+    ensures suffix { IfOk result (λ x. x.1.now ≡ drop (length rest.now - length x.1.now) rest.now) }
 {
     match sign {
         Some(sign) => Ok((Piece::Token(sign), rest)),

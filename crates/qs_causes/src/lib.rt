@@ -1,0 +1,20 @@
+//! Where a script is at fault, and what is wrong there.
+#![tactic(auto)]
+
+mod bytes;
+mod expected;
+mod finding;
+mod form;
+mod known;
+mod nearness;
+mod operations;
+mod said;
+mod shape;
+mod source;
+mod spans;
+mod telling;
+mod usual;
+mod words;
+
+pub use spans::{PlacedToken, SpanFault, placed_tokens};
+pub use telling::{actors, tell_check, tell_read};

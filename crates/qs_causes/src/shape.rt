@@ -1,0 +1,145 @@
+// What is said of a fault of form.
+
+use crate::expected::expected;
+use crate::form::Stage;
+use crate::nearness::nearest;
+use crate::said::{Said, joined, part, say};
+use crate::source::Source;
+use crate::usual::usual_at;
+use qs_tokens::Token;
+use std::alloc::{AllocError, Global};
+
+// Whether a `;` alone is due at a place, or may end what stands before it.
+fn is_end(stage: Stage) -> bool {
+    matches!(
+        stage,
+        Stage::CommandEnd
+            | Stage::QueryEnd
+            | Stage::ExpressionEnd
+            | Stage::LeaveEnd
+            | Stage::AfterVariable
+            | Stage::AfterNumber
+    )
+}
+
+/// What is said of a token with which no script goes on.
+pub(crate) fn say_form(
+    alloc: Global,
+    source: Source<'_>,
+    stage: Stage,
+    is_deep: bool,
+    place: usize,
+) -> Result<Said, AllocError> {
+    if let Some(usual) = usual_at(source, stage, is_deep, place) {
+        return say(
+            alloc,
+            source.span(place),
+            &[usual.cause],
+            &[b"due here: ", expected(stage)],
+            &[usual.help],
+        );
+    }
+    if is_end(stage) {
+        return say_semicolon(alloc, source, place.saturating_sub(1));
+    }
+    let help = word_help(alloc, source, stage, place)?;
+    if place >= source.len() {
+        return say_end(alloc, source, stage, place, help.as_slice());
+    }
+    say(
+        alloc,
+        source.span(place),
+        &[b"no script goes on with `", source.word(place), b"` here"],
+        &[b"due here: ", expected(stage)],
+        &[help.as_slice()],
+    )
+}
+
+fn say_semicolon(alloc: Global, source: Source<'_>, before: usize) -> Result<Said, AllocError> {
+    say(
+        alloc,
+        source.end_of(before),
+        &[b"a `;` is missing after `", source.word(before), b"`"],
+        &[],
+        &[b"every request, assignment and `leave` ends with `;`"],
+    )
+}
+
+fn say_end(
+    alloc: Global,
+    source: Source<'_>,
+    stage: Stage,
+    place: usize,
+    help: &[u8],
+) -> Result<Said, AllocError> {
+    say(
+        alloc,
+        source.span(place),
+        &[b"the text ends here, and the script does not"],
+        &[b"due here: ", expected(stage)],
+        &[help],
+    )
+}
+
+// The word of the language that a name may stand for, where the name is found or stands before what is found.
+fn word_help(
+    alloc: Global,
+    source: Source<'_>,
+    stage: Stage,
+    place: usize,
+) -> Result<Vec<u8>, AllocError> {
+    let before = stage == Stage::AfterName;
+    let word = if before {
+        source.word(place.saturating_sub(1))
+    } else {
+        source.word(place)
+    };
+    match meant(stage, word) {
+        Some(other) => joined(
+            alloc,
+            &[b"is `", word, b"` meant to be `", part(other), b"`?"],
+        ),
+        None => joined(alloc, &[]),
+    }
+}
+
+// The word that is meant by another, at a place.
+fn meant(stage: Stage, word: &[u8]) -> Option<&'static [u8]> {
+    match stage {
+        Stage::Item => nearest(word, &[b"object", b"client", b"template"]),
+        Stage::Block => nearest(word, &[b"separate"]),
+        Stage::ObjectKind | Stage::FormalKind => nearest(word, &[b"account", b"buffer", b"grid"]),
+        Stage::AfterName => foreign(word).or(nearest(
+            word,
+            &[b"repeat", b"leave", b"else", b"separate", b"client"],
+        )),
+        _ => None,
+    }
+}
+
+// Whether a word is one of some.
+fn is_among(word: &[u8], words: &[&[u8]]) -> bool {
+    for it in words {
+        if *it == word {
+            return true;
+        }
+    }
+    false
+}
+
+// What this language has for a word of others.
+fn foreign(word: &[u8]) -> Option<&'static [u8]> {
+    if is_among(word, &[b"while", b"for", b"loop", b"until"]) {
+        return Some(b"repeat 1000 { .. }");
+    }
+    if is_among(word, &[b"break", b"exit", b"return"]) {
+        return Some(b"leave;");
+    }
+    if is_among(word, &[b"elseif", b"elif", b"elsif"]) {
+        return Some(b"else { if .. { .. } }");
+    }
+    if is_among(word, &[b"let", b"var", b"int"]) {
+        return Some(b"x = 1;");
+    }
+    None
+}

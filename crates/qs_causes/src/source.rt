@@ -1,0 +1,70 @@
+// A text with its tokens.
+
+ghost use Rattle.std.specs.Prelude.{◌≡◌};
+
+use crate::spans::PlacedToken;
+use qs_tokens::Token;
+use qs_told::Span;
+
+/// A text with its tokens in order.
+#[derive(Clone, Copy)]
+pub(crate) struct Source<'a> {
+    text: &'a [u8],
+    tokens: &'a [PlacedToken],
+}
+
+impl<'a> Source<'a> {
+    pub(crate) fn new(text: &'a [u8], tokens: &'a [PlacedToken]) -> Source<'a> {
+        Source { text, tokens }
+    }
+
+    // The text.
+    pub(crate) fn text(self) -> &'a [u8]
+        ensures same { result.now ≡ self.entry.text.now }
+    {
+        self.text
+    }
+
+    // How many tokens there are.
+    pub(crate) fn len(self) -> usize {
+        self.tokens.len()
+    }
+
+    // The token at a place, where there is one.
+    pub(crate) fn token(self, place: usize) -> Option<&'a Token> {
+        match self.tokens.get(place) {
+            Some(placed) => Some(&placed.token),
+            None => None,
+        }
+    }
+
+    // The bytes of the token at a place; none after the last token.
+    pub(crate) fn word(self, place: usize) -> &'a [u8] {
+        let span = self.span(place);
+        let rest = self.text.get(span.start..).unwrap_or(b"");
+        rest.get(..span.length).unwrap_or(b"")
+    }
+
+    // Where the token at a place stands; after the last token, the text's end.
+    pub(crate) fn span(self, place: usize) -> Span {
+        match self.tokens.get(place) {
+            Some(placed) => Span {
+                start: placed.start,
+                length: placed.end.saturating_sub(placed.start),
+            },
+            None => Span {
+                start: self.text.len(),
+                length: 0,
+            },
+        }
+    }
+
+    // The place right after a token.
+    pub(crate) fn end_of(self, place: usize) -> Span {
+        let span = self.span(place);
+        Span {
+            start: span.start.saturating_add(span.length),
+            length: 0,
+        }
+    }
+}
