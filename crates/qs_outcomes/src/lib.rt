@@ -3,11 +3,12 @@
 
 mod alone;
 mod fault;
+mod front;
 mod going;
 mod rows;
 mod search;
 mod standing;
 
 pub use fault::OutcomesFault;
-pub use search::{AllOutcomes, outcomes};
+pub use search::{AllOutcomes, outcomes, outcomes_after};
 pub use standing::Standing;

@@ -2,18 +2,22 @@
 
 ghost use Rattle.std.specs.Prelude.{◌≡◌, ◌<◌, ◌≤◌, ◌+◌, ℕ, true, false, IfOk, OnOk, IsErrOf, [], ◌∷◌, ◌++◌, length};
 ghost use Rattle.std.specs.List.{AllByRecursion};
-ghost use Rattle.qs_outcomes.specs.Outcomes.{AreAllOutcomes, AreApart, HasConfigurations, HasMoreThan, HasMoreThanAfter, IsListed};
+ghost use Rattle.qs_orders.specs.NamedOrders.{order_of};
+ghost use Rattle.qs_meaning.specs.Serial.{IsLegal};
+ghost use Rattle.qs_outcomes.specs.Outcomes.{AreAllOutcomes, AreAllOutcomesAfter, AreApart, HasConfigurations, HasConfigurationsAfter, HasMoreThan, HasMoreThanAfter, IsListed, IsListedAfter};
 ghost use Rattle.qs_outcomes.specs.Rows.{rows_in};
 ghost use Rattle.qs_outcomes.specs.Search.{HasOne, IsExplored, IsInserted, IsLonger, IsNoted, IsPushed, work_left};
 ghost use Rattle.qs_meaning.specs.Reduced.{goes_on};
 ghost use Rattle.qs_outcomes.specs.Going.{AreLast, in_byte};
-ghost use Rattle.qs_outcomes.specs.Standings.{IsStanding, configuration_in, row_of};
+ghost use Rattle.qs_outcomes.specs.Standings.{IsFirst, IsStanding, configuration_in, row_of};
 
 use crate::fault::OutcomesFault;
+use crate::front::{placed, same_order};
 use crate::going::{Last, last_blocks};
 use crate::standing::Standing;
 use indexmap::IndexSet;
 use qs_objects::Ticket;
+use qs_orders::names_order;
 use qs_program::Program;
 use std::alloc::{AllocError, Global};
 use std::marker::Model;
@@ -91,6 +95,7 @@ fn note(
     ensures noted { IfOk result (λ new. IsNoted (rows_in seen.old.keys) (row_of program.now standing.now) limit new (rows_in seen.new.keys)) }
     ensures full { IsErrOf result OutcomesFault.Limit → (length (rows_in seen.old.keys) ≡ limit)
         × (HasOne (λ r. row_of program.now standing.now ≡ r) (rows_in seen.old.keys) → ⊥) }
+    ensures order { ¬ IsErrOf result OutcomesFault.Order }
 {
     standing.write_row(program, front, row)?;
     let new = insert(seen, exact(alloc, row.as_slice())?)?;
@@ -199,6 +204,7 @@ fn visit(
     ensures less { OnOk result (work_left limit (rows_in seen.new.keys) stack.new.items
         < work_left limit (rows_in seen.old.keys) stack.old.items + 1) }
     ensures limit { IsErrOf result OutcomesFault.Limit → HasMoreThanAfter program.now front.now limit }
+    ensures order { ¬ IsErrOf result OutcomesFault.Order }
 {
     program.is_sound();
     match note(alloc, program, front, limit, &standing, row, seen) {
@@ -214,15 +220,22 @@ fn visit(
     Ok(())
 }
 
-/// All outcomes of a program, each once, with a complete order that comes to it, and how many different configurations reduced orders lead to.
-/// `Limit` comes only where there are more configurations than the limit, `Memory` where memory was refused.
-pub fn outcomes(alloc: Global, program: &Program, limit: u32) -> Result<AllOutcomes, OutcomesFault>
-    ensures sound { IfOk result (λ all. AllByRecursion (IsListed program.now) all.found) }
-    ensures complete { IfOk result (λ all. AreAllOutcomes program.now all.found) }
+// The outcomes after a front, by a search that begins where the program stands after it.
+fn search_from(
+    alloc: Global,
+    program: &Program,
+    front: &[Ticket],
+    first: Standing,
+    limit: u32,
+) -> Result<AllOutcomes, OutcomesFault>
+    requires first { IsFirst program.now front.now first }
+    ensures sound { IfOk result (λ all. AllByRecursion (IsListedAfter program.now front.now) all.found) }
+    ensures complete { IfOk result (λ all. AreAllOutcomesAfter program.now front.now all.found) }
     ensures once { IfOk result (λ all. AreApart all.found) }
-    ensures counted { IfOk result (λ all. HasConfigurations program.now all.configurations) }
+    ensures counted { IfOk result (λ all. HasConfigurationsAfter program.now front.now all.configurations) }
     ensures within { IfOk result (λ all. all.configurations ≤ limit) }
-    ensures limit { IsErrOf result OutcomesFault.Limit → HasMoreThan program.now limit }
+    ensures limit { IsErrOf result OutcomesFault.Limit → HasMoreThanAfter program.now front.now limit }
+    ensures order { ¬ IsErrOf result OutcomesFault.Order }
 {
     program.is_sound();
     let last = last_blocks(alloc, program)?;
@@ -230,13 +243,13 @@ pub fn outcomes(alloc: Global, program: &Program, limit: u32) -> Result<AllOutco
     let mut found = Vec::new(alloc);
     let mut stack = Vec::new(alloc);
     let mut row = Vec::new(alloc);
-    add(&mut stack, Standing::first(alloc, program)?)?;
+    add(&mut stack, first)?;
     while let Some(standing) = stack.pop() {
         visit(
             alloc,
             program,
             last.as_slice(),
-            &[],
+            front,
             limit,
             standing,
             &mut row,
@@ -249,4 +262,45 @@ pub fn outcomes(alloc: Global, program: &Program, limit: u32) -> Result<AllOutco
         found,
         configurations: seen.len(),
     })
+}
+
+/// All outcomes of a program after the blocks that a list of clients names, each client's in turn: each once, with a complete order that
+/// begins with these and comes to it, and how many different configurations orders lead to that are reduced after them. `Order` comes
+/// exactly where no legal order is named, `Limit` only where there are more configurations than the limit, `Memory` where memory was
+/// refused.
+pub fn outcomes_after(
+    alloc: Global,
+    program: &Program,
+    front: &[u8],
+    limit: u32,
+) -> Result<AllOutcomes, OutcomesFault>
+    ensures legal { IfOk result (λ all. IsLegal program.now (order_of front.now)) }
+    ensures sound { IfOk result (λ all. AllByRecursion (IsListedAfter program.now (order_of front.now)) all.found) }
+    ensures complete { IfOk result (λ all. AreAllOutcomesAfter program.now (order_of front.now) all.found) }
+    ensures once { IfOk result (λ all. AreApart all.found) }
+    ensures counted { IfOk result (λ all. HasConfigurationsAfter program.now (order_of front.now) all.configurations) }
+    ensures within { IfOk result (λ all. all.configurations ≤ limit) }
+    ensures limit { IsErrOf result OutcomesFault.Limit → HasMoreThanAfter program.now (order_of front.now) limit }
+    ensures order { IsErrOf result OutcomesFault.Order → ¬ IsLegal program.now (order_of front.now) }
+{
+    if !names_order(program, front) {
+        return Err(OutcomesFault::Order);
+    }
+    let first = placed(alloc, program, front)?;
+    let order = same_order(alloc, first.order())?;
+    search_from(alloc, program, order.as_slice(), first, limit)
+}
+
+/// All outcomes of a program, each once, with a complete order that comes to it, and how many different configurations reduced orders lead to.
+/// `Limit` comes only where there are more configurations than the limit, `Memory` where memory was refused, and `Order` never.
+pub fn outcomes(alloc: Global, program: &Program, limit: u32) -> Result<AllOutcomes, OutcomesFault>
+    ensures sound { IfOk result (λ all. AllByRecursion (IsListed program.now) all.found) }
+    ensures complete { IfOk result (λ all. AreAllOutcomes program.now all.found) }
+    ensures once { IfOk result (λ all. AreApart all.found) }
+    ensures counted { IfOk result (λ all. HasConfigurations program.now all.configurations) }
+    ensures within { IfOk result (λ all. all.configurations ≤ limit) }
+    ensures limit { IsErrOf result OutcomesFault.Limit → HasMoreThan program.now limit }
+    ensures order { ¬ IsErrOf result OutcomesFault.Order }
+{
+    outcomes_after(alloc, program, &[], limit)
 }

@@ -156,7 +156,7 @@ impl Standing {
     ghost use Rattle.qs_meaning.specs.Reduced.{goes_on};
     ghost use Rattle.qs_outcomes.specs.Going.{AreLast, in_byte};
     ghost use Rattle.qs_outcomes.specs.Search.{NoneNext};
-    ghost use Rattle.qs_outcomes.specs.Standings.{GoesOn, HasNext, IsFirst, IsNext, IsStanding, configuration_in, row_of};
+    ghost use Rattle.qs_outcomes.specs.Standings.{GoesOn, HasNext, IsFirst, IsNext, IsOneOn, IsStanding, configuration_in, row_of};
 
     /// The order of blocks that leads there.
     pub fn order(&self) -> &[Ticket]
@@ -239,8 +239,8 @@ impl Standing {
         requires client { client < length program.now.clients }
         requires standing { IsStanding program.now front.now self.now }
         requires left { HasNext program.now self.now client }
-        requires goes { GoesOn program.now self.now client }
-        ensures next { IfOk result (IsNext program.now front.now self.now client) }
+        ensures on { IfOk result (IsOneOn program.now self.now client) }
+        ensures next { IfOk result (λ n. GoesOn program.now self.now client → IsNext program.now front.now self.now client n) }
     {
         program.is_sound();
         let place = usize::from(client);

@@ -13,15 +13,17 @@ on c = (λ i. sym c.requires.goes i c.args.client) ∙ in_set c.args.goes c.args
 pub next-requires : goal.next-requires
 next-requires c =
     let a = (goal.at.next-requires c).Then-goes-client-eq1 in
-    record { client = c.requires.client; standing = c.requires.standing; left = goes_left c.args.program.now c.args.standing.now c.args.client (on a); goes = on a }
+    record { client = c.requires.client; standing = c.requires.standing; left = goes_left c.args.program.now c.args.standing.now c.args.client (on a) }
 
 pub returns-in_ok-push : goal.returns-in_ok-push
-returns-in_ok-push c = record { pushed = inl (c.in_ok-next.next, c.in_ok-next.ensures.next, c.in_ok-push.ensures.items) }
+returns-in_ok-push c =
+    let a = (goal.at.returns-in_ok-push c).Then-goes-client-eq1 in
+    record { pushed = inl (c.in_ok-next.next, c.in_ok-next.ensures.next (on a), c.in_ok-push.ensures.items) }
 
 pub returns-then-was_seen : goal.returns-then-was_seen
 returns-then-was_seen c = record {
   pushed = inr (
-    inl (has_map (λ r (e : c.write_row.new.row.items ≡ r). (c.in_ok-next.next, c.in_ok-next.ensures.next, sym c.in_ok-write_row.ensures.row ∙ e)) (rows_in c.args.seen.now.keys) (c.was_seen.ensures.seen c.if-was_seen.true)),
+    inl (has_map (λ r (e : c.write_row.new.row.items ≡ r). (c.in_ok-next.next, c.in_ok-next.ensures.next (on (goal.at.returns-then-was_seen c).Then-goes-client-eq1), sym c.in_ok-write_row.ensures.row ∙ e)) (rows_in c.args.seen.now.keys) (c.was_seen.ensures.seen c.if-was_seen.true)),
     refl,
   );
 }

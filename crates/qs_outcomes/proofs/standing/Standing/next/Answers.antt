@@ -5,8 +5,8 @@ use Rattle.qs_program.proofs.Bounds.{sound_block}
 use Rattle.qs_meaning.specs.Serial.{zeros}
 use Rattle.qs_meaning.specs.Solo.{BlockResult}
 use Rattle.qs_outcomes.specs.Alone.{AreCallsWithin}
-use Rattle.qs_outcomes.specs.Standings.{StandingShape}
-use Rattle.qs_outcomes.proofs.Stands.{block_within, read_at, same_longer, same_run, same_set, stands_next}
+use Rattle.qs_outcomes.specs.Standings.{IsOneOn, StandingShape}
+use Rattle.qs_outcomes.proofs.Stands.{block_within, read_at, same_longer, same_run, same_set, goes_next, stands_on}
 use Rattle.qs_outcomes.proofs.standing.Standing.next.Goals as goal
 use Rattle.qs_outcomes.proofs.standing.Standing.next.Goals.{After-as_slice}
 
@@ -40,12 +40,15 @@ pub returns : goal.returns
 returns c =
     let a : After-as_slice = (goal.at.returns c).After-as_slice in
     let ran = same_run (block_here a) (locals_here a) (states_here a) in
-    record {
-      next = stands_next c.args.program.now c.args.front.now c.args.self.now _ c.args.client c.requires.standing c.requires.client c.requires.left c.requires.goes
+    let on : IsOneOn c.args.program.now c.args.self.now c.args.client _ =
+    stands_on c.args.program.now c.args.front.now c.args.self.now _ c.args.client c.requires.standing c.requires.client c.requires.left
           (c.in_ok-order.ensures.longer ∙ same_longer c.args.client (c.as_slice-2.ensures.value ∙ ap (λ (s : StandingShape). s.order) c.self.view_is) (begun_here a))
           (c.in_ok-begun.ensures.set ∙ same_set (c.as_slice-3.ensures.value ∙ ap (λ (s : StandingShape). s.begun) c.self.view_is) c.from-place.ensures (add-one c.index-index.result.now ∙ ap suc (begun_here a)))
           (c.in_ok-locals.ensures.set ∙ same_set (c.as_slice-4.ensures.value ∙ ap (λ (s : StandingShape). s.locals) c.self.view_is) c.from-place.ensures
           (c.in_ok-objects.ensures.locals ∙ ap (λ (o : BlockResult). o.locals) ran))
           (c.in_ok-objects.ensures.states ∙ ap (λ (o : BlockResult). o.states) ran)
-          (c.in_ok-objects.ensures.count ∙ ap length (states_here a));
+          (c.in_ok-objects.ensures.count ∙ ap length (states_here a)) in
+    record {
+      on = on;
+      next = goes_next c.args.program.now c.args.front.now c.args.self.now _ c.args.client c.requires.standing c.requires.client c.requires.left on;
     }
