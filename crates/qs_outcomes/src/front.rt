@@ -1,12 +1,11 @@
 //! Where a program stands after the blocks that a list of clients names.
 
-ghost use Rattle.std.specs.Prelude.{◌≡◌, IfOk};
+ghost use Rattle.std.specs.Prelude.{IfOk};
 ghost use Rattle.qs_meaning.specs.Serial.{IsLegal};
 ghost use Rattle.qs_orders.specs.NamedOrders.{order_of};
 ghost use Rattle.qs_outcomes.specs.Standings.{IsFirst};
 
 use crate::standing::Standing;
-use qs_objects::Ticket;
 use qs_program::Program;
 use std::alloc::{AllocError, Global};
 
@@ -25,13 +24,4 @@ pub(crate) fn placed(
         standing = standing.next(alloc, program, standing.order(), *client)?;
     }
     Ok(standing)
-}
-
-// The same order once more.
-pub(crate) fn same_order(alloc: Global, order: &[Ticket]) -> Result<Vec<Ticket>, AllocError>
-    ensures same { IfOk result (λ copy. copy.items ≡ order.now) }
-{
-    let mut copy = Vec::with_capacity(alloc, order.len())?;
-    copy.extend_from_slice(order)?;
-    Ok(copy)
 }

@@ -2,6 +2,7 @@
 #![tactic(auto)]
 
 mod alone;
+mod copies;
 mod fault;
 mod front;
 mod going;

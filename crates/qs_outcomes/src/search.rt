@@ -11,8 +11,9 @@ ghost use Rattle.qs_meaning.specs.Reduced.{goes_on};
 ghost use Rattle.qs_outcomes.specs.Going.{AreLast, in_byte};
 ghost use Rattle.qs_outcomes.specs.Standings.{IsFirst, IsStanding, configuration_in, row_of};
 
+use crate::copies::copied;
 use crate::fault::OutcomesFault;
-use crate::front::{placed, same_order};
+use crate::front::placed;
 use crate::going::{Last, last_blocks};
 use crate::standing::Standing;
 use indexmap::IndexSet;
@@ -61,6 +62,13 @@ impl AllOutcomes {
     }
 }
 
+// What the search writes into again and again: where a next block leads, and a row.
+#[derive(Drop)]
+struct Scratch {
+    next: Standing,
+    row: Vec<i64>,
+}
+
 // Adds a row: whether it is new.
 fn insert(seen: &mut IndexSet<Vec<i64>>, row: Vec<i64>) -> Result<bool, AllocError>
     ensures inserted { IfOk result (λ new. IsInserted (rows_in seen.old.keys) row.items new (rows_in seen.new.keys)) }
@@ -71,15 +79,6 @@ fn insert(seen: &mut IndexSet<Vec<i64>>, row: Vec<i64>) -> Result<bool, AllocErr
     Ok(new)
 }
 
-// The same row in as much memory as it needs.
-fn exact(alloc: Global, row: &[i64]) -> Result<Vec<i64>, AllocError>
-    ensures same { IfOk result (λ copy. copy.items ≡ row.now) }
-{
-    let mut copy = Vec::with_capacity(alloc, row.len())?;
-    copy.extend_from_slice(row)?;
-    Ok(copy)
-}
-
 // Notes a standing's row: whether it is new.
 fn note(
     alloc: Global,
@@ -87,7 +86,7 @@ fn note(
     front: &[Ticket],
     limit: u32,
     standing: &Standing,
-    row: &mut Vec<i64>,
+    scratch: &mut Scratch,
     seen: &mut IndexSet<Vec<i64>>,
 ) -> Result<bool, OutcomesFault>
     requires standing { IsStanding program.now front.now standing.now }
@@ -97,8 +96,8 @@ fn note(
         × (HasOne (λ r. row_of program.now standing.now ≡ r) (rows_in seen.old.keys) → ⊥) }
     ensures order { ¬ IsErrOf result OutcomesFault.Order }
 {
-    standing.write_row(program, front, row)?;
-    let new = insert(seen, exact(alloc, row.as_slice())?)?;
+    standing.write_row(program, front, &mut scratch.row)?;
+    let new = insert(seen, copied(alloc, scratch.row.as_slice())?)?;
     if new && seen.len() > limit as usize {
         return Err(OutcomesFault::Limit);
     }
@@ -120,7 +119,7 @@ fn push_one(
     standing: &Standing,
     goes: u8,
     client: u8,
-    row: &mut Vec<i64>,
+    scratch: &mut Scratch,
     seen: &IndexSet<Vec<i64>>,
     stack: &mut Vec<Standing>,
 ) -> Result<(), AllocError>
@@ -131,12 +130,12 @@ fn push_one(
 {
     program.is_sound();
     if (goes >> client) & 1 == 1 {
-        let next = standing.next(alloc, program, front, client)?;
-        next.write_row(program, front, row)?;
-        if was_seen(seen, row) {
+        standing.put_next(alloc, program, front, client, &mut scratch.next)?;
+        scratch.next.write_row(program, front, &mut scratch.row)?;
+        if was_seen(seen, &scratch.row) {
             return Ok(());
         }
-        stack.push(next)?;
+        stack.push(scratch.next.copied(alloc)?)?;
     }
     Ok(())
 }
@@ -148,7 +147,7 @@ fn push_next(
     last: &[Last],
     front: &[Ticket],
     standing: &Standing,
-    row: &mut Vec<i64>,
+    scratch: &mut Scratch,
     seen: &IndexSet<Vec<i64>>,
     stack: &mut Vec<Standing>,
 ) -> Result<(), AllocError>
@@ -167,7 +166,7 @@ fn push_next(
             standing,
             goes,
             clients - 1 - back,
-            row,
+            scratch,
             seen,
             stack,
         )?;
@@ -191,7 +190,7 @@ fn visit(
     front: &[Ticket],
     limit: u32,
     standing: Standing,
-    row: &mut Vec<i64>,
+    scratch: &mut Scratch,
     seen: &mut IndexSet<Vec<i64>>,
     stack: &mut Vec<Standing>,
     found: &mut Vec<Standing>,
@@ -207,7 +206,7 @@ fn visit(
     ensures order { ¬ IsErrOf result OutcomesFault.Order }
 {
     program.is_sound();
-    match note(alloc, program, front, limit, &standing, row, seen) {
+    match note(alloc, program, front, limit, &standing, scratch, seen) {
         Err(fault) => return Err(fault),
         Ok(false) => return Ok(()),
         Ok(true) => {}
@@ -216,7 +215,7 @@ fn visit(
         add(found, standing)?;
         return Ok(());
     }
-    push_next(alloc, program, last, front, &standing, row, seen, stack)?;
+    push_next(alloc, program, last, front, &standing, scratch, seen, stack)?;
     Ok(())
 }
 
@@ -242,7 +241,10 @@ fn search_from(
     let mut seen = IndexSet::new(alloc);
     let mut found = Vec::new(alloc);
     let mut stack = Vec::new(alloc);
-    let mut row = Vec::new(alloc);
+    let mut scratch = Scratch {
+        next: Standing::empty(alloc),
+        row: Vec::new(alloc),
+    };
     add(&mut stack, first)?;
     while let Some(standing) = stack.pop() {
         visit(
@@ -252,7 +254,7 @@ fn search_from(
             front,
             limit,
             standing,
-            &mut row,
+            &mut scratch,
             &mut seen,
             &mut stack,
             &mut found,
@@ -287,7 +289,7 @@ pub fn outcomes_after(
         return Err(OutcomesFault::Order);
     }
     let first = placed(alloc, program, front)?;
-    let order = same_order(alloc, first.order())?;
+    let order = copied(alloc, first.order())?;
     search_from(alloc, program, order.as_slice(), first, limit)
 }
 
