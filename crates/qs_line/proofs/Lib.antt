@@ -4,3 +4,4 @@ pub mod Entries
 pub mod JoinedPicks
 pub mod Numbers
 pub mod PickLists
+pub mod NumberLists

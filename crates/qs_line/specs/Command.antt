@@ -43,9 +43,9 @@ play_app = with_rule (with_rule (with_rule (machine_app (codes "play")) rounds_r
 abbrev pub run_app : App
 run_app = with_rule (machine_app (codes "run")) counts_rule
 
--- `outcomes [--limit N]`
+-- `outcomes [--limit N] [--after LIST]`
 abbrev pub outcomes_app : App
-outcomes_app = with_rule (new_app (codes "outcomes")) limit_rule
+outcomes_app = with_rule (with_rule (new_app (codes "outcomes")) limit_rule) (option_rule (codes "after"))
 
 -- the program's name and its version, with no word `help`
 abbrev pub named_app : App

@@ -1,4 +1,5 @@
 pub mod Command
 pub mod Picks
+pub mod Clients
 pub mod Line
 pub mod LineExamples

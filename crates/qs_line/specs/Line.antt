@@ -12,6 +12,7 @@ use Rattle.clap.specs.declared.error.kind.ErrorKind.{ErrorKind}
 use Rattle.qs_played.specs.declared.schedule.actor.Actor.{Actor}
 use Rattle.qs_syncset.specs.declared.mode.Mode.{Mode}
 use Rattle.qs_syncset.specs.declared.mode.Mode.TheVariants.{Plain, Dynamic, Static, Both}
+use Rattle.qs_line.specs.Clients.{clients_in}
 use Rattle.qs_line.specs.Command.{qs_app}
 use Rattle.qs_line.specs.Picks.{picks_in}
 use Rattle.qs_line.specs.declared.line.LineFault.{LineFault}
@@ -20,15 +21,15 @@ use Rattle.qs_line.specs.declared.line.Settings.{Settings}
 use Rattle.qs_line.specs.declared.line.Settings.TheVariants as word
 
 -- what is asked for: the counts; the graphs; a run by the plain rules, with so many rounds after its picks; one in the optimised
--- machine, in a mode and by chunks of a size; one on threads; or all outcomes, with so many configurations at most. Of a run the counts
--- of synchronisations may be asked for as well.
+-- machine, in a mode and by chunks of a size; one on threads; or all outcomes after the blocks of some clients, with so many configurations at most. Of a run
+-- the counts of synchronisations may be asked for as well.
 pub data Request : Type 0 where
   check : Request
   graph : Request
   rules : (counts : Bool) → ℕ → List Actor → Request
   play : (counts : Bool) → Mode → ℕ → ℕ → List Actor → Request
   run : (counts : Bool) → Mode → ℕ → Request
-  outcomes : (limit : ℕ) → Request
+  outcomes : (limit : ℕ) → (front : List ℕ) → Request
 
 abbrev pub request_of : Settings → Request
 request_of word.Check = check
@@ -36,7 +37,7 @@ request_of word.Graph = graph
 request_of (word.Rules counts rounds picks) = rules counts rounds picks.items
 request_of (word.Play counts mode chunk rounds picks) = play counts mode chunk rounds picks.items
 request_of (word.Run counts mode chunk) = run counts mode chunk
-request_of (word.Outcomes limit) = outcomes limit
+request_of (word.Outcomes limit front) = outcomes limit front.items
 
 abbrev pub mode_in : Text → Option Mode
 mode_in text =
@@ -70,6 +71,10 @@ limit_at rows = option_and_then (number_in 1 4294967295) (first_of (codes "limit
 abbrev pub picks_at : List Row → Option (List Actor)
 picks_at rows = unwrap_or (option_map picks_in (first_of (codes "pick") rows)) (Some [])
 
+-- no client where the line has no list of them
+abbrev pub front_at : List Row → Option (List ℕ)
+front_at rows = unwrap_or (option_map clients_in (first_of (codes "after") rows)) (Some [])
+
 abbrev pub rules_at : List Row → Option Request
 rules_at rows = option_and_then (λ rounds. option_map (rules (counts_at rows) rounds) (picks_at rows)) (rounds_at rows)
 
@@ -83,7 +88,7 @@ abbrev pub run_at : List Row → Option Request
 run_at rows = option_and_then (λ mode. option_map (run (counts_at rows) mode) (chunk_at rows)) (mode_at rows)
 
 abbrev pub outcomes_at : List Row → Option Request
-outcomes_at rows = option_map outcomes (limit_at rows)
+outcomes_at rows = option_and_then (λ limit. option_map (outcomes limit) (front_at rows)) (limit_at rows)
 
 -- what a word asks for, with the entries that clap finds after it
 abbrev pub request_at : Text → List Row → Option Request

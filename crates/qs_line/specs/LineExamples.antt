@@ -15,7 +15,7 @@ pub record DefaultLines : Type 0 where
   pub rules_alone : line (codes "rules" ∷ []) ≡ asks (rules false 1000000 [])
   pub play_alone : line (codes "play" ∷ []) ≡ asks (play false Both 8 1000000 [])
   pub run_alone : line (codes "run" ∷ []) ≡ asks (run false Both 8)
-  pub outcomes_alone : line (codes "outcomes" ∷ []) ≡ asks (outcomes 1000000)
+  pub outcomes_alone : line (codes "outcomes" ∷ []) ≡ asks (outcomes 1000000 [])
 
 pub record SetLines : Type 0 where
   pub mode : line (codes "play" ∷ codes "--mode" ∷ codes "static" ∷ []) ≡ asks (play false Static 8 1000000 [])
@@ -27,8 +27,8 @@ pub record SetLines : Type 0 where
   pub runs : line (codes "run" ∷ codes "--chunk" ∷ codes "4" ∷ codes "--mode=static" ∷ []) ≡ asks (run false Static 4)
 
 pub record LimitLines : Type 0 where
-  pub least : line (codes "outcomes" ∷ codes "--limit" ∷ codes "1" ∷ []) ≡ asks (outcomes 1)
-  pub most : line (codes "outcomes" ∷ codes "--limit=4294967295" ∷ []) ≡ asks (outcomes 4294967295)
+  pub least : line (codes "outcomes" ∷ codes "--limit" ∷ codes "1" ∷ []) ≡ asks (outcomes 1 [])
+  pub most : line (codes "outcomes" ∷ codes "--limit=4294967295" ∷ []) ≡ asks (outcomes 4294967295 [])
   pub none : line (codes "outcomes" ∷ codes "--limit" ∷ codes "0" ∷ []) ≡ refused
   pub one_more : line (codes "outcomes" ∷ codes "--limit" ∷ codes "4294967296" ∷ []) ≡ refused
   pub negative : line (codes "outcomes" ∷ codes "--limit=-1" ∷ []) ≡ refused
@@ -37,6 +37,15 @@ pub record LimitLines : Type 0 where
   pub of_play : line (codes "play" ∷ codes "--limit" ∷ codes "1" ∷ []) ≡ refused
   pub by_rounds : line (codes "outcomes" ∷ codes "--rounds" ∷ codes "1" ∷ []) ≡ refused
   pub counted : line (codes "outcomes" ∷ codes "--counts" ∷ []) ≡ refused
+
+pub record FrontLines : Type 0 where
+  pub one : line (codes "outcomes" ∷ codes "--after" ∷ codes "c1" ∷ []) ≡ asks (outcomes 1000000 (1 ∷ []))
+  pub more : line (codes "outcomes" ∷ codes "--after=c0,c9,c0" ∷ codes "--limit=7" ∷ []) ≡ asks (outcomes 7 (0 ∷ 9 ∷ 0 ∷ []))
+  pub a_handler : line (codes "outcomes" ∷ codes "--after" ∷ codes "c0,h0" ∷ []) ≡ refused
+  pub nobody : line (codes "outcomes" ∷ codes "--after" ∷ [] ∷ []) ≡ refused
+  pub two_digits : line (codes "outcomes" ∷ codes "--after" ∷ codes "c10" ∷ []) ≡ refused
+  pub twice : line (codes "outcomes" ∷ codes "--after=c0" ∷ codes "--after=c0" ∷ []) ≡ refused
+  pub of_play : line (codes "play" ∷ codes "--after" ∷ codes "c0" ∷ []) ≡ refused
 
 pub record CountedLines : Type 0 where
   pub rules_alone : line (codes "rules" ∷ codes "--counts" ∷ []) ≡ asks (rules true 1000000 [])
@@ -79,6 +88,7 @@ pub record LineExamples : Type 0 where
   pub defaults : DefaultLines
   pub settings : SetLines
   pub limits : LimitLines
+  pub fronts : FrontLines
   pub counted : CountedLines
   pub uncounted : UncountedLines
   pub others : OtherLines

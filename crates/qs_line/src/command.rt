@@ -117,7 +117,9 @@ fn outcomes_command<'a>(alloc: Global) -> Result<Command<'a>, AllocError>
     ensures app { IfOk result (λ command. app_of command ≡ outcomes_app) }
     ensures local { IfOk result (λ command. (fields_of command).has_globals ≡ false) }
 {
-    word(alloc, "outcomes", help::OUTCOMES, help::OUTCOMES_EXAMPLE).arg(limit_option(alloc))
+    word(alloc, "outcomes", help::OUTCOMES, help::OUTCOMES_EXAMPLE)
+        .arg(limit_option(alloc))?
+        .arg(option(alloc, "after", "LIST", help::AFTER))
 }
 
 // The program, before its words.

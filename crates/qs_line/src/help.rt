@@ -68,8 +68,9 @@ pub const OUTCOMES: &str =
 pub const OUTCOMES_EXAMPLE: &str = "\
 Example:
   qs outcomes --limit 5000 < my.script
+  qs outcomes --after c1,c0 < my.script
 
-A line `outcome 2 c1,c0` begins the second result: the block of client 1 first, then that of client 0. Below it stand the
+The second lists only what comes after a block of client 1 and then one of client 0. A line `outcome 2 c1,c0` begins the second result: the block of client 1 first, then that of client 0. Below it stand the
 objects at the end, and each client with its variables. Configurations, which the last line counts, are where the script
 can stand between two blocks.";
 
@@ -82,6 +83,9 @@ pub const ROUNDS: &str = "How many rounds are played at most, after the picks: 0
 
 pub const LIMIT: &str =
     "How many configurations are looked at, at most: 1 to 4294967295; where there are more, nothing is listed";
+
+pub const AFTER: &str =
+    "Whose blocks were run before, joined by commas, each client's in turn: c0 is the first client";
 
 pub const PICK: &str =
     "Who steps first, joined by commas: c0 is the first client, h0 the first object's handler";

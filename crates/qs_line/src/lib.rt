@@ -1,6 +1,7 @@
 //! The command line of `qs`, read by `clap`.
 #![tactic(auto)]
 
+mod clients;
 mod command;
 mod help;
 pub mod laws;

@@ -4,9 +4,10 @@ ghost use Rattle.std.specs.Prelude.{◌≡◌, [], IfOk, IfErr, map, option_map}
 ghost use Rattle.clap.specs.Words.{found_of, first_of, kind_of, rows_of, subcommand_of, subcommand_rows_of};
 ghost use Rattle.clap.specs.Faults.{fault_of};
 ghost use Rattle.qs_line.specs.Command.{qs_app};
-ghost use Rattle.qs_line.specs.Line.{IsAnswer, IsFault, IsFaultAmong, chunk_at, counts_at, limit_at, line_in, mode_at, outcomes_at, picks_at, play_at, request_at, request_met, request_of, rounds_at, rules_at, run_at};
+ghost use Rattle.qs_line.specs.Line.{IsAnswer, IsFault, IsFaultAmong, chunk_at, counts_at, front_at, limit_at, line_in, mode_at, outcomes_at, picks_at, play_at, request_at, request_met, request_of, rounds_at, rules_at, run_at};
 
 use crate::Actor;
+use crate::clients::clients_of;
 use crate::command::command;
 use crate::picks::picks_of;
 use clap::error::ErrorKind;
@@ -57,6 +58,8 @@ pub enum Settings {
     Outcomes {
         /// How many configurations are looked at, at most.
         limit: u32,
+        /// Whose blocks were run before.
+        front: Vec<u8>,
     },
 }
 
@@ -137,6 +140,16 @@ fn given_picks(alloc: Global, found: &ArgMatches<'_>) -> Result<Option<Vec<Actor
     }
 }
 
+// The clients after whose blocks outcomes are asked for; nobody where the line has no list of them.
+fn given_front(alloc: Global, found: &ArgMatches<'_>) -> Result<Option<Vec<u8>>, AllocError>
+    ensures front { IfOk result (λ front. option_map (λ clients. clients.items) front ≡ front_at (rows_of (found_of found.now))) }
+{
+    match text_at(found, "after") {
+        Some(text) => clients_of(alloc, text),
+        None => Ok(Some(Vec::new(alloc))),
+    }
+}
+
 fn rules_settings(alloc: Global, found: &ArgMatches<'_>) -> Result<Option<Settings>, AllocError>
     ensures settings { IfOk result (λ settings. option_map request_of settings ≡ rules_at (rows_of (found_of found.now))) }
 {
@@ -180,11 +193,13 @@ fn run_settings(found: &ArgMatches<'_>) -> Option<Settings>
     })
 }
 
-fn outcomes_settings(found: &ArgMatches<'_>) -> Option<Settings>
-    ensures settings { option_map request_of result ≡ outcomes_at (rows_of (found_of found.now)) }
+fn outcomes_settings(alloc: Global, found: &ArgMatches<'_>) -> Result<Option<Settings>, AllocError>
+    ensures settings { IfOk result (λ settings. option_map request_of settings ≡ outcomes_at (rows_of (found_of found.now))) }
 {
-    let limit = limit_of(found)?;
-    Some(Settings::Outcomes { limit })
+    let (Some(limit), Some(front)) = (limit_of(found), given_front(alloc, found)?) else {
+        return Ok(None);
+    };
+    Ok(Some(Settings::Outcomes { limit, front }))
 }
 
 // What a word asks for, with what clap found after it.
@@ -201,7 +216,7 @@ fn settings_of(
         "rules" => rules_settings(alloc, found),
         "play" => play_settings(alloc, found),
         "run" => Ok(run_settings(found)),
-        "outcomes" => Ok(outcomes_settings(found)),
+        "outcomes" => outcomes_settings(alloc, found),
         _ => Ok(None),
     }
 }

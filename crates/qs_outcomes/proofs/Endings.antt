@@ -109,7 +109,7 @@ turns_on n k body l m st ss is e =
 pub known : {o : Ending} {left b : Bool} {l : Locals} {ss : List State} → EndsWith o left l ss → left ≡ b → EndsWith o b l ss
 known e is = record { left = e.left ∙ is; locals = e.locals; states = e.states }
 
-pub nothing_left : (xs : List Stmt) (i : ℕ) → length xs ≤ i → drop i xs ≡ []
+pub nothing_left : {X : Type 0} (xs : List X) (i : ℕ) → length xs ≤ i → drop i xs ≡ []
 nothing_left xs i past = grind (arith, common_steps)
 
 -- what an ending with a `leave` makes of what comes after it, and what one without it

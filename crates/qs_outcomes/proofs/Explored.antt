@@ -40,8 +40,7 @@ listed p front rows s found = record {
       (λ c. sym (ap (λ (g : Configuration). g.begun c) found.standing.stands) ∙ all_begun p front s found.standing found.over c);
   reduced = found.standing.reduced;
   outcome = ap outcome_in found.standing.stands ∙ configurations_follow_orders p s.order found.standing.legal;
-  locals = found.standing.locals;
-  states = found.standing.states;
+  places = record { locals = found.standing.locals; states = found.standing.states };
 }
 
 found_apart : (p : ProgramShape) (front : List Ticket) (rows : List (List ℤ)) (s t : StandingShape) → IsFound p front rows s → IsFound p front rows t → outcome_at s ≡ outcome_at t → row_of p s ≡ row_of p t

@@ -12,7 +12,7 @@ use Rattle.qs_outcomes.proofs.Lists.{has_back, has_either, has_front, has_map, n
 use Rattle.qs_outcomes.proofs.Stands.{below_or_past, goes_left, past_end}
 
 -- a client that has a block left is one of the program's
-in_program : (p : ProgramShape) (s : StandingShape) (c : ℕ) → HasNext p s c → c < length p.clients
+pub in_program : (p : ProgramShape) (s : StandingShape) (c : ℕ) → HasNext p s c → c < length p.clients
 in_program p s c left =
     ⊎_elim
     (λ (l : c < length p.clients). l)

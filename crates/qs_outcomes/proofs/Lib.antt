@@ -1,3 +1,4 @@
+pub mod Fronts
 pub mod Endings
 pub mod RowSteps
 pub mod Stands

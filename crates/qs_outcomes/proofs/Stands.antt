@@ -1,7 +1,7 @@
 -- Where a client's next block has run on what the lists of a standing hold, they hold the next configuration, and the order that is longer
 -- by one ticket leads there. The functions that make standings rest on it. Lists by number are functions that are changed at one place, and
 -- the last ticket of an order is taken last.
-use Rattle.std.proofs.Common.{◌≡◌, ◌<◌, ◌≤◌, ℕ, zero, suc, Bool, true, false, ◌==◌, List, [], ◌∷◌, ◌++◌, length, get_or, replicate, refl, sym, ap, ◌∙◌, subst, arith, ⊎_elim, append_assoc, ◌⊎◌, inl, inr, ◌≢◌, ◌||◌, ℤ}
+use Rattle.std.proofs.Common.{◌≡◌, ◌<◌, ◌≤◌, ℕ, zero, suc, Bool, true, false, ◌==◌, List, [], ◌∷◌, ◌++◌, length, get_or, replicate, refl, sym, ap, ◌∙◌, subst, arith, ⊎_elim, append_assoc, append-nil, ◌⊎◌, inl, inr, ◌≢◌, ◌||◌, ℤ}
 use Rattle.std.proofs.Common.{get_or-set_same, get_or-set_other}
 use Rattle.std.proofs.lemmas.List.{length-set, length-replicate}
 use Rattle.std.specs.Prelude.{slice_set}
@@ -20,34 +20,16 @@ use Rattle.qs_meaning.specs.Configurations.{Configuration, configuration_after, 
 use Rattle.qs_meaning.specs.Serial.{IsLegal, LegalFrom, declared_states, no_state, state_or_none, zeros}
 use Rattle.qs_meaning.specs.Solo.{BlockResult, put, solo}
 use Rattle.qs_meaning.proofs.Orders.{configuration-append, legal_on}
-use Rattle.qs_meaning.proofs.TreeWalks.{put_here, put_there}
+use Rattle.qs_orders.proofs.Lookups.{lookup-replicate, lookup-set}
 use Rattle.qs_outcomes.specs.Alone.{AreCallsWithin, IsCallWithin, states_in}
 use Rattle.qs_meaning.specs.Reduced.{IsReducedFrom, goes_on}
 use Rattle.qs_meaning.proofs.Groups.{some_go_on}
-use Rattle.qs_outcomes.specs.Standings.{GoesOn, HasNext, IsFirst, IsNext, IsReducedAfter, IsStanding, StandingShape, configuration_in}
-
--- a list by number, changed at a place
-pub lookup-set : {X : Type 0} (xs : List X) (i : ℕ) (v d : X) → i < length xs → ◌≡◌ {A = ℕ → X} (λ j. get_or (slice_set xs i v) j d) (put (λ j. get_or xs j d) i v)
-lookup-set xs i v d within = λ k j. at j k
-  where
-    at : (j : ℕ) → get_or (slice_set xs i v) j d ≡ put (λ j. get_or xs j d) i v j
-    at j =
-        ⊎_elim
-        (λ (is : i ≡ j). subst (λ j. get_or (slice_set xs i v) j d ≡ put (λ j. get_or xs j d) i v j) is
-        (get_or-set_same xs i v d within ∙ sym (put_here (λ j. get_or xs j d) i v)))
-        (λ (other : (i == j) ≡ false). let apart : i ≢ j = apart_eqb i j other in
-        get_or-set_other xs i j v d (λ e. apart (sym e)) ∙ sym (put_there (λ j. get_or xs j d) i v j other))
-        (num_cases i j)
+use Rattle.qs_outcomes.specs.Standings.{GoesOn, HasNext, IsFirst, IsNext, IsOneOn, IsReducedAfter, IsStanding, StandingShape, configuration_in}
 
 pub below_or_past : (h n : ℕ) → (h < n) ⊎ (n ≤ h)
 below_or_past h zero = inr (omega arith)
 below_or_past zero (suc n) = inl (omega arith)
 below_or_past (suc h) (suc n) = elim (below_or_past h n) [ inl l ↦ inl (omega (arith, l)) | inr g ↦ inr (omega (arith, g)) ]
-
-lookup-replicate : {X : Type 0} (n i : ℕ) (a : X) → get_or (replicate n a) i a ≡ a
-lookup-replicate zero i a = refl
-lookup-replicate (suc n) zero a = refl
-lookup-replicate (suc n) (suc i) a = lookup-replicate n i a
 
 pub past_end : {X : Type 0} (xs : List X) (i : ℕ) (d : X) → length xs ≤ i → get_or xs i d ≡ d
 past_end [] i d past = refl
@@ -77,15 +59,15 @@ reduced-snoc p g (u ∷ ts) t reduced goes = (reduced.0, reduced-snoc p (one_blo
 pub goes_left : (p : ProgramShape) (s : StandingShape) (c : ℕ) → GoesOn p s c → HasNext p s c
 goes_left p s c goes = (some_go_on p (configuration_in s).begun).undisturbed.left c goes
 
-module _ (p : ProgramShape) (front : List Ticket) (s n : StandingShape) (c : ℕ) (standing : IsStanding p front s) (client : c < length p.clients) (left : HasNext p s c) (goes : GoesOn p s c) where
+module _ (p : ProgramShape) (front : List Ticket) (s n : StandingShape) (c : ℕ) (standing : IsStanding p front s) (client : c < length p.clients) (left : HasNext p s c) where
   abbrev ran : BlockResult
   ran = solo (block_at p c (get_or s.begun c 0)).body (get_or s.locals c zeros) (states_in s.states)
 
   abbrev ticket : Ticket
   ticket = record { client = c; index = get_or s.begun c 0 }
 
-  reduced_on : IsReducedAfter p front (s.order ++ ticket ∷ [])
-  reduced_on =
+  reduced_on : GoesOn p s c → IsReducedAfter p front (s.order ++ ticket ∷ [])
+  reduced_on goes =
       let r = standing.reduced in
       let there : configuration_in s ≡ configuration_from p (configuration_after p front) r.rest =
       standing.stands ∙ (ap (configuration_after p) r.whole ∙ configuration-append p (first_configuration p) front r.rest) in
@@ -95,12 +77,12 @@ module _ (p : ProgramShape) (front : List Ticket) (s n : StandingShape) (c : ℕ
         reduced = reduced-snoc p (configuration_after p front) r.rest ticket r.reduced (subst (λ (g : Configuration). goes_on p g.begun c ≡ true) there goes);
       }
 
-  pub stands_next : n.order ≡ s.order ++ record { client = c; index = get_or s.begun c 0 } ∷ []
+  pub stands_on : n.order ≡ s.order ++ record { client = c; index = get_or s.begun c 0 } ∷ []
       → n.begun ≡ slice_set s.begun c (suc (get_or s.begun c 0))
       → n.locals ≡ slice_set s.locals c (solo (block_at p c (get_or s.begun c 0)).body (get_or s.locals c zeros) (states_in s.states)).locals
       → states_in n.states ≡ (solo (block_at p c (get_or s.begun c 0)).body (get_or s.locals c zeros) (states_in s.states)).states
-      → length n.states ≡ length s.states → IsNext p front s c n
-  stands_next order begun locals states count =
+      → length n.states ≡ length s.states → IsOneOn p s c n
+  stands_on order begun locals states count =
       let here : c < length s.begun = omega (arith, client, standing.begun) in
       let there : c < length s.locals = omega (arith, client, standing.locals) in
       let counts : ◌≡◌ {A = ℕ → ℕ} (λ j. get_or n.begun j 0) (put (λ j. get_or s.begun j 0) c (suc (get_or s.begun c 0))) =
@@ -115,12 +97,26 @@ module _ (p : ProgramShape) (front : List Ticket) (s n : StandingShape) (c : ℕ
           locals = ap length locals ∙ length-set s.locals c _ ∙ standing.locals;
           states = count ∙ standing.states;
           legal = subst (IsLegal p) (sym order) (legal-snoc p (first_configuration p) s.order ticket standing.legal begins left);
-          reduced = subst (IsReducedAfter p front) (sym order) reduced_on;
+          reduced = record { rest = []; whole = sym (append-nil n.order); reduced = tt };
           stands = next ∙ ap (one_block_on p c) standing.stands
               ∙ sym (ap (configuration_after p) order ∙ configuration-snoc p (first_configuration p) s.order ticket);
         };
+        order = order;
         next = next;
       }
+
+  pub goes_next : IsOneOn p s c n → GoesOn p s c → IsNext p front s c n
+  goes_next on goes = record {
+    standing = record {
+      begun = on.standing.begun;
+      locals = on.standing.locals;
+      states = on.standing.states;
+      legal = on.standing.legal;
+      reduced = subst (IsReducedAfter p front) (sym on.order) (reduced_on goes);
+      stands = on.standing.stands;
+    };
+    next = on.next;
+  }
 
 pub stands_first : (p : ProgramShape) (s : StandingShape) → s.order ≡ [] → s.begun ≡ replicate (length p.clients) 0 → s.locals ≡ replicate (length p.clients) zeros
     → length s.states ≡ length p.objects → ((h : ℕ) → h < length p.objects → get_or s.states h no_state ≡ declared_states p h) → IsFirst p [] s
@@ -135,6 +131,7 @@ stands_first p s order begun locals count states =
         reduced = record { rest = []; whole = order; reduced = tt };
         stands = first ∙ sym (ap (configuration_after p) order);
       };
+      order = order;
       first = first;
     }
   where

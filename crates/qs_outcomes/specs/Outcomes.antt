@@ -18,13 +18,17 @@ pub record OutcomesShape : Type 0 where
 abbrev pub outcome_at : StandingShape → OrderOutcome
 outcome_at s = outcome_in (configuration_in s)
 
--- its order begins with the front, is reduced after it, is complete, and comes to what it holds; it has a place for each client and each object
+-- it has a place for each client and each object
+pub record HasPlaces (p : ProgramShape) (s : StandingShape) : Type 0 where
+  pub locals : length s.locals ≡ length p.clients
+  pub states : length s.states ≡ length p.objects
+
+-- its order begins with the front, is reduced after it, is complete, and comes to what it holds
 pub record IsListedAfter (p : ProgramShape) (front : List Ticket) (s : StandingShape) : Type 0 where
   pub complete : IsComplete p s.order
   pub reduced : IsReducedAfter p front s.order
   pub outcome : outcome_at s ≡ outcome_of p s.order
-  pub locals : length s.locals ≡ length p.clients
-  pub states : length s.states ≡ length p.objects
+  pub places : HasPlaces p s
 
 abbrev pub IsListed : ProgramShape → StandingShape → Type 0
 IsListed p s = IsListedAfter p [] s

@@ -41,6 +41,7 @@ pub record IsStanding (p : ProgramShape) (front : List Ticket) (s : StandingShap
 -- where no block was begun but those of the front
 pub record IsFirst (p : ProgramShape) (front : List Ticket) (s : StandingShape) : Type 0 where
   pub standing : IsStanding p front s
+  pub order : s.order ≡ front
   pub first : configuration_in s ≡ configuration_after p front
 
 abbrev pub HasNext : ProgramShape → StandingShape → ℕ → Type 0
@@ -50,7 +51,13 @@ HasNext p s c = HasBlockLeft p (configuration_in s) c
 abbrev pub GoesOn : ProgramShape → StandingShape → ℕ → Type 0
 GoesOn p s c = goes_on p (configuration_in s).begun c ≡ true
 
--- where the client's next block has run
+-- where the client's next block has run, by an order that is longer by its ticket
+pub record IsOneOn (p : ProgramShape) (s : StandingShape) (c : ℕ) (n : StandingShape) : Type 0 where
+  pub standing : IsStanding p n.order n
+  pub order : n.order ≡ s.order ++ record { client = c; index = (configuration_in s).begun c } ∷ []
+  pub next : configuration_in n ≡ one_block_on p c (configuration_in s)
+
+-- the same of a client that goes on, after a front
 pub record IsNext (p : ProgramShape) (front : List Ticket) (s : StandingShape) (c : ℕ) (n : StandingShape) : Type 0 where
   pub standing : IsStanding p front n
   pub next : configuration_in n ≡ one_block_on p c (configuration_in s)

@@ -12,6 +12,9 @@ pub enum OutcomesFault {
     /// There are more configurations than the limit.
     #[error("2 Limit")]
     Limit,
+    /// The list of clients names no order: it names no client, or more blocks than a client has.
+    #[error("3 Order")]
+    Order,
 }
 
 impl From<AllocError> for OutcomesFault {

@@ -2,12 +2,14 @@
 #![tactic(auto)]
 
 mod alone;
+mod copies;
 mod fault;
+mod front;
 mod going;
 mod rows;
 mod search;
 mod standing;
 
 pub use fault::OutcomesFault;
-pub use search::{AllOutcomes, outcomes};
+pub use search::{AllOutcomes, outcomes, outcomes_after};
 pub use standing::Standing;

@@ -2,18 +2,23 @@
 
 ghost use Rattle.std.specs.Prelude.{◌≡◌, ◌<◌, ◌≤◌, ◌+◌, ℕ, true, false, IfOk, OnOk, IsErrOf, [], ◌∷◌, ◌++◌, length};
 ghost use Rattle.std.specs.List.{AllByRecursion};
-ghost use Rattle.qs_outcomes.specs.Outcomes.{AreAllOutcomes, AreApart, HasConfigurations, HasMoreThan, HasMoreThanAfter, IsListed};
+ghost use Rattle.qs_orders.specs.NamedOrders.{order_of};
+ghost use Rattle.qs_meaning.specs.Serial.{IsLegal};
+ghost use Rattle.qs_outcomes.specs.Outcomes.{AreAllOutcomes, AreAllOutcomesAfter, AreApart, HasConfigurations, HasConfigurationsAfter, HasMoreThan, HasMoreThanAfter, IsListed, IsListedAfter};
 ghost use Rattle.qs_outcomes.specs.Rows.{rows_in};
 ghost use Rattle.qs_outcomes.specs.Search.{HasOne, IsExplored, IsInserted, IsLonger, IsNoted, IsPushed, work_left};
 ghost use Rattle.qs_meaning.specs.Reduced.{goes_on};
 ghost use Rattle.qs_outcomes.specs.Going.{AreLast, in_byte};
-ghost use Rattle.qs_outcomes.specs.Standings.{IsStanding, configuration_in, row_of};
+ghost use Rattle.qs_outcomes.specs.Standings.{IsFirst, IsStanding, configuration_in, row_of};
 
+use crate::copies::copied;
 use crate::fault::OutcomesFault;
+use crate::front::placed;
 use crate::going::{Last, last_blocks};
 use crate::standing::Standing;
 use indexmap::IndexSet;
 use qs_objects::Ticket;
+use qs_orders::names_order;
 use qs_program::Program;
 use std::alloc::{AllocError, Global};
 use std::marker::Model;
@@ -57,6 +62,13 @@ impl AllOutcomes {
     }
 }
 
+// What the search writes into again and again: where a next block leads, and a row.
+#[derive(Drop)]
+struct Scratch {
+    next: Standing,
+    row: Vec<i64>,
+}
+
 // Adds a row: whether it is new.
 fn insert(seen: &mut IndexSet<Vec<i64>>, row: Vec<i64>) -> Result<bool, AllocError>
     ensures inserted { IfOk result (λ new. IsInserted (rows_in seen.old.keys) row.items new (rows_in seen.new.keys)) }
@@ -67,15 +79,6 @@ fn insert(seen: &mut IndexSet<Vec<i64>>, row: Vec<i64>) -> Result<bool, AllocErr
     Ok(new)
 }
 
-// The same row in as much memory as it needs.
-fn exact(alloc: Global, row: &[i64]) -> Result<Vec<i64>, AllocError>
-    ensures same { IfOk result (λ copy. copy.items ≡ row.now) }
-{
-    let mut copy = Vec::with_capacity(alloc, row.len())?;
-    copy.extend_from_slice(row)?;
-    Ok(copy)
-}
-
 // Notes a standing's row: whether it is new.
 fn note(
     alloc: Global,
@@ -83,7 +86,7 @@ fn note(
     front: &[Ticket],
     limit: u32,
     standing: &Standing,
-    row: &mut Vec<i64>,
+    scratch: &mut Scratch,
     seen: &mut IndexSet<Vec<i64>>,
 ) -> Result<bool, OutcomesFault>
     requires standing { IsStanding program.now front.now standing.now }
@@ -91,9 +94,10 @@ fn note(
     ensures noted { IfOk result (λ new. IsNoted (rows_in seen.old.keys) (row_of program.now standing.now) limit new (rows_in seen.new.keys)) }
     ensures full { IsErrOf result OutcomesFault.Limit → (length (rows_in seen.old.keys) ≡ limit)
         × (HasOne (λ r. row_of program.now standing.now ≡ r) (rows_in seen.old.keys) → ⊥) }
+    ensures order { ¬ IsErrOf result OutcomesFault.Order }
 {
-    standing.write_row(program, front, row)?;
-    let new = insert(seen, exact(alloc, row.as_slice())?)?;
+    standing.write_row(program, front, &mut scratch.row)?;
+    let new = insert(seen, copied(alloc, scratch.row.as_slice())?)?;
     if new && seen.len() > limit as usize {
         return Err(OutcomesFault::Limit);
     }
@@ -115,7 +119,7 @@ fn push_one(
     standing: &Standing,
     goes: u8,
     client: u8,
-    row: &mut Vec<i64>,
+    scratch: &mut Scratch,
     seen: &IndexSet<Vec<i64>>,
     stack: &mut Vec<Standing>,
 ) -> Result<(), AllocError>
@@ -126,12 +130,12 @@ fn push_one(
 {
     program.is_sound();
     if (goes >> client) & 1 == 1 {
-        let next = standing.next(alloc, program, front, client)?;
-        next.write_row(program, front, row)?;
-        if was_seen(seen, row) {
+        standing.put_next(alloc, program, front, client, &mut scratch.next)?;
+        scratch.next.write_row(program, front, &mut scratch.row)?;
+        if was_seen(seen, &scratch.row) {
             return Ok(());
         }
-        stack.push(next)?;
+        stack.push(scratch.next.copied(alloc)?)?;
     }
     Ok(())
 }
@@ -143,7 +147,7 @@ fn push_next(
     last: &[Last],
     front: &[Ticket],
     standing: &Standing,
-    row: &mut Vec<i64>,
+    scratch: &mut Scratch,
     seen: &IndexSet<Vec<i64>>,
     stack: &mut Vec<Standing>,
 ) -> Result<(), AllocError>
@@ -162,7 +166,7 @@ fn push_next(
             standing,
             goes,
             clients - 1 - back,
-            row,
+            scratch,
             seen,
             stack,
         )?;
@@ -186,7 +190,7 @@ fn visit(
     front: &[Ticket],
     limit: u32,
     standing: Standing,
-    row: &mut Vec<i64>,
+    scratch: &mut Scratch,
     seen: &mut IndexSet<Vec<i64>>,
     stack: &mut Vec<Standing>,
     found: &mut Vec<Standing>,
@@ -199,9 +203,10 @@ fn visit(
     ensures less { OnOk result (work_left limit (rows_in seen.new.keys) stack.new.items
         < work_left limit (rows_in seen.old.keys) stack.old.items + 1) }
     ensures limit { IsErrOf result OutcomesFault.Limit → HasMoreThanAfter program.now front.now limit }
+    ensures order { ¬ IsErrOf result OutcomesFault.Order }
 {
     program.is_sound();
-    match note(alloc, program, front, limit, &standing, row, seen) {
+    match note(alloc, program, front, limit, &standing, scratch, seen) {
         Err(fault) => return Err(fault),
         Ok(false) => return Ok(()),
         Ok(true) => {}
@@ -210,36 +215,46 @@ fn visit(
         add(found, standing)?;
         return Ok(());
     }
-    push_next(alloc, program, last, front, &standing, row, seen, stack)?;
+    push_next(alloc, program, last, front, &standing, scratch, seen, stack)?;
     Ok(())
 }
 
-/// All outcomes of a program, each once, with a complete order that comes to it, and how many different configurations reduced orders lead to.
-/// `Limit` comes only where there are more configurations than the limit, `Memory` where memory was refused.
-pub fn outcomes(alloc: Global, program: &Program, limit: u32) -> Result<AllOutcomes, OutcomesFault>
-    ensures sound { IfOk result (λ all. AllByRecursion (IsListed program.now) all.found) }
-    ensures complete { IfOk result (λ all. AreAllOutcomes program.now all.found) }
+// The outcomes after a front, by a search that begins where the program stands after it.
+fn search_from(
+    alloc: Global,
+    program: &Program,
+    front: &[Ticket],
+    first: Standing,
+    limit: u32,
+) -> Result<AllOutcomes, OutcomesFault>
+    requires first { IsFirst program.now front.now first }
+    ensures sound { IfOk result (λ all. AllByRecursion (IsListedAfter program.now front.now) all.found) }
+    ensures complete { IfOk result (λ all. AreAllOutcomesAfter program.now front.now all.found) }
     ensures once { IfOk result (λ all. AreApart all.found) }
-    ensures counted { IfOk result (λ all. HasConfigurations program.now all.configurations) }
+    ensures counted { IfOk result (λ all. HasConfigurationsAfter program.now front.now all.configurations) }
     ensures within { IfOk result (λ all. all.configurations ≤ limit) }
-    ensures limit { IsErrOf result OutcomesFault.Limit → HasMoreThan program.now limit }
+    ensures limit { IsErrOf result OutcomesFault.Limit → HasMoreThanAfter program.now front.now limit }
+    ensures order { ¬ IsErrOf result OutcomesFault.Order }
 {
     program.is_sound();
     let last = last_blocks(alloc, program)?;
     let mut seen = IndexSet::new(alloc);
     let mut found = Vec::new(alloc);
     let mut stack = Vec::new(alloc);
-    let mut row = Vec::new(alloc);
-    add(&mut stack, Standing::first(alloc, program)?)?;
+    let mut scratch = Scratch {
+        next: Standing::empty(alloc),
+        row: Vec::new(alloc),
+    };
+    add(&mut stack, first)?;
     while let Some(standing) = stack.pop() {
         visit(
             alloc,
             program,
             last.as_slice(),
-            &[],
+            front,
             limit,
             standing,
-            &mut row,
+            &mut scratch,
             &mut seen,
             &mut stack,
             &mut found,
@@ -249,4 +264,45 @@ pub fn outcomes(alloc: Global, program: &Program, limit: u32) -> Result<AllOutco
         found,
         configurations: seen.len(),
     })
+}
+
+/// All outcomes of a program after the blocks that a list of clients names, each client's in turn: each once, with a complete order that
+/// begins with these and comes to it, and how many different configurations orders lead to that are reduced after them. `Order` comes
+/// exactly where no legal order is named, `Limit` only where there are more configurations than the limit, `Memory` where memory was
+/// refused.
+pub fn outcomes_after(
+    alloc: Global,
+    program: &Program,
+    front: &[u8],
+    limit: u32,
+) -> Result<AllOutcomes, OutcomesFault>
+    ensures legal { IfOk result (λ all. IsLegal program.now (order_of front.now)) }
+    ensures sound { IfOk result (λ all. AllByRecursion (IsListedAfter program.now (order_of front.now)) all.found) }
+    ensures complete { IfOk result (λ all. AreAllOutcomesAfter program.now (order_of front.now) all.found) }
+    ensures once { IfOk result (λ all. AreApart all.found) }
+    ensures counted { IfOk result (λ all. HasConfigurationsAfter program.now (order_of front.now) all.configurations) }
+    ensures within { IfOk result (λ all. all.configurations ≤ limit) }
+    ensures limit { IsErrOf result OutcomesFault.Limit → HasMoreThanAfter program.now (order_of front.now) limit }
+    ensures order { IsErrOf result OutcomesFault.Order → ¬ IsLegal program.now (order_of front.now) }
+{
+    if !names_order(program, front) {
+        return Err(OutcomesFault::Order);
+    }
+    let first = placed(alloc, program, front)?;
+    let order = copied(alloc, first.order())?;
+    search_from(alloc, program, order.as_slice(), first, limit)
+}
+
+/// All outcomes of a program, each once, with a complete order that comes to it, and how many different configurations reduced orders lead to.
+/// `Limit` comes only where there are more configurations than the limit, `Memory` where memory was refused, and `Order` never.
+pub fn outcomes(alloc: Global, program: &Program, limit: u32) -> Result<AllOutcomes, OutcomesFault>
+    ensures sound { IfOk result (λ all. AllByRecursion (IsListed program.now) all.found) }
+    ensures complete { IfOk result (λ all. AreAllOutcomes program.now all.found) }
+    ensures once { IfOk result (λ all. AreApart all.found) }
+    ensures counted { IfOk result (λ all. HasConfigurations program.now all.configurations) }
+    ensures within { IfOk result (λ all. all.configurations ≤ limit) }
+    ensures limit { IsErrOf result OutcomesFault.Limit → HasMoreThan program.now limit }
+    ensures order { ¬ IsErrOf result OutcomesFault.Order }
+{
+    outcomes_after(alloc, program, &[], limit)
 }

@@ -7,6 +7,7 @@ ghost use Rattle.qs_outcomes.specs.Alone.{AreCallsWithin, states_in};
 ghost use Rattle.qs_program.specs.Program.{blocks_of};
 
 use crate::alone::run_body;
+use crate::copies::copied;
 use crate::going::{Last, goes_on};
 use crate::rows::{add_begun, add_locals, add_objects};
 use qs_objects::{Object, ObjectFault, Ticket};
@@ -69,69 +70,83 @@ fn declared_objects(alloc: Global, program: &Program) -> Result<Vec<Object>, All
     Ok(objects)
 }
 
-// The same objects once more.
-fn copied_objects(alloc: Global, objects: &[Object]) -> Result<Vec<Object>, AllocError>
-    ensures same { IfOk result (λ copy. copy.items ≡ objects.now) }
+// Puts copies of objects in the place of those that are there.
+fn put_objects(
+    alloc: Global,
+    objects: &[Object],
+    copies: &mut Vec<Object>,
+) -> Result<(), AllocError>
+    ensures same { OnOk result (copies.new.items ≡ objects.now) }
 {
-    let mut copy = Vec::with_capacity(alloc, objects.len())?;
+    copies.clear();
     for object in objects {
-        copy.push(object.copied(alloc)?)?;
+        copies.push(object.copied(alloc)?)?;
     }
-    Ok(copy)
+    Ok(())
 }
 
-// Runs a block alone, on objects of its own. An error says that memory was refused.
+// Runs a block alone, on copies of the objects. An error says that memory was refused.
 fn run_block(
     alloc: Global,
     block: &Block,
     locals: &mut Locals,
     objects: &[Object],
-) -> Result<Vec<Object>, AllocError>
+    left: &mut Vec<Object>,
+) -> Result<(), AllocError>
     requires within { AreCallsWithin (length objects.now) block.now.body }
     ensures locals { OnOk result (locals.new ≡ (solo block.now.body locals.old (states_in objects.now)).locals) }
-    ensures states { IfOk result (λ left. states_in left.items ≡ (solo block.now.body locals.old (states_in objects.now)).states) }
-    ensures count { IfOk result (λ left. length left.items ≡ length objects.now) }
+    ensures states { OnOk result (states_in left.new.items ≡ (solo block.now.body locals.old (states_in objects.now)).states) }
+    ensures count { OnOk result (length left.new.items ≡ length objects.now) }
 {
-    let mut left = copied_objects(alloc, objects)?;
+    put_objects(alloc, objects, left)?;
     let _leave = run_body(alloc, block.body(), locals, left.as_mut_slice());
-    Ok(left)
+    Ok(())
 }
 
-// An order with one more ticket.
-fn longer(alloc: Global, order: &[Ticket], ticket: Ticket) -> Result<Vec<Ticket>, AllocError>
-    ensures longer { IfOk result (λ longer. longer.items ≡ order.now ++ ticket ∷ []) }
+// Puts an order with one more ticket in the place of the one that is there.
+fn put_longer(order: &[Ticket], ticket: Ticket, longer: &mut Vec<Ticket>) -> Result<(), AllocError>
+    ensures longer { OnOk result (longer.new.items ≡ order.now ++ ticket ∷ []) }
 {
-    let mut longer = Vec::with_capacity(alloc, order.len() + 1)?;
+    longer.clear();
     longer.extend_from_slice(order)?;
     longer.push(ticket)?;
-    Ok(longer)
+    Ok(())
 }
 
-// The same counts but for one.
-fn with_count(alloc: Global, begun: &[u8], place: usize, count: u8) -> Result<Vec<u8>, AllocError>
+// Puts the same counts but for one in the place of those that are there.
+fn put_counts(begun: &[u8], place: usize, count: u8, counts: &mut Vec<u8>) -> Result<(), AllocError>
     requires { place < length begun.now }
-    ensures set { IfOk result (λ counts. counts.items ≡ slice_set begun.now place count) }
+    ensures set { OnOk result (counts.new.items ≡ slice_set begun.now place count) }
 {
-    let mut counts = Vec::with_capacity(alloc, begun.len())?;
+    counts.clear();
     counts.extend_from_slice(begun)?;
     counts[place] = count;
-    Ok(counts)
+    Ok(())
 }
 
-// The same variables but for one client's.
-fn with_locals(
-    alloc: Global,
+// Puts the same variables but for one client's in the place of those that are there.
+fn put_locals(
     locals: &[Locals],
     place: usize,
     values: &Locals,
-) -> Result<Vec<Locals>, AllocError>
+    changed: &mut Vec<Locals>,
+) -> Result<(), AllocError>
     requires { place < length locals.now }
-    ensures set { IfOk result (λ changed. changed.items ≡ slice_set locals.now place values.now) }
+    ensures set { OnOk result (changed.new.items ≡ slice_set locals.now place values.now) }
 {
-    let mut changed = Vec::with_capacity(alloc, locals.len())?;
+    changed.clear();
     changed.extend_from_slice(locals)?;
     changed[place] = *values;
-    Ok(changed)
+    Ok(())
+}
+
+// The same objects once more.
+fn copied_objects(alloc: Global, objects: &[Object]) -> Result<Vec<Object>, AllocError>
+    ensures same { IfOk result (λ copy. copy.items ≡ objects.now) }
+{
+    let mut copy = Vec::with_capacity(alloc, objects.len())?;
+    put_objects(alloc, objects, &mut copy)?;
+    Ok(copy)
 }
 
 // No block was begun.
@@ -156,7 +171,7 @@ impl Standing {
     ghost use Rattle.qs_meaning.specs.Reduced.{goes_on};
     ghost use Rattle.qs_outcomes.specs.Going.{AreLast, in_byte};
     ghost use Rattle.qs_outcomes.specs.Search.{NoneNext};
-    ghost use Rattle.qs_outcomes.specs.Standings.{GoesOn, HasNext, IsFirst, IsNext, IsStanding, configuration_in, row_of};
+    ghost use Rattle.qs_outcomes.specs.Standings.{GoesOn, HasNext, IsFirst, IsNext, IsOneOn, IsStanding, configuration_in, row_of};
 
     /// The order of blocks that leads there.
     pub fn order(&self) -> &[Ticket]
@@ -228,6 +243,66 @@ impl Standing {
         goes_on(program, last, self.begun.as_slice())
     }
 
+    /// Lists without a place, which take no memory: what `put_next` writes into.
+    pub(crate) fn empty(alloc: Global) -> Standing {
+        Standing {
+            order: Vec::new(alloc),
+            begun: Vec::new(alloc),
+            locals: Vec::new(alloc),
+            objects: Vec::new(alloc),
+        }
+    }
+
+    // The same standing once more. An error says that memory was refused.
+    pub(crate) fn copied(&self, alloc: Global) -> Result<Standing, AllocError>
+        ensures same { IfOk result (λ copy. copy ≡ self.now) }
+    {
+        Ok(Standing {
+            order: copied(alloc, self.order.as_slice())?,
+            begun: copied(alloc, self.begun.as_slice())?,
+            locals: copied(alloc, self.locals.as_slice())?,
+            objects: copied_objects(alloc, self.objects.as_slice())?,
+        })
+    }
+
+    // Writes where the program stands after the next block of a client into a standing, whose memory is used again. An error says that
+    // memory was refused.
+    pub(crate) fn put_next(
+        &self,
+        alloc: Global,
+        program: &Program,
+        front: &[Ticket],
+        client: u8,
+        next: &mut Standing,
+    ) -> Result<(), AllocError>
+        requires client { client < length program.now.clients }
+        requires standing { IsStanding program.now front.now self.now }
+        requires left { HasNext program.now self.now client }
+        ensures on { OnOk result (IsOneOn program.now self.now client next.new) }
+        ensures next { OnOk result (GoesOn program.now self.now client → IsNext program.now front.now self.now client next.new) }
+    {
+        program.is_sound();
+        let place = usize::from(client);
+        let index = self.begun[place];
+        let mut values = self.locals[place];
+        let block = program.block(client, index);
+        run_block(
+            alloc,
+            block,
+            &mut values,
+            self.objects.as_slice(),
+            &mut next.objects,
+        )?;
+        put_longer(
+            self.order.as_slice(),
+            Ticket { client, index },
+            &mut next.order,
+        )?;
+        put_counts(self.begun.as_slice(), place, index + 1, &mut next.begun)?;
+        put_locals(self.locals.as_slice(), place, &values, &mut next.locals)?;
+        Ok(())
+    }
+
     // Where the program stands after the next block of a client. An error says that memory was refused.
     pub(crate) fn next(
         &self,
@@ -239,24 +314,11 @@ impl Standing {
         requires client { client < length program.now.clients }
         requires standing { IsStanding program.now front.now self.now }
         requires left { HasNext program.now self.now client }
-        requires goes { GoesOn program.now self.now client }
-        ensures next { IfOk result (IsNext program.now front.now self.now client) }
+        ensures on { IfOk result (IsOneOn program.now self.now client) }
     {
-        program.is_sound();
-        let place = usize::from(client);
-        let index = self.begun[place];
-        let mut values = self.locals[place];
-        let block = program.block(client, index);
-        let objects = run_block(alloc, block, &mut values, self.objects.as_slice())?;
-        let order = longer(alloc, self.order.as_slice(), Ticket { client, index })?;
-        let begun = with_count(alloc, self.begun.as_slice(), place, index + 1)?;
-        let locals = with_locals(alloc, self.locals.as_slice(), place, &values)?;
-        Ok(Standing {
-            order,
-            begun,
-            locals,
-            objects,
-        })
+        let mut next = Standing::empty(alloc);
+        self.put_next(alloc, program, front, client, &mut next)?;
+        Ok(next)
     }
 
     // Writes its numbers as one row. An error says that memory was refused.

@@ -192,6 +192,7 @@ pub record FaultExamples : Type 0 where
   pub play_rounds : Says (Play play.Rounds) (codes "refused: play 3 Rounds\n") 2
   pub outcomes_memory : Says (Outcomes outcomes.Memory) (codes "refused: outcomes 1 Memory\n") 3
   pub outcomes_limit : Says (Outcomes outcomes.Limit) (codes "refused: outcomes 2 Limit\n") 2
+  pub outcomes_order : Says (Outcomes outcomes.Order) (codes "refused: outcomes 3 Order\n") 2
 
 pub record Examples : Type 0 where
   pub runs : RunExamples

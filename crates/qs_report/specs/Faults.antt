@@ -59,6 +59,7 @@ run_words run.Threads = codes "run 2 Threads"
 abbrev pub outcomes_words : OutcomesFault → List ℕ
 outcomes_words outcomes.Memory = codes "outcomes 1 Memory"
 outcomes_words outcomes.Limit = codes "outcomes 2 Limit"
+outcomes_words outcomes.Order = codes "outcomes 3 Order"
 
 abbrev pub fault_words : Fault → List ℕ
 fault_words CommandLine = codes "command line"
@@ -95,4 +96,5 @@ fault_status (Play _) = 2
 fault_status (Run _) = 3
 fault_status (Outcomes outcomes.Memory) = 3
 fault_status (Outcomes outcomes.Limit) = 2
+fault_status (Outcomes outcomes.Order) = 2
 fault_status Memory = 3

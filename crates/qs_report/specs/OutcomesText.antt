@@ -6,8 +6,9 @@ use Rattle.qs_objects.specs.declared.held.Ticket.{Ticket}
 use Rattle.qs_program.specs.Numbering.{Name}
 use Rattle.qs_program.specs.Program.{ProgramShape, client_at, object_at}
 use Rattle.qs_program.specs.Values.{Locals}
-use Rattle.qs_meaning.specs.Serial.{zeros}
-use Rattle.qs_outcomes.specs.Outcomes.{AreAllOutcomes, AreApart, HasConfigurations, IsListed, OutcomesShape}
+use Rattle.qs_orders.specs.NamedOrders.{order_of}
+use Rattle.qs_meaning.specs.Serial.{IsLegal, zeros}
+use Rattle.qs_outcomes.specs.Outcomes.{AreAllOutcomesAfter, AreApart, HasConfigurationsAfter, IsListedAfter, OutcomesShape}
 use Rattle.qs_outcomes.specs.Standings.{StandingShape}
 use Rattle.qs_report.specs.Report.{no_state, state_line}
 use Rattle.qs_report.specs.Texts.{count_line, texts_up_to}
@@ -58,14 +59,17 @@ listed_text p all =
     count_line (codes "outcomes") (length all.found) ++ texts_up_to (length all.found) (outcome_text_at p all.found)
     ++ count_line (codes "configurations") all.configurations
 
--- Each comes from the complete order that it shows, the outcome of each complete order is among them, and no two are equal; and so many
--- configurations there are.
-pub record AreOutcomesOf (p : ProgramShape) (all : OutcomesShape) : Type 0 where
-  pub sound : AllByRecursion (IsListed p) all.found
-  pub complete : AreAllOutcomes p all.found
+-- Of the complete orders that begin with a legal front: each comes from the order that it shows, the outcome of each such order is among
+-- them, and no two are equal; and so many configurations there are.
+pub record AreOutcomesAfter (p : ProgramShape) (front : List Ticket) (all : OutcomesShape) : Type 0 where
+  pub legal : IsLegal p front
+  pub sound : AllByRecursion (IsListedAfter p front) all.found
+  pub complete : AreAllOutcomesAfter p front all.found
   pub once : AreApart all.found
-  pub counted : HasConfigurations p all.configurations
+  pub counted : HasConfigurationsAfter p front all.configurations
 
--- There is a list of all outcomes of the program, in this order and with this count, which is within the limit, whose text this is.
-unfoldable pub IsOutcomesText : ProgramShape → (limit : ℕ) → List ℕ → Type 0
-IsOutcomesText p limit text = (all : OutcomesShape) × AreOutcomesOf p all × (all.configurations ≤ limit) × (text ≡ listed_text p all)
+-- There is a list of all outcomes of the program after the blocks that a list of clients names, in this order and with this count, which is
+-- within the limit, whose text this is.
+unfoldable pub IsOutcomesText : ProgramShape → (limit : ℕ) → (front : List ℕ) → List ℕ → Type 0
+IsOutcomesText p limit front text =
+    (all : OutcomesShape) × AreOutcomesAfter p (order_of front) all × (all.configurations ≤ limit) × (text ≡ listed_text p all)

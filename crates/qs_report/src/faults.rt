@@ -107,6 +107,7 @@ fn words_of_outcomes(fault: OutcomesFault) -> &'static [u8]
     match fault {
         OutcomesFault::Memory => b"outcomes 1 Memory",
         OutcomesFault::Limit => b"outcomes 2 Limit",
+        OutcomesFault::Order => b"outcomes 3 Order",
     }
 }
 
@@ -192,6 +193,6 @@ pub fn status(fault: &Fault) -> u8
         | Fault::Read(_)
         | Fault::Check(_)
         | Fault::Play(_)
-        | Fault::Outcomes(OutcomesFault::Limit) => 2,
+        | Fault::Outcomes(OutcomesFault::Limit | OutcomesFault::Order) => 2,
     }
 }

@@ -2,7 +2,7 @@
 
 ghost use Rattle.std.specs.Prelude.{◌≡◌, ◌<◌, ◌++◌, [], codes, flat_map, length, slice_index_or, IfOk, OnOk};
 ghost use Rattle.std.specs.List.{AllByRecursion};
-ghost use Rattle.qs_outcomes.specs.Outcomes.{IsListed};
+ghost use Rattle.qs_outcomes.specs.Outcomes.{HasPlaces};
 ghost use Rattle.qs_report.specs.OutcomesText.{client_line, clients_text, listed_text, next_client_text, no_standing, object_line, outcome_line, outcome_text, outcome_text_at, variable_text, variables_text};
 ghost use Rattle.qs_report.specs.Texts.{texts_up_to};
 
@@ -122,7 +122,7 @@ fn put_object(
 
 // All clients at the end.
 fn put_clients(out: &mut Vec<u8>, program: &Program, standing: &Standing) -> Result<(), AllocError>
-    requires listed { IsListed program.now standing.now }
+    requires places { HasPlaces program.now standing.now }
     ensures ok { OnOk result (out.new.items ≡ out.old.items ++ texts_up_to (length program.now.clients) (client_line program.now standing.now)) }
 {
     program.is_sound();
@@ -134,7 +134,7 @@ fn put_clients(out: &mut Vec<u8>, program: &Program, standing: &Standing) -> Res
 
 // All objects at the end.
 fn put_objects(out: &mut Vec<u8>, program: &Program, standing: &Standing) -> Result<(), AllocError>
-    requires listed { IsListed program.now standing.now }
+    requires places { HasPlaces program.now standing.now }
     ensures ok { OnOk result (out.new.items ≡ out.old.items ++ texts_up_to (length program.now.objects) (object_line program.now standing.now)) }
 {
     program.is_sound();
@@ -151,7 +151,7 @@ fn put_outcome(
     number: usize,
     standing: &Standing,
 ) -> Result<(), AllocError>
-    requires listed { IsListed program.now standing.now }
+    requires places { HasPlaces program.now standing.now }
     ensures ok { OnOk result (out.new.items ≡ out.old.items ++ outcome_text program.now number standing.now) }
 {
     put_outcome_line(out, number, standing.order())?;
@@ -169,7 +169,7 @@ fn outcome_at(found: &[Standing], place: usize) -> &Standing
 
 // All outcomes, one after another.
 fn put_found(out: &mut Vec<u8>, program: &Program, found: &[Standing]) -> Result<(), AllocError>
-    requires listed { AllByRecursion (IsListed program.now) found.now }
+    requires places { AllByRecursion (HasPlaces program.now) found.now }
     ensures ok { OnOk result (out.new.items ≡ out.old.items ++ texts_up_to (length found.now) (outcome_text_at program.now found.now)) }
 {
     for place in 0..found.len() {
@@ -185,7 +185,7 @@ pub fn outcomes_text(
     program: &Program,
     all: &AllOutcomes,
 ) -> Result<Vec<u8>, AllocError>
-    requires listed { AllByRecursion (IsListed program.now) all.now.found }
+    requires places { AllByRecursion (HasPlaces program.now) all.now.found }
     ensures text { IfOk result (λ bytes. bytes.items ≡ listed_text program.now all.now) }
 {
     let mut out = Vec::new(alloc);

@@ -1,11 +1,11 @@
 use Rattle.std.proofs.Common.{◌≤◌, [], length}
 use Rattle.qs_outcomes.specs.Rows.{rows_in}
 use Rattle.qs_outcomes.specs.Search.{IsExplored, work_left}
-use Rattle.qs_outcomes.proofs.search.outcomes.Given as goal
+use Rattle.qs_outcomes.proofs.search.search_from.Given as goal
 
 abbrev pub invariant-loop-standing : goal.invariant-loop-standing
 invariant-loop-standing l = record {
-  explored : IsExplored l.program [] (rows_in l.seen.keys) l.stack.items l.found.items;
+  explored : IsExplored l.program l.front (rows_in l.seen.keys) l.stack.items l.found.items;
   small : length (rows_in l.seen.keys) ≤ l.limit;
 }
 

@@ -1,0 +1,3 @@
+pub mod AloneSteps
+pub mod BlockAlone
+pub mod BlockReached
