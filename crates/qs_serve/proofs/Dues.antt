@@ -2,7 +2,6 @@
 -- the line asked for that run. The function `serve` and those that find what is due stand on it. Each goes by cases on what the
 -- line asks for and on the answer.
 use Rattle.std.proofs.Common.{◌≡◌, ◌≤◌, ◌⊎◌, ℕ, Bool, List, Option, Ok, true, false, refl, sym, subst, inl, inr}
-use Rattle.qs_program.specs.Program.{ProgramShape}
 use Rattle.qs_core_laws.specs.CoreSchedule.{IsPlayedIn}
 use Rattle.qs_plain_laws.specs.PlainSchedule.{IsPlayed}
 use Rattle.qs_played.specs.declared.schedule.actor.Actor.{Actor}
@@ -15,9 +14,15 @@ use Rattle.qs_script.specs.declared.fault.ReadFault.TheVariants as read
 use Rattle.qs_check.specs.declared.fault.CheckFault.TheVariants as check_fault
 use Rattle.qs_played.specs.declared.fault.PlayFault.TheVariants as play_fault
 use Rattle.qs_run_laws.specs.Outcomes.{IsOutcome}
-use Rattle.qs_outcomes.specs.Outcomes.{OutcomesShape}
+use Rattle.qs_program.specs.Program.{ProgramShape}
+use Rattle.qs_meaning.proofs.Each.{each_map}
+use Rattle.qs_orders.specs.NamedOrders.{order_of}
+use Rattle.std.specs.List.{AllByRecursion}
+use Rattle.qs_objects.specs.declared.held.Ticket.{Ticket}
+use Rattle.qs_outcomes.specs.Standings.{StandingShape}
+use Rattle.qs_outcomes.specs.Outcomes.{HasPlaces, IsListedAfter, OutcomesShape}
 use Rattle.qs_outcomes.specs.declared.fault.OutcomesFault.TheVariants as outcomes_fault
-use Rattle.qs_report.specs.OutcomesText.{AreOutcomesOf, IsOutcomesText}
+use Rattle.qs_report.specs.OutcomesText.{AreOutcomesAfter, IsOutcomesText}
 use Rattle.qs_line.specs.Line.{Line, asks, help, outcomes, play, refused, rules, run, version}
 use Rattle.qs_serve.specs.Due.{IsDue, IsDueOfProgram, IsListOf, IsOutOfMemory, IsRefusedBy, IsReportOf, due_status}
 use Rattle.qs_serve.specs.declared.due.Due.{Due}
@@ -45,6 +50,7 @@ status_of_input (fault.Play _) e = absurd (cc e)
 status_of_input (fault.Run _) e = absurd (cc e)
 status_of_input (fault.Outcomes outcomes_fault.Memory) e = absurd (cc e)
 status_of_input (fault.Outcomes outcomes_fault.Limit) e = absurd (cc e)
+status_of_input (fault.Outcomes outcomes_fault.Order) e = absurd (cc e)
 
 -- a status of 4 that is due says that a read has failed
 pub four_is_due : (line : Line) (known : Option (List ℕ)) (failed : Bool) (due : Due) → IsDue line known failed due → due_status due ≡ 4 → failed ≡ true
@@ -81,12 +87,16 @@ report_is_no_input counts p played (Text bytes) is = λ none. none
 report_is_no_input counts p played (Refused f) is = λ e. absurd (cc (is, e))
 
 -- a list that is due by what was asked for
-pub due_by_outcomes : (p : ProgramShape) (limit : ℕ) (all : OutcomesShape) (due : Due) → AreOutcomesOf p all → all.configurations ≤ limit → IsListOf p all due
-    → IsOutOfMemory due ⊎ IsDueOfProgram (outcomes limit) p due
+pub due_by_outcomes : (p : ProgramShape) (limit : ℕ) (front : List ℕ) (all : OutcomesShape) (due : Due) → AreOutcomesAfter p (order_of front) all → all.configurations ≤ limit
+    → IsListOf p all due → IsOutOfMemory due ⊎ IsDueOfProgram (outcomes limit front) p due
 unfolding IsOutcomesText
-due_by_outcomes p limit all (Text bytes) are within is = inr (all, are, within, is)
-due_by_outcomes p limit all (Refused f) are within is = inl (subst (λ g. IsOutOfMemory (Refused g)) (sym is) tt)
+due_by_outcomes p limit front all (Text bytes) are within is = inr (all, are, within, is)
+due_by_outcomes p limit front all (Refused f) are within is = inl (subst (λ g. IsOutOfMemory (Refused g)) (sym is) tt)
 
 pub list_is_no_input : (p : ProgramShape) (all : OutcomesShape) (due : Due) → IsListOf p all due → ¬ IsRefusedBy fault.Input due
 list_is_no_input p all (Text bytes) is = λ none. none
 list_is_no_input p all (Refused f) is = λ e. absurd (cc (is, e))
+
+-- what is listed has a place for each client and each object
+pub listed_places : (p : ProgramShape) (front : List Ticket) (found : List StandingShape) → AllByRecursion (IsListedAfter p front) found → AllByRecursion (HasPlaces p) found
+listed_places p front found each = each_map (λ s (is : IsListedAfter p front s). is.places) found each

@@ -5,7 +5,9 @@ use Rattle.std.specs.Io.KnownBytes.{Appends}
 use Rattle.qs_script.specs.declared.fault.ReadFault.TheVariants as read
 use Rattle.qs_check.specs.declared.fault.CheckFault.TheVariants as check_fault
 use Rattle.qs_played.specs.declared.fault.PlayFault.TheVariants as play_fault
-use Rattle.qs_outcomes.specs.Outcomes.{HasMoreThan, OutcomesShape}
+use Rattle.qs_orders.specs.NamedOrders.{order_of}
+use Rattle.qs_meaning.specs.Serial.{IsLegal}
+use Rattle.qs_outcomes.specs.Outcomes.{HasMoreThanAfter, OutcomesShape}
 use Rattle.qs_outcomes.specs.declared.fault.OutcomesFault.{OutcomesFault}
 use Rattle.qs_outcomes.specs.declared.fault.OutcomesFault.TheVariants as outcomes_fault
 use Rattle.qs_report.specs.declared.faults.Fault.{Fault}
@@ -68,8 +70,8 @@ IsListOf p all (Text bytes) = bytes.items ≡ listed_text p all
 IsListOf p all (Refused f) = f ≡ fault.Memory
 
 -- what a request makes of a program: its counts; its graphs; the report of its run by the plain rules or in the optimised machine,
--- with so many rounds after its picks; that of an outcome which its run on threads may have; or all its outcomes, of so many
--- configurations at most. A report has the counts of synchronisations where they are asked for.
+-- with so many rounds after its picks; that of an outcome which its run on threads may have; or all its outcomes after
+-- the blocks of some clients, of so many configurations at most. A report has the counts of synchronisations where they are asked for.
 abbrev pub IsTextBy : Request → ProgramShape → List ℕ → Type 0
 IsTextBy check p text = text ≡ counts_text p
 IsTextBy graph p text = IsGraphText p text
@@ -78,7 +80,7 @@ IsTextBy (rules counts rounds picks) p text =
 IsTextBy (play counts mode size rounds picks) p text =
     (played : Played) × IsPlayedIn p mode size picks rounds (Ok played) × (text ≡ run_text counts p played)
 IsTextBy (run counts mode size) p text = (outcome : Played) × IsOutcome p mode size outcome × (text ≡ run_text counts p outcome)
-IsTextBy (outcomes limit) p text = IsOutcomesText p limit text
+IsTextBy (outcomes limit front) p text = IsOutcomesText p limit front text
 
 -- why what a request asks for is not played
 abbrev pub IsUnplayedBy : Request → ProgramShape → PlayFault → Type 0
@@ -91,10 +93,12 @@ abbrev pub IsRun : Request → Type 0
 IsRun (run counts mode size) = Unit {0}
 IsRun _ = ⊥
 
--- why outcomes that are asked for are not listed: there are more configurations than the limit, or an allocation failed
+-- why outcomes that are asked for are not listed: there are more configurations than the limit, the clients name no legal order, or an
+-- allocation failed
 abbrev pub IsUnlistedBy : Request → ProgramShape → OutcomesFault → Type 0
-IsUnlistedBy (outcomes limit) p outcomes_fault.Limit = HasMoreThan p limit
-IsUnlistedBy (outcomes limit) p outcomes_fault.Memory = Unit {0}
+IsUnlistedBy (outcomes limit front) p outcomes_fault.Limit = HasMoreThanAfter p (order_of front) limit
+IsUnlistedBy (outcomes limit front) p outcomes_fault.Order = ¬ IsLegal p (order_of front)
+IsUnlistedBy (outcomes limit front) p outcomes_fault.Memory = Unit {0}
 IsUnlistedBy _ p f = ⊥
 
 abbrev pub IsDueOfProgram : Request → ProgramShape → Due → Type 0

@@ -5,14 +5,14 @@ ghost use Rattle.qs_report.specs.declared.faults.Fault.TheVariants as fault;
 ghost use Rattle.qs_line.specs.Line.{asks, line_in, outcomes, play, request_by, request_of, rules, run};
 ghost use Rattle.qs_serve.specs.Due.{HasAsked, IsDue, IsDueOfProgram, IsDueOfText, IsRefusedBy, IsListOf, IsReportOf, IsTextOf, IsOutOfMemory, due_status, longest};
 ghost use Rattle.std.specs.List.{AllByRecursion};
-ghost use Rattle.qs_outcomes.specs.Outcomes.{IsListed};
+ghost use Rattle.qs_outcomes.specs.Outcomes.{HasPlaces};
 
 use crate::input::{Counted, InputFault, gather};
 use qs_check::{Program, check};
 use qs_chunk::ChunkSize;
 use qs_core::play_plain;
 use qs_line::{Actor, LineFault, Settings, read_line};
-use qs_outcomes::{AllOutcomes, outcomes};
+use qs_outcomes::{AllOutcomes, outcomes_after};
 use qs_played::{Outcome, Played};
 use qs_report::{
     Fault, check_text, graph_text, outcomes_text, report, report_counts, report_run,
@@ -137,7 +137,7 @@ fn due_of_run<S: Starter, T: Threads + Wait + Sync>(
 
 // The text of all outcomes.
 fn due_of_all(alloc: Global, program: &Program, all: AllOutcomes) -> Due
-    requires listed { AllByRecursion (IsListed program.now) all.found }
+    requires places { AllByRecursion (HasPlaces program.now) all.found }
     ensures due { IsListOf program.now all result }
 {
     let text = outcomes_text(alloc, program, &all);
@@ -145,12 +145,12 @@ fn due_of_all(alloc: Global, program: &Program, all: AllOutcomes) -> Due
     due_of_bytes(text)
 }
 
-// All outcomes, found over so many configurations at most.
-fn due_of_outcomes(alloc: Global, program: &Program, limit: u32) -> Due
+// All outcomes after the blocks of some clients, found over so many configurations at most.
+fn due_of_outcomes(alloc: Global, program: &Program, limit: u32, front: &[u8]) -> Due
     ensures not_input { ¬ IsRefusedBy fault.Input result }
-    ensures due { IsOutOfMemory result ⊎ IsDueOfProgram (outcomes limit) program.now result }
+    ensures due { IsOutOfMemory result ⊎ IsDueOfProgram (outcomes limit front.now) program.now result }
 {
-    match outcomes(alloc, program, limit) {
+    match outcomes_after(alloc, program, front, limit) {
         Ok(all) => due_of_all(alloc, program, all),
         Err(fault) => Due::Refused(Fault::Outcomes(fault)),
     }
@@ -193,7 +193,9 @@ fn due_of_program<T: Threads + Wait + Sync>(
             mode,
             chunk,
         } => due_of_run(rt, alloc, program, *counts, *mode, *chunk, &mut FreeStart),
-        Settings::Outcomes { limit } => due_of_outcomes(alloc, program, *limit),
+        Settings::Outcomes { limit, front } => {
+            due_of_outcomes(alloc, program, *limit, front.as_slice())
+        }
         Settings::Check => due_of_bytes(check_text(alloc, program)),
         Settings::Graph => due_of_bytes(graph_text(alloc, program)),
     }
