@@ -16,3 +16,4 @@ pub mod ServiceFieldLemmas
 pub mod CoreShowing
 pub mod CoreFieldLemmas
 pub mod CoreRows
+pub mod CoreBlocks

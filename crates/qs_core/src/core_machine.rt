@@ -152,6 +152,13 @@ impl<'p> CoreMachine<'p> {
         self.program
     }
 
+    /// Whether a client wants to reserve its next block.
+    pub(crate) fn wants_block(&self, number: u8) -> bool
+        requires { number < length self.now.clients }
+    {
+        self.clients[usize::from(number)].wants_block()
+    }
+
     /// One step of an actor: true where it has one, and else false, with nothing changed; also where there is no such actor.
     pub(crate) fn step(&mut self, actor: Actor) -> bool
         requires keeps { CoreKeeps self.old }

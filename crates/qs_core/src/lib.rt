@@ -2,15 +2,17 @@
 #![tactic(auto)]
 
 mod core_machine;
+mod core_orders;
 mod core_schedules;
 mod core_showing;
 pub mod laws;
 mod optimised;
 
+pub use core_orders::play_in_order;
 pub use core_schedules::play;
 pub use optimised::Core;
 pub use qs_objects::Traces;
-pub use qs_plain::{Rules, play_plain};
+pub use qs_plain::{Rules, play_plain, play_plain_in_order};
 pub use qs_plain_laws::QueueItem;
 pub use qs_played::{Actor, PlayFault, Played, Row};
 pub use qs_twin::{Twin, twin};

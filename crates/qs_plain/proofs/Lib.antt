@@ -11,3 +11,4 @@ pub mod RulesPreserved
 pub mod RulesServe
 pub mod RulesSteps
 pub mod RulesFieldLemmas
+pub mod Blocks

@@ -3,3 +3,4 @@ pub mod BegunBlocks
 pub mod Handlers
 pub mod Rules
 pub mod Served
+pub mod Blocks

@@ -4,9 +4,11 @@
 mod handler;
 mod handlers;
 mod machine;
+mod orders;
 mod rules;
 mod schedules;
 mod showing;
 
+pub use orders::play_plain_in_order;
 pub use rules::Rules;
 pub use schedules::play_plain;

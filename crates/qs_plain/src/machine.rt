@@ -1,6 +1,6 @@
 //! The machine of the plain rules.
 
-ghost use Rattle.std.specs.Prelude.{◌≡◌, ◌<◌, None, false, length, IfOk};
+ghost use Rattle.std.specs.Prelude.{◌≡◌, ◌<◌, ◌∷◌, None, false, length, map, IfOk};
 ghost use Rattle.std.specs.Bool.{OnTrue};
 ghost use Rattle.qs_plain_laws.specs.Plain.{begin, step as the_step};
 ghost use Rattle.qs_played.specs.declared.schedule.actor.Actor.TheVariants as actors;
@@ -47,8 +47,11 @@ impl<'p> Machine<'p> {
     ghost use Rattle.qs_plain_client.specs.Clients.{client_at};
     ghost use Rattle.qs_plain.specs.Rules.{Steps, plain_of};
     ghost use Rattle.qs_played.specs.Schedule.{actors_of, rounds_of};
-    ghost use Rattle.qs_plain_laws.specs.PlainSchedule.{played_of, plays};
+    ghost use Rattle.qs_plain_laws.specs.PlainSchedule.{is_out, played_of, plays};
     ghost use Rattle.qs_plain.specs.BegunBlocks.{AreBegun};
+    ghost use Rattle.qs_plain.specs.Blocks.{IsOneBlockOn, IsQuietNow, blocks_begun};
+    ghost use Rattle.qs_plain_laws.specs.Plain.{client_at as the_client};
+    ghost use Rattle.qs_program.specs.Program.{blocks_of};
 
     /// A program before its first step. It takes all the memory that the run will need, by the loads; an allocation that fails leaves nothing.
     pub(crate) fn new(alloc: Global, program: &'p Program) -> Result<Machine<'p>, AllocError>
@@ -219,6 +222,54 @@ impl<'p> Machine<'p> {
             if !self.round() {
                 return;
             }
+        }
+    }
+
+    // Whether a client stands between two blocks.
+    fn is_out(&self, number: u8) -> bool
+        ensures value { result ≡ is_out (the_client (plain_of self.now) number).stage }
+    {
+        match self.clients.get(usize::from(number)) {
+            Some(client) => matches!(client.stage(), Stage::Out),
+            None => true,
+        }
+    }
+
+    // How many blocks a client has begun.
+    fn begun(&self, number: u8) -> usize
+        ensures value { result ≡ blocks_begun self.now number }
+    {
+        match self.clients.get(usize::from(number)) {
+            Some(client) => client.begun(),
+            None => 0,
+        }
+    }
+
+    // One step of a client, and then one of each handler of a list.
+    fn turn(&mut self, client: u8, handlers: &[u8])
+        ensures turn { plain_of self.new ≡ plays self.old.program (actors.Client client ∷ map actors.Handler handlers.now) (plain_of self.old) }
+        ensures program { self.new.program ≡ self.old.program }
+    {
+        let _stepped = self.step(Actor::Client(client));
+        for handler in handlers {
+            let _served = self.step(Actor::Handler(*handler));
+        }
+    }
+
+    /// The next block of a client, from its reservation to its end, where nobody is in a block: the client and the handlers of the
+    /// block's list step in turn.
+    pub(crate) fn play_block(&mut self, client: u8)
+        requires quiet { IsQuietNow self.old }
+        requires left { blocks_begun self.old client < blocks_of self.old.program client }
+        ensures on { IsOneBlockOn self.old client self.new }
+    {
+        self.program.is_sound();
+        let program = self.program;
+        let index = self.begun(client) as u8;
+        let reserved = program.block(client, index).reserved();
+        let _stepped = self.step(Actor::Client(client));
+        'turns: while !self.is_out(client) {
+            self.turn(client, reserved);
         }
     }
 

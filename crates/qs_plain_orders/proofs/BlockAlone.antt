@@ -13,7 +13,7 @@ use Rattle.qs_objects.proofs.Choices.{apart_eqb, eqb_true, num_cases, same_self,
 use Rattle.qs_program.specs.Program.{ProgramShape, text_of}
 use Rattle.qs_program.specs.Sound.{IsSound, is_in}
 use Rattle.qs_program.specs.Values.{Locals}
-use Rattle.qs_meaning.specs.Following.{AsksOnly, reserves}
+use Rattle.qs_meaning.specs.Following.{reserves}
 use Rattle.qs_meaning.specs.Interaction.{Interaction, Done, Call, Query}
 use Rattle.qs_meaning.specs.Solo.{put, value_of}
 use Rattle.qs_meaning.proofs.TreeWalks.{put_here, put_there}

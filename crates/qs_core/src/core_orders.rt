@@ -1,0 +1,56 @@
+//! Orders of blocks on the optimised machine.
+
+ghost use Rattle.std.specs.Prelude.{IfOk, IsErrOf};
+ghost use Rattle.qs_meaning.specs.Serial.{IsLegal};
+ghost use Rattle.qs_orders.specs.NamedOrders.{order_of};
+ghost use Rattle.qs_core.specs.CoreOrders.{IsPlayedBySome};
+
+use crate::optimised::Core;
+use qs_chunk::ChunkSize;
+use qs_orders::{OrderFault, names_order};
+use qs_played::Played;
+use qs_program::Program;
+use qs_syncset::Mode;
+use std::alloc::{AllocError, Global};
+
+/// What a program shows in the optimised machine after the blocks that a list of clients names, each client's in turn: one block after
+/// another, each from its reservation on, while the client and all handlers step in turn until nobody has a step. It is what is shown
+/// after some picks, isolated and counted like every run; that all of these blocks have ended is tested, and no clause says it. `Order`
+/// comes exactly where no legal order is named, before any allocation; `Memory` where one fails.
+pub fn play_in_order(
+    alloc: Global,
+    program: &Program,
+    mode: Mode,
+    size: ChunkSize,
+    clients: &[u8],
+) -> Result<Played, OrderFault>
+    ensures legal { IfOk result (λ played. IsLegal program.now (order_of clients.now)) }
+    ensures played { IfOk result (IsPlayedBySome program.now mode size) }
+    ensures order { IsErrOf result OrderFault.Order → ¬ IsLegal program.now (order_of clients.now) }
+    ensures memory { IsErrOf result OrderFault.Memory → IsLegal program.now (order_of clients.now) }
+{
+    if !names_order(program, clients) {
+        return Err(OrderFault::Order);
+    }
+    match play_clients(alloc, program, mode, size, clients) {
+        Ok(played) => Ok(played),
+        Err(_) => Err(OrderFault::Memory),
+    }
+}
+
+fn play_clients(
+    alloc: Global,
+    program: &Program,
+    mode: Mode,
+    size: ChunkSize,
+    clients: &[u8],
+) -> Result<Played, AllocError>
+    requires legal { IsLegal program.now (order_of clients.now) }
+    ensures played { IfOk result (IsPlayedBySome program.now mode size) }
+{
+    let mut core = Core::new(alloc, program, mode, size)?;
+    for client in clients {
+        core.play_block(*client);
+    }
+    core.into_played(alloc)
+}

@@ -1,0 +1,47 @@
+//! Orders of blocks under the plain rules.
+
+ghost use Rattle.std.specs.Prelude.{IfOk, IsErrOf};
+ghost use Rattle.qs_meaning.specs.Serial.{IsLegal};
+ghost use Rattle.qs_orders.specs.NamedOrders.{order_of};
+ghost use Rattle.qs_plain_orders.specs.PlainOrders.{IsPlayedInOrder};
+
+use crate::machine::Machine;
+use qs_orders::{OrderFault, names_order};
+use qs_played::Played;
+use qs_program::Program;
+use std::alloc::{AllocError, Global};
+
+/// What a program shows under the plain rules after the blocks that a list of clients names, each client's in turn: one block after
+/// another, each from its reservation to its end, while the client and the block's handlers step in turn. What is shown are exactly
+/// these blocks in this order, all ended, and the run is finished where they are all. `Order` comes exactly where no legal order is named,
+/// before any allocation; `Memory` where one fails. It is isolated and counted like every run.
+pub fn play_plain_in_order(
+    alloc: Global,
+    program: &Program,
+    clients: &[u8],
+) -> Result<Played, OrderFault>
+    ensures legal { IfOk result (λ played. IsLegal program.now (order_of clients.now)) }
+    ensures played { IfOk result (IsPlayedInOrder program.now (order_of clients.now)) }
+    ensures order { IsErrOf result OrderFault.Order → ¬ IsLegal program.now (order_of clients.now) }
+    ensures memory { IsErrOf result OrderFault.Memory → IsLegal program.now (order_of clients.now) }
+{
+    if !names_order(program, clients) {
+        return Err(OrderFault::Order);
+    }
+    match play_clients(alloc, program, clients) {
+        Ok(played) => Ok(played),
+        Err(_) => Err(OrderFault::Memory),
+    }
+}
+
+fn play_clients(alloc: Global, program: &Program, clients: &[u8]) -> Result<Played, AllocError>
+    requires legal { IsLegal program.now (order_of clients.now) }
+    ensures played { IfOk result (IsPlayedInOrder program.now (order_of clients.now)) }
+{
+    program.is_sound();
+    let mut rules = Machine::new(alloc, program)?;
+    for client in clients {
+        rules.play_block(*client);
+    }
+    rules.into_played(alloc)
+}
