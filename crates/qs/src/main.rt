@@ -35,12 +35,13 @@ fn texts(alloc: Global, words: &Vec<String>) -> Result<Vec<&str>, AllocError>
 fn main(rt: HostRuntime) -> ExitCode {
     let mut input = Counted::new(rt.reader());
     let mut out = io::writer(&rt);
+    let mut err = rt.stderr();
     let words = match arguments(&rt) {
         Ok(words) => words,
-        Err(fault) => return ExitCode::from(refuse(fault, &mut out, &mut Watch::new())),
+        Err(fault) => return ExitCode::from(refuse(fault, &mut out, &mut Watch::new(), &mut err)),
     };
     let Ok(texts) = texts(rt.alloc(), &words) else {
-        return ExitCode::from(refuse(Fault::Memory, &mut out, &mut Watch::new()));
+        return ExitCode::from(refuse(Fault::Memory, &mut out, &mut Watch::new(), &mut err));
     };
     ExitCode::from(serve(
         &rt,
@@ -49,5 +50,6 @@ fn main(rt: HostRuntime) -> ExitCode {
         &mut input,
         &mut out,
         &mut Watch::new(),
+        &mut err,
     ))
 }

@@ -1,6 +1,6 @@
 -- A token that is cut off at the front of what is left of a text stands at its place, and so do those before it still. By
 -- induction on the tokens before it: what comes after each of them has one token more.
-use Rattle.std.proofs.Common.{◌≡◌, ℕ, ◌<◌, ◌≤◌, ◌+◌, ◌-◌, List, [], ◌∷◌, ◌++◌, length, map, drop, refl, sym, ap, ◌∙◌, arith, Result, Ok, Err}
+use Rattle.std.proofs.Common.{◌≡◌, ℕ, ◌<◌, ◌≤◌, ◌+◌, ◌-◌, List, [], ◌∷◌, ◌++◌, length, drop, refl, sym, ap, ◌∙◌, arith, Result}
 use Rattle.std.proofs.lemmas.List.{drop-drop}
 use Rattle.qs_tokens.specs.declared.token.Token.{Token}
 use Rattle.qs_tokens.specs.declared.lex.TokenFault.{TokenFault}
@@ -38,9 +38,13 @@ pub stand_more : (text : List ℕ) (ps : List PlacedToken) (p : Piece) (s e : �
     → later ≡ after (cutting.tokens_in p) next → tokens_of (drop s text) ≡ later → tokens_of (drop e text) ≡ next → s < e → e ≤ length text
     → Stand text ps later → Stand text (ps ++ placed_in p s e) next
 stand_more text [] p s e later next h begins ends some within old = stands text p s e later next h begins ends some within
-stand_more text (q ∷ ps) p s e later next h begins ends some within (a, b, c, d, old) =
-    (a ∙ more (q ∷ ps) p s e later next h, b ∙ more ps p s e later next h, c, d,
-    stand_more text ps p s e later next h begins ends some within old)
+stand_more text (q ∷ ps) p s e later next h begins ends some within (a, b, c, d, old) = (
+  a ∙ more (q ∷ ps) p s e later next h,
+  b ∙ more ps p s e later next h,
+  c,
+  d,
+  stand_more text ps p s e later next h begins ends some within old,
+)
 
 -- what is left of what is left of a text is what is left of the text
 pub rest_of : (text rest next : List ℕ) → length rest ≤ length text → length next < length rest → rest ≡ drop (length text - length rest) text

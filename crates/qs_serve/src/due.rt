@@ -23,6 +23,7 @@ use qs_script::{LONGEST_TEXT, read};
 use qs_syncset::Mode;
 use std::alloc::{AllocError, Global};
 use std::io::Read;
+use std::mem;
 use std::sync::Wait;
 use std::thread::Threads;
 
@@ -225,31 +226,37 @@ fn due_of_script<T: Threads + Wait + Sync>(
 // One byte more than a script may have shows that a text is longer.
 const LONGEST: usize = LONGEST_TEXT + 1;
 
-// What the input's text gives by settings.
+// What the input's text gives by settings. The text is kept, where it was read.
 fn due_of_input<T: Threads + Wait + Sync, R: Read>(
     rt: &T,
     alloc: Global,
     settings: &Settings,
     input: &mut Counted<R>,
+    kept: &mut Vec<u8>,
 ) -> Due
     requires fine { input.old.has_failed ≡ false }
     ensures due { IsDue (asks (request_of settings.now)) input.old.remaining input.new.has_failed result }
     ensures reads { input.new.reads ≤ input.old.reads + longest }
 {
     match gather(alloc, input, LONGEST) {
-        Ok(text) => due_of_script(rt, alloc, settings, text.as_slice()),
+        Ok(text) => {
+            let due = due_of_script(rt, alloc, settings, text.as_slice());
+            drop(mem::replace(kept, text));
+            due
+        }
         Err(InputFault::Read) => Due::Refused(Fault::Input),
         Err(InputFault::Memory) => Due::Refused(Fault::Memory),
     }
 }
 
 /// What is due by a command line and an input. The line comes first: where it is refused nothing is read. Else the input is read up to
-/// its end or 65,537 bytes, by at most 65,537 reads, and a read that fails is the input's fault.
+/// its end or 65,537 bytes, by at most 65,537 reads, and a read that fails is the input's fault. The text that was read is kept.
 pub fn due_of<'a, T: Threads + Wait + Sync, R: Read>(
     rt: &T,
     alloc: Global,
     words: &'a [&'a str],
     input: &mut Counted<R>,
+    kept: &mut Vec<u8>,
 ) -> Due
     requires fine { input.old.has_failed ≡ false }
     ensures due { IsDue (line_in (map (λ word. word.now) words.entry.now)) input.old.remaining input.new.has_failed result }
@@ -258,7 +265,7 @@ pub fn due_of<'a, T: Threads + Wait + Sync, R: Read>(
 {
     match read_line(alloc, words) {
         Ok(settings) => {
-            let due = due_of_input(rt, alloc, &settings, input);
+            let due = due_of_input(rt, alloc, &settings, input, kept);
             drop(settings);
             due
         }

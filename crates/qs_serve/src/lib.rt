@@ -3,8 +3,11 @@
 
 mod due;
 mod input;
+mod line_words;
 mod output;
+mod pick_words;
 mod serving;
+mod telling;
 
 pub use input::Counted;
 pub use qs_report::{Fault, Watch};

@@ -9,6 +9,7 @@ ghost use Rattle.qs_serve.specs.Due.{IsDone, Serves, longest};
 use crate::due::{Due, due_of};
 use crate::input::Counted;
 use crate::output::finish;
+use crate::telling::{tell, tell_unread};
 use qs_report::{Fault, Watch};
 use std::alloc::Global;
 use std::io::{Read, Write};
@@ -17,14 +18,16 @@ use std::thread::Threads;
 
 /// The whole program, over a reader whose reads are counted and a writer whose failures are watched; its status is the answer. The words
 /// are all the process's arguments, the program's name first. The status is 4 exactly where a read, a write or the flush fails. The word `run`
-/// takes threads, and waits for them.
-pub fn serve<'a, T: Threads + Wait + Sync, R: Read, W: Write>(
+/// takes threads, and waits for them. What
+/// was refused is told on `err` in words; that changes neither output nor status.
+pub fn serve<'a, T: Threads + Wait + Sync, R: Read, W: Write, E: Write>(
     rt: &T,
     alloc: Global,
     words: &'a [&'a str],
     input: &mut Counted<R>,
     out: &mut W,
     watch: &mut Watch<W>,
+    err: &mut E,
 ) -> u8
     requires readable { input.old.has_failed ≡ false }
     requires writable { watch.old.has_failed ≡ false }
@@ -36,16 +39,27 @@ pub fn serve<'a, T: Threads + Wait + Sync, R: Read, W: Write>(
     ensures reads { input.new.reads ≤ input.old.reads + longest }
     ensures flushed { watch.new.has_failed ≡ false → IsTrue watch.new.is_flushed }
 {
-    let due = due_of(rt, alloc, words, input);
-    finish(out, watch, &due)
+    let mut text = Vec::new(alloc);
+    let due = due_of(rt, alloc, words, input, &mut text);
+    let status = finish(out, watch, &due);
+    tell(alloc, words, text.as_slice(), &due, status != 4, err);
+    status
 }
 
-/// Where the words themselves are not there: the line of that fault, and its status, or 4 where a write or the flush fails.
-pub fn refuse<W: Write>(fault: Fault, out: &mut W, watch: &mut Watch<W>) -> u8
+/// Where the words themselves are not there: the line of that fault, and its status, or 4 where a write or the flush fails. `err` is told
+/// why.
+pub fn refuse<W: Write, E: Write>(
+    fault: Fault,
+    out: &mut W,
+    watch: &mut Watch<W>,
+    err: &mut E,
+) -> u8
     requires fine { watch.old.has_failed ≡ false }
     ensures front { AppendsFront (W.contents out.old) (W.contents out.new) (fault_text fault) }
     ensures status { MatchBool watch.new.has_failed (result ≡ 4) (IsDone (W.contents out.old) (W.contents out.new) (Due.Refused fault) result) }
 {
     let due = Due::Refused(fault);
-    finish(out, watch, &due)
+    let status = finish(out, watch, &due);
+    tell_unread(&due, err);
+    status
 }

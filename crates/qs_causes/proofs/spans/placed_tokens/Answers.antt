@@ -12,7 +12,7 @@ each-preserved c =
     let start = length text - length rest in
     let end = length text - length next in
     let left : next ≡ drop (length text - length next) text =
-        rest_of text rest next c.each.invariant.short c.in-Ok.ensures.shorter c.each.invariant.end_of c.in-Ok.ensures.suffix in
+    rest_of text rest next c.each.invariant.short c.in-Ok.ensures.shorter c.each.invariant.end_of c.in-Ok.ensures.suffix in
     record {
       short = omega (arith, c.each.invariant.short, c.in-Ok.ensures.shorter);
       end_of = left;

@@ -10,7 +10,7 @@ by_watch P true status due is e = inr refl
 by_watch P false status due is e = inl (sym is.1 ∙ e)
 
 pub returns-clause-gives_up : goal.returns-clause-gives_up
-returns-clause-gives_up g c = λ e. elim (by_watch _ c.finish.new.watch.has_failed c.finish.result _ c.finish.ensures.status e) [
+returns-clause-gives_up g c = λ e. elim (by_watch _ c.finish-status.new.watch.has_failed c.finish-status.result _ c.finish-status.ensures.status e) [
   | inl four ↦ inl (four_is_due _ _ c.due_of-due.new.input.has_failed c.due_of-due.result c.due_of-due.ensures.due four)
   | inr failed ↦ inr failed
 ]

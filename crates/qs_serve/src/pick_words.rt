@@ -1,0 +1,54 @@
+// What is said of a pick of nobody.
+
+use crate::line_words::put_part;
+use qs_causes::actors;
+use qs_line::value_after;
+use qs_told::put_all;
+use std::alloc::{AllocError, Global};
+
+// Whether a part of a list of picks is a client or a handler that is there.
+fn is_there(part: &[u8], clients: u64, objects: u64) -> bool {
+    match part {
+        [b'c', digit @ b'0'..=b'9'] => u64::from(*digit - b'0') < clients,
+        [b'h', digit @ b'0'..=b'9'] => u64::from(*digit - b'0') < objects,
+        _ => false,
+    }
+}
+
+/// Puts which part of the list of picks names nobody, and who is there.
+pub(crate) fn put_actor<'a>(
+    alloc: Global,
+    out: &mut Vec<u8>,
+    words: &'a [&'a str],
+    text: &[u8],
+) -> Result<(), AllocError> {
+    let (clients, objects) = actors(alloc, text)?;
+    let Some(picks) = value_after(words, "--pick") else {
+        return Ok(());
+    };
+    let mut place = 1u64;
+    for part in picks.split(',') {
+        let part = part.as_bytes();
+        if !is_there(part, clients, objects) {
+            put_part(out, place, part, b"names nobody\n")?;
+            return put_counts(out, clients, objects);
+        }
+        place = place.saturating_add(1);
+    }
+    Ok(())
+}
+
+fn put_counts(out: &mut Vec<u8>, clients: u64, objects: u64) -> Result<(), AllocError> {
+    let mut first = itoa::Buffer::new();
+    let mut second = itoa::Buffer::new();
+    put_all(
+        out,
+        &[
+            b"  = help: clients: ",
+            first.format(clients).as_bytes(),
+            b", objects: ",
+            second.format(objects).as_bytes(),
+            b", both counted from 0: the first are c0 and h0\n",
+        ],
+    )
+}

@@ -1,0 +1,132 @@
+// What is said on standard error of a run that was refused.
+
+ghost use Rattle.std.specs.Prelude.{◌≡◌, IsTrue};
+ghost use Rattle.std.specs.Io.KnownBytes.{Keeps};
+ghost use Rattle.qs_serve.specs.Due.{IsSomeText};
+
+use crate::due::Due;
+use crate::line_words::put_line;
+use crate::pick_words::put_actor;
+use qs_causes::{tell_check, tell_read};
+use qs_check::CheckFault;
+use qs_outcomes::OutcomesFault;
+use qs_played::{PlayFault, RunFault};
+use qs_report::{Fault, Watch, write_text};
+use qs_script::ReadFault;
+use qs_told::put;
+use std::alloc::{AllocError, Global};
+use std::io::Write;
+
+const WRITE: &[u8] = b"error: the output could not be written\n";
+
+// What is said of a fault that has no place in the script and no part of the line.
+fn plain_words(fault: &Fault) -> Option<&'static [u8]> {
+    match fault {
+        Fault::Input => Some(b"error: the script could not be read from standard input\n"),
+        Fault::Memory => Some(b"error: memory ran out\n"),
+        Fault::Read(ReadFault::Size) => Some(
+            b"error: a script has at most 65536 bytes, and this text has more\n",
+        ),
+        Fault::Read(ReadFault::Memory) => Some(
+            b"error: memory ran out while the script was read\n",
+        ),
+        Fault::Check(fault) => check_words(*fault),
+        Fault::Play(PlayFault::Memory) => Some(
+            b"error: memory ran out while the script was played\n",
+        ),
+        Fault::Play(PlayFault::Rounds) => Some(b"error: `--rounds` is at most 1000000\n"),
+        Fault::Run(RunFault::Memory) => Some(b"error: memory ran out before the script was run\n"),
+        Fault::Run(RunFault::Threads) => Some(
+            b"error: a thread could not be started\n  = help: each client and each object has a thread of its own; `qs play` takes none\n",
+        ),
+        Fault::Outcomes(OutcomesFault::Memory) => Some(
+            b"error: memory ran out while outcomes were looked for\n",
+        ),
+        Fault::Outcomes(OutcomesFault::Limit) => Some(
+            b"error: there are more configurations than the limit\n  = help: `--limit N` sets another limit, up to 4294967295; without it, it is 1000000\n",
+        ),
+        _ => None,
+    }
+}
+
+fn check_words(fault: CheckFault) -> Option<&'static [u8]> {
+    match fault {
+        CheckFault::Load => Some(
+            b"error: the blocks of this script can make more than 100000 requests in all\n  = help: a `repeat N` counts its body N times, and an `if` the greater of its two bodies\n",
+        ),
+        CheckFault::Weight => Some(
+            b"error: the blocks of this script can take more than 1000000 steps in all\n  = help: a `repeat N` counts its body N times and one more, and an `if` the greater of its two bodies\n",
+        ),
+        CheckFault::Memory => Some(b"error: memory ran out while the script was checked\n"),
+        _ => None,
+    }
+}
+
+// The text of what is said of a fault of the line, of the script or of a pick.
+fn told<'a>(
+    alloc: Global,
+    words: &'a [&'a str],
+    text: &[u8],
+    fault: &Fault,
+) -> Result<Vec<u8>, AllocError> {
+    let mut out = Vec::new(alloc);
+    match fault {
+        Fault::CommandLine => put_line(alloc, &mut out, words)?,
+        Fault::Read(_) => tell_read(alloc, &mut out, text)?,
+        Fault::Check(_) => tell_check(alloc, &mut out, text)?,
+        Fault::Play(_) => put_actor(alloc, &mut out, words, text)?,
+        _ => put(&mut out, b"")?,
+    }
+    Ok(out)
+}
+
+// Writes what is said of a fault; what fails here changes nothing else.
+fn tell_fault<'a, W: Write>(
+    alloc: Global,
+    words: &'a [&'a str],
+    text: &[u8],
+    fault: &Fault,
+    err: &mut W,
+) {
+    let mut watch = Watch::new();
+    if let Some(plain) = plain_words(fault) {
+        write_text(err, &mut watch, plain);
+        return;
+    }
+    if let Ok(said) = told(alloc, words, text, fault) {
+        write_text(err, &mut watch, said.as_slice());
+    }
+}
+
+/// Says why a run was refused, or that its output could not be written. Nothing, where neither is so. A writer that fails changes
+/// nothing else.
+pub(crate) fn tell<'a, W: Write>(
+    alloc: Global,
+    words: &'a [&'a str],
+    text: &[u8],
+    due: &Due,
+    is_written: bool,
+    err: &mut W,
+)
+    ensures silent { IsSomeText due.now → IsTrue is_written → Keeps (W.contents err.old) (W.contents err.new) }
+{
+    match due {
+        Due::Text(_) => {
+            if !is_written {
+                let mut watch = Watch::new();
+                write_text(err, &mut watch, WRITE);
+            }
+        }
+        Due::Refused(fault) => tell_fault(alloc, words, text, fault, err),
+    }
+}
+
+/// Says why the words of the command line are not there: one is not UTF-8, or memory ran out.
+pub(crate) fn tell_unread<W: Write>(due: &Due, err: &mut W) {
+    let said: &'static [u8] = match due {
+        Due::Refused(Fault::Memory) => b"error: memory ran out\n",
+        _ => b"error: an argument is not UTF-8\n",
+    };
+    let mut watch = Watch::new();
+    write_text(err, &mut watch, said);
+}
