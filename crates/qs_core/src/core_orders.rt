@@ -15,8 +15,8 @@ use std::alloc::{AllocError, Global};
 
 /// What a program shows in the optimised machine after the blocks that a list of clients names, each client's in turn: one block after
 /// another, each from its reservation on, while the client and all handlers step in turn until nobody has a step. It is what is shown
-/// after some picks, isolated and counted like every run; that all of these blocks have ended is tested, and no clause says it. `Order`
-/// comes exactly where no legal order is named, before any allocation; `Memory` where one fails.
+/// after some picks, isolated and counted like every run; that these blocks are the ones that were named, and have ended, no clause says
+/// yet. `Order` comes exactly where no legal order is named, before any allocation; `Memory` where one fails.
 pub fn play_in_order(
     alloc: Global,
     program: &Program,
