@@ -1,6 +1,7 @@
 -- A finished run that is isolated shows what the serial run of its order leaves, and this order is complete; so what the run shows is
--- an outcome of the program. The three laws of this crate stand on it: runs by the plain rules, on the optimised machine and on threads
--- are isolated. What is left to say is that an outcome to which the order comes has the states that the order leaves.
+-- an outcome of the program. The three laws of finished runs stand on it: runs by the plain rules, on the optimised machine and on
+-- threads are isolated. What is left to say is that an outcome to which the order comes has the states that the order leaves. That each
+-- complete order is reached follows from the law that each legal order is played one block after another.
 use Rattle.std.proofs.Common.{◌≡◌, ◌∙◌, ℕ, true, List, [], sym, ap, subst}
 use Rattle.qs_objects.specs.declared.held.Ticket.{Ticket}
 use Rattle.qs_objects.specs.declared.Request.{Request}
@@ -14,10 +15,12 @@ use Rattle.qs_plain_laws.specs.PlainSchedule.{plays, scheduled}
 use Rattle.qs_plain_laws.specs.Plain.{begin}
 use Rattle.qs_plain_laws.specs.PlainIsolation.{commands_in_queue}
 use Rattle.qs_plain_laws.proofs.Isolating.{runs_isolated}
+use Rattle.qs_plain_orders.proofs.BlockReached.{orders_played}
 use Rattle.qs_core_laws.specs.Core.{core_begin}
 use Rattle.qs_core_laws.specs.CoreSchedule.{core_plays, core_scheduled, on_way}
 use Rattle.qs_core_laws.proofs.CoreIsolating.{core_isolated}
 use Rattle.qs_covered.specs.Covered.{CoreRunsAreCovered, IsCovered, PlainRunsAreCovered, ShowsStates, ThreadRunsAreCovered}
+use Rattle.qs_covered.specs.Reached.{CompleteOrdersAreReached}
 
 pub isolated_covered : (p : ProgramShape) (r : Played) (waits : ℕ → Ticket → List Request) → IsIsolated p r waits → r.finished ≡ true → IsCovered p r
 unfolding IsIsolated
@@ -47,3 +50,20 @@ core_covered p sound mode size picks rounds r (few, named, (code, are, shows)) f
 
 pub threads_covered : ThreadRunsAreCovered
 threads_covered p mode size r outcome = isolated_covered p r (λ h t. []) outcome.isolated outcome.finished
+
+pub orders_reached : CompleteOrdersAreReached
+orders_reached p sound order complete =
+    let found = orders_played p sound order complete.legal in
+    let shown = found.1 in
+    let finished : found.0.finished ≡ true = shown.finished complete in (
+      shown.picks,
+      (
+        found.0,
+        record {
+          played = shown.played;
+          order = shown.order;
+          finished = finished;
+          covered = plain_covered p sound shown.picks 0 found.0 shown.played finished;
+        },
+      ),
+    )

@@ -1,4 +1,1 @@
 pub mod Covering
-pub mod Steps
-pub mod BlockAlone
-pub mod Reaching

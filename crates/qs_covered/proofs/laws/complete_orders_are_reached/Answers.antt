@@ -1,4 +1,4 @@
-use Rattle.qs_covered.proofs.Reaching.{orders_reached}
+use Rattle.qs_covered.proofs.Covering.{orders_reached}
 use Rattle.qs_covered.proofs.laws.complete_orders_are_reached.Goals as goal
 
 pub returns : goal.returns
