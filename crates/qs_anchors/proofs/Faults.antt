@@ -1,6 +1,6 @@
 -- The first anchor with a fault has the first fault of the text: the places at the anchors, one after another, are the places of the
 -- script, and of a template's formals and blocks by themselves. By induction on the tree.
-use Rattle.std.proofs.Common.{◌≡◌, ℕ, suc, ◌+◌, List, [], ◌∷◌, ◌++◌, Bool, true, false, length, map, refl, ap, sym, ◌∙◌, append_assoc, Option, Some, None, option_map, Result, Ok, Err}
+use Rattle.std.proofs.Common.{◌≡◌, ℕ, suc, ◌+◌, List, [], ◌∷◌, ◌++◌, Bool, true, false, length, map, refl, ap, sym, ◌∙◌, append_assoc, option_map, Ok, Err}
 use Rattle.qs_script.specs.declared.tree.Atom.{Atom}
 use Rattle.qs_script.specs.declared.tree.Atom.TheVariants.{Variable, Number}
 use Rattle.qs_script.specs.declared.tree.Expr.{Expr}
@@ -15,12 +15,12 @@ use Rattle.qs_script.specs.declared.tree.Item.{Item}
 use Rattle.qs_script.specs.declared.tree.Item.TheVariants.{Object, Client, Template, Started}
 use Rattle.qs_script.specs.Tree.{Stmts, end, command, query, assign, choose, choose_else, again, leave}
 use Rattle.qs_program.specs.Limits.{most_turns}
-use Rattle.qs_places.specs.Places.{Scope, TextPlace, ScopeOrFault, object, number, client, separate, listed, target, operation, arguments, variable, leaves, template, text, starts, given, step, scope_or_fault, then_at, at_each, atom_places, atoms_places, expr_places, test_places, call_places, places, listed_places, block_places, blocks_places, kind_places, formals_places, formal_kinds, kind_of, text_places, start, fault_in, fault_of_text, given_places, item_places, script_places}
+use Rattle.qs_places.specs.Places.{Scope, TextPlace, ScopeOrFault, object, number, client, separate, listed, target, operation, arguments, variable, leaves, template, text, starts, given, step, scope_or_fault, then_at, at_each, atom_places, atoms_places, expr_places, call_places, places, listed_places, block_places, blocks_places, kind_places, formals_places, formal_kinds, kind_of, text_places, start, fault_in, fault_of_text, given_places, item_places, script_places}
 use Rattle.qs_places.proofs.Walks.{met-append}
 use Rattle.qs_anchors.specs.declared.anchor.Anchor.{Anchor}
 use Rattle.qs_anchors.specs.declared.anchor.Anchor.TheVariants as m
 use Rattle.qs_anchors.specs.Anchors.{anchor_places, atom_anchor, expr_anchors, test_anchors, call_anchors, anchors, block_anchors, blocks_anchors, kind_anchors, formal_anchor, text_anchors, given_anchors, item_anchors}
-use Rattle.qs_anchors.specs.Anchored.{ScopeOrAnchored, at_anchor, then_on, scope_or_anchored, outside, template_anchored, item_anchored, items_anchored, anchored_in, first_anchored}
+use Rattle.qs_anchors.specs.Anchored.{ScopeOrAnchored, at_anchor, then_on, scope_or_anchored, outside, item_anchored, items_anchored, anchored_in, first_anchored}
 
 abbrev at_anchors : List Anchor → List TextPlace
 at_anchors = at_each anchor_places

@@ -1,6 +1,6 @@
 -- The anchors of a tree are those of any tokens that are written for it. By induction on the tree: each part has its anchors first, and
 -- then those of the tokens after it.
-use Rattle.std.proofs.Common.{◌≡◌, ℕ, zero, suc, inl, inr, List, [], ◌∷◌, ◌++◌, Bool, true, false, map, refl, ap, sym, ◌∙◌, ℤ, pos, neg_ℤ, unsigned_abs, ◌⊎◌}
+use Rattle.std.proofs.Common.{◌≡◌, ℕ, zero, suc, inl, inr, List, [], ◌∷◌, ◌++◌, Bool, true, false, map, refl, ap, sym, ◌∙◌, pos, neg_ℤ, unsigned_abs}
 use Rattle.qs_tokens.specs.declared.token.Token.{Token}
 use Rattle.qs_tokens.specs.declared.token.Token.TheVariants as t
 use Rattle.qs_script.specs.declared.tree.Atom.{Atom}
@@ -26,7 +26,7 @@ use Rattle.qs_script.specs.Tree.{Stmts, end, command, query, assign, choose, cho
 use Rattle.qs_script.specs.Grammar.{IsAtom, AreMore, AreArgs, IsCall, operator_token, relation_token, IsExpr, IsTest, AreStmts, AreNames, AreSomeNames, IsBlock, AreBlocks, IsKind, kind_token, IsFormal, AreMoreFormals, AreFormals, AreMoreNames, AreGiven, IsItem, AreItems, IsScript}
 use Rattle.qs_anchors.specs.declared.anchor.Anchor.{Anchor}
 use Rattle.qs_anchors.specs.declared.anchor.Anchor.TheVariants as m
-use Rattle.qs_anchors.specs.Anchors.{anchor_token, anchors_in, atom_anchor, expr_anchors, test_anchors, call_anchors, anchors, block_anchors, blocks_anchors, kind_anchors, formal_anchor, text_anchors, given_anchors, item_anchors, script_anchors}
+use Rattle.qs_anchors.specs.Anchors.{anchor_token, anchors_in, atom_anchor, expr_anchors, test_anchors, call_anchors, anchors, block_anchors, blocks_anchors, kind_anchors, formal_anchor, given_anchors, item_anchors, script_anchors}
 
 -- some anchors, and others after them
 parts : (ms ns : List Anchor) (ws : List Token) → map anchor_token (ms ++ ns) ++ ws ≡ map anchor_token ms ++ (map anchor_token ns ++ ws)

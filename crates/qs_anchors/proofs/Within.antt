@@ -1,12 +1,12 @@
 -- A walk stops only at one of the anchors that it goes through. By induction on the anchors, and then on the items.
-use Rattle.std.proofs.Common.{◌≡◌, ℕ, ◌+◌, ◌<◌, List, [], ◌∷◌, ◌++◌, length, refl, ap, sym, ◌∙◌, arith, length-append, Option, Some, None, Result, Ok, Err}
+use Rattle.std.proofs.Common.{◌≡◌, ℕ, ◌+◌, ◌<◌, List, [], ◌∷◌, length, ap, arith, length-append, Some, Ok, Err}
 use Rattle.qs_script.specs.declared.tree.Item.{Item}
 use Rattle.qs_script.specs.declared.tree.Item.TheVariants.{Object, Client, Template, Started}
 use Rattle.qs_places.specs.Places.{Scope, ScopeOrFault, scope_or_fault, start, step, template, formal_kinds}
 use Rattle.qs_anchors.specs.declared.anchor.Anchor.{Anchor}
 use Rattle.qs_anchors.specs.declared.finding.Anchored.{Anchored}
 use Rattle.qs_anchors.specs.Anchors.{anchor_places, text_anchors, item_anchors, script_anchors}
-use Rattle.qs_anchors.specs.Anchored.{ScopeOrAnchored, at_anchor, then_on, scope_or_anchored, outside, template_anchored, item_anchored, items_anchored, anchored_in, first_anchored}
+use Rattle.qs_anchors.specs.Anchored.{ScopeOrAnchored, at_anchor, then_on, scope_or_anchored, outside, item_anchored, items_anchored, anchored_in, first_anchored}
 
 -- a walk stops below a number, if it stops
 abbrev StopsBelow : ℕ → ScopeOrAnchored → Type 0

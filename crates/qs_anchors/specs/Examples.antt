@@ -1,5 +1,5 @@
 -- Scripts with the anchors of their first faults, computed by the definitions.
-use Rattle.std.specs.Prelude.{◌≡◌, List, [], ◌∷◌, ◌++◌, Some, None, codes, pos}
+use Rattle.std.specs.Prelude.{◌≡◌, List, [], ◌∷◌, Some, None, codes, pos}
 use Rattle.qs_script.specs.Tree.{Stmts, end, command, query, assign, again, leave}
 use Rattle.qs_script.specs.declared.tree.Atom.TheVariants.{Number}
 use Rattle.qs_script.specs.declared.tree.Call.{Call}

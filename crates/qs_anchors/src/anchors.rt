@@ -179,10 +179,7 @@ fn put_formals(out: &mut Vec<Anchor>, formals: &[Formal]) -> Result<(), AllocErr
     ensures added { OnOk result (out.new.items ≡ out.old.items ++ map formal_anchor formals.now) }
 {
     for formal in formals {
-        out.push(Anchor::Object(
-            formal.name.copied(),
-            formal_value(formal.kind),
-        ))?;
+        out.push(Anchor::Object(formal.name.copied(), formal_value(formal.kind)))?;
     }
     Ok(())
 }

@@ -92,7 +92,10 @@ fn walk_template(
     ensures finds { Finds result (template_anchored scope.old from item.now) scope.new }
 {
     if let Err(fault) = scope.template(alloc, &item.name, item.formals.as_slice()) {
-        return Err(Anchored { anchor: from, fault });
+        return Err(Anchored {
+            anchor: from,
+            fault,
+        });
     }
     walk_alone(alloc, anchors, from + 1)
 }

@@ -1,5 +1,5 @@
 -- The walk over the anchors that are left ends as the walk over all of them does.
-use Rattle.std.proofs.Common.{◌≡◌, ◌≤◌, drop, length}
+use Rattle.std.proofs.Common.{◌≡◌, drop}
 use Rattle.qs_anchors.specs.Anchored.{scope_or_anchored}
 use Rattle.qs_anchors.proofs.finding.walk.Given as goal
 
