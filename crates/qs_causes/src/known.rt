@@ -20,9 +20,7 @@ pub(crate) struct Known {
     pub(crate) formals: Vec<Declared>,
     pub(crate) clients: Vec<usize>,
     pub(crate) templates: Vec<usize>,
-    pub(crate) variables: Vec<usize>,
     pub(crate) reserved: Vec<usize>,
-    pub(crate) blocks: usize,
     /// Whether the place stands in a template.
     pub(crate) is_template: bool,
     /// The template that a client is started with, and how many objects it was given.
@@ -92,9 +90,7 @@ impl Known {
             formals: Vec::new(alloc),
             clients: Vec::new(alloc),
             templates: Vec::new(alloc),
-            variables: Vec::new(alloc),
             reserved: Vec::new(alloc),
-            blocks: 0,
             is_template: false,
             started: 0,
             given: 0,
@@ -114,14 +110,6 @@ impl Known {
         declared_in(source, self.objects.as_slice(), 0, word)
     }
 
-    /// How many objects there are, or in a template how many formals.
-    pub(crate) fn object_count(&self) -> usize {
-        if self.is_template {
-            return count_in(self.formals.as_slice(), self.template());
-        }
-        self.objects.len()
-    }
-
     /// Adds an object, or in a template a formal.
     pub(crate) fn add_object(&mut self, name: usize, kind: Kind) -> Result<(), AllocError> {
         if self.is_template {
@@ -139,6 +127,24 @@ impl Known {
             })?;
         }
         Ok(())
+    }
+
+    /// Adds a template, whose formals come next.
+    pub(crate) fn add_template(&mut self, name: usize) -> Result<(), AllocError> {
+        self.templates.push(name)?;
+        self.is_template = true;
+        Ok(())
+    }
+
+    /// A client is started with a template; no object is given yet.
+    pub(crate) fn start(&mut self, source: Source<'_>, word: &[u8]) {
+        self.started = self.template_of(source, word).unwrap_or(0);
+        self.given = 0;
+    }
+
+    /// One more object is given.
+    pub(crate) fn give(&mut self) {
+        self.given = self.given.saturating_add(1);
     }
 
     /// The number of the template of a word, counted from 1.
@@ -166,12 +172,5 @@ impl Known {
             }
         }
         None
-    }
-
-    /// A client or a template begins, and has no blocks and no variables yet.
-    pub(crate) fn begin(&mut self) {
-        self.blocks = 0;
-        self.variables.clear();
-        self.reserved.clear();
     }
 }

@@ -1,7 +1,8 @@
 // Where the tokens of a text stand.
 
-ghost use Rattle.std.specs.Prelude.{◌≡◌, ◌++◌, OnOk, IfOk, IfErr};
-ghost use Rattle.qs_causes.specs.Spans.{ArePlaced, IsFaultAt, placed_in};
+ghost use Rattle.std.specs.Prelude.{◌≡◌, ◌≤◌, ◌++◌, OnOk, IfOk, IfErr, MatchOption, length};
+ghost use Rattle.qs_anchors.specs.Anchors.{IsAnchorAt, is_anchor, anchors_in};
+ghost use Rattle.qs_causes.specs.Spans.{ArePlaced, IsFaultAt, placed_in, tokens_in};
 
 use qs_tokens::{Piece, Token, TokenFault, front};
 use std::alloc::{AllocError, Global};
@@ -70,4 +71,32 @@ pub fn placed_tokens(alloc: Global, text: &[u8]) -> Result<Vec<PlacedToken>, Spa
         }
     }
     Ok(tokens)
+}
+
+// Whether a token is a name, a number, `separate` or `leave`.
+fn is_anchor(token: &Token) -> bool
+    ensures value { result ≡ is_anchor token.now }
+{
+    matches!(
+        token,
+        Token::Name(_) | Token::Number(_) | Token::Separate | Token::Leave
+    )
+}
+
+/// The place of the anchor of a number among some tokens, where there is one.
+pub(crate) fn place_of_anchor(tokens: &[PlacedToken], number: usize) -> Option<usize>
+    ensures there { MatchOption result
+        (length (anchors_in (tokens_in tokens.now)) ≤ number)
+        (IsAnchorAt (tokens_in tokens.now) number) }
+{
+    let mut left = number;
+    for place in 0..tokens.len() {
+        if is_anchor(&tokens[place].token) {
+            if left == 0 {
+                return Some(place);
+            }
+            left -= 1;
+        }
+    }
+    None
 }

@@ -1,23 +1,39 @@
 // The diagnosis of a text that is refused.
 
+ghost use Rattle.std.specs.Prelude.{◌≡◌, ◌≤◌, ◌<◌, OnOk, List, [], length, Ok, Some, ℕ};
+ghost use Rattle.qs_script.specs.Reads.{IsScriptText};
+ghost use Rattle.qs_script.specs.declared.tree.Item.{Item};
+ghost use Rattle.qs_anchors.specs.Anchored.{first_anchored};
+ghost use Rattle.qs_causes.specs.Spans.{ArePlaced, Stand};
+ghost use Rattle.qs_causes.specs.CheckTold.{IsSaidAt, IsToldAt, IsFirstTold, IsCheckTold, span_at};
+
 use crate::bytes::say_token;
-use crate::finding::{Cause, Finding, Search};
-use crate::said::Said;
+use crate::finding::Search;
+use crate::said::{Said, say};
 use crate::shape::say_form;
 use crate::source::Source;
-use crate::spans::{PlacedToken, SpanFault, placed_tokens};
-use crate::words::say_finding;
+use crate::spans::{PlacedToken, SpanFault, place_of_anchor, placed_tokens};
+use crate::words::say_cause;
+use qs_anchors::{Anchored, first_fault};
+use qs_places::CheckFault;
+use qs_script::{ReadFault, Script, read};
 use qs_tokens::Token;
-use qs_told::{Diagnosis, put_diagnosis};
+use qs_told::{Diagnosis, Span, put_diagnosis};
 use std::alloc::{AllocError, Global};
 
-// Puts what is said at the end; nothing, where its place is not in the text.
-fn put_said(alloc: Global, out: &mut Vec<u8>, text: &[u8], said: &Said) -> Result<(), AllocError> {
-    if said.span.start > text.len() {
-        return Ok(());
-    }
+// Puts what is said of some bytes at the end.
+fn put_said(
+    alloc: Global,
+    out: &mut Vec<u8>,
+    text: &[u8],
+    span: Span,
+    said: &Said,
+) -> Result<(), AllocError>
+    requires within { span.start ≤ length text.now }
+    ensures told { OnOk result (IsSaidAt text.now span out.old.items out.new.items) }
+{
     let diagnosis = Diagnosis {
-        span: said.span,
+        span,
         cause: said.cause.as_slice(),
         label: said.label.as_slice(),
         help: said.help.as_slice(),
@@ -25,33 +41,29 @@ fn put_said(alloc: Global, out: &mut Vec<u8>, text: &[u8], said: &Said) -> Resul
     put_diagnosis(alloc, out, text, &diagnosis)
 }
 
-// What is said of the first fault of some tokens, if there is one.
-fn say_first(alloc: Global, source: Source<'_>, of_form: bool) -> Result<Option<Said>, AllocError> {
-    let mut search = Search::new(alloc);
-    let found = search.run(source, of_form)?;
-    let said = match found {
-        Some(
-            Finding {
-                cause: Cause::Form { stage, is_deep },
-                place,
-            },
-        ) => Some(say_form(alloc, source, stage, is_deep, place)?),
-        Some(finding) => say_finding(alloc, source, &search.known, finding)?,
-        None => None,
-    };
-    drop(search);
-    Ok(said)
+// The same at the place that it is said of; nothing, where that is not in the text.
+fn put_there(alloc: Global, out: &mut Vec<u8>, text: &[u8], said: &Said) -> Result<(), AllocError> {
+    if said.span.start > text.len() {
+        return Ok(());
+    }
+    put_said(alloc, out, text, said.span, said)
 }
 
-fn tell_tokens(
+fn tell_form(
     alloc: Global,
     out: &mut Vec<u8>,
     text: &[u8],
     tokens: &[PlacedToken],
-    of_form: bool,
 ) -> Result<(), AllocError> {
-    match say_first(alloc, Source::new(text, tokens), of_form)? {
-        Some(said) => put_said(alloc, out, text, &said),
+    let source = Source::new(text, tokens);
+    let mut search = Search::new(alloc);
+    let found = search.form_fault(source)?;
+    drop(search);
+    match found {
+        Some(fault) => {
+            let said = say_form(alloc, source, fault.stage, fault.is_deep, fault.place)?;
+            put_there(alloc, out, text, &said)
+        }
         None => Ok(()),
     }
 }
@@ -66,7 +78,7 @@ fn tell_token(
         SpanFault::Token { fault, start } => {
             let rest = text.get(start..).unwrap_or(b"");
             let said = say_token(alloc, fault, start, rest)?;
-            put_said(alloc, out, text, &said)
+            put_there(alloc, out, text, &said)
         }
         SpanFault::Memory => Err(AllocError),
     }
@@ -76,16 +88,118 @@ fn tell_token(
 /// script goes on. Nothing, where there is no such token.
 pub fn tell_read(alloc: Global, out: &mut Vec<u8>, text: &[u8]) -> Result<(), AllocError> {
     match placed_tokens(alloc, text) {
-        Ok(tokens) => tell_tokens(alloc, out, text, tokens.as_slice(), true),
+        Ok(tokens) => tell_form(alloc, out, text, tokens.as_slice()),
         Err(fault) => tell_token(alloc, out, text, fault),
     }
 }
 
-/// Puts the diagnosis of a script with a fault in its text at the end. Nothing, where it has none.
-pub fn tell_check(alloc: Global, out: &mut Vec<u8>, text: &[u8]) -> Result<(), AllocError> {
+// What is said of a fault at the place of a token.
+fn say_fault(
+    alloc: Global,
+    source: Source<'_>,
+    place: usize,
+    fault: CheckFault,
+) -> Result<Said, AllocError> {
+    let mut search = Search::new(alloc);
+    search.learn(source, place)?;
+    let said = match search.cause_of(source, place, fault) {
+        Some(cause) => say_cause(alloc, source, &search.known, place, cause)?,
+        None => say(
+            alloc,
+            source.span(place),
+            &[b"the script is refused here"],
+            &[],
+            &[],
+        )?,
+    };
+    drop(search);
+    Ok(said)
+}
+
+// Tells what is wrong at a token.
+fn tell_at(
+    alloc: Global,
+    out: &mut Vec<u8>,
+    text: &[u8],
+    tokens: &[PlacedToken],
+    place: usize,
+    fault: CheckFault,
+) -> Result<(), AllocError>
+    requires place { place < length tokens.now }
+    requires stand { Stand text.now tokens.now (Ok []) }
+    ensures told { OnOk result (IsSaidAt text.now (span_at tokens.now place) out.old.items out.new.items) }
+{
+    let said = say_fault(alloc, Source::new(text, tokens), place, fault)?;
+    let span = span_of(text, tokens, place);
+    put_said(alloc, out, text, span, &said)
+}
+
+// The bytes of a token.
+fn span_of(text: &[u8], tokens: &[PlacedToken], place: usize) -> Span
+    requires place { place < length tokens.now }
+    requires stand { Stand text.now tokens.now (Ok []) }
+    ensures span { result ≡ span_at tokens.now place }
+    ensures within { result.start ≤ length text.now }
+{
+    let token = &tokens[place];
+    Span {
+        start: token.start,
+        length: token.end - token.start,
+    }
+}
+
+// Tells the first fault of a script at its anchor.
+fn tell_first(
+    alloc: Global,
+    out: &mut Vec<u8>,
+    text: &[u8],
+    tokens: &[PlacedToken],
+    first: Anchored,
+) -> Result<(), AllocError>
+    requires placed { ArePlaced text.now tokens.now }
+    requires anchor { (items : List Item) × IsScriptText text.now items × (first_anchored items ≡ Some first) }
+    ensures told { OnOk result (IsToldAt text.now first.anchor out.old.items out.new.items) }
+{
+    match place_of_anchor(tokens, first.anchor) {
+        Some(place) => tell_at(alloc, out, text, tokens, place, first.fault),
+        None => unreachable!(),
+    }
+}
+
+// Tells the first fault of the script of a text, if it has one.
+fn tell_script(
+    alloc: Global,
+    out: &mut Vec<u8>,
+    text: &[u8],
+    script: &Script,
+) -> Result<(), AllocError>
+    requires text { IsScriptText text.now script.now }
+    ensures told { OnOk result (IsFirstTold text.now (first_anchored script.now) out.old.items out.new.items) }
+{
+    let Some(first) = first_fault(alloc, script)? else {
+        return Ok(());
+    };
     match placed_tokens(alloc, text) {
-        Ok(tokens) => tell_tokens(alloc, out, text, tokens.as_slice(), false),
-        Err(fault) => tell_token(alloc, out, text, fault),
+        Ok(tokens) => tell_first(alloc, out, text, tokens.as_slice(), first),
+        Err(SpanFault::Memory) => Err(AllocError),
+        Err(SpanFault::Token { fault: _, start: _ }) => unreachable!(),
+    }
+}
+
+/// Puts the diagnosis of a script with a fault in its text at the end: of the token at which the first fault in text order stands, which
+/// is the fault that `check` answers. Nothing, where the script has none, or the text is no script.
+pub fn tell_check(alloc: Global, out: &mut Vec<u8>, text: &[u8]) -> Result<(), AllocError>
+    ensures told { OnOk result (IsCheckTold text.now out.old.items out.new.items) }
+    ensures no_script { OnOk result (((items : List Item) → IsScriptText text.now items → ⊥) → out.new.items ≡ out.old.items) }
+{
+    match read(alloc, text) {
+        Ok(script) => {
+            let told = tell_script(alloc, out, text, &script);
+            drop(script);
+            told
+        }
+        Err(ReadFault::Memory) => Err(AllocError),
+        Err(_) => Ok(()),
     }
 }
 

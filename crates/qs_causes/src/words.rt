@@ -1,6 +1,6 @@
 // What is said of the faults of checking.
 
-use crate::finding::{Cause, Finding, What};
+use crate::finding::{Cause, What};
 use crate::known::{Declared, Known};
 use crate::nearness::is_near;
 use crate::operations::{Kind, Operation, operation_at, operation_of};
@@ -9,35 +9,30 @@ use crate::source::Source;
 use qs_tokens::Token;
 use std::alloc::{AllocError, Global};
 
-/// What is said of a finding.
-pub(crate) fn say_finding(
+/// What is said of a place, by what is wrong there.
+pub(crate) fn say_cause(
     alloc: Global,
     source: Source<'_>,
     known: &Known,
-    finding: Finding,
-) -> Result<Option<Said>, AllocError> {
-    let place = finding.place;
-    let said = match finding.cause {
-        Cause::Form {
-            stage: _,
-            is_deep: _,
-        } => return Ok(None),
-        Cause::Twice { what, first } => say_twice(alloc, source, place, what, first)?,
-        Cause::Limit { what } => say_limit(alloc, source, place, what)?,
-        Cause::Range { what } => say(alloc, source.span(place), &[what], &[], &[range_help(what)])?,
-        Cause::UnknownObject => say_unknown(alloc, source, known, place)?,
-        Cause::ReservedTwice { first: _ } => say_reserved(alloc, source, place)?,
-        Cause::NotReserved => say_unreserved(alloc, source, known, place)?,
+    place: usize,
+    cause: Cause,
+) -> Result<Said, AllocError> {
+    match cause {
+        Cause::Twice { what, first } => say_twice(alloc, source, place, what, first),
+        Cause::Limit { what } => say_limit(alloc, source, place, what),
+        Cause::Range { what } => say(alloc, source.span(place), &[what], &[], &[range_help(what)]),
+        Cause::UnknownObject => say_unknown(alloc, source, known, place),
+        Cause::ReservedTwice => say_reserved(alloc, source, place),
+        Cause::NotReserved => say_unreserved(alloc, source, known, place),
         Cause::UnknownOp { kind, asks, object } => {
-            say_operation(alloc, source, place, kind, asks, object)?
+            say_operation(alloc, source, place, kind, asks, object)
         }
-        Cause::Arity { call, due, given } => say_arity(alloc, source, place, call, due, given)?,
-        Cause::LeaveOutside => say_leave(alloc, source, place)?,
-        Cause::UnknownTemplate => say_template(alloc, source, known, place)?,
-        Cause::Count { due, given } => say_count(alloc, source, place, due, given)?,
-        Cause::OtherKind { kind, formal } => say_kind(alloc, source, place, kind, formal)?,
-    };
-    Ok(Some(said))
+        Cause::Arity { call, due, given } => say_arity(alloc, source, place, call, due, given),
+        Cause::LeaveOutside => say_leave(alloc, source, place),
+        Cause::UnknownTemplate => say_template(alloc, source, known, place),
+        Cause::Count { due, given } => say_count(alloc, source, place, due, given),
+        Cause::OtherKind { kind, formal } => say_kind(alloc, source, place, kind, formal),
+    }
 }
 
 fn range_help(what: &[u8]) -> &'static [u8] {

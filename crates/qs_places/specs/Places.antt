@@ -189,9 +189,13 @@ expr_places (Binary a op b) = atom_places a ++ atom_places b
 abbrev pub test_places : Test → List TextPlace
 test_places t = atom_places t.left ++ atom_places t.right
 
--- a request's object, its operation and the number of its arguments: a query asks, a command does not
+-- a request's operation and the number of its arguments: a query asks, a command does not
+abbrev pub operation_places : Bool → Name → Name → ℕ → List TextPlace
+operation_places asks o op n = operation asks o op ∷ arguments asks o op n ∷ []
+
+-- a request's object, its operation and the number of its arguments
 abbrev pub request_places : Bool → Name → Name → ℕ → List TextPlace
-request_places asks o op n = target o ∷ operation asks o op ∷ arguments asks o op n ∷ []
+request_places asks o op n = target o ∷ operation_places asks o op n
 
 abbrev pub call_places : Bool → Call → List TextPlace
 call_places asks c = request_places asks c.object c.op (length c.args) ++ atoms_places c.args

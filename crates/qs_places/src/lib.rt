@@ -8,5 +8,5 @@ mod walk;
 
 pub use fault::CheckFault;
 pub use operators::find_op;
-pub use scope::{Scope, formal_value, kind_at};
+pub use scope::{Scope, check_number, formal_value, kind_at};
 pub use walk::{check_client, check_object, check_started, check_template, check_text, kind_value};

@@ -3,7 +3,7 @@
 ghost use Rattle.std.specs.Prelude.{◌≡◌, [], ◌∷◌, ◌++◌, OnOk, IfOk, slice_index_or, pos};
 ghost use Rattle.qs_program.specs.Numbering.{found_at};
 ghost use Rattle.qs_places.specs.Operators.{op_or_refused};
-ghost use Rattle.qs_places.specs.Places.{Scope as Known, Meets, scope_or_fault, step, start, op_at, object, number, client, separate, listed, request_places, variable, without_variables, template, text, starts, given, kind_in, formals_at, formal_kind, formal_kinds};
+ghost use Rattle.qs_places.specs.Places.{Scope as Known, Meets, scope_or_fault, step, start, op_at, object, number, client, separate, listed, target, operation_places, request_places, variable, without_variables, template, text, starts, given, kind_in, formals_at, formal_kind, formal_kinds};
 
 use crate::fault::CheckFault;
 use crate::operators::find_op;
@@ -78,8 +78,8 @@ impl Scope {
         }
     }
 
-    // An object's name.
-    pub(crate) fn object(&mut self, name: &Name, kind: Kind) -> Result<(), CheckFault>
+    /// An object's name.
+    pub fn object(&mut self, name: &Name, kind: Kind) -> Result<(), CheckFault>
         ensures meets { Meets result (step self.old (object name.now kind)) self.new }
     {
         if self.objects.contains(name) {
@@ -93,8 +93,8 @@ impl Scope {
         Ok(())
     }
 
-    // A client's name.
-    pub(crate) fn client(&mut self, alloc: Global, name: &Name) -> Result<(), CheckFault>
+    /// A client's name.
+    pub fn client(&mut self, alloc: Global, name: &Name) -> Result<(), CheckFault>
         ensures meets { Meets result (step self.old (client name.now)) self.new }
     {
         if self.clients.contains(name) {
@@ -110,8 +110,8 @@ impl Scope {
         Ok(())
     }
 
-    // A template's name.
-    pub(crate) fn template(
+    /// A template's name.
+    pub fn template(
         &mut self,
         alloc: Global,
         name: &Name,
@@ -140,8 +140,8 @@ impl Scope {
         }
     }
 
-    // The template of a client, for which so many objects are given.
-    pub(crate) fn starts(&self, name: &Name, count: usize) -> Result<(), CheckFault>
+    /// The template of a client, for which so many objects are given.
+    pub fn starts(&self, name: &Name, count: usize) -> Result<(), CheckFault>
         ensures meets { Meets result (step self.now (starts name.now count)) self.now }
     {
         if !self.templates.contains(name) {
@@ -153,8 +153,8 @@ impl Scope {
         Ok(())
     }
 
-    // An object that is given for the formal at a place.
-    pub(crate) fn given(
+    /// An object that is given for the formal at a place.
+    pub fn given(
         &self,
         template: &Name,
         place: usize,
@@ -172,8 +172,8 @@ impl Scope {
         Ok(())
     }
 
-    // A block's beginning.
-    pub(crate) fn separate(&mut self, alloc: Global) -> Result<(), CheckFault>
+    /// A block's beginning.
+    pub fn separate(&mut self, alloc: Global) -> Result<(), CheckFault>
         ensures meets { Meets result (step self.old separate) self.new }
     {
         if self.blocks >= MOST_BLOCKS {
@@ -184,8 +184,8 @@ impl Scope {
         Ok(())
     }
 
-    // A name of a block's list.
-    pub(crate) fn listed(&mut self, name: &Name) -> Result<(), CheckFault>
+    /// A name of a block's list.
+    pub fn listed(&mut self, name: &Name) -> Result<(), CheckFault>
         ensures meets { Meets result (step self.old (listed name.now)) self.new }
     {
         if !self.objects.contains(name) {
@@ -195,6 +195,38 @@ impl Scope {
             return Err(CheckFault::ReservedTwice);
         }
         self.reserved.number(name.copied())?;
+        Ok(())
+    }
+
+    /// A request's object.
+    pub fn target(&self, name: &Name) -> Result<(), CheckFault>
+        ensures meets { Meets result (step self.now (target name.now)) self.now }
+    {
+        if !self.objects.contains(name) {
+            return Err(CheckFault::UnknownObject);
+        }
+        if !self.reserved.contains(name) {
+            return Err(CheckFault::NotReserved);
+        }
+        Ok(())
+    }
+
+    /// A request's operation, and the number of its arguments.
+    pub fn operation(
+        &self,
+        asks: bool,
+        name: &Name,
+        word: &Name,
+        count: usize,
+    ) -> Result<(), CheckFault>
+        ensures meets { Meets result (scope_or_fault self.now (operation_places asks name.now word.now count)) self.now }
+    {
+        let Some(op) = self.op(asks, name, word) else {
+            return Err(CheckFault::UnknownOp);
+        };
+        if op.arity() != count {
+            return Err(CheckFault::Arity);
+        }
         Ok(())
     }
 
@@ -208,19 +240,8 @@ impl Scope {
     ) -> Result<(), CheckFault>
         ensures meets { Meets result (scope_or_fault self.now (request_places asks name.now word.now count)) self.now }
     {
-        if !self.objects.contains(name) {
-            return Err(CheckFault::UnknownObject);
-        }
-        if !self.reserved.contains(name) {
-            return Err(CheckFault::NotReserved);
-        }
-        let Some(op) = self.op(asks, name, word) else {
-            return Err(CheckFault::UnknownOp);
-        };
-        if op.arity() != count {
-            return Err(CheckFault::Arity);
-        }
-        Ok(())
+        self.target(name)?;
+        self.operation(asks, name, word, count)
     }
 
     fn op(&self, asks: bool, name: &Name, word: &Name) -> Option<Op>
@@ -230,8 +251,8 @@ impl Scope {
         find_op(asks, kind, word)
     }
 
-    // A variable that is assigned or read.
-    pub(crate) fn variable(&mut self, name: &Name) -> Result<(), CheckFault>
+    /// A variable that is assigned or read.
+    pub fn variable(&mut self, name: &Name) -> Result<(), CheckFault>
         ensures meets { Meets result (step self.old (variable name.now)) self.new }
     {
         if self.variables.contains(name) {
@@ -329,8 +350,8 @@ pub fn kind_at(kinds: &[Kind], number: usize) -> Kind
     }
 }
 
-// A number with a range.
-pub(crate) fn check_number(low: u64, high: u64, n: Number) -> Result<(), CheckFault>
+/// A number with a range.
+pub fn check_number(low: u64, high: u64, n: Number) -> Result<(), CheckFault>
     ensures meets { (s : Known) → Meets result (step s (number low high n)) s }
 {
     if n.count() < low || n.count() > high {

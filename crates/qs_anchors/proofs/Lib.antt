@@ -1,0 +1,5 @@
+pub mod Tokens
+mod Faults
+mod Statements
+pub mod Within
+mod Walks

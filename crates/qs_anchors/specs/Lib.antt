@@ -1,0 +1,4 @@
+pub mod Anchors
+pub mod Anchored
+pub mod Laws
+pub mod Examples

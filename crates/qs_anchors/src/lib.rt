@@ -1,0 +1,10 @@
+//! The token of a script at which its first fault stands.
+#![tactic(auto)]
+
+mod anchor;
+mod anchors;
+mod finding;
+pub mod laws;
+
+pub use anchor::Anchor;
+pub use finding::{Anchored, first_fault};

@@ -1,0 +1,53 @@
+-- Tokens that stand in a text are within it, and a fault of the text's script stands at one of them. The first goes by induction on
+-- the tokens; the second since the anchors of a script are those of the tokens of its text.
+use Rattle.std.proofs.Common.{◌≡◌, ℕ, zero, suc, ◌<◌, ◌≤◌, true, List, [], ◌∷◌, length, get_or, take, refl, ap, sym, ◌∙◌, arith, Some, Result, Ok}
+use Rattle.std.proofs.lemmas.List.{length-map}
+use Rattle.qs_tokens.specs.declared.token.Token.{Token}
+use Rattle.qs_tokens.specs.declared.token.Token.TheVariants.{Semicolon}
+use Rattle.qs_tokens.specs.declared.lex.TokenFault.{TokenFault}
+use Rattle.qs_script.specs.declared.tree.Item.{Item}
+use Rattle.qs_script.specs.Reads.{IsScriptText}
+use Rattle.qs_anchors.specs.declared.finding.Anchored.{Anchored}
+use Rattle.qs_anchors.specs.Anchors.{IsAnchorAt, anchor_token, anchors_in, is_anchor, script_anchors}
+use Rattle.qs_anchors.specs.Anchored.{first_anchored}
+use Rattle.qs_anchors.proofs.Tokens.{anchors_are_tokens}
+use Rattle.qs_anchors.proofs.Within.{first_is_an_anchor}
+use Rattle.qs_causes.specs.declared.spans.PlacedToken.{PlacedToken}
+use Rattle.qs_causes.specs.Spans.{ArePlaced, Stand, tokens_in}
+
+pub stands_within : (text : List ℕ) (ps : List PlacedToken) (later : Result (List Token) TokenFault) (i : ℕ) (d : PlacedToken) → Stand text ps later → i < length ps
+    → ((get_or ps i d).start < (get_or ps i d).end) × ((get_or ps i d).end ≤ length text)
+stands_within text [] later i d h within = absurd (omega arith)
+stands_within text (p ∷ ps) later zero d h within = (h.2, h.3)
+stands_within text (p ∷ ps) later (suc i) d h within = stands_within text ps later i d h.4 (omega arith)
+
+tokens_same : (text : List ℕ) (ts us : List Token) (r : Result (List Token) TokenFault) → r ≡ Ok ts → r ≡ Ok us → ts ≡ us
+tokens_same text ts us r h k = cc
+
+pub anchor_there : (text : List ℕ) (ps : List PlacedToken) (items : List Item) (first : Anchored) → ArePlaced text ps → IsScriptText text items → first_anchored items ≡ Some first
+    → first.anchor < length (anchors_in (tokens_in ps))
+anchor_there text ps items first placed reads found =
+    let same : tokens_in ps ≡ reads.tokens = tokens_same text (tokens_in ps) reads.tokens _ placed.0 reads.cut in
+    let count : length (anchors_in (tokens_in ps)) ≡ length (script_anchors items) =
+    ap (λ ts. length (anchors_in ts)) same ∙ ap length (anchors_are_tokens items reads.tokens reads.tree) ∙ length-map (script_anchors items) anchor_token in
+    omega (arith, count, first_is_an_anchor items first found)
+
+-- the token at a place of some, and the tokens before it
+token_at : (ps : List PlacedToken) (i : ℕ) (p : PlacedToken) → i < length ps → get_or (tokens_in ps) i Semicolon ≡ (get_or ps i p).token
+token_at [] i p within = absurd (omega arith)
+token_at (q ∷ ps) zero p within = refl
+token_at (q ∷ ps) (suc i) p within = token_at ps i p (omega arith)
+
+taken : (ps : List PlacedToken) (i : ℕ) → take i (tokens_in ps) ≡ tokens_in (take i ps)
+taken ps zero = refl
+taken [] (suc i) = refl
+taken (p ∷ ps) (suc i) = ap (λ ts. p.token ∷ ts) (taken ps i)
+
+-- an anchor before which so many stand
+pub anchor_at : (ps : List PlacedToken) (number place : ℕ) (p : PlacedToken) → place < length ps → is_anchor (get_or ps place p).token ≡ true
+    → number ≡ length (anchors_in (tokens_in (take place ps))) → IsAnchorAt (tokens_in ps) number place
+anchor_at ps number place p within here before = record {
+  within = omega (arith, within, length-map ps (λ q. q.token));
+  anchor = ap is_anchor (token_at ps place p within) ∙ here;
+  before = ap (λ ts. length (anchors_in ts)) (taken ps place) ∙ sym before;
+}
