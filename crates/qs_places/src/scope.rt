@@ -154,12 +154,7 @@ impl Scope {
     }
 
     /// An object that is given for the formal at a place.
-    pub fn given(
-        &self,
-        template: &Name,
-        place: usize,
-        object: &Name,
-    ) -> Result<(), CheckFault>
+    pub fn given(&self, template: &Name, place: usize, object: &Name) -> Result<(), CheckFault>
         ensures meets { Meets result (step self.now (given template.now place object.now)) self.now }
     {
         if !self.objects.contains(object) {
