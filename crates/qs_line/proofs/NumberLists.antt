@@ -2,7 +2,7 @@
 -- it. The loop of `numbers_of` has this as its invariant, `numbers_with`. It goes by cases on the next actor.
 use Rattle.std.proofs.Common.{◌≡◌, ℕ, List, [], ◌∷◌, ◌++◌, Option, Some, None, refl, sym, ap, append_assoc, append-nil, option_map}
 use Rattle.qs_played.specs.declared.schedule.actor.Actor.{Actor}
-use Rattle.qs_played.specs.declared.schedule.actor.Actor.TheVariants.{Client, Handler}
+use Rattle.qs_played.specs.declared.schedule.actor.Actor.TheVariants.{Client}
 use Rattle.qs_line.specs.Clients.{numbers_in}
 
 -- the numbers so far, and then those of the actors that are left

@@ -16,9 +16,6 @@ defaulted_rule name value = record (option_rule name) { defaults = value ∷ [] 
 abbrev pub chunk_rule : Rule
 chunk_rule = record (defaulted_rule (codes "chunk") (codes "8")) { parser = Some (parser.Signed (pos 1) (pos 32)) }
 
-abbrev pub rounds_rule : Rule
-rounds_rule = defaulted_rule (codes "rounds") (codes "1000000")
-
 -- `--limit`, of 1 to 4294967295
 abbrev pub limit_rule : Rule
 limit_rule = record (defaulted_rule (codes "limit") (codes "1000000")) { parser = Some (parser.Signed (pos 1) (pos 4294967295)) }
@@ -27,17 +24,23 @@ limit_rule = record (defaulted_rule (codes "limit") (codes "1000000")) { parser 
 abbrev pub counts_rule : Rule
 counts_rule = record (new_rule (codes "counts")) { long = Some (codes "counts"); action = Some SetTrue }
 
--- `rules [--rounds N] [--pick LIST] [--counts]`
+-- `.. [--rounds N] [--pick LIST] [--order LIST] [--counts]`
+abbrev pub planned_app : App → App
+planned_app app =
+    with_rule (with_rule (with_rule (with_rule app (option_rule (codes "rounds"))) (option_rule (codes "pick"))) (option_rule (codes "order")))
+    counts_rule
+
+-- `rules [--rounds N] [--pick LIST] [--order LIST] [--counts]`
 abbrev pub rules_app : App
-rules_app = with_rule (with_rule (with_rule (new_app (codes "rules")) rounds_rule) (option_rule (codes "pick"))) counts_rule
+rules_app = planned_app (new_app (codes "rules"))
 
 -- `WORD [--mode M] [--chunk N]`
 abbrev pub machine_app : Text → App
 machine_app word = with_rule (with_rule (new_app word) (defaulted_rule (codes "mode") (codes "both"))) chunk_rule
 
--- `play [--mode M] [--chunk N] [--rounds N] [--pick LIST] [--counts]`
+-- `play [--mode M] [--chunk N] [--rounds N] [--pick LIST] [--order LIST] [--counts]`
 abbrev pub play_app : App
-play_app = with_rule (with_rule (with_rule (machine_app (codes "play")) rounds_rule) (option_rule (codes "pick"))) counts_rule
+play_app = planned_app (machine_app (codes "play"))
 
 -- `run [--mode M] [--chunk N] [--counts]`
 abbrev pub run_app : App

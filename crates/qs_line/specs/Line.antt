@@ -1,5 +1,5 @@
 -- What a line asks for.
-use Rattle.std.specs.Prelude.{◌≡◌, ◌≢◌, ℕ, List, [], ◌∷◌, codes, Option, Some, None, Result, Ok, Err, ⊤, Bool, false, if◌then◌else◌, option_map, option_and_then, unwrap_or}
+use Rattle.std.specs.Prelude.{◌≡◌, ◌≢◌, ℕ, List, [], ◌∷◌, codes, Option, Some, None, Result, Ok, Err, ⊤, Bool, false, if◌then◌else◌, ◌||◌, is_some, option_map, option_and_then, unwrap_or}
 use Rattle.std.specs.Option.{option_map_or}
 use Rattle.std.specs.Str.{bytes_eq}
 use Rattle.std.specs.Str.Parse.{digits_value, without_leading_plus}
@@ -10,6 +10,7 @@ use Rattle.clap.specs.Words.{Row, Text, first_of, subcommand_of}
 use Rattle.clap.specs.declared.error.kind.ErrorKind.TheVariants.{DisplayHelp, DisplayVersion, OutOfMemory}
 use Rattle.clap.specs.declared.error.kind.ErrorKind.{ErrorKind}
 use Rattle.qs_played.specs.declared.schedule.actor.Actor.{Actor}
+use Rattle.qs_played.specs.Schedule.{most_rounds}
 use Rattle.qs_syncset.specs.declared.mode.Mode.{Mode}
 use Rattle.qs_syncset.specs.declared.mode.Mode.TheVariants.{Plain, Dynamic, Static, Both}
 use Rattle.qs_line.specs.Clients.{clients_in}
@@ -19,23 +20,34 @@ use Rattle.qs_line.specs.declared.line.LineFault.{LineFault}
 use Rattle.qs_line.specs.declared.line.LineFault.TheVariants as fault
 use Rattle.qs_line.specs.declared.line.Settings.{Settings}
 use Rattle.qs_line.specs.declared.line.Settings.TheVariants as word
+use Rattle.qs_line.specs.declared.plan.Plan.{Plan}
+use Rattle.qs_line.specs.declared.plan.Plan.TheVariants as plan
 
--- what is asked for: the counts; the graphs; a run by the plain rules, with so many rounds after its picks; one in the optimised
--- machine, in a mode and by chunks of a size; one on threads; or all outcomes after the blocks of some clients, with so many configurations at most. Of a run
--- the counts of synchronisations may be asked for as well.
+-- who goes when: all actors by a schedule, so many rounds after its picks; or clients in an order, one whole block after another
+pub data PlanShape : Type 0 where
+  by_schedule : (rounds : ℕ) → (picks : List Actor) → PlanShape
+  by_order : (clients : List ℕ) → PlanShape
+
+-- what is asked for: the counts; the graphs; a run by the plain rules; one in the optimised machine, in a mode and by chunks of a size;
+-- one on threads; or all outcomes after the blocks of some clients, with so many configurations at most. Of a run the counts of
+-- synchronisations may be asked for as well.
 pub data Request : Type 0 where
   check : Request
   graph : Request
-  rules : (counts : Bool) → ℕ → List Actor → Request
-  play : (counts : Bool) → Mode → ℕ → ℕ → List Actor → Request
+  rules : (counts : Bool) → PlanShape → Request
+  play : (counts : Bool) → Mode → (chunk : ℕ) → PlanShape → Request
   run : (counts : Bool) → Mode → ℕ → Request
   outcomes : (limit : ℕ) → (front : List ℕ) → Request
+
+abbrev pub plan_of : Plan → PlanShape
+plan_of (plan.Schedule rounds picks) = by_schedule rounds picks.items
+plan_of (plan.Order clients) = by_order clients.items
 
 abbrev pub request_of : Settings → Request
 request_of word.Check = check
 request_of word.Graph = graph
-request_of (word.Rules counts rounds picks) = rules counts rounds picks.items
-request_of (word.Play counts mode chunk rounds picks) = play counts mode chunk rounds picks.items
+request_of (word.Rules counts plan) = rules counts (plan_of plan)
+request_of (word.Play counts mode chunk plan) = play counts mode chunk (plan_of plan)
 request_of (word.Run counts mode chunk) = run counts mode chunk
 request_of (word.Outcomes limit front) = outcomes limit front.items
 
@@ -61,8 +73,9 @@ mode_at rows = option_and_then mode_in (first_of (codes "mode") rows)
 abbrev pub chunk_at : List Row → Option ℕ
 chunk_at rows = option_and_then (number_in 1 32) (first_of (codes "chunk") rows)
 
+-- as many rounds as a schedule has at most where the line has no number of them
 abbrev pub rounds_at : List Row → Option ℕ
-rounds_at rows = option_and_then (number_in 0 4294967295) (first_of (codes "rounds") rows)
+rounds_at rows = unwrap_or (option_map (number_in 0 4294967295) (first_of (codes "rounds") rows)) (Some most_rounds)
 
 abbrev pub limit_at : List Row → Option ℕ
 limit_at rows = option_and_then (number_in 1 4294967295) (first_of (codes "limit") rows)
@@ -75,14 +88,27 @@ picks_at rows = unwrap_or (option_map picks_in (first_of (codes "pick") rows)) (
 abbrev pub front_at : List Row → Option (List ℕ)
 front_at rows = unwrap_or (option_map clients_in (first_of (codes "after") rows)) (Some [])
 
+abbrev pub schedule_at : List Row → Option PlanShape
+schedule_at rows = option_and_then (λ rounds. option_map (by_schedule rounds) (picks_at rows)) (rounds_at rows)
+
+-- a number of rounds or a list of picks stands on the line
+abbrev pub has_schedule : List Row → Bool
+has_schedule rows = is_some (first_of (codes "rounds") rows) || is_some (first_of (codes "pick") rows)
+
+-- the order of a text, which stands beside no number of rounds and beside no picks
+abbrev pub order_at : Text → List Row → Option PlanShape
+order_at text rows = if has_schedule rows then None else option_map by_order (clients_in text)
+
+-- by an order where the line has one, and else by a schedule
+abbrev pub plan_at : List Row → Option PlanShape
+plan_at rows = option_map_or (λ text. order_at text rows) (first_of (codes "order") rows) (schedule_at rows)
+
 abbrev pub rules_at : List Row → Option Request
-rules_at rows = option_and_then (λ rounds. option_map (rules (counts_at rows) rounds) (picks_at rows)) (rounds_at rows)
+rules_at rows = option_map (rules (counts_at rows)) (plan_at rows)
 
 abbrev pub play_at : List Row → Option Request
 play_at rows =
-    option_and_then (λ mode. option_and_then (λ chunk.
-    option_and_then (λ rounds. option_map (play (counts_at rows) mode chunk rounds) (picks_at rows))
-    (rounds_at rows)) (chunk_at rows)) (mode_at rows)
+    option_and_then (λ mode. option_and_then (λ chunk. option_map (play (counts_at rows) mode chunk) (plan_at rows)) (chunk_at rows)) (mode_at rows)
 
 abbrev pub run_at : List Row → Option Request
 run_at rows = option_and_then (λ mode. option_map (run (counts_at rows) mode) (chunk_at rows)) (mode_at rows)

@@ -3,7 +3,7 @@ use Rattle.std.specs.Prelude.{◌≡◌, List, [], ◌∷◌, codes, true, false
 use Rattle.clap.specs.Words.{Text}
 use Rattle.qs_played.specs.declared.schedule.actor.Actor.TheVariants.{Client, Handler}
 use Rattle.qs_syncset.specs.declared.mode.Mode.TheVariants.{Dynamic, Static, Both}
-use Rattle.qs_line.specs.Line.{Line, asks, check, graph, help, line_in, outcomes, play, refused, rules, run, version}
+use Rattle.qs_line.specs.Line.{Line, asks, by_order, by_schedule, check, graph, help, line_in, outcomes, play, refused, rules, run, version}
 
 -- the line of the words after the program's name
 abbrev pub line : List Text → Line
@@ -12,18 +12,18 @@ line words = line_in (codes "qs" ∷ words)
 pub record DefaultLines : Type 0 where
   pub checks : line (codes "check" ∷ []) ≡ asks check
   pub graphs : line (codes "graph" ∷ []) ≡ asks graph
-  pub rules_alone : line (codes "rules" ∷ []) ≡ asks (rules false 1000000 [])
-  pub play_alone : line (codes "play" ∷ []) ≡ asks (play false Both 8 1000000 [])
+  pub rules_alone : line (codes "rules" ∷ []) ≡ asks (rules false (by_schedule 1000000 []))
+  pub play_alone : line (codes "play" ∷ []) ≡ asks (play false Both 8 (by_schedule 1000000 []))
   pub run_alone : line (codes "run" ∷ []) ≡ asks (run false Both 8)
   pub outcomes_alone : line (codes "outcomes" ∷ []) ≡ asks (outcomes 1000000 [])
 
 pub record SetLines : Type 0 where
-  pub mode : line (codes "play" ∷ codes "--mode" ∷ codes "static" ∷ []) ≡ asks (play false Static 8 1000000 [])
-  pub chunk : line (codes "play" ∷ codes "--chunk=32" ∷ []) ≡ asks (play false Both 32 1000000 [])
-  pub most_rounds : line (codes "rules" ∷ codes "--rounds" ∷ codes "4294967295" ∷ []) ≡ asks (rules false 4294967295 [])
-  pub picks : line (codes "rules" ∷ codes "--pick" ∷ codes "c0,h9,c0" ∷ []) ≡ asks (rules false 1000000 (Client 0 ∷ Handler 9 ∷ Client 0 ∷ []))
+  pub mode : line (codes "play" ∷ codes "--mode" ∷ codes "static" ∷ []) ≡ asks (play false Static 8 (by_schedule 1000000 []))
+  pub chunk : line (codes "play" ∷ codes "--chunk=32" ∷ []) ≡ asks (play false Both 32 (by_schedule 1000000 []))
+  pub most_rounds : line (codes "rules" ∷ codes "--rounds" ∷ codes "4294967295" ∷ []) ≡ asks (rules false (by_schedule 4294967295 []))
+  pub picks : line (codes "rules" ∷ codes "--pick" ∷ codes "c0,h9,c0" ∷ []) ≡ asks (rules false (by_schedule 1000000 (Client 0 ∷ Handler 9 ∷ Client 0 ∷ [])))
   pub all : line (codes "play" ∷ codes "--rounds" ∷ codes "0" ∷ codes "--pick=h1" ∷ codes "--chunk" ∷ codes "1" ∷ codes "--mode=dynamic" ∷ [])
-      ≡ asks (play false Dynamic 1 0 (Handler 1 ∷ []))
+      ≡ asks (play false Dynamic 1 (by_schedule 0 (Handler 1 ∷ [])))
   pub runs : line (codes "run" ∷ codes "--chunk" ∷ codes "4" ∷ codes "--mode=static" ∷ []) ≡ asks (run false Static 4)
 
 pub record LimitLines : Type 0 where
@@ -47,14 +47,29 @@ pub record FrontLines : Type 0 where
   pub twice : line (codes "outcomes" ∷ codes "--after=c0" ∷ codes "--after=c0" ∷ []) ≡ refused
   pub of_play : line (codes "play" ∷ codes "--after" ∷ codes "c0" ∷ []) ≡ refused
 
+pub record OrderLines : Type 0 where
+  pub by_rules : line (codes "rules" ∷ codes "--order" ∷ codes "c1" ∷ []) ≡ asks (rules false (by_order (1 ∷ [])))
+  pub by_play : line (codes "play" ∷ codes "--order=c0,c9,c0" ∷ []) ≡ asks (play false Both 8 (by_order (0 ∷ 9 ∷ 0 ∷ [])))
+  pub beside_others : line (codes "play" ∷ codes "--counts" ∷ codes "--order=c1" ∷ codes "--chunk=1" ∷ codes "--mode=static" ∷ [])
+      ≡ asks (play true Static 1 (by_order (1 ∷ [])))
+  pub beside_picks : line (codes "rules" ∷ codes "--order=c0" ∷ codes "--pick=c0" ∷ []) ≡ refused
+  pub after_picks : line (codes "play" ∷ codes "--pick=c0" ∷ codes "--order=c0" ∷ []) ≡ refused
+  pub beside_rounds : line (codes "play" ∷ codes "--order=c0" ∷ codes "--rounds=1000000" ∷ []) ≡ refused
+  pub after_rounds : line (codes "rules" ∷ codes "--rounds" ∷ codes "7" ∷ codes "--order=c0" ∷ []) ≡ refused
+  pub a_handler : line (codes "rules" ∷ codes "--order" ∷ codes "c0,h0" ∷ []) ≡ refused
+  pub nobody : line (codes "rules" ∷ codes "--order" ∷ [] ∷ []) ≡ refused
+  pub two_digits : line (codes "rules" ∷ codes "--order" ∷ codes "c10" ∷ []) ≡ refused
+  pub twice : line (codes "play" ∷ codes "--order=c0" ∷ codes "--order=c0" ∷ []) ≡ refused
+  pub of_run : line (codes "run" ∷ codes "--order=c0" ∷ []) ≡ refused
+
 pub record CountedLines : Type 0 where
-  pub rules_alone : line (codes "rules" ∷ codes "--counts" ∷ []) ≡ asks (rules true 1000000 [])
-  pub play_alone : line (codes "play" ∷ codes "--counts" ∷ []) ≡ asks (play true Both 8 1000000 [])
+  pub rules_alone : line (codes "rules" ∷ codes "--counts" ∷ []) ≡ asks (rules true (by_schedule 1000000 []))
+  pub play_alone : line (codes "play" ∷ codes "--counts" ∷ []) ≡ asks (play true Both 8 (by_schedule 1000000 []))
   pub run_alone : line (codes "run" ∷ codes "--counts" ∷ []) ≡ asks (run true Both 8)
   pub before_others : line (codes "rules" ∷ codes "--counts" ∷ codes "--pick" ∷ codes "c0" ∷ codes "--rounds=4" ∷ [])
-      ≡ asks (rules true 4 (Client 0 ∷ []))
+      ≡ asks (rules true (by_schedule 4 (Client 0 ∷ [])))
   pub between_others : line (codes "play" ∷ codes "--mode=static" ∷ codes "--counts" ∷ codes "--rounds" ∷ codes "4" ∷ [])
-      ≡ asks (play true Static 8 4 [])
+      ≡ asks (play true Static 8 (by_schedule 4 []))
   pub after_others : line (codes "run" ∷ codes "--chunk" ∷ codes "4" ∷ codes "--mode=static" ∷ codes "--counts" ∷ []) ≡ asks (run true Static 4)
 
 pub record UncountedLines : Type 0 where
@@ -89,6 +104,7 @@ pub record LineExamples : Type 0 where
   pub settings : SetLines
   pub limits : LimitLines
   pub fronts : FrontLines
+  pub orders : OrderLines
   pub counted : CountedLines
   pub uncounted : UncountedLines
   pub others : OtherLines

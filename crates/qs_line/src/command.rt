@@ -3,7 +3,7 @@
 ghost use Rattle.std.specs.Prelude.{◌≡◌, IfOk, codes, false};
 ghost use Rattle.clap.specs.Words.{app_of, new_app, rule_of, with_subcommand};
 ghost use Rattle.clap.specs.declared.Command.TheViews.{out-Command as fields_of};
-ghost use Rattle.qs_line.specs.Command.{chunk_rule, counts_rule, defaulted_rule, limit_rule, machine_app, named_app, option_rule, outcomes_app, play_app, qs_app, rounds_rule, rules_app, run_app, texts_app};
+ghost use Rattle.qs_line.specs.Command.{chunk_rule, counts_rule, defaulted_rule, limit_rule, machine_app, named_app, option_rule, outcomes_app, planned_app, play_app, qs_app, rules_app, run_app, texts_app};
 
 use crate::help;
 use clap::{Arg, ArgAction, Command, value_parser};
@@ -38,13 +38,6 @@ fn chunk_option<'a>(alloc: Global) -> Arg<'a>
         .value_parser(value_parser!(u8).range(1..=32))
 }
 
-fn rounds_option<'a>(alloc: Global) -> Arg<'a>
-    ensures rule { rule_of result ≡ rounds_rule }
-    ensures local { result.global ≡ false }
-{
-    option(alloc, "rounds", "N", help::ROUNDS).default_value("1000000")
-}
-
 fn limit_option<'a>(alloc: Global) -> Arg<'a>
     ensures rule { rule_of result ≡ limit_rule }
     ensures local { result.global ≡ false }
@@ -72,14 +65,27 @@ fn word<'a>(alloc: Global, name: &'a str, about: &'a str, example: &'a str) -> C
     Command::new(alloc, name).about(about).after_help(example)
 }
 
+// With the settings that say who goes when, and whether the counts are shown.
+fn planned<'a>(alloc: Global, command: Command<'a>) -> Result<Command<'a>, AllocError>
+    requires local { (fields_of command).has_globals ≡ false }
+    ensures app { IfOk result (λ whole. app_of whole ≡ planned_app (app_of command.entry)) }
+    ensures local { IfOk result (λ whole. (fields_of whole).has_globals ≡ false) }
+{
+    command
+        .arg(option(alloc, "rounds", "N", help::ROUNDS))?
+        .arg(option(alloc, "pick", "LIST", help::PICK))?
+        .arg(option(alloc, "order", "LIST", help::ORDER))?
+        .arg(counts_flag(alloc))
+}
+
 fn rules_command<'a>(alloc: Global) -> Result<Command<'a>, AllocError>
     ensures app { IfOk result (λ command. app_of command ≡ rules_app) }
     ensures local { IfOk result (λ command. (fields_of command).has_globals ≡ false) }
 {
-    word(alloc, "rules", help::RULES, help::RULES_EXAMPLE)
-        .arg(rounds_option(alloc))?
-        .arg(option(alloc, "pick", "LIST", help::PICK))?
-        .arg(counts_flag(alloc))
+    planned(
+        alloc,
+        word(alloc, "rules", help::RULES, help::RULES_EXAMPLE),
+    )
 }
 
 fn machine_command<'a>(
@@ -100,10 +106,10 @@ fn play_command<'a>(alloc: Global) -> Result<Command<'a>, AllocError>
     ensures app { IfOk result (λ command. app_of command ≡ play_app) }
     ensures local { IfOk result (λ command. (fields_of command).has_globals ≡ false) }
 {
-    machine_command(alloc, "play", help::PLAY, help::PLAY_EXAMPLE)?
-        .arg(rounds_option(alloc))?
-        .arg(option(alloc, "pick", "LIST", help::PICK))?
-        .arg(counts_flag(alloc))
+    planned(
+        alloc,
+        machine_command(alloc, "play", help::PLAY, help::PLAY_EXAMPLE)?,
+    )
 }
 
 fn run_command<'a>(alloc: Global) -> Result<Command<'a>, AllocError>

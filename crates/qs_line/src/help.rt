@@ -41,16 +41,20 @@ pub const RULES: &str = "Plays the script by the plain rules, one synchronisatio
 pub const RULES_EXAMPLE: &str = "\
 Example:
   qs rules --pick c1,h0 --rounds 3 < my.script
+  qs rules --order c1,c0 < my.script
 
-First the actors of LIST step, one after another; then, N times, every client steps once and every handler once.";
+First the actors of LIST step, one after another; then, N times, every client steps once and every handler once.
+With --order, a whole block of client 1 runs first, and then one of client 0.";
 
 pub const PLAY: &str = "Plays the script on the optimised machine: lanes of chunks, and coalescing";
 
 pub const PLAY_EXAMPLE: &str = "\
 Example:
   qs play --mode static --chunk 4 --pick c1,c1,h0 < my.script
+  qs play --order c1,c0 < my.script
 
 First the actors of LIST step, one after another; then, N times, every client steps once and every handler once.
+With --order, a whole block of client 1 runs first, and then one of client 0.
 Along one order of reservations neither the mode nor the size of chunks changes what a block sees. They change how many
 synchronisations are sent, and may change who comes first.";
 
@@ -79,13 +83,17 @@ pub const MODE: &str =
 
 pub const CHUNK: &str = "How many commands travel in one chunk: 1 to 32";
 
-pub const ROUNDS: &str = "How many rounds are played at most, after the picks: 0 to 1000000";
+pub const ROUNDS: &str =
+    "How many rounds are played at most, after the picks: 0 to 1000000 [default: 1000000]";
 
 pub const LIMIT: &str =
     "How many configurations are looked at, at most: 1 to 4294967295; where there are more, nothing is listed";
 
 pub const AFTER: &str =
     "Whose blocks were run before, joined by commas, each client's in turn: c0 is the first client";
+
+pub const ORDER: &str =
+    "Whose blocks run, one whole block after another, joined by commas; not with --pick or --rounds";
 
 pub const PICK: &str =
     "Who steps first, joined by commas: c0 is the first client, h0 the first object's handler";

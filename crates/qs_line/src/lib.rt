@@ -3,12 +3,15 @@
 
 mod clients;
 mod command;
+mod found;
 mod help;
 pub mod laws;
 mod line;
 mod picks;
+mod plan;
 mod told;
 
 pub use line::{LineFault, Settings, read_line};
+pub use plan::Plan;
 pub use qs_played::Actor;
 pub use told::{refusal, value_after};

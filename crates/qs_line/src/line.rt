@@ -1,15 +1,15 @@
 // The settings of a line.
 
 ghost use Rattle.std.specs.Prelude.{◌≡◌, [], IfOk, IfErr, map, option_map};
-ghost use Rattle.clap.specs.Words.{found_of, first_of, kind_of, rows_of, subcommand_of, subcommand_rows_of};
+ghost use Rattle.clap.specs.Words.{found_of, kind_of, rows_of, subcommand_of, subcommand_rows_of};
 ghost use Rattle.clap.specs.Faults.{fault_of};
 ghost use Rattle.qs_line.specs.Command.{qs_app};
-ghost use Rattle.qs_line.specs.Line.{IsAnswer, IsFault, IsFaultAmong, chunk_at, counts_at, front_at, limit_at, line_in, mode_at, outcomes_at, picks_at, play_at, request_at, request_met, request_of, rounds_at, rules_at, run_at};
+ghost use Rattle.qs_line.specs.Line.{IsAnswer, IsFault, IsFaultAmong, chunk_at, counts_at, front_at, limit_at, line_in, mode_at, outcomes_at, play_at, request_at, request_met, request_of, rules_at, run_at};
 
-use crate::Actor;
 use crate::clients::clients_of;
 use crate::command::command;
-use crate::picks::picks_of;
+use crate::found::text_at;
+use crate::plan::{Plan, given_plan};
 use clap::error::ErrorKind;
 use clap::{ArgMatches, Error};
 use qs_chunk::ChunkSize;
@@ -27,10 +27,8 @@ pub enum Settings {
     Rules {
         /// Whether each block's synchronisations are shown.
         counts: bool,
-        /// How many rounds are played at most.
-        rounds: u32,
-        /// Who steps before the rounds.
-        picks: Vec<Actor>,
+        /// Who goes when.
+        plan: Plan,
     },
     /// Check it, and play it in the optimised machine.
     Play {
@@ -40,10 +38,8 @@ pub enum Settings {
         mode: Mode,
         /// How many commands a chunk takes.
         chunk: ChunkSize,
-        /// How many rounds are played at most.
-        rounds: u32,
-        /// Who steps before the rounds.
-        picks: Vec<Actor>,
+        /// Who goes when.
+        plan: Plan,
     },
     /// Check it, and run it on threads.
     Run {
@@ -86,13 +82,6 @@ impl From<AllocError> for LineFault {
     }
 }
 
-// The text that clap has for a name: what stands on the line, or the default.
-fn text_at<'a>(found: &ArgMatches<'a>, name: &str) -> Option<&'a str>
-    ensures text { option_map (λ text. text.now) result ≡ first_of name.now (rows_of (found_of found.now)) }
-{
-    found.get_str(name)
-}
-
 fn counts_of(found: &ArgMatches<'_>) -> bool
     ensures counts { result ≡ counts_at (rows_of (found_of found.now)) }
 {
@@ -117,27 +106,11 @@ fn chunk_of(found: &ArgMatches<'_>) -> Option<ChunkSize>
     ChunkSize::new(text_at(found, "chunk")?.parse::<u8>().ok()?)
 }
 
-fn rounds_of(found: &ArgMatches<'_>) -> Option<u32>
-    ensures rounds { result ≡ rounds_at (rows_of (found_of found.now)) }
-{
-    text_at(found, "rounds")?.parse::<u32>().ok()
-}
-
 fn limit_of(found: &ArgMatches<'_>) -> Option<u32>
     ensures limit { result ≡ limit_at (rows_of (found_of found.now)) }
 {
     let limit = text_at(found, "limit")?.parse::<u32>().ok()?;
     if limit == 0 { None } else { Some(limit) }
-}
-
-// The picks of a line; none where it has no list of them.
-fn given_picks(alloc: Global, found: &ArgMatches<'_>) -> Result<Option<Vec<Actor>>, AllocError>
-    ensures picks { IfOk result (λ picks. option_map (λ actors. actors.items) picks ≡ picks_at (rows_of (found_of found.now))) }
-{
-    match text_at(found, "pick") {
-        Some(text) => picks_of(alloc, text),
-        None => Ok(Some(Vec::new(alloc))),
-    }
 }
 
 // The clients after whose blocks outcomes are asked for; nobody where the line has no list of them.
@@ -153,14 +126,13 @@ fn given_front(alloc: Global, found: &ArgMatches<'_>) -> Result<Option<Vec<u8>>,
 fn rules_settings(alloc: Global, found: &ArgMatches<'_>) -> Result<Option<Settings>, AllocError>
     ensures settings { IfOk result (λ settings. option_map request_of settings ≡ rules_at (rows_of (found_of found.now))) }
 {
-    let (Some(rounds), Some(picks)) = (rounds_of(found), given_picks(alloc, found)?) else {
-        return Ok(None);
-    };
-    Ok(Some(Settings::Rules {
-        counts: counts_of(found),
-        rounds,
-        picks,
-    }))
+    match given_plan(alloc, found)? {
+        Some(plan) => Ok(Some(Settings::Rules {
+            counts: counts_of(found),
+            plan,
+        })),
+        None => Ok(None),
+    }
 }
 
 fn play_settings(alloc: Global, found: &ArgMatches<'_>) -> Result<Option<Settings>, AllocError>
@@ -169,16 +141,15 @@ fn play_settings(alloc: Global, found: &ArgMatches<'_>) -> Result<Option<Setting
     let (Some(mode), Some(chunk)) = (mode_of(found), chunk_of(found)) else {
         return Ok(None);
     };
-    let (Some(rounds), Some(picks)) = (rounds_of(found), given_picks(alloc, found)?) else {
-        return Ok(None);
-    };
-    Ok(Some(Settings::Play {
-        counts: counts_of(found),
-        mode,
-        chunk,
-        rounds,
-        picks,
-    }))
+    match given_plan(alloc, found)? {
+        Some(plan) => Ok(Some(Settings::Play {
+            counts: counts_of(found),
+            mode,
+            chunk,
+            plan,
+        })),
+        None => Ok(None),
+    }
 }
 
 fn run_settings(found: &ArgMatches<'_>) -> Option<Settings>
@@ -261,7 +232,8 @@ fn matches_of<'a>(alloc: Global, words: &'a [&'a str]) -> Result<ArgMatches<'a>,
 }
 
 /// The settings of a line, whose first word is the program's name: those that `clap` finds, and its defaults. `Refused` comes exactly where
-/// `clap` refuses the words by an error, or where a mode, a number or the list of picks does not read; `Help` and
+/// `clap` refuses the words by an error, where a mode, a number or a list does not read, or where an order stands beside picks or a number
+/// of rounds; `Help` and
 /// `Version` come exactly where it answers with help or with the version. `Memory` may come in place of each.
 pub fn read_line<'a>(alloc: Global, words: &'a [&'a str]) -> Result<Settings, LineFault>
     ensures line { IsAnswer (line_in (map (λ word. word.now) words.entry.now)) result }

@@ -10,6 +10,7 @@ use Rattle.qs_objects.specs.declared.object.Kind.TheVariants as kinds
 use Rattle.qs_script.specs.declared.fault.ReadFault.TheVariants as read
 use Rattle.qs_places.specs.declared.fault.CheckFault.TheVariants as check
 use Rattle.qs_played.specs.declared.fault.PlayFault.TheVariants as play
+use Rattle.qs_orders.specs.declared.fault.OrderFault.TheVariants as order_fault
 use Rattle.qs_outcomes.specs.declared.fault.OutcomesFault.TheVariants as outcomes
 use Rattle.qs_program.specs.declared.program.Declared.{Declared}
 use Rattle.qs_program.specs.Program.{ProgramShape, ClientShape, BlockShape}
@@ -17,7 +18,7 @@ use Rattle.qs_program.specs.Statements.{end}
 use Rattle.qs_played.specs.Played.{Played}
 use Rattle.qs_sync_counts.specs.SyncRows.{sync_count}
 use Rattle.qs_report.specs.declared.faults.Fault.{Fault}
-use Rattle.qs_report.specs.declared.faults.Fault.TheVariants.{CommandLine, Input, Read, Check, Play, Outcomes, Memory}
+use Rattle.qs_report.specs.declared.faults.Fault.TheVariants.{CommandLine, Input, Read, Check, Play, Order, Outcomes, Memory}
 use Rattle.qs_report.specs.Report.{report_text, counted_report_text, counts_text, state_line}
 use Rattle.qs_report.specs.Faults.{fault_text, fault_status}
 
@@ -190,6 +191,8 @@ pub record FaultExamples : Type 0 where
   pub play_memory : Says (Play play.Memory) (codes "refused: play 1 Memory\n") 3
   pub play_actor : Says (Play play.Actor) (codes "refused: play 2 Actor\n") 2
   pub play_rounds : Says (Play play.Rounds) (codes "refused: play 3 Rounds\n") 2
+  pub order_memory : Says (Order order_fault.Memory) (codes "refused: play 1 Memory\n") 3
+  pub order_order : Says (Order order_fault.Order) (codes "refused: play 4 Order\n") 2
   pub outcomes_memory : Says (Outcomes outcomes.Memory) (codes "refused: outcomes 1 Memory\n") 3
   pub outcomes_limit : Says (Outcomes outcomes.Limit) (codes "refused: outcomes 2 Limit\n") 2
   pub outcomes_order : Says (Outcomes outcomes.Order) (codes "refused: outcomes 3 Order\n") 2

@@ -8,10 +8,12 @@ use Rattle.qs_played.specs.declared.fault.PlayFault.{PlayFault}
 use Rattle.qs_played.specs.declared.fault.PlayFault.TheVariants as play
 use Rattle.qs_played.specs.declared.fault.RunFault.{RunFault}
 use Rattle.qs_played.specs.declared.fault.RunFault.TheVariants as run
+use Rattle.qs_orders.specs.declared.fault.OrderFault.{OrderFault}
+use Rattle.qs_orders.specs.declared.fault.OrderFault.TheVariants as order_fault
 use Rattle.qs_outcomes.specs.declared.fault.OutcomesFault.{OutcomesFault}
 use Rattle.qs_outcomes.specs.declared.fault.OutcomesFault.TheVariants as outcomes
 use Rattle.qs_report.specs.declared.faults.Fault.{Fault}
-use Rattle.qs_report.specs.declared.faults.Fault.TheVariants.{CommandLine, Input, Read, Check, Play, Run, Outcomes, Memory}
+use Rattle.qs_report.specs.declared.faults.Fault.TheVariants.{CommandLine, Input, Read, Check, Play, Order, Run, Outcomes, Memory}
 
 abbrev pub read_words : ReadFault → List ℕ
 read_words read.Size = codes "read 1 Size"
@@ -52,6 +54,11 @@ play_words play.Memory = codes "play 1 Memory"
 play_words play.Actor = codes "play 2 Actor"
 play_words play.Rounds = codes "play 3 Rounds"
 
+-- an order is one of the ways to play
+abbrev pub order_words : OrderFault → List ℕ
+order_words order_fault.Memory = codes "play 1 Memory"
+order_words order_fault.Order = codes "play 4 Order"
+
 abbrev pub run_words : RunFault → List ℕ
 run_words run.Memory = codes "run 1 Memory"
 run_words run.Threads = codes "run 2 Threads"
@@ -67,6 +74,7 @@ fault_words Input = codes "input"
 fault_words (Read fault) = read_words fault
 fault_words (Check fault) = check_words fault
 fault_words (Play fault) = play_words fault
+fault_words (Order fault) = order_words fault
 fault_words (Run fault) = run_words fault
 fault_words (Outcomes fault) = outcomes_words fault
 fault_words Memory = codes "memory"
@@ -93,6 +101,8 @@ fault_status (Check check.Memory) = 3
 fault_status (Check _) = 2
 fault_status (Play play.Memory) = 3
 fault_status (Play _) = 2
+fault_status (Order order_fault.Memory) = 3
+fault_status (Order order_fault.Order) = 2
 fault_status (Run _) = 3
 fault_status (Outcomes outcomes.Memory) = 3
 fault_status (Outcomes outcomes.Limit) = 2

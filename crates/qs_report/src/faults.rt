@@ -3,11 +3,12 @@
 ghost use Rattle.std.specs.Prelude.{◌≡◌, ◌||◌, flat_map, IsTrue, not};
 ghost use Rattle.std.specs.Io.KnownBytes.{Appends};
 ghost use Rattle.qs_report.specs.Texts.{AppendsFront};
-ghost use Rattle.qs_report.specs.Faults.{fault_place, fault_status, fault_text, fault_words, read_words, read_place, check_words, play_words, run_words, outcomes_words};
+ghost use Rattle.qs_report.specs.Faults.{fault_place, fault_status, fault_text, fault_words, read_words, read_place, check_words, play_words, order_words, run_words, outcomes_words};
 
 use crate::watching::{Watch, write_text};
 use itoa::Buffer;
 use qs_check::CheckFault;
+use qs_orders::OrderFault;
 use qs_outcomes::OutcomesFault;
 use qs_played::{PlayFault, RunFault};
 use qs_script::ReadFault;
@@ -26,6 +27,8 @@ pub enum Fault {
     Check(CheckFault),
     /// The run was not played.
     Play(PlayFault),
+    /// The blocks of an order were not played.
+    Order(OrderFault),
     /// The program was not run on threads.
     Run(RunFault),
     /// The outcomes of the program were not found.
@@ -92,6 +95,15 @@ fn words_of_play(fault: PlayFault) -> &'static [u8]
     }
 }
 
+fn words_of_order(fault: OrderFault) -> &'static [u8]
+    ensures words { result.now ≡ order_words fault }
+{
+    match fault {
+        OrderFault::Memory => b"play 1 Memory",
+        OrderFault::Order => b"play 4 Order",
+    }
+}
+
 fn words_of_run(fault: RunFault) -> &'static [u8]
     ensures words { result.now ≡ run_words fault }
 {
@@ -120,6 +132,7 @@ fn words_of(fault: &Fault) -> &'static [u8]
         Fault::Read(fault) => words_of_read(*fault),
         Fault::Check(fault) => words_of_check(*fault),
         Fault::Play(fault) => words_of_play(*fault),
+        Fault::Order(fault) => words_of_order(*fault),
         Fault::Run(fault) => words_of_run(*fault),
         Fault::Outcomes(fault) => words_of_outcomes(*fault),
         Fault::Memory => b"memory",
@@ -188,11 +201,13 @@ pub fn status(fault: &Fault) -> u8
         | Fault::Read(ReadFault::Memory)
         | Fault::Check(CheckFault::Memory)
         | Fault::Play(PlayFault::Memory)
+        | Fault::Order(OrderFault::Memory)
         | Fault::Outcomes(OutcomesFault::Memory) => 3,
         Fault::CommandLine
         | Fault::Read(_)
         | Fault::Check(_)
         | Fault::Play(_)
+        | Fault::Order(OrderFault::Order)
         | Fault::Outcomes(OutcomesFault::Limit | OutcomesFault::Order) => 2,
     }
 }

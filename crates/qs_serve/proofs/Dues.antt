@@ -2,9 +2,6 @@
 -- the line asked for that run. The function `serve` and those that find what is due stand on it. Each goes by cases on what the
 -- line asks for and on the answer.
 use Rattle.std.proofs.Common.{◌≡◌, ◌≤◌, ◌⊎◌, ℕ, Bool, List, Option, Ok, true, false, refl, sym, subst, inl, inr}
-use Rattle.qs_core_laws.specs.CoreSchedule.{IsPlayedIn}
-use Rattle.qs_plain_laws.specs.PlainSchedule.{IsPlayed}
-use Rattle.qs_played.specs.declared.schedule.actor.Actor.{Actor}
 use Rattle.qs_played.specs.Played.{Played}
 use Rattle.qs_syncset.specs.declared.mode.Mode.{Mode}
 use Rattle.qs_report.specs.declared.faults.Fault.{Fault}
@@ -19,12 +16,13 @@ use Rattle.qs_meaning.proofs.Each.{each_map}
 use Rattle.qs_orders.specs.NamedOrders.{order_of}
 use Rattle.std.specs.List.{AllByRecursion}
 use Rattle.qs_objects.specs.declared.held.Ticket.{Ticket}
+use Rattle.qs_orders.specs.declared.fault.OrderFault.TheVariants as order_fault
 use Rattle.qs_outcomes.specs.Standings.{StandingShape}
 use Rattle.qs_outcomes.specs.Outcomes.{HasPlaces, IsListedAfter, OutcomesShape}
 use Rattle.qs_outcomes.specs.declared.fault.OutcomesFault.TheVariants as outcomes_fault
 use Rattle.qs_report.specs.OutcomesText.{AreOutcomesAfter, IsOutcomesText}
-use Rattle.qs_line.specs.Line.{Line, asks, help, outcomes, play, refused, rules, run, version}
-use Rattle.qs_serve.specs.Due.{IsDue, IsDueOfProgram, IsListOf, IsOutOfMemory, IsRefusedBy, IsReportOf, due_status}
+use Rattle.qs_line.specs.Line.{Line, PlanShape, asks, help, outcomes, play, refused, rules, run, version}
+use Rattle.qs_serve.specs.Due.{IsDue, IsDueOfProgram, IsListOf, IsOutOfMemory, IsRefusedBy, IsReportOf, IsShownByPlay, IsShownByRules, due_status}
 use Rattle.qs_serve.specs.declared.due.Due.{Due}
 use Rattle.qs_serve.specs.declared.due.Due.TheVariants.{Text, Refused}
 
@@ -47,6 +45,8 @@ status_of_input (fault.Check check_fault.Memory) e = absurd (cc e)
 status_of_input (fault.Check _) e = absurd (cc e)
 status_of_input (fault.Play play_fault.Memory) e = absurd (cc e)
 status_of_input (fault.Play _) e = absurd (cc e)
+status_of_input (fault.Order order_fault.Memory) e = absurd (cc e)
+status_of_input (fault.Order order_fault.Order) e = absurd (cc e)
 status_of_input (fault.Run _) e = absurd (cc e)
 status_of_input (fault.Outcomes outcomes_fault.Memory) e = absurd (cc e)
 status_of_input (fault.Outcomes outcomes_fault.Limit) e = absurd (cc e)
@@ -65,16 +65,16 @@ four_is_due (asks request) known true (Refused f) is e = refl
 four_is_due (asks request) known false (Refused f) is e = absurd (is.0 (status_of_input f e))
 
 -- a report that is due by what was asked for, in the two ways of playing and on threads
-pub due_by_rules : (counts : Bool) (p : ProgramShape) (picks : List Actor) (rounds : ℕ) (played : Played) (due : Due)
-    → IsPlayed p picks rounds (Ok played) → IsReportOf counts p played due → IsOutOfMemory due ⊎ IsDueOfProgram (rules counts rounds picks) p due
-due_by_rules counts p picks rounds played (Text bytes) shows is = inr (played, shows, is)
-due_by_rules counts p picks rounds played (Refused f) shows is = inl (subst (λ g. IsOutOfMemory (Refused g)) (sym is) tt)
+pub due_by_rules : (counts : Bool) (p : ProgramShape) (plan : PlanShape) (played : Played) (due : Due)
+    → IsShownByRules plan p played → IsReportOf counts p played due → IsOutOfMemory due ⊎ IsDueOfProgram (rules counts plan) p due
+due_by_rules counts p plan played (Text bytes) shows is = inr (played, shows, is)
+due_by_rules counts p plan played (Refused f) shows is = inl (subst (λ g. IsOutOfMemory (Refused g)) (sym is) tt)
 
-pub due_by_play : (counts : Bool) (p : ProgramShape) (mode : Mode) (size : ℕ) (picks : List Actor) (rounds : ℕ) (played : Played) (due : Due)
-    → IsPlayedIn p mode size picks rounds (Ok played) → IsReportOf counts p played due
-    → IsOutOfMemory due ⊎ IsDueOfProgram (play counts mode size rounds picks) p due
-due_by_play counts p mode size picks rounds played (Text bytes) shows is = inr (played, shows, is)
-due_by_play counts p mode size picks rounds played (Refused f) shows is = inl (subst (λ g. IsOutOfMemory (Refused g)) (sym is) tt)
+pub due_by_play : (counts : Bool) (p : ProgramShape) (mode : Mode) (size : ℕ) (plan : PlanShape) (played : Played) (due : Due)
+    → IsShownByPlay mode size plan p played → IsReportOf counts p played due
+    → IsOutOfMemory due ⊎ IsDueOfProgram (play counts mode size plan) p due
+due_by_play counts p mode size plan played (Text bytes) shows is = inr (played, shows, is)
+due_by_play counts p mode size plan played (Refused f) shows is = inl (subst (λ g. IsOutOfMemory (Refused g)) (sym is) tt)
 
 pub due_by_run : (counts : Bool) (p : ProgramShape) (mode : Mode) (size : ℕ) (outcome : Played) (due : Due)
     → IsOutcome p mode size outcome → IsReportOf counts p outcome due → IsOutOfMemory due ⊎ IsDueOfProgram (run counts mode size) p due

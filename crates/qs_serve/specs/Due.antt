@@ -7,6 +7,8 @@ use Rattle.qs_places.specs.declared.fault.CheckFault.TheVariants as check_fault
 use Rattle.qs_played.specs.declared.fault.PlayFault.TheVariants as play_fault
 use Rattle.qs_orders.specs.NamedOrders.{order_of}
 use Rattle.qs_meaning.specs.Serial.{IsLegal}
+use Rattle.qs_orders.specs.declared.fault.OrderFault.{OrderFault}
+use Rattle.qs_orders.specs.declared.fault.OrderFault.TheVariants as order_fault
 use Rattle.qs_outcomes.specs.Outcomes.{HasMoreThanAfter, OutcomesShape}
 use Rattle.qs_outcomes.specs.declared.fault.OutcomesFault.{OutcomesFault}
 use Rattle.qs_outcomes.specs.declared.fault.OutcomesFault.TheVariants as outcomes_fault
@@ -23,12 +25,15 @@ use Rattle.qs_check.specs.Checked.{fault_of}
 use Rattle.qs_check.specs.Resolve.{program_of_items}
 use Rattle.qs_program.specs.Program.{ProgramShape}
 use Rattle.qs_core_laws.specs.CoreSchedule.{IsPlayedIn}
+use Rattle.qs_core.specs.CoreOrders.{IsPlayedBySome}
 use Rattle.qs_plain_laws.specs.PlainSchedule.{IsPlayed}
+use Rattle.qs_plain_orders.specs.PlainOrders.{IsPlayedInOrder}
 use Rattle.qs_played.specs.declared.fault.PlayFault.{PlayFault}
 use Rattle.qs_played.specs.Played.{Played}
+use Rattle.qs_syncset.specs.declared.mode.Mode.{Mode}
 use Rattle.qs_run_laws.specs.Outcomes.{IsOutcome}
 use Rattle.qs_run.specs.Starts.{IsRefusal, LetAllStart, worker_count}
-use Rattle.qs_line.specs.Line.{Line, Request, asks, check, graph, help, line_in, outcomes, play, refused, rules, run, version}
+use Rattle.qs_line.specs.Line.{Line, PlanShape, Request, asks, by_order, by_schedule, check, graph, help, line_in, outcomes, play, refused, rules, run, version}
 use Rattle.qs_serve.specs.declared.due.Due.{Due}
 use Rattle.qs_serve.specs.declared.due.Due.TheVariants.{Text, Refused}
 
@@ -51,6 +56,7 @@ IsOutOfMemory (Refused fault.Memory) = Unit {0}
 IsOutOfMemory (Refused (fault.Read read.Memory)) = Unit {0}
 IsOutOfMemory (Refused (fault.Check check_fault.Memory)) = Unit {0}
 IsOutOfMemory (Refused (fault.Play play_fault.Memory)) = Unit {0}
+IsOutOfMemory (Refused (fault.Order order_fault.Memory)) = Unit {0}
 IsOutOfMemory (Refused (fault.Outcomes outcomes_fault.Memory)) = Unit {0}
 IsOutOfMemory _ = ⊥
 
@@ -69,24 +75,44 @@ abbrev pub IsListOf : ProgramShape → OutcomesShape → Due → Type 0
 IsListOf p all (Text bytes) = bytes.items ≡ listed_text p all
 IsListOf p all (Refused f) = f ≡ fault.Memory
 
--- what a request makes of a program: its counts; its graphs; the report of its run by the plain rules or in the optimised machine,
--- with so many rounds after its picks; that of an outcome which its run on threads may have; or all its outcomes after
--- the blocks of some clients, of so many configurations at most. A report has the counts of synchronisations where they are asked for.
+-- what is shown under the plain rules: the state after the picks and the rounds of a schedule; or the blocks that the clients of an
+-- order name, in this order, each of them ended
+abbrev pub IsShownByRules : PlanShape → ProgramShape → Played → Type 0
+IsShownByRules (by_schedule rounds picks) p played = IsPlayed p picks rounds (Ok played)
+IsShownByRules (by_order clients) p played = IsLegal p (order_of clients) × IsPlayedInOrder p (order_of clients) played
+
+-- what is shown in the optimised machine: the same by a schedule; by an order, which has to be legal, what is shown after some picks
+abbrev pub IsShownByPlay : Mode → ℕ → PlanShape → ProgramShape → Played → Type 0
+IsShownByPlay mode size (by_schedule rounds picks) p played = IsPlayedIn p mode size picks rounds (Ok played)
+IsShownByPlay mode size (by_order clients) p played = IsLegal p (order_of clients) × IsPlayedBySome p mode size played
+
+-- what a request makes of a program: its counts; its graphs; the report of its run by the plain rules or in the optimised machine;
+-- that of an outcome which its run on threads may have; or all its outcomes after the blocks of some clients, of so many configurations
+-- at most. A report has the counts of synchronisations where they are asked for.
 abbrev pub IsTextBy : Request → ProgramShape → List ℕ → Type 0
 IsTextBy check p text = text ≡ counts_text p
 IsTextBy graph p text = IsGraphText p text
-IsTextBy (rules counts rounds picks) p text =
-    (played : Played) × IsPlayed p picks rounds (Ok played) × (text ≡ run_text counts p played)
-IsTextBy (play counts mode size rounds picks) p text =
-    (played : Played) × IsPlayedIn p mode size picks rounds (Ok played) × (text ≡ run_text counts p played)
+IsTextBy (rules counts plan) p text = (played : Played) × IsShownByRules plan p played × (text ≡ run_text counts p played)
+IsTextBy (play counts mode size plan) p text = (played : Played) × IsShownByPlay mode size plan p played × (text ≡ run_text counts p played)
 IsTextBy (run counts mode size) p text = (outcome : Played) × IsOutcome p mode size outcome × (text ≡ run_text counts p outcome)
 IsTextBy (outcomes limit front) p text = IsOutcomesText p limit front text
 
--- why what a request asks for is not played
+-- why a schedule that a request asks for is not played
 abbrev pub IsUnplayedBy : Request → ProgramShape → PlayFault → Type 0
-IsUnplayedBy (rules counts rounds picks) p f = IsPlayed p picks rounds (Err f)
-IsUnplayedBy (play counts mode size rounds picks) p f = IsPlayedIn p mode size picks rounds (Err f)
+IsUnplayedBy (rules counts (by_schedule rounds picks)) p f = IsPlayed p picks rounds (Err f)
+IsUnplayedBy (play counts mode size (by_schedule rounds picks)) p f = IsPlayedIn p mode size picks rounds (Err f)
 IsUnplayedBy _ p f = ⊥
+
+-- why the order of some clients is not played: it is not legal, or it is and an allocation failed
+abbrev pub IsUnordered : ProgramShape → List ℕ → OrderFault → Type 0
+IsUnordered p clients order_fault.Order = ¬ IsLegal p (order_of clients)
+IsUnordered p clients order_fault.Memory = IsLegal p (order_of clients)
+
+-- why an order that a request asks for is not played
+abbrev pub IsUnorderedBy : Request → ProgramShape → OrderFault → Type 0
+IsUnorderedBy (rules counts (by_order clients)) p f = IsUnordered p clients f
+IsUnorderedBy (play counts mode size (by_order clients)) p f = IsUnordered p clients f
+IsUnorderedBy _ p f = ⊥
 
 -- a run on threads is asked for; it may want memory or threads on any program
 abbrev pub IsRun : Request → Type 0
@@ -104,12 +130,13 @@ IsUnlistedBy _ p f = ⊥
 abbrev pub IsDueOfProgram : Request → ProgramShape → Due → Type 0
 IsDueOfProgram request p (Text bytes) = IsTextBy request p bytes.items
 IsDueOfProgram request p (Refused (fault.Play f)) = IsUnplayedBy request p f
+IsDueOfProgram request p (Refused (fault.Order f)) = IsUnorderedBy request p f
 IsDueOfProgram request p (Refused (fault.Run f)) = IsRun request
 IsDueOfProgram request p (Refused (fault.Outcomes f)) = IsUnlistedBy request p f
 IsDueOfProgram request p (Refused _) = ⊥
 
--- what a request makes of a text: the result of its program, or the fault of the text, of its script, of its schedule, of its threads or
--- of its outcomes
+-- what a request makes of a text: the result of its program, or the fault of the text, of its script, of its schedule, of its order, of
+-- its threads or of its outcomes
 abbrev pub IsDueOfText : Request → List ℕ → Due → Type 0
 IsDueOfText request text (Text bytes) =
     (s : List Item) × IsScriptText text s × (fault_of s ≡ None) × IsTextBy request (program_of_items s) bytes.items
@@ -117,6 +144,8 @@ IsDueOfText request text (Refused (fault.Read f)) = IsRefused f text
 IsDueOfText request text (Refused (fault.Check f)) = (s : List Item) × IsScriptText text s × (fault_of s ≡ Some f)
 IsDueOfText request text (Refused (fault.Play f)) =
     (s : List Item) × IsScriptText text s × (fault_of s ≡ None) × IsUnplayedBy request (program_of_items s) f
+IsDueOfText request text (Refused (fault.Order f)) =
+    (s : List Item) × IsScriptText text s × (fault_of s ≡ None) × IsUnorderedBy request (program_of_items s) f
 IsDueOfText request text (Refused (fault.Run f)) = (s : List Item) × IsScriptText text s × (fault_of s ≡ None) × IsRun request
 IsDueOfText request text (Refused (fault.Outcomes f)) =
     (s : List Item) × IsScriptText text s × (fault_of s ≡ None) × IsUnlistedBy request (program_of_items s) f

@@ -2,7 +2,7 @@
 
 ghost use Rattle.std.specs.Prelude.{◌≡◌, ◌+◌, ◌≤◌, ◌⊎◌, false, None, Some, map, IfOk, IfSome};
 ghost use Rattle.qs_report.specs.declared.faults.Fault.TheVariants as fault;
-ghost use Rattle.qs_line.specs.Line.{asks, line_in, outcomes, play, request_by, request_of, rules, run};
+ghost use Rattle.qs_line.specs.Line.{asks, by_order, by_schedule, line_in, outcomes, plan_of, play, request_by, request_of, rules, run};
 ghost use Rattle.qs_serve.specs.Due.{HasAsked, IsDue, IsDueOfProgram, IsDueOfText, IsRefusedBy, IsListOf, IsReportOf, IsTextOf, IsOutOfMemory, due_status, longest};
 ghost use Rattle.std.specs.List.{AllByRecursion};
 ghost use Rattle.qs_outcomes.specs.Outcomes.{HasPlaces};
@@ -10,8 +10,8 @@ ghost use Rattle.qs_outcomes.specs.Outcomes.{HasPlaces};
 use crate::input::{Counted, InputFault, gather};
 use qs_check::{Program, check};
 use qs_chunk::ChunkSize;
-use qs_core::play_plain;
-use qs_line::{Actor, LineFault, Settings, read_line};
+use qs_core::{play_in_order, play_plain, play_plain_in_order};
+use qs_line::{Actor, LineFault, Plan, Settings, read_line};
 use qs_outcomes::{AllOutcomes, outcomes_after};
 use qs_played::{Outcome, Played};
 use qs_report::{
@@ -73,14 +73,81 @@ fn due_of_played(alloc: Global, program: &Program, counts: bool, played: Played)
     due_of_bytes(text)
 }
 
-// A run by the plain rules.
-fn due_of_rules(alloc: Global, program: &Program, counts: bool, picks: &[Actor], rounds: u32) -> Due
+// A run by the plain rules, by a schedule.
+fn due_of_scheduled_rules(
+    alloc: Global,
+    program: &Program,
+    counts: bool,
+    picks: &[Actor],
+    rounds: u32,
+) -> Due
     ensures not_input { ¬ IsRefusedBy fault.Input result }
-    ensures due { IsOutOfMemory result ⊎ IsDueOfProgram (rules counts rounds picks.now) program.now result }
+    ensures due { IsOutOfMemory result ⊎ IsDueOfProgram (rules counts (by_schedule rounds picks.now)) program.now result }
 {
     match play_plain(alloc, program, picks, rounds) {
         Ok(played) => due_of_played(alloc, program, counts, played),
         Err(fault) => Due::Refused(Fault::Play(fault)),
+    }
+}
+
+// A run by the plain rules, one whole block after another.
+fn due_of_ordered_rules(alloc: Global, program: &Program, counts: bool, clients: &[u8]) -> Due
+    ensures not_input { ¬ IsRefusedBy fault.Input result }
+    ensures due { IsOutOfMemory result ⊎ IsDueOfProgram (rules counts (by_order clients.now)) program.now result }
+{
+    match play_plain_in_order(alloc, program, clients) {
+        Ok(played) => due_of_played(alloc, program, counts, played),
+        Err(fault) => Due::Refused(Fault::Order(fault)),
+    }
+}
+
+// A run by the plain rules.
+fn due_of_rules(alloc: Global, program: &Program, counts: bool, plan: &Plan) -> Due
+    ensures not_input { ¬ IsRefusedBy fault.Input result }
+    ensures due { IsOutOfMemory result ⊎ IsDueOfProgram (rules counts (plan_of plan.now)) program.now result }
+{
+    match plan {
+        Plan::Schedule { rounds, picks } => {
+            due_of_scheduled_rules(alloc, program, counts, picks.as_slice(), *rounds)
+        }
+        Plan::Order(clients) => due_of_ordered_rules(alloc, program, counts, clients.as_slice()),
+    }
+}
+
+// A run in the optimised machine, by a schedule.
+fn due_of_scheduled_play(
+    alloc: Global,
+    program: &Program,
+    counts: bool,
+    mode: Mode,
+    chunk: ChunkSize,
+    picks: &[Actor],
+    rounds: u32,
+) -> Due
+    ensures not_input { ¬ IsRefusedBy fault.Input result }
+    ensures due { IsOutOfMemory result ⊎ IsDueOfProgram (play counts mode chunk (by_schedule rounds picks.now)) program.now result }
+{
+    match qs_core::play(alloc, program, mode, chunk, picks, rounds) {
+        Ok(played) => due_of_played(alloc, program, counts, played),
+        Err(fault) => Due::Refused(Fault::Play(fault)),
+    }
+}
+
+// A run in the optimised machine, one whole block after another.
+fn due_of_ordered_play(
+    alloc: Global,
+    program: &Program,
+    counts: bool,
+    mode: Mode,
+    chunk: ChunkSize,
+    clients: &[u8],
+) -> Due
+    ensures not_input { ¬ IsRefusedBy fault.Input result }
+    ensures due { IsOutOfMemory result ⊎ IsDueOfProgram (play counts mode chunk (by_order clients.now)) program.now result }
+{
+    match play_in_order(alloc, program, mode, chunk, clients) {
+        Ok(played) => due_of_played(alloc, program, counts, played),
+        Err(fault) => Due::Refused(Fault::Order(fault)),
     }
 }
 
@@ -91,15 +158,26 @@ fn due_of_play(
     counts: bool,
     mode: Mode,
     chunk: ChunkSize,
-    picks: &[Actor],
-    rounds: u32,
+    plan: &Plan,
 ) -> Due
     ensures not_input { ¬ IsRefusedBy fault.Input result }
-    ensures due { IsOutOfMemory result ⊎ IsDueOfProgram (play counts mode chunk rounds picks.now) program.now result }
+    ensures due { IsOutOfMemory result ⊎ IsDueOfProgram (play counts mode chunk (plan_of plan.now)) program.now result }
 {
-    match qs_core::play(alloc, program, mode, chunk, picks, rounds) {
-        Ok(played) => due_of_played(alloc, program, counts, played),
-        Err(fault) => Due::Refused(Fault::Play(fault)),
+    match plan {
+        Plan::Schedule { rounds, picks } => {
+            due_of_scheduled_play(
+                alloc,
+                program,
+                counts,
+                mode,
+                chunk,
+                picks.as_slice(),
+                *rounds,
+            )
+        }
+        Plan::Order(clients) => {
+            due_of_ordered_play(alloc, program, counts, mode, chunk, clients.as_slice())
+        }
     }
 }
 
@@ -169,26 +247,13 @@ fn due_of_program<T: Threads + Wait + Sync>(
     ensures due { IsOutOfMemory result ⊎ IsDueOfProgram (request_of settings.now) program.now result }
 {
     match settings {
-        Settings::Rules {
-            counts,
-            rounds,
-            picks,
-        } => due_of_rules(alloc, program, *counts, picks.as_slice(), *rounds),
+        Settings::Rules { counts, plan } => due_of_rules(alloc, program, *counts, plan),
         Settings::Play {
             counts,
             mode,
             chunk,
-            rounds,
-            picks,
-        } => due_of_play(
-            alloc,
-            program,
-            *counts,
-            *mode,
-            *chunk,
-            picks.as_slice(),
-            *rounds,
-        ),
+            plan,
+        } => due_of_play(alloc, program, *counts, *mode, *chunk, plan),
         Settings::Run {
             counts,
             mode,

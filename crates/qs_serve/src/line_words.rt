@@ -38,79 +38,114 @@ fn names_file<'a>(words: &'a [&'a str]) -> bool {
     false
 }
 
-// Puts which value of the line is wrong: the mode, the rounds or the picks.
+// Puts what is wrong with the values of the line: the mode, an order beside a schedule, the rounds or a list.
 fn put_value<'a>(out: &mut Vec<u8>, words: &'a [&'a str]) -> Result<(), AllocError> {
     if let Some(mode) = value_after(words, "--mode") {
         if !is_mode(mode) {
-            let mode = mode.as_bytes();
-            return put_all(
-                out,
-                &[
-                    b"error: there is no mode '",
-                    mode,
-                    b"' for '--mode <M>'\n  [possible values: none, dynamic, static, both]\n",
-                ],
-            );
+            return put_mode(out, mode);
+        }
+    }
+    if value_after(words, "--order").is_some() {
+        if value_after(words, "--pick").is_some() {
+            return put(out, BESIDE_PICKS);
+        }
+        if value_after(words, "--rounds").is_some() {
+            return put(out, BESIDE_ROUNDS);
         }
     }
     if let Some(rounds) = value_after(words, "--rounds") {
         if rounds.parse::<u32>().is_err() {
-            let rounds = rounds.as_bytes();
-            return put_all(
-                out,
-                &[
-                    b"error: '",
-                    rounds,
-                    b"' is no number of rounds for '--rounds <N>'\n  [from 0 to 1000000]\n",
-                ],
-            );
+            return put_rounds(out, rounds);
         }
     }
-    match value_after(words, "--pick") {
-        Some(picks) => put_picks(out, picks),
-        None => Ok(()),
-    }
+    put_list(out, words, "--pick", true)?;
+    put_list(out, words, "--order", false)?;
+    put_list(out, words, "--after", false)
 }
 
 fn is_mode(word: &str) -> bool {
     matches!(word, "none" | "dynamic" | "static" | "both")
 }
 
-// Whether a part of a list of picks is an actor.
-fn is_actor(part: &[u8]) -> bool {
-    matches!(part, [b'c' | b'h', b'0'..=b'9'])
+fn put_mode(out: &mut Vec<u8>, mode: &str) -> Result<(), AllocError> {
+    put_all(
+        out,
+        &[
+            b"error: there is no mode '",
+            mode.as_bytes(),
+            b"' for '--mode <M>'\n  [possible values: none, dynamic, static, both]\n",
+        ],
+    )
 }
 
-// Puts which part of a list of picks is no actor.
-fn put_picks(out: &mut Vec<u8>, picks: &str) -> Result<(), AllocError> {
+fn put_rounds(out: &mut Vec<u8>, rounds: &str) -> Result<(), AllocError> {
+    put_all(
+        out,
+        &[
+            b"error: '",
+            rounds.as_bytes(),
+            b"' is no number of rounds for '--rounds <N>'\n  [from 0 to 1000000]\n",
+        ],
+    )
+}
+
+const BESIDE_PICKS: &[u8] =
+    b"error: the argument '--order <LIST>' cannot be used with '--pick <LIST>'\n";
+
+const BESIDE_ROUNDS: &[u8] =
+    b"error: the argument '--order <LIST>' cannot be used with '--rounds <N>'\n";
+
+const NO_ACTOR: &[u8] =
+    b"is no actor\n  = help: an actor is `c` or `h` and one digit, as in `c1,h0`: client 1, and then the handler of object 0\n";
+
+const NO_CLIENT: &[u8] =
+    b"is no client\n  = help: a client is `c` and one digit, as in `c1,c0`: a block of client 1, and then one of client 0\n";
+
+// Whether a part of a list is an actor that may stand there: a client, or a handler where handlers may.
+fn may_stand(part: &[u8], may_be_handler: bool) -> bool {
+    match part {
+        [b'c', b'0'..=b'9'] => true,
+        [b'h', b'0'..=b'9'] => may_be_handler,
+        _ => false,
+    }
+}
+
+// Puts which part of the list after a setting is no actor that may stand there.
+fn put_list<'a>(
+    out: &mut Vec<u8>,
+    words: &'a [&'a str],
+    setting: &str,
+    may_be_handler: bool,
+) -> Result<(), AllocError> {
+    let Some(list) = value_after(words, setting) else {
+        return Ok(());
+    };
     let mut place = 1u64;
-    for part in picks.split(',') {
+    for part in list.split(',') {
         let part = part.as_bytes();
-        if !is_actor(part) {
-            return put_part(
-                out,
-                place,
-                part,
-                b"is no actor\n  = help: an actor is `c` or `h` and one digit, as in `c1,h0`: client 1, and then the handler of object 0\n",
-            );
+        if !may_stand(part, may_be_handler) {
+            let what = if may_be_handler { NO_ACTOR } else { NO_CLIENT };
+            return put_part(out, setting, place, part, what);
         }
         place = place.saturating_add(1);
     }
     Ok(())
 }
 
-/// Puts what is wrong with a part of a list of picks.
+/// Puts what is wrong with a part of the list after a setting.
 pub(crate) fn put_part(
     out: &mut Vec<u8>,
+    setting: &str,
     place: u64,
     part: &[u8],
     what: &[u8],
 ) -> Result<(), AllocError> {
     let mut buffer = itoa::Buffer::new();
-    let digits = buffer.format(place).as_bytes();
     put(out, b"error: part ")?;
-    put(out, digits)?;
-    put(out, b" of the list for '--pick <LIST>', '")?;
+    put(out, buffer.format(place).as_bytes())?;
+    put(out, b" of the list for '")?;
+    put(out, setting.as_bytes())?;
+    put(out, b" <LIST>', '")?;
     put(out, part)?;
     put(out, b"', ")?;
     put(out, what)

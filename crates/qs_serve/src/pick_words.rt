@@ -30,7 +30,7 @@ pub(crate) fn put_actor<'a>(
     for part in picks.split(',') {
         let part = part.as_bytes();
         if !is_there(part, clients, objects) {
-            put_part(out, place, part, b"names nobody\n")?;
+            put_part(out, "--pick", place, part, b"names nobody\n")?;
             return put_counts(out, clients, objects);
         }
         place = place.saturating_add(1);

@@ -6,9 +6,11 @@ ghost use Rattle.qs_serve.specs.Due.{IsSomeText};
 
 use crate::due::Due;
 use crate::line_words::put_line;
+use crate::order_words::put_order;
 use crate::pick_words::put_actor;
 use qs_causes::{tell_check, tell_read};
 use qs_check::CheckFault;
+use qs_orders::OrderFault;
 use qs_outcomes::OutcomesFault;
 use qs_played::{PlayFault, RunFault};
 use qs_report::{Fault, Watch, write_text};
@@ -31,7 +33,7 @@ fn plain_words(fault: &Fault) -> Option<&'static [u8]> {
             b"error: memory ran out while the script was read\n",
         ),
         Fault::Check(fault) => check_words(*fault),
-        Fault::Play(PlayFault::Memory) => Some(
+        Fault::Play(PlayFault::Memory) | Fault::Order(OrderFault::Memory) => Some(
             b"error: memory ran out while the script was played\n",
         ),
         Fault::Play(PlayFault::Rounds) => Some(b"error: `--rounds` is at most 1000000\n"),
@@ -62,7 +64,7 @@ fn check_words(fault: CheckFault) -> Option<&'static [u8]> {
     }
 }
 
-// The text of what is said of a fault of the line, of the script or of a pick.
+// The text of what is said of a fault of the line, of the script, of a pick or of an order.
 fn told<'a>(
     alloc: Global,
     words: &'a [&'a str],
@@ -75,6 +77,8 @@ fn told<'a>(
         Fault::Read(_) => tell_read(alloc, &mut out, text)?,
         Fault::Check(_) => tell_check(alloc, &mut out, text)?,
         Fault::Play(_) => put_actor(alloc, &mut out, words, text)?,
+        Fault::Order(_) => put_order(alloc, &mut out, words, text, "--order")?,
+        Fault::Outcomes(_) => put_order(alloc, &mut out, words, text, "--after")?,
         _ => put(&mut out, b"")?,
     }
     Ok(out)

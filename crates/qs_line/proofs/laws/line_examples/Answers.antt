@@ -21,6 +21,20 @@ returns c = record {
       counted = refl;
     };
     fronts = record { one = refl; more = refl; a_handler = refl; nobody = refl; two_digits = refl; twice = refl; of_play = refl };
+    orders = record {
+      by_rules = refl;
+      by_play = refl;
+      beside_others = refl;
+      beside_picks = refl;
+      after_picks = refl;
+      beside_rounds = refl;
+      after_rounds = refl;
+      a_handler = refl;
+      nobody = refl;
+      two_digits = refl;
+      twice = refl;
+      of_run = refl;
+    };
     counted = record { rules_alone = refl; play_alone = refl; run_alone = refl; before_others = refl; between_others = refl; after_others = refl };
     uncounted = record { twice = refl; by_value = refl; by_true = refl; by_word = refl; before_word = refl; of_check = refl; of_graph = refl };
     others = record {

@@ -1,7 +1,7 @@
 use Rattle.std.proofs.Common.{◌∙◌}
 use Rattle.clap.specs.Words.{found_of}
 use Rattle.clap.proofs.WalkLemmas.{first_value-rows}
-use Rattle.qs_line.proofs.line.text_at.Goals as goal
+use Rattle.qs_line.proofs.found.text_at.Goals as goal
 
 pub returns : goal.returns
 returns c = record { text = c.get_str.ensures ∙ first_value-rows (found_of c.args.found.now) c.args.name.now }

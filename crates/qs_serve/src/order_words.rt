@@ -1,0 +1,98 @@
+// What is said of a list of clients that names no order of the script.
+
+ghost use Rattle.std.specs.Prelude.{◌<◌, length};
+
+use crate::line_words::put_part;
+use qs_check::{Program, check};
+use qs_line::value_after;
+use qs_program::MOST_CLIENTS;
+use qs_script::read;
+use qs_told::put_all;
+use std::alloc::{AllocError, Global};
+
+/// Puts which part of the list after a setting names no block of the script, and what is there.
+pub(crate) fn put_order<'a>(
+    alloc: Global,
+    out: &mut Vec<u8>,
+    words: &'a [&'a str],
+    text: &[u8],
+    setting: &str,
+) -> Result<(), AllocError> {
+    let Some(list) = value_after(words, setting) else {
+        return Ok(());
+    };
+    let Ok(script) = read(alloc, text) else {
+        return Ok(());
+    };
+    match check(alloc, script) {
+        Ok(program) => put_surplus(out, &program, setting, list),
+        Err(_) => Ok(()),
+    }
+}
+
+// Puts the first part that is no client, or that names one more block than its client has.
+fn put_surplus(
+    out: &mut Vec<u8>,
+    program: &Program,
+    setting: &str,
+    list: &str,
+) -> Result<(), AllocError> {
+    let mut begun = [0usize; MOST_CLIENTS];
+    let mut place = 1u64;
+    for part in list.split(',') {
+        let part = part.as_bytes();
+        let Some(client) = client_of(part) else {
+            return Ok(());
+        };
+        if usize::from(client) >= program.clients() {
+            put_part(out, setting, place, part, b"names no client\n")?;
+            return put_clients(out, program);
+        }
+        let Some(blocks) = begun.get_mut(usize::from(client)) else {
+            return Ok(());
+        };
+        *blocks = (*blocks).saturating_add(1);
+        if *blocks > program.blocks_of(client) {
+            put_part(out, setting, place, part, b"names one block too many\n")?;
+            return put_blocks(out, program, client);
+        }
+        place = place.saturating_add(1);
+    }
+    Ok(())
+}
+
+fn client_of(part: &[u8]) -> Option<u8> {
+    match part {
+        [b'c', digit @ b'0'..=b'9'] => Some(*digit - b'0'),
+        _ => None,
+    }
+}
+
+fn put_clients(out: &mut Vec<u8>, program: &Program) -> Result<(), AllocError> {
+    let mut buffer = itoa::Buffer::new();
+    put_all(
+        out,
+        &[
+            b"  = help: clients: ",
+            buffer.format(program.clients()).as_bytes(),
+            b", counted from 0: the first is c0\n",
+        ],
+    )
+}
+
+fn put_blocks(out: &mut Vec<u8>, program: &Program, client: u8) -> Result<(), AllocError>
+    requires { client < length program.now.clients }
+{
+    let mut first = itoa::Buffer::new();
+    let mut second = itoa::Buffer::new();
+    put_all(
+        out,
+        &[
+            b"  = help: blocks of c",
+            first.format(client).as_bytes(),
+            b": ",
+            second.format(program.blocks_of(client)).as_bytes(),
+            b"\n",
+        ],
+    )
+}
