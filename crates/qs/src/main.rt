@@ -6,6 +6,7 @@ ghost use Rattle.qs_report.specs.declared.faults.Fault.TheVariants as fault;
 
 use qs_serve::{Counted, Fault, Watch, refuse, serve};
 use std::alloc::{AllocError, Global};
+use std::io::IsTerminal;
 use std::process::ExitCode;
 use std::rt::Env;
 use std::{env, io};
@@ -40,6 +41,7 @@ fn main(rt: HostRuntime) -> ExitCode {
         Ok(words) => words,
         Err(fault) => return ExitCode::from(refuse(fault, &mut out, &mut Watch::new(), &mut err)),
     };
+    let is_terminal = err.is_terminal();
     let Ok(texts) = texts(rt.alloc(), &words) else {
         return ExitCode::from(refuse(Fault::Memory, &mut out, &mut Watch::new(), &mut err));
     };
@@ -50,6 +52,7 @@ fn main(rt: HostRuntime) -> ExitCode {
         &mut input,
         &mut out,
         &mut Watch::new(),
+        is_terminal,
         &mut err,
     ))
 }

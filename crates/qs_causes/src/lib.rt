@@ -16,5 +16,7 @@ mod telling;
 mod usual;
 mod words;
 
+pub use nearness::is_near;
+pub use source::Source;
 pub use spans::{PlacedToken, SpanFault, placed_tokens};
 pub use telling::{actors, tell_check, tell_read};

@@ -21,7 +21,7 @@ fn common_back(left: &[u8], right: &[u8]) -> usize {
 }
 
 /// Whether two words differ, and by at most two bytes that stand together, of words that have more in common.
-pub(crate) fn is_near(left: &[u8], right: &[u8]) -> bool {
+pub fn is_near(left: &[u8], right: &[u8]) -> bool {
     let front = common_front(left, right);
     let most = left.len().min(right.len()).saturating_sub(front);
     let back = common_back(left, right).min(most);

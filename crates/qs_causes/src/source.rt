@@ -8,45 +8,46 @@ use qs_told::Span;
 
 /// A text with its tokens in order.
 #[derive(Clone, Copy)]
-pub(crate) struct Source<'a> {
+pub struct Source<'a> {
     text: &'a [u8],
     tokens: &'a [PlacedToken],
 }
 
 impl<'a> Source<'a> {
-    pub(crate) fn new(text: &'a [u8], tokens: &'a [PlacedToken]) -> Source<'a> {
+    /// A text and its tokens.
+    pub fn new(text: &'a [u8], tokens: &'a [PlacedToken]) -> Source<'a> {
         Source { text, tokens }
     }
 
-    // The text.
-    pub(crate) fn text(self) -> &'a [u8]
+    /// The text.
+    pub fn text(self) -> &'a [u8]
         ensures same { result.now ≡ self.entry.text.now }
     {
         self.text
     }
 
-    // How many tokens there are.
-    pub(crate) fn len(self) -> usize {
+    /// How many tokens there are.
+    pub fn len(self) -> usize {
         self.tokens.len()
     }
 
-    // The token at a place, where there is one.
-    pub(crate) fn token(self, place: usize) -> Option<&'a Token> {
+    /// The token at a place, where there is one.
+    pub fn token(self, place: usize) -> Option<&'a Token> {
         match self.tokens.get(place) {
             Some(placed) => Some(&placed.token),
             None => None,
         }
     }
 
-    // The bytes of the token at a place; none after the last token.
-    pub(crate) fn word(self, place: usize) -> &'a [u8] {
+    /// The bytes of the token at a place; none after the last token.
+    pub fn word(self, place: usize) -> &'a [u8] {
         let span = self.span(place);
         let rest = self.text.get(span.start..).unwrap_or(b"");
         rest.get(..span.length).unwrap_or(b"")
     }
 
-    // Where the token at a place stands; after the last token, the text's end.
-    pub(crate) fn span(self, place: usize) -> Span {
+    /// Where the token at a place stands; after the last token, the text's end.
+    pub fn span(self, place: usize) -> Span {
         match self.tokens.get(place) {
             Some(placed) => Span {
                 start: placed.start,
@@ -59,8 +60,8 @@ impl<'a> Source<'a> {
         }
     }
 
-    // The place right after a token.
-    pub(crate) fn end_of(self, place: usize) -> Span {
+    /// The place right after a token.
+    pub fn end_of(self, place: usize) -> Span {
         let span = self.span(place);
         Span {
             start: span.start.saturating_add(span.length),

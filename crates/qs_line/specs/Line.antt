@@ -64,8 +64,16 @@ number_in low high text =
     if is_unsigned_in low high text then Some (digits_value 10 (without_leading_plus text)) else None
 
 -- clap says `true` of a flag that stands on the line, and `false` of another
+abbrev pub flag_at : Text → List Row → Bool
+flag_at name rows = option_map_or (λ text. bytes_eq text (codes "true")) (first_of name rows) false
+
 abbrev pub counts_at : List Row → Bool
-counts_at rows = option_map_or (λ text. bytes_eq text (codes "true")) (first_of (codes "counts") rows) false
+counts_at = flag_at (codes "counts")
+
+-- whether warnings are asked for after the word that clap meets
+abbrev pub warns_met : Option (Text × List Row) → Bool
+warns_met None = false
+warns_met (Some entry) = flag_at (codes "warn") entry.1
 
 abbrev pub mode_at : List Row → Option Mode
 mode_at rows = option_and_then mode_in (first_of (codes "mode") rows)
@@ -163,6 +171,10 @@ line_by (kind ∷ kinds) request = line_of_kind kind
 -- the line of these words, the program's name first
 abbrev pub line_in : List Text → Line
 line_in words = line_by (fault_of qs_app words) (request_met (subcommand_of qs_app words))
+
+-- whether the line of these words asks for warnings
+abbrev pub warns_in : List Text → Bool
+warns_in words = warns_met (subcommand_of qs_app words)
 
 -- the fault of a line that clap refuses by an error of this kind
 abbrev pub IsFault : ErrorKind → LineFault → Type 0

@@ -3,7 +3,7 @@ use Rattle.std.specs.Prelude.{◌≡◌, List, [], ◌∷◌, codes, true, false
 use Rattle.clap.specs.Words.{Text}
 use Rattle.qs_played.specs.declared.schedule.actor.Actor.TheVariants.{Client, Handler}
 use Rattle.qs_syncset.specs.declared.mode.Mode.TheVariants.{Dynamic, Static, Both}
-use Rattle.qs_line.specs.Line.{Line, asks, by_order, by_schedule, check, graph, help, line_in, outcomes, play, refused, rules, run, version}
+use Rattle.qs_line.specs.Line.{Line, asks, by_order, by_schedule, check, graph, help, line_in, outcomes, play, refused, rules, run, version, warns_in}
 
 -- the line of the words after the program's name
 abbrev pub line : List Text → Line
@@ -81,6 +81,16 @@ pub record UncountedLines : Type 0 where
   pub of_check : line (codes "check" ∷ codes "--counts" ∷ []) ≡ refused
   pub of_graph : line (codes "graph" ∷ codes "--counts" ∷ []) ≡ refused
 
+-- `--warn` changes nothing of what is asked for
+pub record WarnedLines : Type 0 where
+  pub checks : line (codes "check" ∷ codes "--warn" ∷ []) ≡ asks check
+  pub runs : line (codes "run" ∷ codes "--warn" ∷ codes "--counts" ∷ []) ≡ asks (run true Both 8)
+  pub lists : line (codes "outcomes" ∷ codes "--limit" ∷ codes "7" ∷ codes "--warn" ∷ []) ≡ asks (outcomes 7 [])
+  pub asked : warns_in (codes "qs" ∷ codes "graph" ∷ codes "--warn" ∷ []) ≡ true
+  pub unasked : warns_in (codes "qs" ∷ codes "graph" ∷ []) ≡ false
+  pub twice : line (codes "check" ∷ codes "--warn" ∷ codes "--warn" ∷ []) ≡ refused
+  pub before_word : line (codes "--warn" ∷ codes "check" ∷ []) ≡ refused
+
 pub record OtherLines : Type 0 where
   pub no_word : line [] ≡ refused
   pub unknown_word : line (codes "dance" ∷ []) ≡ refused
@@ -107,4 +117,5 @@ pub record LineExamples : Type 0 where
   pub orders : OrderLines
   pub counted : CountedLines
   pub uncounted : UncountedLines
+  pub warned : WarnedLines
   pub others : OtherLines

@@ -3,7 +3,7 @@
 ghost use Rattle.std.specs.Prelude.{◌≡◌, IfOk, codes, false};
 ghost use Rattle.clap.specs.Words.{app_of, new_app, rule_of, with_subcommand};
 ghost use Rattle.clap.specs.declared.Command.TheViews.{out-Command as fields_of};
-ghost use Rattle.qs_line.specs.Command.{chunk_rule, counts_rule, defaulted_rule, limit_rule, machine_app, named_app, option_rule, outcomes_app, planned_app, play_app, qs_app, rules_app, run_app, texts_app};
+ghost use Rattle.qs_line.specs.Command.{chunk_rule, counts_rule, defaulted_rule, limit_rule, machine_app, named_app, option_rule, outcomes_app, planned_app, play_app, qs_app, rules_app, run_app, texts_app, warned_app};
 
 use crate::help;
 use clap::{Arg, ArgAction, Command, value_parser};
@@ -57,6 +57,20 @@ fn counts_flag<'a>(alloc: Global) -> Arg<'a>
         .action(ArgAction::SetTrue)
 }
 
+// With the flag that every word has.
+fn warned<'a>(alloc: Global, command: Command<'a>) -> Result<Command<'a>, AllocError>
+    requires local { (fields_of command).has_globals ≡ false }
+    ensures app { IfOk result (λ whole. app_of whole ≡ warned_app (app_of command.entry)) }
+    ensures local { IfOk result (λ whole. (fields_of whole).has_globals ≡ false) }
+{
+    command.arg(
+        Arg::new(alloc, "warn")
+            .long("warn")
+            .help(help::WARN)
+            .action(ArgAction::SetTrue),
+    )
+}
+
 // A word, with what the help says of it at its head and at its end.
 fn word<'a>(alloc: Global, name: &'a str, about: &'a str, example: &'a str) -> Command<'a>
     ensures app { app_of result ≡ new_app name.entry.now }
@@ -82,10 +96,11 @@ fn rules_command<'a>(alloc: Global) -> Result<Command<'a>, AllocError>
     ensures app { IfOk result (λ command. app_of command ≡ rules_app) }
     ensures local { IfOk result (λ command. (fields_of command).has_globals ≡ false) }
 {
-    planned(
+    let rules = planned(
         alloc,
         word(alloc, "rules", help::RULES, help::RULES_EXAMPLE),
-    )
+    )?;
+    warned(alloc, rules)
 }
 
 fn machine_command<'a>(
@@ -106,26 +121,29 @@ fn play_command<'a>(alloc: Global) -> Result<Command<'a>, AllocError>
     ensures app { IfOk result (λ command. app_of command ≡ play_app) }
     ensures local { IfOk result (λ command. (fields_of command).has_globals ≡ false) }
 {
-    planned(
+    let play = planned(
         alloc,
         machine_command(alloc, "play", help::PLAY, help::PLAY_EXAMPLE)?,
-    )
+    )?;
+    warned(alloc, play)
 }
 
 fn run_command<'a>(alloc: Global) -> Result<Command<'a>, AllocError>
     ensures app { IfOk result (λ command. app_of command ≡ run_app) }
     ensures local { IfOk result (λ command. (fields_of command).has_globals ≡ false) }
 {
-    machine_command(alloc, "run", help::RUN, help::RUN_EXAMPLE)?.arg(counts_flag(alloc))
+    let run = machine_command(alloc, "run", help::RUN, help::RUN_EXAMPLE)?.arg(counts_flag(alloc))?;
+    warned(alloc, run)
 }
 
 fn outcomes_command<'a>(alloc: Global) -> Result<Command<'a>, AllocError>
     ensures app { IfOk result (λ command. app_of command ≡ outcomes_app) }
     ensures local { IfOk result (λ command. (fields_of command).has_globals ≡ false) }
 {
-    word(alloc, "outcomes", help::OUTCOMES, help::OUTCOMES_EXAMPLE)
+    let outcomes = word(alloc, "outcomes", help::OUTCOMES, help::OUTCOMES_EXAMPLE)
         .arg(limit_option(alloc))?
-        .arg(option(alloc, "after", "LIST", help::AFTER))
+        .arg(option(alloc, "after", "LIST", help::AFTER))?;
+    warned(alloc, outcomes)
 }
 
 // The program, before its words.
@@ -141,9 +159,28 @@ fn named_command<'a>(alloc: Global) -> Command<'a>
 fn texts_command<'a>(alloc: Global) -> Result<Command<'a>, AllocError>
     ensures app { IfOk result (λ command. app_of command ≡ texts_app) }
 {
-    let check = word(alloc, "check", help::CHECK, help::CHECK_EXAMPLE);
-    let graph = word(alloc, "graph", help::GRAPH, help::GRAPH_EXAMPLE);
-    named_command(alloc).subcommand(check)?.subcommand(graph)
+    let check = warned(
+        alloc,
+        word(alloc, "check", help::CHECK, help::CHECK_EXAMPLE),
+    )?;
+    let checked = named_command(alloc).subcommand(check)?;
+    with_graph(alloc, checked)
+}
+
+// With the word `graph`.
+fn with_graph<'a>(alloc: Global, command: Command<'a>) -> Result<Command<'a>, AllocError>
+    ensures app { IfOk result (λ whole. app_of whole ≡ with_subcommand (app_of command.entry) (warned_app (new_app (codes "graph"))).top) }
+{
+    match warned(
+        alloc,
+        word(alloc, "graph", help::GRAPH, help::GRAPH_EXAMPLE),
+    ) {
+        Ok(graph) => command.subcommand(graph),
+        Err(error) => {
+            drop(command);
+            Err(error)
+        }
+    }
 }
 
 // With the word `rules`.

@@ -100,3 +100,6 @@ pub const PICK: &str =
 
 pub const COUNTS: &str =
     "Shows after each block how many synchronisations it has sent for each of its objects";
+
+pub const WARN: &str =
+    "Warns on standard error of what may be meant otherwise, as a variable that is read and never set";

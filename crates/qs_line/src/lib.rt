@@ -11,7 +11,7 @@ mod picks;
 mod plan;
 mod told;
 
-pub use line::{LineFault, Settings, read_line};
+pub use line::{LineFault, Settings, read_line, warns};
 pub use plan::Plan;
 pub use qs_played::Actor;
 pub use told::{refusal, value_after};

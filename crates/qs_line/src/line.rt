@@ -4,7 +4,7 @@ ghost use Rattle.std.specs.Prelude.{◌≡◌, [], IfOk, IfErr, map, option_map}
 ghost use Rattle.clap.specs.Words.{found_of, kind_of, rows_of, subcommand_of, subcommand_rows_of};
 ghost use Rattle.clap.specs.Faults.{fault_of};
 ghost use Rattle.qs_line.specs.Command.{qs_app};
-ghost use Rattle.qs_line.specs.Line.{IsAnswer, IsFault, IsFaultAmong, chunk_at, counts_at, front_at, limit_at, line_in, mode_at, outcomes_at, play_at, request_at, request_met, request_of, rules_at, run_at};
+ghost use Rattle.qs_line.specs.Line.{IsAnswer, IsFault, IsFaultAmong, chunk_at, counts_at, front_at, limit_at, line_in, mode_at, outcomes_at, play_at, request_at, request_met, request_of, rules_at, run_at, warns_in, warns_met};
 
 use crate::clients::clients_of;
 use crate::command::command;
@@ -240,4 +240,21 @@ pub fn read_line<'a>(alloc: Global, words: &'a [&'a str]) -> Result<Settings, Li
 {
     let matches = matches_of(alloc, words)?;
     met_settings(alloc, &matches)?.ok_or(LineFault::Refused)
+}
+
+fn are_asked(matches: &ArgMatches<'_>) -> bool
+    ensures asked { result ≡ warns_met (subcommand_rows_of matches.now) }
+{
+    match matches.subcommand() {
+        Some((_, found)) => matches!(text_at(found, "warn"), Some("true")),
+        None => false,
+    }
+}
+
+/// Whether a line that `clap` takes asks for warnings: `--warn` stands after its word.
+pub fn warns<'a>(alloc: Global, words: &'a [&'a str]) -> Result<bool, LineFault>
+    ensures asked { IfOk result (λ asked. asked ≡ warns_in (map (λ word. word.now) words.entry.now)) }
+{
+    let matches = matches_of(alloc, words)?;
+    Ok(are_asked(&matches))
 }

@@ -9,6 +9,7 @@ mod output;
 mod pick_words;
 mod serving;
 mod telling;
+mod warning_words;
 
 pub use input::Counted;
 pub use qs_report::{Fault, Watch};

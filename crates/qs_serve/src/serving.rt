@@ -10,6 +10,7 @@ use crate::due::{Due, due_of};
 use crate::input::Counted;
 use crate::output::finish;
 use crate::telling::{tell, tell_unread};
+use crate::warning_words::warn;
 use qs_report::{Fault, Watch};
 use std::alloc::Global;
 use std::io::{Read, Write};
@@ -18,8 +19,8 @@ use std::thread::Threads;
 
 /// The whole program, over a reader whose reads are counted and a writer whose failures are watched; its status is the answer. The words
 /// are all the process's arguments, the program's name first. The status is 4 exactly where a read, a write or the flush fails. The word `run`
-/// takes threads, and waits for them. What
-/// was refused is told on `err` in words; that changes neither output nor status.
+/// takes threads, and waits for them. What was refused is told on `err` in words, and what is warned of in a script, where `err` is a
+/// terminal or the line asks for it; that changes neither output nor status.
 pub fn serve<'a, T: Threads + Wait + Sync, R: Read, W: Write, E: Write>(
     rt: &T,
     alloc: Global,
@@ -27,6 +28,7 @@ pub fn serve<'a, T: Threads + Wait + Sync, R: Read, W: Write, E: Write>(
     input: &mut Counted<R>,
     out: &mut W,
     watch: &mut Watch<W>,
+    is_terminal: bool,
     err: &mut E,
 ) -> u8
     requires readable { input.old.has_failed ≡ false }
@@ -43,6 +45,7 @@ pub fn serve<'a, T: Threads + Wait + Sync, R: Read, W: Write, E: Write>(
     let due = due_of(rt, alloc, words, input, &mut text);
     let status = finish(out, watch, &due);
     tell(alloc, words, text.as_slice(), &due, status != 4, err);
+    warn(alloc, words, text.as_slice(), &due, is_terminal, err);
     status
 }
 

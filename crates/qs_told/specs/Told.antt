@@ -77,18 +77,27 @@ excerpt_text is_text text span label =
 abbrev pub IsExcerpt : List ℕ → List ℕ → (Bool → List ℕ) → Type 0
 IsExcerpt old new excerpt = (is_text : Bool) × (new ≡ old ++ excerpt is_text)
 
-abbrev pub cause_text : List ℕ → List ℕ
-cause_text cause = codes "error: " ++ cause ++ codes "\n"
+-- the line of the cause, after the head that says how grave it is
+abbrev pub cause_text : List ℕ → List ℕ → List ℕ
+cause_text head cause = head ++ cause ++ codes "\n"
 
 -- the line of help, where there is some
 abbrev pub help_text : ℕ → List ℕ → List ℕ
 help_text line help = if nat_eq (length help) 0 then [] else blank line ++ codes " = help: " ++ help ++ codes "\n"
 
--- the lines of a diagnosis: its cause, its place with the source line, and its help
-abbrev pub diagnosis_text : Bool → List ℕ → Diagnosis → List ℕ
-diagnosis_text is_text text d =
-    cause_text d.cause.now ++ excerpt_text is_text text d.span d.label.now ++ help_text (spot_at text d.span.start).line d.help.now
+-- the lines of a diagnosis: its cause after a head, its place with the source line, and its help
+abbrev pub diagnosis_text : List ℕ → Bool → List ℕ → Diagnosis → List ℕ
+diagnosis_text head is_text text d =
+    cause_text head d.cause.now ++ excerpt_text is_text text d.span d.label.now ++ help_text (spot_at text d.span.start).line d.help.now
 
--- they were put at the end
+-- they were put at the end, after a head
+abbrev pub IsPut : List ℕ → List ℕ → Diagnosis → List ℕ → List ℕ → Type 0
+IsPut head text d old new = IsExcerpt old new (λ is_text. diagnosis_text head is_text text d)
+
+-- they were put at the end as those of an error
 abbrev pub IsTold : List ℕ → Diagnosis → List ℕ → List ℕ → Type 0
-IsTold text d old new = IsExcerpt old new (λ is_text. diagnosis_text is_text text d)
+IsTold = IsPut (codes "error: ")
+
+-- they were put at the end as those of a warning
+abbrev pub IsWarned : List ℕ → Diagnosis → List ℕ → List ℕ → Type 0
+IsWarned = IsPut (codes "warning: ")

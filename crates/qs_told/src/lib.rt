@@ -1,4 +1,4 @@
-//! Why a text was refused, in words: the place, the source line with the token underlined, the cause, and what helps.
+//! Why a text was refused, or what is warned of in it, in words: the place, the source line with the token underlined, the cause, and what helps.
 #![tactic(auto)]
 
 mod bytes;
@@ -8,4 +8,4 @@ mod window;
 
 pub use bytes::{put, put_all};
 pub use spot::{Spot, spot_of};
-pub use told::{Diagnosis, Span, put_diagnosis};
+pub use told::{Diagnosis, Span, put_diagnosis, put_warning};

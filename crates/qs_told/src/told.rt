@@ -2,7 +2,7 @@
 
 ghost use Rattle.std.specs.Prelude.{◌≡◌, ◌≤◌, ◌++◌, IfOk, OnOk, length};
 ghost use Rattle.std.specs.Prelude.{◌+◌, ◌<◌, ◌-◌, slice_range};
-ghost use Rattle.qs_told.specs.Told.{IsExcerpt, IsTold, excerpt_text, excerpt_in, token_of, cause_text, help_text, dots_if, blank, label_text, marks_text, place_text, source_text, under_text};
+ghost use Rattle.qs_told.specs.Told.{IsExcerpt, IsPut, IsTold, IsWarned, excerpt_text, excerpt_in, token_of, cause_text, help_text, dots_if, blank, label_text, marks_text, place_text, source_text, under_text};
 
 use crate::bytes::{blanks, marks, put, put_all, shown_bytes};
 use crate::spot::{Spot, line_end, spot_of};
@@ -223,11 +223,11 @@ fn put_excerpt(
     put_windowed(alloc, out, text, span, label, spot, start, end)
 }
 
-// Puts the line of the cause.
-fn put_cause(out: &mut Vec<u8>, cause: &[u8]) -> Result<(), AllocError>
-    ensures ok { OnOk result (out.new.items ≡ out.old.items ++ cause_text cause.now) }
+// Puts the line of the cause, after a head.
+fn put_cause(out: &mut Vec<u8>, head: &[u8], cause: &[u8]) -> Result<(), AllocError>
+    ensures ok { OnOk result (out.new.items ≡ out.old.items ++ cause_text head.now cause.now) }
 {
-    put_all(out, &[b"error: ", cause, b"\n"])
+    put_all(out, &[head, cause, b"\n"])
 }
 
 // Puts the line of help, where there is some.
@@ -241,6 +241,23 @@ fn put_help(alloc: Global, out: &mut Vec<u8>, line: usize, help: &[u8]) -> Resul
     put_all(out, &[gutter.as_slice(), b" = help: ", help, b"\n"])
 }
 
+// Puts the lines of a diagnosis, the first after a head.
+fn put_headed(
+    alloc: Global,
+    out: &mut Vec<u8>,
+    head: &[u8],
+    text: &[u8],
+    diagnosis: &Diagnosis<'_>,
+) -> Result<(), AllocError>
+    requires within { diagnosis.now.span.start ≤ length text.now }
+    ensures ok { OnOk result (IsPut head.now text.now diagnosis.now out.old.items out.new.items) }
+{
+    put_cause(out, head, diagnosis.cause)?;
+    put_excerpt(alloc, out, text, diagnosis.span, diagnosis.label)?;
+    let line = spot_of(text, diagnosis.span.start).line;
+    put_help(alloc, out, line, diagnosis.help)
+}
+
 /// Puts a diagnosis at the end: the cause, the place with its line and column, the source line with the token underlined, and help
 /// where there is some.
 pub fn put_diagnosis(
@@ -252,8 +269,18 @@ pub fn put_diagnosis(
     requires within { diagnosis.now.span.start ≤ length text.now }
     ensures ok { OnOk result (IsTold text.now diagnosis.now out.old.items out.new.items) }
 {
-    put_cause(out, diagnosis.cause)?;
-    put_excerpt(alloc, out, text, diagnosis.span, diagnosis.label)?;
-    let line = spot_of(text, diagnosis.span.start).line;
-    put_help(alloc, out, line, diagnosis.help)
+    put_headed(alloc, out, b"error: ", text, diagnosis)
+}
+
+/// Puts a diagnosis at the end as a warning: the same lines, of which the first says so.
+pub fn put_warning(
+    alloc: Global,
+    out: &mut Vec<u8>,
+    text: &[u8],
+    diagnosis: &Diagnosis<'_>,
+) -> Result<(), AllocError>
+    requires within { diagnosis.now.span.start ≤ length text.now }
+    ensures ok { OnOk result (IsWarned text.now diagnosis.now out.old.items out.new.items) }
+{
+    put_headed(alloc, out, b"warning: ", text, diagnosis)
 }

@@ -37,6 +37,7 @@ returns c = record {
     };
     counted = record { rules_alone = refl; play_alone = refl; run_alone = refl; before_others = refl; between_others = refl; after_others = refl };
     uncounted = record { twice = refl; by_value = refl; by_true = refl; by_word = refl; before_word = refl; of_check = refl; of_graph = refl };
+    warned = record { checks = refl; runs = refl; lists = refl; asked = refl; unasked = refl; twice = refl; before_word = refl };
     others = record {
       no_word = refl;
       unknown_word = refl;

@@ -1,0 +1,2 @@
+pub mod PartLists
+pub mod Numbers

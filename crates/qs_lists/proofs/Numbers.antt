@@ -1,0 +1,87 @@
+-- A text of one letter and one digit has no `*`, so it is read as its actor, once; a list of such texts is read as these actors, and
+-- names them. It goes by cases of the letter, and by induction on the list.
+use Rattle.std.proofs.Common.{◌≡◌, ◌≤◌, ◌+◌, ◌-◌, ◌==◌, ◌&&◌, ℕ, suc, Bool, true, false, List, [], ◌∷◌, length, map, Option, Some, None, Ok, Result, refl, sym, ap, ap₂, ◌∙◌, arith, nat_le, if◌then◌else◌, option_map, option_and_then, unwrap_or}
+use Rattle.std.specs.List.{fold, position, slice_split}
+use Rattle.std.proofs.lemmas.Bool.{eqb-true, false_from_ne_true, le-leb, leb-true}
+use Rattle.qs_tokens.specs.Tokens.{is_digit}
+use Rattle.qs_played.specs.declared.schedule.actor.Actor.{Actor}
+use Rattle.qs_played.specs.declared.schedule.actor.Actor.TheVariants.{Client, Handler}
+use Rattle.qs_program.specs.Program.{ProgramShape}
+use Rattle.qs_lists.specs.declared.parts.Part.{Part}
+use Rattle.qs_lists.specs.declared.fault.ListFault.{ListFault}
+use Rattle.qs_lists.specs.Limits.{most_actors}
+use Rattle.qs_lists.specs.Named.{actor_of, actors_of, listed_from, repeated}
+use Rattle.qs_lists.specs.Numbers.{NumbersStay, numbers_of, once}
+use Rattle.qs_lists.specs.Parts.{actor_by, actor_in, list_in, named_in, part_by, part_in, parts_of, times, within_limit}
+
+other : (n m : ℕ) → (n ≡ m → ⊥) → (n == m) ≡ false
+other n m h = false_from_ne_true (n == m) (λ e. h (eqb-true n m e))
+
+star_free : (l d : ℕ) → (l == 42) ≡ false → (d == 42) ≡ false → position (λ byte. byte == 42) (l ∷ d ∷ []) ≡ None
+star_free l d h k = rw (h, k) refl
+
+digit_free : (d : ℕ) → is_digit d ≡ true → (d == 42) ≡ false
+digit_free d h =
+    let low : 48 ≤ d = leb-true 48 d (both_first (nat_le 48 d) (nat_le d 57) h) in
+    other d 42 (λ e. omega (arith, e, low))
+  where
+    both_first : (b c : Bool) → (b && c) ≡ true → b ≡ true
+    both_first true c h = refl
+    both_first false c h = h
+
+by_letter : (isc ish : Bool) (l d : ℕ) (a : Actor) → (l == 99) ≡ isc → (l == 104) ≡ ish
+    → (if isc then Some (Client (d - 48)) else if ish then Some (Handler (d - 48)) else None) ≡ Some a → (l == 42) ≡ false
+by_letter true ish l d a c h e = let same = eqb-true l 99 c in other l 42 (λ q. omega (arith, q, same))
+by_letter false true l d a c h e = let same = eqb-true l 104 h in other l 42 (λ q. omega (arith, q, same))
+by_letter false false l d a c h e = absurd (cc e)
+
+by_digit : (b : Bool) (l d : ℕ) (a : Actor) → is_digit d ≡ b → (if b then actor_by l (d - 48) else None) ≡ Some a
+    → position (λ byte. byte == 42) (l ∷ d ∷ []) ≡ None
+by_digit true l d a h e = star_free l d (by_letter (l == 99) (l == 104) l d a refl refl e) (digit_free d h)
+by_digit false l d a h e = absurd (cc e)
+
+no_star : (text : List ℕ) (a : Actor) → actor_in text ≡ Some a → position (λ byte. byte == 42) text ≡ None
+no_star [] a e = absurd (cc e)
+no_star (x ∷ []) a e = absurd (cc e)
+no_star (x ∷ y ∷ []) a e = by_digit (is_digit y) x y a refl e
+no_star (x ∷ y ∷ z ∷ rest) a e = absurd (cc e)
+
+part_is : (text : List ℕ) (a : Actor) → actor_in text ≡ Some a → part_in text ≡ Some (once a)
+part_is text a e = ap (part_by text) (no_star text a e) ∙ ap (λ o. option_map (times 1) (named_in o text)) e
+
+one_more : (o : Option Actor) (os : Option (List Actor)) (part : Option Part) (parts : Option (List Part)) (actors : List Actor)
+    → ((a : Actor) → o ≡ Some a → part ≡ Some (once a)) → ((later : List Actor) → os ≡ Some later → parts ≡ Some (map once later))
+    → option_and_then (λ actor. option_map (λ more. actor ∷ more) os) o ≡ Some actors
+    → option_and_then (λ first. option_map (λ more. first ∷ more) parts) part ≡ Some (map once actors)
+one_more None os part parts actors first rest e = absurd (cc e)
+one_more (Some a) None part parts actors first rest e = absurd (cc e)
+one_more (Some a) (Some later) part parts actors first rest e =
+    let same : (a ∷ later) ≡ actors = ap (λ o. unwrap_or o []) e in
+    ap₂ (λ (x : Option Part) (xs : Option (List Part)). option_and_then (λ y. option_map (λ more. y ∷ more) xs) x) (first a refl) (rest later refl)
+    ∙ ap (λ xs. Some (map once xs)) same
+
+parts_are : (texts : List (List ℕ)) (actors : List Actor) → numbers_of texts ≡ Some actors → parts_of texts ≡ Some (map once actors)
+parts_are [] actors e =
+    let same : [] ≡ actors = ap (λ o. unwrap_or o []) e in
+    ap (λ xs. Some (map once xs)) same
+parts_are (text ∷ texts) actors e =
+    one_more (actor_in text) (numbers_of texts) (part_in text) (parts_of texts) actors (λ a f. part_is text a f) (λ later f. parts_are texts later f) e
+
+count_from : (k : ℕ) (actors : List Actor) → fold (λ n (part : Part). n + part.count) k (map once actors) ≡ k + length actors
+count_from k [] = omega arith
+count_from k (a ∷ later) = count_from (k + 1) later ∙ omega arith
+
+short : (actors : List Actor) → length actors ≤ most_actors → within_limit (map once actors) ≡ Some (map once actors)
+short actors h =
+    ap (λ b. if b then Some (map once actors) else None)
+    (ap (λ n. nat_le n most_actors) (count_from 0 actors) ∙ le-leb (0 + length actors) most_actors (omega (arith, h)))
+
+named : (p : ProgramShape) (place : ℕ) (actors : List Actor) → listed_from (actor_of p) place (map once actors) ≡ Ok actors
+named p place [] = refl
+named p place (a ∷ later) = ap (λ (r : Result (List Actor) ListFault). repeated 1 (Ok a) place r) (named p (suc place) later)
+
+pub numbers_stay_proof : NumbersStay
+numbers_stay_proof p text actors e h = (
+  ap (λ o. option_and_then within_limit o) (parts_are (slice_split (λ byte. byte == 44) text) actors e) ∙ short actors h,
+  named p 0 actors,
+)

@@ -1,0 +1,4 @@
+pub mod Limits
+pub mod Parts
+pub mod Named
+pub mod Numbers

@@ -1,0 +1,9 @@
+//! What the definitions say, for readers.
+
+ghost use Rattle.qs_lists.specs.Numbers.{NumbersStay};
+
+/// A list of actors by number alone, of no more than the limit, is read as these, each once, and names them in every program. It does
+/// nothing.
+pub fn numbers_stay()
+    ensures stay { NumbersStay }
+{}

@@ -1,0 +1,3 @@
+pub mod Doings
+pub mod Warnings
+pub mod WarningExamples
