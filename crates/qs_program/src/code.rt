@@ -8,6 +8,7 @@ ghost use Rattle.qs_program.specs.Sound.{levels_of};
 ghost use Rattle.qs_program.specs.Statements.{end, join_statements};
 ghost use Rattle.qs_program.specs.Views.{single, statements_of};
 
+use crate::limits::{PAST_REQUESTS, PAST_STEPS};
 use qs_objects::Op;
 use qs_script::{Operator, Relation};
 use std::alloc::{AllocError, Global};
@@ -156,26 +157,26 @@ impl Body {
         Ok(())
     }
 
-    /// The most requests that it can make on an object, or 100,001 where that is more.
+    /// The most requests that it can make on an object, counted to one past their limit.
     #[cycle(load)]
     pub fn load(&self, object: u8) -> u64
         ensures capped { result ≡ min (load_of self.now object) (most_requests + 1) }
     {
         let mut load = 0;
         for stmt in &self.stmts {
-            load = (load + stmt.load(object)).min(100_001);
+            load = (load + stmt.load(object)).min(PAST_REQUESTS);
         }
         load
     }
 
-    /// The most steps that it can take, or 1,000,001 where that is more.
+    /// The most steps that it can take, counted to one past their limit.
     #[cycle(weight)]
     pub fn weight(&self) -> u64
         ensures capped { result ≡ min (weight_of self.now) (most_steps + 1) }
     {
         let mut weight = 0;
         for stmt in &self.stmts {
-            weight = (weight + stmt.weight()).min(1_000_001);
+            weight = (weight + stmt.weight()).min(PAST_STEPS);
         }
         weight
     }
@@ -189,7 +190,7 @@ impl Stmt {
         match self {
             Stmt::Command(call) | Stmt::Query(_, call) => (call.object == object) as u64,
             Stmt::If { first, other, .. } => first.load(object).max(other.load(object)),
-            Stmt::Repeat(count, body) => body.load(object).saturating_mul(*count).min(100_001),
+            Stmt::Repeat(count, body) => body.load(object).saturating_mul(*count).min(PAST_REQUESTS),
             Stmt::Assign(_, _) | Stmt::Leave => 0,
         }
     }
@@ -200,10 +201,10 @@ impl Stmt {
     {
         match self {
             Stmt::If { first, other, .. } => (first.weight().max(other.weight()) + 1).min(
-                1_000_001,
+                PAST_STEPS,
             ),
             Stmt::Repeat(count, body) => {
-                (body.weight().max(1).saturating_mul(*count).min(1_000_001) + 1).min(1_000_001)
+                (body.weight().max(1).saturating_mul(*count).min(PAST_STEPS) + 1).min(PAST_STEPS)
             }
             Stmt::Command(_) | Stmt::Query(_, _) | Stmt::Assign(_, _) | Stmt::Leave => 1,
         }

@@ -5,15 +5,16 @@ ghost use Rattle.qs_program.specs.Limits.{most_requests, most_steps};
 ghost use Rattle.qs_program.specs.Loads.{weight_of};
 ghost use Rattle.qs_program.specs.Program.{block_load as block_load_of};
 
+use crate::limits::{PAST_REQUESTS, PAST_STEPS};
 use crate::program::{Block, Client};
 
-/// The load of all blocks of all clients, or 100,001 where it is more.
+/// The load of all blocks of all clients, counted to one past its limit.
 pub fn all_load(clients: &[Client]) -> u64
     ensures capped { result ≡ min (sum_by (λ c. sum_by block_load_of c.blocks) clients.now) (most_requests + 1) }
 {
     let mut load = 0;
     for client in clients {
-        load = (load + blocks_load(client.blocks.as_slice())).min(100_001);
+        load = (load + blocks_load(client.blocks.as_slice())).min(PAST_REQUESTS);
     }
     load
 }
@@ -23,7 +24,7 @@ fn blocks_load(blocks: &[Block]) -> u64
 {
     let mut load = 0;
     for block in blocks {
-        load = (load + block_load(block)).min(100_001);
+        load = (load + block_load(block)).min(PAST_REQUESTS);
     }
     load
 }
@@ -35,18 +36,18 @@ fn block_load(block: &Block) -> u64
     let body = block.body();
     let mut load = 0;
     for object in block.reserved() {
-        load = (load + body.load(*object)).min(100_001);
+        load = (load + body.load(*object)).min(PAST_REQUESTS);
     }
     load
 }
 
-/// The weight of all blocks of all clients, or 1,000,001 where it is more.
+/// The weight of all blocks of all clients, counted to one past its limit.
 pub fn all_weight(clients: &[Client]) -> u64
     ensures capped { result ≡ min (sum_by (λ c. sum_by (λ b. weight_of b.body) c.blocks) clients.now) (most_steps + 1) }
 {
     let mut weight = 0;
     for client in clients {
-        weight = (weight + blocks_weight(client.blocks.as_slice())).min(1_000_001);
+        weight = (weight + blocks_weight(client.blocks.as_slice())).min(PAST_STEPS);
     }
     weight
 }
@@ -56,7 +57,7 @@ fn blocks_weight(blocks: &[Block]) -> u64
 {
     let mut weight = 0;
     for block in blocks {
-        weight = (weight + block.body().weight()).min(1_000_001);
+        weight = (weight + block.body().weight()).min(PAST_STEPS);
     }
     weight
 }
