@@ -3,3 +3,4 @@ mod Faults
 mod Statements
 pub mod Within
 mod Walks
+pub mod BlockNumbers

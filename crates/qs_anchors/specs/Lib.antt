@@ -1,4 +1,5 @@
 pub mod Anchors
 pub mod Anchored
+pub mod Blocks
 pub mod Laws
 pub mod Examples

@@ -130,7 +130,7 @@ fn put_block(out: &mut Vec<Anchor>, block: &Block) -> Result<(), AllocError>
     put_body(out, false, &block.body)
 }
 
-fn put_blocks(out: &mut Vec<Anchor>, blocks: &[Block]) -> Result<(), AllocError>
+pub(crate) fn put_blocks(out: &mut Vec<Anchor>, blocks: &[Block]) -> Result<(), AllocError>
     ensures added { OnOk result (out.new.items ≡ out.old.items ++ blocks_anchors blocks.now) }
 {
     for block in blocks {

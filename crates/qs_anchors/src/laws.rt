@@ -1,7 +1,7 @@
 //! What the definitions of anchors promise; and worked examples of them.
 
 ghost use Rattle.qs_anchors.specs.Examples.{AnchorExamples};
-ghost use Rattle.qs_anchors.specs.Laws.{AnchorsAreTokens, FirstIsFirst, FirstIsAnAnchor};
+ghost use Rattle.qs_anchors.specs.Laws.{AnchorsAreTokens, BlocksHaveAnchors, FirstIsFirst, FirstIsAnAnchor};
 
 /// The anchors of a script are the names, the numbers, each `separate` and each `leave` of any tokens that are written for it, in their
 /// order. It does nothing.
@@ -18,6 +18,11 @@ pub fn first_is_first()
 /// The first anchor with a fault is one of the anchors of the script. It does nothing.
 pub fn first_is_an_anchor()
     ensures within { FirstIsAnAnchor }
+{}
+
+/// The anchor of a block is one of the anchors of the script. It does nothing.
+pub fn blocks_have_anchors()
+    ensures within { BlocksHaveAnchors }
 {}
 
 /// Scripts with the anchors of their first faults, computed by the definitions; it does nothing.

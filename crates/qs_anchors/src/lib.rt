@@ -3,8 +3,10 @@
 
 mod anchor;
 mod anchors;
+mod blocks;
 mod finding;
 pub mod laws;
 
 pub use anchor::Anchor;
+pub use blocks::block_anchor;
 pub use finding::{Anchored, first_fault};

@@ -13,3 +13,4 @@ pub mod SoundStarts
 pub mod TemplateSearch
 pub mod WellFormed
 pub mod SoundTexts
+pub mod Passing

@@ -13,7 +13,7 @@ use Rattle.qs_script.proofs.Sizes.{drop_past}
 use Rattle.qs_program.specs.Numbering.{Name}
 use Rattle.qs_program.specs.declared.code.Stmt.{Stmt}
 use Rattle.qs_program.specs.Sound.{levels_of}
-use Rattle.qs_program.specs.Statements.{Statements, end, command, query, assign, choose, again, leave, join_statements}
+use Rattle.qs_program.specs.Statements.{Statements, join_statements}
 use Rattle.qs_program.specs.Views.{single}
 use Rattle.qs_program.proofs.StatementLists.{joined_assoc, joined-end}
 use Rattle.qs_check.specs.Resolve.{body_of}

@@ -1,5 +1,6 @@
 pub mod Resolve
 pub mod Checked
+pub mod Excess
 pub mod TextLoads
 pub mod WellFormed
 pub mod CheckExamples

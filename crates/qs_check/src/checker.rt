@@ -22,9 +22,9 @@ use std::collections::VecDeque;
 
 // The objects and clients of a script whose text has no fault.
 #[derive(Drop)]
-struct Resolved {
-    objects: Vec<Declared>,
-    clients: Vec<Client>,
+pub(crate) struct Resolved {
+    pub(crate) objects: Vec<Declared>,
+    pub(crate) clients: Vec<Client>,
 }
 
 /// Checks a script and replaces each name by its number. `Ok` exactly where the script has no fault; else the first fault
@@ -48,7 +48,7 @@ fn check_formed(alloc: Global, items: &[Item]) -> Result<Program, CheckFault>
 }
 
 // Checks the text of a script and replaces its names.
-fn resolve(alloc: Global, items: &[Item]) -> Result<Resolved, CheckFault>
+pub(crate) fn resolve(alloc: Global, items: &[Item]) -> Result<Resolved, CheckFault>
     requires form { HasForm items.now }
     ensures text { MatchResult result
         (λ r. (text_fault items.now ≡ None) × (shape_of r ≡ resolved_of items.now))

@@ -2,11 +2,13 @@
 #![tactic(auto)]
 
 mod checker;
+mod excess;
 pub mod laws;
 mod resolve;
 mod start;
 
 pub use checker::check;
+pub use excess::{Excess, Measure, first_excess};
 pub use qs_places::CheckFault;
 pub use qs_program::{
     Atom, Atoms, Block, Body, Call, Client, Declared, Expr, Locals, Names, Program, Start, Stmt,
