@@ -10,6 +10,8 @@ use Rattle.qs_script.specs.Reads.{IsScriptText}
 use Rattle.qs_anchors.specs.declared.finding.Anchored.{Anchored}
 use Rattle.qs_anchors.specs.Anchors.{IsAnchorAt, anchor_token, anchors_in, is_anchor, script_anchors}
 use Rattle.qs_anchors.specs.Anchored.{first_anchored}
+use Rattle.qs_anchors.specs.Blocks.{block_number}
+use Rattle.qs_anchors.proofs.BlockNumbers.{blocks_have_anchors}
 use Rattle.qs_anchors.proofs.Tokens.{anchors_are_tokens}
 use Rattle.qs_anchors.proofs.Within.{first_is_an_anchor}
 use Rattle.qs_causes.specs.declared.spans.PlacedToken.{PlacedToken}
@@ -24,13 +26,23 @@ stands_within text (p ∷ ps) later (suc i) d h within = stands_within text ps l
 tokens_same : (text : List ℕ) (ts us : List Token) (r : Result (List Token) TokenFault) → r ≡ Ok ts → r ≡ Ok us → ts ≡ us
 tokens_same text ts us r h k = cc
 
+-- the tokens that stand in a script's text have as many anchors as the script
+pub anchor_count : (text : List ℕ) (ps : List PlacedToken) (items : List Item) → ArePlaced text ps → IsScriptText text items
+    → length (anchors_in (tokens_in ps)) ≡ length (script_anchors items)
+anchor_count text ps items placed reads =
+    let same : tokens_in ps ≡ reads.tokens = tokens_same text (tokens_in ps) reads.tokens _ placed.0 reads.cut in
+    ap (λ ts. length (anchors_in ts)) same ∙ ap length (anchors_are_tokens items reads.tokens reads.tree) ∙ length-map (script_anchors items) anchor_token
+
 pub anchor_there : (text : List ℕ) (ps : List PlacedToken) (items : List Item) (first : Anchored) → ArePlaced text ps → IsScriptText text items → first_anchored items ≡ Some first
     → first.anchor < length (anchors_in (tokens_in ps))
 anchor_there text ps items first placed reads found =
-    let same : tokens_in ps ≡ reads.tokens = tokens_same text (tokens_in ps) reads.tokens _ placed.0 reads.cut in
-    let count : length (anchors_in (tokens_in ps)) ≡ length (script_anchors items) =
-    ap (λ ts. length (anchors_in ts)) same ∙ ap length (anchors_are_tokens items reads.tokens reads.tree) ∙ length-map (script_anchors items) anchor_token in
-    omega (arith, count, first_is_an_anchor items first found)
+    omega (arith, anchor_count text ps items placed reads, first_is_an_anchor items first found)
+
+-- the anchor of a block of the script is there too
+pub block_there : (text : List ℕ) (ps : List PlacedToken) (items : List Item) (c k number : ℕ) → ArePlaced text ps → IsScriptText text items
+    → block_number 0 items c k ≡ Some number → number < length (anchors_in (tokens_in ps))
+block_there text ps items c k number placed reads found =
+    omega (arith, anchor_count text ps items placed reads, blocks_have_anchors items c k number found)
 
 -- the token at a place of some, and the tokens before it
 token_at : (ps : List PlacedToken) (i : ℕ) (p : PlacedToken) → i < length ps → get_or (tokens_in ps) i Semicolon ≡ (get_or ps i p).token

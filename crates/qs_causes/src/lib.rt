@@ -2,6 +2,7 @@
 #![tactic(auto)]
 
 mod bytes;
+mod excess;
 mod expected;
 mod finding;
 mod form;
@@ -16,6 +17,7 @@ mod telling;
 mod usual;
 mod words;
 
+pub use excess::tell_excess;
 pub use nearness::is_near;
 pub use source::Source;
 pub use spans::{PlacedToken, SpanFault, placed_tokens};

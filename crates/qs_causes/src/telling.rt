@@ -22,7 +22,7 @@ use qs_told::{Diagnosis, Span, put_diagnosis};
 use std::alloc::{AllocError, Global};
 
 // Puts what is said of some bytes at the end.
-fn put_said(
+pub(crate) fn put_said(
     alloc: Global,
     out: &mut Vec<u8>,
     text: &[u8],
@@ -135,7 +135,7 @@ fn tell_at(
 }
 
 // The bytes of a token.
-fn span_of(text: &[u8], tokens: &[PlacedToken], place: usize) -> Span
+pub(crate) fn span_of(text: &[u8], tokens: &[PlacedToken], place: usize) -> Span
     requires place { place < length tokens.now }
     requires stand { Stand text.now tokens.now (Ok []) }
     ensures span { result ≡ span_at tokens.now place }
