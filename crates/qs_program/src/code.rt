@@ -190,7 +190,10 @@ impl Stmt {
         match self {
             Stmt::Command(call) | Stmt::Query(_, call) => (call.object == object) as u64,
             Stmt::If { first, other, .. } => first.load(object).max(other.load(object)),
-            Stmt::Repeat(count, body) => body.load(object).saturating_mul(*count).min(PAST_REQUESTS),
+            Stmt::Repeat(count, body) => {
+                let requests = body.load(object).saturating_mul(*count);
+                requests.min(PAST_REQUESTS)
+            }
             Stmt::Assign(_, _) | Stmt::Leave => 0,
         }
     }

@@ -17,5 +17,5 @@ pub use limits::{
 };
 pub use names::Names;
 pub use program::{Block, Client, Declared, Program, Start};
-pub use totals::{all_load, all_weight};
+pub use totals::{all_load, all_weight, block_load};
 pub use values::Locals;

@@ -29,4 +29,5 @@ pub const MOST_STEPS: u64 = 1_000_000;
 
 // One more than each limit: no count goes further, as what is more is refused all the same.
 pub(crate) const PAST_REQUESTS: u64 = MOST_REQUESTS + 1;
+
 pub(crate) const PAST_STEPS: u64 = MOST_STEPS + 1;

@@ -145,7 +145,7 @@ impl Start {
 pub struct Client {
     name: Name,
     variables: Names,
-    pub(crate) blocks: Vec<Block>,
+    blocks: Vec<Block>,
     start: Option<Start>,
 }
 
@@ -191,6 +191,13 @@ impl Client {
         let mut client = Client::new(name, variables, blocks);
         client.start = Some(start);
         client
+    }
+
+    /// Its blocks, in the order of its text.
+    pub fn blocks(&self) -> &[Block]
+        ensures value { result.now ≡ self.now.blocks }
+    {
+        self.blocks.as_slice()
     }
 
     fn len(&self) -> usize

@@ -14,7 +14,7 @@ pub fn all_load(clients: &[Client]) -> u64
 {
     let mut load = 0;
     for client in clients {
-        load = (load + blocks_load(client.blocks.as_slice())).min(PAST_REQUESTS);
+        load = (load + blocks_load(client.blocks())).min(PAST_REQUESTS);
     }
     load
 }
@@ -29,8 +29,8 @@ fn blocks_load(blocks: &[Block]) -> u64
     load
 }
 
-// A block's load is counted for the objects of its list.
-fn block_load(block: &Block) -> u64
+/// The load of a block, counted to one past the limit of a program: its requests on the objects of its list.
+pub fn block_load(block: &Block) -> u64
     ensures capped { result ≡ min (block_load_of block.now) (most_requests + 1) }
 {
     let body = block.body();
@@ -47,7 +47,7 @@ pub fn all_weight(clients: &[Client]) -> u64
 {
     let mut weight = 0;
     for client in clients {
-        weight = (weight + blocks_weight(client.blocks.as_slice())).min(PAST_STEPS);
+        weight = (weight + blocks_weight(client.blocks())).min(PAST_STEPS);
     }
     weight
 }
