@@ -1,15 +1,13 @@
 -- A list of clients names an order whose blocks are run one after another: the blocks that were run so far and those that the rest of the
 -- list names make up the whole order. So where a client is not there, or has no block left, the whole order is not legal; and at the end
 -- of the list the whole order was run.
-use Rattle.std.proofs.Common.{◌≡◌, ◌<◌, ◌≤◌, ℕ, suc, List, [], ◌∷◌, ◌++◌, length, refl, sym, ap, ◌∙◌, subst, arith, append_assoc, append-nil}
-use Rattle.qs_objects.specs.declared.held.Ticket.{Ticket}
-use Rattle.qs_program.specs.Program.{ProgramShape, blocks_of}
+use Rattle.std.proofs.Common.{◌≡◌, ℕ, List, [], ◌∷◌, ◌++◌, sym, ap, ◌∙◌, subst, append_assoc, append-nil}
+use Rattle.qs_program.specs.Program.{ProgramShape}
 use Rattle.qs_meaning.specs.Configurations.{Configuration, configuration_after, first_configuration, one_block_on}
 use Rattle.qs_orders.specs.NamedOrders.{order_from, order_of}
 use Rattle.qs_meaning.specs.Serial.{IsLegal, LegalFrom}
 use Rattle.qs_meaning.proofs.Orders.{legal-rest}
 use Rattle.qs_outcomes.specs.Standings.{HasNext, IsFirst, IsOneOn, IsStanding, StandingShape, configuration_in}
-use Rattle.qs_outcomes.proofs.Exploring.{in_program}
 
 -- the order so far, and what the rest of the list names after it
 pub record IsPlacedSoFar (p : ProgramShape) (clients rest : List ℕ) (s : StandingShape) : Type 0 where

@@ -1,6 +1,6 @@
 -- Sets as bytes, and the last block of a client that reserves an object: what each step of the loops that find who goes on does to the set
 -- that it stands for. It goes by cases on bits, and by induction on lists and rounds.
-use Rattle.std.proofs.Common.{◌≡◌, ◌<◌, ◌≤◌, ◌+◌, ◌*◌, ◌%◌, ◌/◌, ◌^◌, ℕ, zero, suc, Bool, true, false, if◌then◌else◌, ◌==◌, ◌&&◌, ◌||◌, nat_lt, max, List, [], ◌∷◌, ◌++◌, length, get_or, drop, take, refl, sym, ap, ap₂, add-one, ◌∙◌, subst, arith, ◌⊎◌, inl, inr, bit_and, bit_or, w8, get_or-set_same, get_or-set_other}
+use Rattle.std.proofs.Common.{◌≡◌, ◌<◌, ◌≤◌, ◌+◌, ◌*◌, ◌%◌, ◌/◌, ◌^◌, ℕ, zero, suc, Bool, true, false, true≢false, if◌then◌else◌, ◌==◌, ◌&&◌, ◌||◌, nat_lt, max, List, [], ◌∷◌, ◌++◌, length, get_or, drop, take, refl, sym, ap, ap₂, add-one, ◌∙◌, subst, arith, ◌⊎◌, inl, inr, bit_and, bit_or, w8, get_or-set_same, get_or-set_other}
 use Rattle.std.specs.Prelude.{slice_set}
 use Rattle.std.specs.Int.{bit_at}
 use Rattle.std.specs.List.{list_any}
@@ -11,13 +11,13 @@ use Rattle.std.proofs.lemmas.Nat.Bits.{bit_at_or, bit_at-lt, bit_at-zero, bit_at
 use Rattle.qs_objects.proofs.Choices.{eqb_apart, eqb_self}
 use Rattle.qs_program.specs.Program.{BlockShape, ProgramShape, block_at, client_at, blocks_of, no_block, no_client}
 use Rattle.qs_program.specs.Sound.{IsSound}
-use Rattle.qs_meaning.specs.Reduced.{Clients, Counts, block_reserves, comes_in, many_below, some_below, still_reserves, widened, wider}
+use Rattle.qs_meaning.specs.Reduced.{Clients, Counts, block_reserves, comes_in, group_of, many_below, size_of_set, smaller, some_below, still_reserves, widened, wider}
 use Rattle.std.specs.List.{AllByRecursion}
 use Rattle.std.proofs.lemmas.List.{length-set}
 use Rattle.qs_program.proofs.Bounds.{sound_block}
 use Rattle.qs_meaning.proofs.Each.{each_map}
 use Rattle.qs_program.specs.Limits.{most_clients, most_objects}
-use Rattle.qs_outcomes.specs.Going.{AreLast, counts_in, in_byte}
+use Rattle.qs_outcomes.specs.Going.{AreLast, IsGrown, counts_in, in_byte}
 use Rattle.qs_outcomes.proofs.RowSteps.{take_more}
 
 zero_or_one : (x : ℕ) → x < 2 → (x ≡ 0) ⊎ (x ≡ 1)
@@ -243,3 +243,37 @@ pub few_objects : (p : ProgramShape) → IsSound p → (c k : ℕ) → c < lengt
 few_objects p sound c k client block =
     each_map {Q = λ h. h < most_objects} (λ h (less : h < length p.objects). (let few = sound.objects in omega (arith, less, few))) (block_at p c k).reserved
     (sound_block p c k sound client block).reserved
+
+-- and they are the program's
+pub known_objects : (p : ProgramShape) → IsSound p → (c k : ℕ) → c < length p.clients → k < blocks_of p c → AllByRecursion (λ h. h < length p.objects) (block_at p c k).reserved
+known_objects p sound c k client block = (sound_block p c k sound client block).reserved
+
+-- ---- sets that were grown before
+
+after_first : (p : ProgramShape) (begun : Counts) (n : ℕ) (set : Clients) → widened p begun (suc n) set ≡ widened p begun n (wider p begun set)
+after_first p begun zero set = refl
+after_first p begun (suc n) set = ap (wider p begun) (after_first p begun n set)
+
+same_rounds : (p : ProgramShape) (begun : Counts) (n : ℕ) (a b : Clients) → 0 < n → wider p begun a ≡ wider p begun b → widened p begun n a ≡ widened p begun n b
+same_rounds p begun zero a b some e = absurd (omega (arith, some))
+same_rounds p begun (suc n) a b some e = after_first p begun n a ∙ (ap (widened p begun n) e ∙ sym (after_first p begun n b))
+
+-- two clients whose sets are one after the first round
+pub same_groups : (p : ProgramShape) (begun : Counts) (c d : ℕ) → c < length p.clients → wider p begun (λ k. c == k) ≡ wider p begun (λ k. d == k)
+    → group_of p begun c ≡ group_of p begun d
+same_groups p begun c d within e = same_rounds p begun (length p.clients) (λ k. c == k) (λ k. d == k) (omega (arith, within)) e
+
+-- no set is grown yet
+pub none_grown : (p : ProgramShape) (begun : List ℕ) → IsGrown p begun 0 0
+none_grown p begun c within e = absurd (true≢false (sym here ∙ (ap (λ (f : Clients). f c) e ∙ in_none c)))
+  where
+    here : wider p (counts_in begun) (λ d. c == d) c ≡ true
+    here = rw (eqb_self c) refl
+
+-- of a set and itself
+pub smaller_same : (p : ProgramShape) (set : Clients) → set ≡ smaller p set set
+smaller_same p set = by_case (size_of_set p set == 0 || nat_lt (size_of_set p set) (size_of_set p set))
+  where
+    by_case : (b : Bool) → set ≡ (if b then set else set)
+    by_case true = refl
+    by_case false = refl

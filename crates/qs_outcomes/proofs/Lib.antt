@@ -8,3 +8,4 @@ pub mod Exploring
 pub mod Explored
 pub mod Inserting
 pub mod GoingSets
+pub mod NextRows

@@ -89,7 +89,7 @@ named_long : (p : ProgramShape) (c : ℕ) (l m : Locals) → AreNamedAlone p c l
 named_long p c l m a b = rw (length-take, length-take) (rw (a.long, b.long) refl)
 
 -- each client's variables, from a client on
-abbrev NamedFrom : ProgramShape → ℕ → List Locals → Type 0
+abbrev pub NamedFrom : ProgramShape → ℕ → List Locals → Type 0
 NamedFrom p c ls = (i : ℕ) → i < length ls → AreNamedAlone p (c + i) (get_or ls i zeros)
 
 first_named : (p : ProgramShape) (c : ℕ) (l : Locals) (ls : List Locals) → NamedFrom p c (l ∷ ls) → AreNamedAlone p c l
@@ -112,7 +112,7 @@ named_tell p c (l ∷ ls) (m ∷ ms) us vs long a b e =
     (ap₂ (λ z zs. z ∷ zs) (same_named p c l m (first_named p c l ls a) (first_named p c m ms b) first.0) rest.0, rest.1)
 
 module _ (p : ProgramShape) (front : List Ticket) (sound : IsSound p) where
-  named : (s : StandingShape) → IsStanding p front s → NamedFrom p 0 s.locals
+  pub named : (s : StandingShape) → IsStanding p front s → NamedFrom p 0 s.locals
   named s is i less =
       subst (λ k. AreNamedAlone p k (get_or s.locals i zeros)) (let z : i ≡ 0 + i = omega arith in z)
       (subst (AreNamedAlone p i) (sym (ap (λ (g : Configuration). g.locals i) is.stands)) (unnamed_stay_zero p sound s.order i))

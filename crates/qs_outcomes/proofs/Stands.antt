@@ -1,15 +1,14 @@
 -- Where a client's next block has run on what the lists of a standing hold, they hold the next configuration, and the order that is longer
 -- by one ticket leads there. The functions that make standings rest on it. Lists by number are functions that are changed at one place, and
 -- the last ticket of an order is taken last.
-use Rattle.std.proofs.Common.{◌≡◌, ◌<◌, ◌≤◌, ℕ, zero, suc, Bool, true, false, ◌==◌, List, [], ◌∷◌, ◌++◌, length, get_or, replicate, refl, sym, ap, ◌∙◌, subst, arith, ⊎_elim, append_assoc, append-nil, ◌⊎◌, inl, inr, ◌≢◌, ◌||◌, ℤ}
-use Rattle.std.proofs.Common.{get_or-set_same, get_or-set_other}
+use Rattle.std.proofs.Common.{◌≡◌, ◌<◌, ◌≤◌, ℕ, zero, suc, Bool, true, false, ◌==◌, List, [], ◌∷◌, ◌++◌, length, get_or, replicate, refl, sym, ap, ◌∙◌, subst, arith, ⊎_elim, append_assoc, append-nil, ◌⊎◌, inl, inr, ◌||◌, ℤ}
 use Rattle.std.proofs.lemmas.List.{length-set, length-replicate}
 use Rattle.std.specs.Prelude.{slice_set}
 use Rattle.std.specs.List.{AllByRecursion}
 use Rattle.qs_objects.specs.Act.{State}
 use Rattle.qs_objects.specs.Objects.{starts}
 use Rattle.qs_objects.specs.declared.held.Ticket.{Ticket}
-use Rattle.qs_objects.proofs.Choices.{apart_eqb, eqb_true, num_cases}
+use Rattle.qs_objects.proofs.Choices.{eqb_true}
 use Rattle.qs_objects.proofs.Arities.{arity_small}
 use Rattle.qs_program.specs.declared.code.Call.{Call}
 use Rattle.qs_program.specs.declared.program.Declared.{Declared}
@@ -24,7 +23,7 @@ use Rattle.qs_orders.proofs.Lookups.{lookup-replicate, lookup-set}
 use Rattle.qs_outcomes.specs.Alone.{AreCallsWithin, IsCallWithin, states_in}
 use Rattle.qs_meaning.specs.Reduced.{IsReducedFrom, goes_on}
 use Rattle.qs_meaning.proofs.Groups.{some_go_on}
-use Rattle.qs_outcomes.specs.Standings.{GoesOn, HasNext, IsFirst, IsNext, IsOneOn, IsReducedAfter, IsStanding, StandingShape, configuration_in}
+use Rattle.qs_outcomes.specs.Standings.{GoesOn, HasNext, HasRun, IsFirst, IsNext, IsOneOn, IsReducedAfter, IsStanding, StandingShape, configuration_in, with_block}
 
 pub below_or_past : (h n : ℕ) → (h < n) ⊎ (n ≤ h)
 below_or_past h zero = inr (omega arith)
@@ -117,6 +116,18 @@ module _ (p : ProgramShape) (front : List Ticket) (s n : StandingShape) (c : ℕ
     };
     next = on.next;
   }
+
+-- where a block has run, the standing with this block
+pub block_on : (p : ProgramShape) (front : List Ticket) (s : StandingShape) (c : ℕ) (values : List ℤ) (states : List State) → IsStanding p front s → c < length p.clients
+    → HasNext p s c → HasRun p s c values states → IsOneOn p s c (with_block s c values states)
+block_on p front s c values states standing client left ran =
+    stands_on p front s (with_block s c values states) c standing client left refl refl (ap (slice_set s.locals c) ran.locals) ran.states ran.count
+
+pub block_next : (p : ProgramShape) (front : List Ticket) (s : StandingShape) (c : ℕ) (values : List ℤ) (states : List State) → IsStanding p front s → c < length p.clients
+    → GoesOn p s c → HasRun p s c values states → IsNext p front s c (with_block s c values states)
+block_next p front s c values states standing client goes ran =
+    goes_next p front s (with_block s c values states) c standing client (goes_left p s c goes)
+    (block_on p front s c values states standing client (goes_left p s c goes) ran) goes
 
 pub stands_first : (p : ProgramShape) (s : StandingShape) → s.order ≡ [] → s.begun ≡ replicate (length p.clients) 0 → s.locals ≡ replicate (length p.clients) zeros
     → length s.states ≡ length p.objects → ((h : ℕ) → h < length p.objects → get_or s.states h no_state ≡ declared_states p h) → IsFirst p [] s

@@ -1,10 +1,10 @@
 -- Sets of clients as bytes, and the last block of each client that reserves an object: by these who goes on is found without memory.
-use Rattle.std.specs.Prelude.{◌≡◌, ◌<◌, ℕ, List, [], length, drop, nat_lt, slice_index_or}
+use Rattle.std.specs.Prelude.{◌≡◌, ◌<◌, ◌==◌, ℕ, List, [], length, drop, nat_lt, slice_index_or}
 use Rattle.std.specs.List.{list_any}
 pub use Rattle.qs_objects.specs.ByteSets.{in_byte}
 use Rattle.qs_program.specs.Limits.{most_objects}
 use Rattle.qs_program.specs.Program.{ProgramShape, client_at}
-use Rattle.qs_meaning.specs.Reduced.{Counts, block_reserves, comes_in}
+use Rattle.qs_meaning.specs.Reduced.{Counts, block_reserves, comes_in, group_of, wider}
 
 -- how many blocks each client has begun, by a list
 abbrev pub counts_in : List ℕ → Counts
@@ -23,3 +23,8 @@ pub record AreLast (p : ProgramShape) (rows : List (List ℕ)) : Type 0 where
 -- for each client, who comes in its way
 abbrev pub AreComers : ProgramShape → List ℕ → List ℕ → Type 0
 AreComers p begun rows = (c : ℕ) → c < length p.clients → in_byte (slice_index_or rows c 0) ≡ comes_in p (counts_in begun) c
+
+-- the set that is grown from whichever client this is the set after one round of
+abbrev pub IsGrown : ProgramShape → List ℕ → ℕ → ℕ → Type 0
+IsGrown p begun first set =
+    (c : ℕ) → c < length p.clients → wider p (counts_in begun) (λ d. c == d) ≡ in_byte first → group_of p (counts_in begun) c ≡ in_byte set

@@ -1,12 +1,13 @@
 -- Configurations as they are kept: in lists, with an order that leads there, and as one flat row of numbers.
-use Rattle.std.specs.Prelude.{◌≡◌, ℕ, List, [], ◌∷◌, ◌++◌, true, length, map, slice_index_or, ℤ, pos, flat_map, suc, take}
+use Rattle.std.specs.Prelude.{◌≡◌, ℕ, List, [], ◌∷◌, ◌++◌, true, length, map, slice_index_or, slice_set, ℤ, pos, flat_map, suc, take}
 use Rattle.qs_objects.specs.Act.{State, Content, account, buffer, grid}
 use Rattle.qs_objects.specs.declared.held.Ticket.{Ticket}
-use Rattle.qs_program.specs.Program.{ProgramShape, client_at}
+use Rattle.qs_program.specs.Program.{ProgramShape, block_at, client_at}
 use Rattle.qs_program.specs.Values.{Locals}
 use Rattle.qs_meaning.specs.Configurations.{Configuration, HasBlockLeft, configuration_after, one_block_on}
 use Rattle.qs_meaning.specs.Reduced.{IsReducedFrom, goes_on}
 use Rattle.qs_meaning.specs.Serial.{IsLegal, zeros}
+use Rattle.qs_meaning.specs.Solo.{BlockResult, solo}
 use Rattle.qs_outcomes.specs.Alone.{states_in}
 
 -- an order, how many blocks each client has begun along it, the clients' variables, and the objects
@@ -61,6 +62,25 @@ pub record IsOneOn (p : ProgramShape) (s : StandingShape) (c : ℕ) (n : Standin
 pub record IsNext (p : ProgramShape) (front : List Ticket) (s : StandingShape) (c : ℕ) (n : StandingShape) : Type 0 where
   pub standing : IsStanding p front n
   pub next : configuration_in n ≡ one_block_on p c (configuration_in s)
+
+-- what a client's next block leaves where it runs alone
+abbrev pub next_result : ProgramShape → StandingShape → ℕ → BlockResult
+next_result p s c = solo (block_at p c (slice_index_or s.begun c 0)).body (slice_index_or s.locals c zeros) (states_in s.states)
+
+-- these variables and objects are what a client's next block leaves
+pub record HasRun (p : ProgramShape) (s : StandingShape) (c : ℕ) (values : Locals) (left : List State) : Type 0 where
+  pub locals : values ≡ (next_result p s c).locals
+  pub states : states_in left ≡ (next_result p s c).states
+  pub count : length left ≡ length s.states
+
+-- with one more block of a client, which left these variables and objects
+abbrev pub with_block : StandingShape → ℕ → Locals → List State → StandingShape
+with_block s c values states = record {
+  order = s.order ++ record { client = c; index = slice_index_or s.begun c 0 } ∷ [];
+  begun = slice_set s.begun c (suc (slice_index_or s.begun c 0));
+  locals = slice_set s.locals c values;
+  states = states;
+}
 
 -- a list of numbers with its length before it
 abbrev pub counted : List ℤ → List ℤ

@@ -5,7 +5,7 @@ ghost use Rattle.std.specs.List.{AllByRecursion, list_any};
 ghost use Rattle.qs_program.specs.Limits.{most_objects};
 ghost use Rattle.qs_program.specs.Sound.{is_in};
 ghost use Rattle.qs_meaning.specs.Reduced.{comes_in, first_smallest, goes_on, group_of, many_below, smaller, still_reserves, wider};
-ghost use Rattle.qs_outcomes.specs.Going.{AreComers, AreLast, IsLast, counts_in, in_byte};
+ghost use Rattle.qs_outcomes.specs.Going.{AreComers, AreLast, IsGrown, IsLast, counts_in, in_byte};
 
 use qs_program::{MOST_CLIENTS, MOST_OBJECTS, Program};
 use std::alloc::{AllocError, Global};
@@ -75,11 +75,12 @@ fn holders(program: &Program, last: &[Last], begun: &[u8], object: usize) -> u8
 fn all_holders(program: &Program, last: &[Last], begun: &[u8]) -> [u8; MOST_OBJECTS]
     requires last { AreLast program.now last.now }
     requires begun { length begun.now ≡ length program.now.clients }
-    ensures holders { (h : ℕ) → h < most_objects
+    ensures holders { (h : ℕ) → h < length program.now.objects
         → in_byte (slice_index_or result h 0) ≡ (λ c. still_reserves program.now (counts_in begun.now) c h) }
 {
+    program.is_sound();
     let mut all = [0; MOST_OBJECTS];
-    for object in 0..MOST_OBJECTS {
+    for object in 0..program.objects() {
         all[object] = holders(program, last, begun, object);
     }
     all
@@ -87,11 +88,12 @@ fn all_holders(program: &Program, last: &[Last], begun: &[u8]) -> [u8; MOST_OBJE
 
 // Who has a block left that reserves one of these objects.
 fn comers(program: &Program, begun: &[u8], holders: &[u8; MOST_OBJECTS], reserved: &[u8]) -> u8
-    requires holders { (h : ℕ) → h < most_objects
+    requires holders { (h : ℕ) → h < length program.now.objects
         → in_byte (slice_index_or holders.now h 0) ≡ (λ c. still_reserves program.now (counts_in begun.now) c h) }
-    requires within { AllByRecursion (λ h. h < most_objects) reserved.now }
+    requires within { AllByRecursion (λ h. h < length program.now.objects) reserved.now }
     ensures comers { in_byte result ≡ (λ d. list_any (still_reserves program.now (counts_in begun.now) d) reserved.now) }
 {
+    program.is_sound();
     let mut set = 0;
     for object in reserved {
         set |= holders[usize::from(*object)];
@@ -173,11 +175,46 @@ fn size(program: &Program, set: u8) -> u8
 fn smaller(program: &Program, one: u8, other: u8) -> u8
     ensures smaller { in_byte result ≡ smaller program.now (in_byte one) (in_byte other) }
 {
+    if one == other {
+        return one;
+    }
     let count = size(program, one);
     if count == 0 || size(program, other) < count {
         other
     } else {
         one
+    }
+}
+
+// The set that was grown last, and what it was after its first round.
+#[derive(Clone, Copy)]
+struct Growth {
+    first: u8,
+    set: u8,
+}
+
+// The set that is grown from one client, where it isn't the one that was grown last.
+fn grown_from(
+    program: &Program,
+    begun: &[u8],
+    rows: &[u8; MOST_CLIENTS],
+    client: u8,
+    last: Growth,
+) -> Growth
+    requires rows { AreComers program.now begun.now rows.now }
+    requires client { client < length program.now.clients }
+    requires last { IsGrown program.now begun.now last.first last.set }
+    ensures grown { IsGrown program.now begun.now result.first result.set }
+    ensures set { in_byte result.set ≡ group_of program.now (counts_in begun.now) client }
+{
+    program.is_sound();
+    let first = wider(program, begun, rows, 1 << client);
+    if first == last.first {
+        return last;
+    }
+    Growth {
+        first,
+        set: group(program, begun, rows, client),
     }
 }
 
@@ -190,9 +227,11 @@ pub(crate) fn goes_on(program: &Program, last: &[Last], begun: &[u8]) -> u8
     program.is_sound();
     let rows = all_comers(program, last, begun);
     let mut best = 0;
+    let mut latest = Growth { first: 0, set: 0 };
     for client in 0..program.clients() as u8 {
         if usize::from(begun[usize::from(client)]) < program.blocks_of(client) {
-            best = smaller(program, best, group(program, begun, &rows, client));
+            latest = grown_from(program, begun, &rows, client, latest);
+            best = smaller(program, best, latest.set);
         }
     }
     best

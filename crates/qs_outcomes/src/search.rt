@@ -5,7 +5,7 @@ ghost use Rattle.std.specs.List.{AllByRecursion};
 ghost use Rattle.qs_orders.specs.NamedOrders.{order_of};
 ghost use Rattle.qs_meaning.specs.Serial.{IsLegal};
 ghost use Rattle.qs_outcomes.specs.Outcomes.{AreAllOutcomes, AreAllOutcomesAfter, AreApart, HasConfigurations, HasConfigurationsAfter, HasMoreThan, HasMoreThanAfter, IsListed, IsListedAfter};
-ghost use Rattle.qs_outcomes.specs.Rows.{rows_in};
+ghost use Rattle.qs_outcomes.specs.Rows.{AreStarts, rows_in};
 ghost use Rattle.qs_outcomes.specs.Search.{HasOne, IsExplored, IsInserted, IsLonger, IsNoted, IsPushed, work_left};
 ghost use Rattle.qs_meaning.specs.Reduced.{goes_on};
 ghost use Rattle.qs_outcomes.specs.Going.{AreLast, in_byte};
@@ -15,9 +15,10 @@ use crate::copies::copied;
 use crate::fault::OutcomesFault;
 use crate::front::placed;
 use crate::going::{Last, last_blocks};
+use crate::rows::row_starts;
 use crate::standing::Standing;
 use indexmap::IndexSet;
-use qs_objects::Ticket;
+use qs_objects::{Object, Ticket};
 use qs_orders::names_order;
 use qs_program::Program;
 use std::alloc::{AllocError, Global};
@@ -62,11 +63,28 @@ impl AllOutcomes {
     }
 }
 
-// What the search writes into again and again: where a next block leads, and a row.
+// What the search writes into again and again: the row of the standing that was taken up, what a next block leaves of the objects, the row
+// of where it leads; and standings that are done with.
 #[derive(Drop)]
 struct Scratch {
-    next: Standing,
+    base: Vec<i64>,
+    left: Vec<Object>,
     row: Vec<i64>,
+    spare: Vec<Standing>,
+}
+
+// A standing to write into, one that is done with where there is any.
+fn spare_standing(alloc: Global, spare: &mut Vec<Standing>) -> Standing {
+    match spare.pop() {
+        Some(standing) => standing,
+        None => Standing::empty(alloc),
+    }
+}
+
+// Keeps a standing that is done with.
+fn put_by(spare: &mut Vec<Standing>, standing: Standing) -> Result<(), AllocError> {
+    spare.push(standing)?;
+    Ok(())
 }
 
 // Adds a row: whether it is new.
@@ -95,9 +113,10 @@ fn note(
     ensures full { IsErrOf result OutcomesFault.Limit → (length (rows_in seen.old.keys) ≡ limit)
         × (HasOne (λ r. row_of program.now standing.now ≡ r) (rows_in seen.old.keys) → ⊥) }
     ensures order { ¬ IsErrOf result OutcomesFault.Order }
+    ensures base { OnOk result (scratch.new.base.items ≡ row_of program.now standing.now) }
 {
-    standing.write_row(program, front, &mut scratch.row)?;
-    let new = insert(seen, copied(alloc, scratch.row.as_slice())?)?;
+    standing.write_row(program, front, &mut scratch.base)?;
+    let new = insert(seen, copied(alloc, scratch.base.as_slice())?)?;
     if new && seen.len() > limit as usize {
         return Err(OutcomesFault::Limit);
     }
@@ -115,6 +134,7 @@ fn was_seen(seen: &IndexSet<Vec<i64>>, row: &Vec<i64>) -> bool
 fn push_one(
     alloc: Global,
     program: &Program,
+    starts: &[usize],
     front: &[Ticket],
     standing: &Standing,
     goes: u8,
@@ -124,18 +144,34 @@ fn push_one(
     stack: &mut Vec<Standing>,
 ) -> Result<(), AllocError>
     requires client { client < length program.now.clients }
+    requires starts { AreStarts program.now starts.now }
     requires standing { IsStanding program.now front.now standing.now }
     requires goes { in_byte goes ≡ goes_on program.now (configuration_in standing.now).begun }
+    requires base { scratch.old.base.items ≡ row_of program.now standing.now }
+    ensures base { scratch.new.base.items ≡ scratch.old.base.items }
     ensures pushed { OnOk result (IsPushed program.now front.now (rows_in seen.now.keys) standing.now client stack.old.items stack.new.items) }
 {
     program.is_sound();
     if (goes >> client) & 1 == 1 {
-        standing.put_next(alloc, program, front, client, &mut scratch.next)?;
-        scratch.next.write_row(program, front, &mut scratch.row)?;
+        let values = standing.run_next(alloc, program, front, client, &mut scratch.left)?;
+        let left = scratch.left.as_slice();
+        let base = scratch.base.as_slice();
+        standing.write_next_row(
+            program,
+            front,
+            client,
+            &values,
+            left,
+            starts,
+            base,
+            &mut scratch.row,
+        )?;
         if was_seen(seen, &scratch.row) {
             return Ok(());
         }
-        stack.push(scratch.next.copied(alloc)?)?;
+        let mut next = spare_standing(alloc, &mut scratch.spare);
+        standing.put_next(program, front, client, &values, &mut scratch.left, &mut next)?;
+        stack.push(next)?;
     }
     Ok(())
 }
@@ -145,6 +181,7 @@ fn push_next(
     alloc: Global,
     program: &Program,
     last: &[Last],
+    starts: &[usize],
     front: &[Ticket],
     standing: &Standing,
     scratch: &mut Scratch,
@@ -152,7 +189,9 @@ fn push_next(
     stack: &mut Vec<Standing>,
 ) -> Result<(), AllocError>
     requires last { AreLast program.now last.now }
+    requires starts { AreStarts program.now starts.now }
     requires standing { IsStanding program.now front.now standing.now }
+    requires base { scratch.old.base.items ≡ row_of program.now standing.now }
     ensures longer { OnOk result (IsLonger program.now front.now (rows_in seen.now.keys) standing.now 0 stack.old.items stack.new.items) }
 {
     program.is_sound();
@@ -162,6 +201,7 @@ fn push_next(
         push_one(
             alloc,
             program,
+            starts,
             front,
             standing,
             goes,
@@ -187,6 +227,7 @@ fn visit(
     alloc: Global,
     program: &Program,
     last: &[Last],
+    starts: &[usize],
     front: &[Ticket],
     limit: u32,
     standing: Standing,
@@ -197,6 +238,7 @@ fn visit(
 ) -> Result<(), OutcomesFault>
     requires small { length (rows_in seen.old.keys) ≤ limit }
     requires last { AreLast program.now last.now }
+    requires starts { AreStarts program.now starts.now }
     requires explored { IsExplored program.now front.now (rows_in seen.old.keys) (stack.old.items ++ standing ∷ []) found.old.items }
     ensures explored { OnOk result (IsExplored program.now front.now (rows_in seen.new.keys) stack.new.items found.new.items) }
     ensures small { OnOk result (length (rows_in seen.new.keys) ≤ limit) }
@@ -208,14 +250,17 @@ fn visit(
     program.is_sound();
     match note(alloc, program, front, limit, &standing, scratch, seen) {
         Err(fault) => return Err(fault),
-        Ok(false) => return Ok(()),
+        Ok(false) => return Ok(put_by(&mut scratch.spare, standing)?),
         Ok(true) => {}
     }
     if standing.is_over(program, front) {
         add(found, standing)?;
         return Ok(());
     }
-    push_next(alloc, program, last, front, &standing, scratch, seen, stack)?;
+    push_next(
+        alloc, program, last, starts, front, &standing, scratch, seen, stack,
+    )?;
+    put_by(&mut scratch.spare, standing)?;
     Ok(())
 }
 
@@ -238,12 +283,15 @@ fn search_from(
 {
     program.is_sound();
     let last = last_blocks(alloc, program)?;
+    let starts = row_starts(alloc, program)?;
     let mut seen = IndexSet::new(alloc);
     let mut found = Vec::new(alloc);
     let mut stack = Vec::new(alloc);
     let mut scratch = Scratch {
-        next: Standing::empty(alloc),
+        base: Vec::new(alloc),
+        left: Vec::new(alloc),
         row: Vec::new(alloc),
+        spare: Vec::new(alloc),
     };
     add(&mut stack, first)?;
     while let Some(standing) = stack.pop() {
@@ -251,6 +299,7 @@ fn search_from(
             alloc,
             program,
             last.as_slice(),
+            starts.as_slice(),
             front,
             limit,
             standing,

@@ -7,13 +7,13 @@ ghost use Rattle.qs_outcomes.specs.Alone.{AreCallsWithin, states_in};
 ghost use Rattle.qs_program.specs.Program.{blocks_of};
 
 use crate::alone::run_body;
-use crate::copies::copied;
 use crate::going::{Last, goes_on};
-use crate::rows::{add_begun, add_locals, add_objects};
+use crate::rows::{add_begun, add_locals, add_objects, put_stem};
 use qs_objects::{Object, ObjectFault, Ticket};
 use qs_program::{Block, Locals, MOST_VARIABLES, Program};
 use std::alloc::{AllocError, Global};
 use std::marker::Model;
+use std::mem;
 
 /// Where a program stands after an order of whole blocks: the order, how many blocks each client has begun, the clients' variables, and
 /// the objects.
@@ -140,15 +140,6 @@ fn put_locals(
     Ok(())
 }
 
-// The same objects once more.
-fn copied_objects(alloc: Global, objects: &[Object]) -> Result<Vec<Object>, AllocError>
-    ensures same { IfOk result (λ copy. copy.items ≡ objects.now) }
-{
-    let mut copy = Vec::with_capacity(alloc, objects.len())?;
-    put_objects(alloc, objects, &mut copy)?;
-    Ok(copy)
-}
-
 // No block was begun.
 fn fresh_counts(alloc: Global, clients: usize) -> Result<Vec<u8>, AllocError>
     ensures fresh { IfOk result (λ counts. counts.items ≡ replicate clients 0) }
@@ -170,8 +161,9 @@ fn fresh_locals(alloc: Global, clients: usize) -> Result<Vec<Locals>, AllocError
 impl Standing {
     ghost use Rattle.qs_meaning.specs.Reduced.{goes_on};
     ghost use Rattle.qs_outcomes.specs.Going.{AreLast, in_byte};
+    ghost use Rattle.qs_outcomes.specs.Rows.{AreStarts};
     ghost use Rattle.qs_outcomes.specs.Search.{NoneNext};
-    ghost use Rattle.qs_outcomes.specs.Standings.{GoesOn, HasNext, IsFirst, IsNext, IsOneOn, IsStanding, configuration_in, row_of};
+    ghost use Rattle.qs_outcomes.specs.Standings.{HasNext, HasRun, IsFirst, IsOneOn, IsStanding, configuration_in, row_of, with_block};
 
     /// The order of blocks that leads there.
     pub fn order(&self) -> &[Ticket]
@@ -243,7 +235,7 @@ impl Standing {
         goes_on(program, last, self.begun.as_slice())
     }
 
-    /// Lists without a place, which take no memory: what `put_next` writes into.
+    // Lists without a place, which take no memory: what `put_next` writes into.
     pub(crate) fn empty(alloc: Global) -> Standing {
         Standing {
             order: Vec::new(alloc),
@@ -253,53 +245,56 @@ impl Standing {
         }
     }
 
-    // The same standing once more. An error says that memory was refused.
-    pub(crate) fn copied(&self, alloc: Global) -> Result<Standing, AllocError>
-        ensures same { IfOk result (λ copy. copy ≡ self.now) }
-    {
-        Ok(Standing {
-            order: copied(alloc, self.order.as_slice())?,
-            begun: copied(alloc, self.begun.as_slice())?,
-            locals: copied(alloc, self.locals.as_slice())?,
-            objects: copied_objects(alloc, self.objects.as_slice())?,
-        })
-    }
-
-    // Writes where the program stands after the next block of a client into a standing, whose memory is used again. An error says that
+    // Runs the next block of a client alone, on copies of the objects, and answers what it leaves of the client's variables. An error says that
     // memory was refused.
-    pub(crate) fn put_next(
+    pub(crate) fn run_next(
         &self,
         alloc: Global,
         program: &Program,
         front: &[Ticket],
         client: u8,
+        left: &mut Vec<Object>,
+    ) -> Result<Locals, AllocError>
+        requires client { client < length program.now.clients }
+        requires standing { IsStanding program.now front.now self.now }
+        requires left { HasNext program.now self.now client }
+        ensures ran { IfOk result (λ values. HasRun program.now self.now client values left.new.items) }
+    {
+        program.is_sound();
+        let place = usize::from(client);
+        let mut values = self.locals[place];
+        let block = program.block(client, self.begun[place]);
+        run_block(alloc, block, &mut values, self.objects.as_slice(), left)?;
+        Ok(values)
+    }
+
+    // Writes where the program stands after the next block of a client, which left these variables and objects, into a standing, whose
+    // memory is used again. The objects are taken. An error says that memory was refused.
+    pub(crate) fn put_next(
+        &self,
+        program: &Program,
+        front: &[Ticket],
+        client: u8,
+        values: &Locals,
+        left: &mut Vec<Object>,
         next: &mut Standing,
     ) -> Result<(), AllocError>
         requires client { client < length program.now.clients }
         requires standing { IsStanding program.now front.now self.now }
         requires left { HasNext program.now self.now client }
-        ensures on { OnOk result (IsOneOn program.now self.now client next.new) }
-        ensures next { OnOk result (GoesOn program.now self.now client → IsNext program.now front.now self.now client next.new) }
+        ensures next { OnOk result (next.new ≡ with_block self.now client values.now left.old.items) }
     {
         program.is_sound();
         let place = usize::from(client);
         let index = self.begun[place];
-        let mut values = self.locals[place];
-        let block = program.block(client, index);
-        run_block(
-            alloc,
-            block,
-            &mut values,
-            self.objects.as_slice(),
-            &mut next.objects,
-        )?;
         put_longer(
             self.order.as_slice(),
             Ticket { client, index },
             &mut next.order,
         )?;
         put_counts(self.begun.as_slice(), place, index + 1, &mut next.begun)?;
-        put_locals(self.locals.as_slice(), place, &values, &mut next.locals)?;
+        put_locals(self.locals.as_slice(), place, values, &mut next.locals)?;
+        mem::swap(&mut next.objects, left);
         Ok(())
     }
 
@@ -316,8 +311,10 @@ impl Standing {
         requires left { HasNext program.now self.now client }
         ensures on { IfOk result (IsOneOn program.now self.now client) }
     {
+        let mut left = Vec::new(alloc);
+        let values = self.run_next(alloc, program, front, client, &mut left)?;
         let mut next = Standing::empty(alloc);
-        self.put_next(alloc, program, front, client, &mut next)?;
+        self.put_next(program, front, client, &values, &mut left, &mut next)?;
         Ok(next)
     }
 
@@ -335,5 +332,32 @@ impl Standing {
         add_begun(row, self.begun.as_slice())?;
         add_locals(row, program, self.locals.as_slice())?;
         add_objects(row, self.objects.as_slice())
+    }
+
+    // Writes the row of where the next block of a client leads, which left these variables and objects, from the row of the standing. An
+    // error says that memory was refused.
+    pub(crate) fn write_next_row(
+        &self,
+        program: &Program,
+        front: &[Ticket],
+        client: u8,
+        values: &Locals,
+        left: &[Object],
+        starts: &[usize],
+        base: &[i64],
+        row: &mut Vec<i64>,
+    ) -> Result<(), AllocError>
+        requires client { client < length program.now.clients }
+        requires standing { IsStanding program.now front.now self.now }
+        requires left { HasNext program.now self.now client }
+        requires starts { AreStarts program.now starts.now }
+        requires base { base.now ≡ row_of program.now self.now }
+        ensures row { OnOk result (row.new.items ≡ row_of program.now (with_block self.now client values.now left.now)) }
+    {
+        program.is_sound();
+        let index = self.begun[usize::from(client)];
+        put_stem(program, starts, base, client, index + 1, values, row)?;
+        add_objects(row, left)?;
+        Ok(())
     }
 }

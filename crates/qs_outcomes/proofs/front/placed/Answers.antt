@@ -1,4 +1,4 @@
-use Rattle.std.proofs.Common.{◌≡◌, ◌<◌, ◌+◌, ◌∙◌, ◌∷◌, ℕ, List, ap, arith, drop, get_or, length, subst, sym, add-one}
+use Rattle.std.proofs.Common.{◌≡◌, ◌<◌, ◌+◌, ◌∙◌, ◌∷◌, ℕ, List, ap, drop, get_or, length, subst, sym, add-one}
 use Rattle.std.proofs.Math.Seq.{drop-cons}
 use Rattle.qs_outcomes.specs.Standings.{HasNext, IsStanding}
 use Rattle.qs_outcomes.proofs.Endings.{nothing_left}

@@ -1,5 +1,4 @@
 use Rattle.std.specs.Prelude.{drop}
-use Rattle.qs_outcomes.specs.Standings.{IsStanding}
 use Rattle.qs_outcomes.proofs.Fronts.{IsPlacedSoFar}
 use Rattle.qs_outcomes.proofs.front.placed.Given as goal
 

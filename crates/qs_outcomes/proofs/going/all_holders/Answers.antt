@@ -9,5 +9,5 @@ pub loop-object-preserved : goal.loop-object-preserved
 loop-object-preserved c = record {
   long = length-set c.loop-object.all c.loop-object.object _ ∙ c.loop-object.invariant.long;
   each = set_more (λ h row. in_byte row ≡ (λ d. still_reserves c.args.program.now (counts_in c.args.begun.now) d h)) c.loop-object.all c.loop-object.object c.holders.result
-      (let l = c.loop-object.invariant.long in omega (arith, l)) c.holders.ensures.holders c.loop-object.invariant.each;
+      (let l = c.loop-object.invariant.long in let n = c.objects-object-end.ensures.value in let few = c.is_sound.ensures.sound.objects in omega (arith, l, n, few)) c.holders.ensures.holders c.loop-object.invariant.each;
 }

@@ -1,6 +1,5 @@
-use Rattle.std.proofs.Common.{◌<◌, subst, sym}
+use Rattle.std.proofs.Common.{◌<◌, length, subst, sym}
 use Rattle.qs_objects.proofs.Elements.{AllByRecursion-get_or}
-use Rattle.qs_program.specs.Limits.{most_objects}
 use Rattle.qs_meaning.specs.Reduced.{still_reserves}
 use Rattle.qs_outcomes.specs.Going.{counts_in}
 use Rattle.qs_outcomes.proofs.GoingSets.{objects_more}
@@ -8,8 +7,8 @@ use Rattle.qs_outcomes.proofs.going.comers.Goals as goal
 
 pub loop-object-preserved : goal.loop-object-preserved
 loop-object-preserved c =
-    let small : c.from.result < most_objects =
-    subst (λ h. h < most_objects) (sym c.from.ensures)
-    (AllByRecursion-get_or (λ h. h < most_objects) c.args.reserved.now c.loop-object.object-index 0 c.requires.within c.loop-object-test.true) in
+    let small : c.from.result < length c.args.program.now.objects =
+    subst (λ h. h < length c.args.program.now.objects) (sym c.from.ensures)
+    (AllByRecursion-get_or (λ h. h < length c.args.program.now.objects) c.args.reserved.now c.loop-object.object-index 0 c.requires.within c.loop-object-test.true) in
     objects_more (λ d. still_reserves c.args.program.now (counts_in c.args.begun.now) d) c.args.reserved.now c.loop-object.object-index c.from.result c.loop-object.set _
     c.loop-object-test.true c.from.ensures (c.requires.holders c.from.result small) c.loop-object.invariant

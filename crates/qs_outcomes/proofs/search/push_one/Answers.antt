@@ -1,34 +1,49 @@
 use Rattle.std.proofs.Common.{◌≡◌, ◌++◌, ◌∷◌, [], ap, inl, inr, sym, ◌∙◌, true≢false, refl}
 use Rattle.qs_outcomes.specs.Rows.{rows_in}
-use Rattle.qs_outcomes.specs.Standings.{GoesOn}
+use Rattle.qs_outcomes.specs.Standings.{GoesOn, HasNext, IsNext, row_of, with_block}
 use Rattle.qs_outcomes.proofs.GoingSets.{in_set, out_of_set}
 use Rattle.qs_outcomes.proofs.Lists.{has_map}
-use Rattle.qs_outcomes.proofs.Stands.{goes_left}
+use Rattle.qs_outcomes.proofs.Stands.{block_next, goes_left}
 use Rattle.qs_outcomes.proofs.search.push_one.Goals as goal
-use Rattle.qs_outcomes.proofs.search.push_one.Goals.{Then-goes-client-eq1}
+use Rattle.qs_outcomes.proofs.search.push_one.Goals.{Then-goes-client-eq1, In_ok-values}
 
 on : (c : Then-goes-client-eq1) → GoesOn c.args.program.now c.args.standing.now c.args.client
 on c = (λ i. sym c.requires.goes i c.args.client) ∙ in_set c.args.goes c.args.client c.if-goes-client-eq1.true
 
+left : (c : Then-goes-client-eq1) → HasNext c.args.program.now c.args.standing.now c.args.client
+left c = goes_left c.args.program.now c.args.standing.now c.args.client (on c)
+
+is_next : (c : In_ok-values) → IsNext c.args.program.now c.args.front.now c.args.standing.now c.args.client (with_block c.args.standing.now c.args.client c.in_ok-values.values c.run_next.new.left.items)
+is_next c =
+    block_next c.args.program.now c.args.front.now c.args.standing.now c.args.client _ _ c.requires.standing c.requires.client
+    ((λ i. sym c.requires.goes i c.args.client) ∙ in_set c.args.goes c.args.client c.if-goes-client-eq1.true) c.in_ok-values.ensures.ran
+
+pub run_next-requires : goal.run_next-requires
+run_next-requires c = record { client = c.requires.client; standing = c.requires.standing; left = left (goal.at.run_next-requires c).Then-goes-client-eq1 }
+
+pub write_next_row-requires : goal.write_next_row-requires
+write_next_row-requires c = record {
+  client = c.requires.client;
+  standing = c.requires.standing;
+  left = left (goal.at.write_next_row-requires c).Then-goes-client-eq1;
+  starts = c.requires.starts;
+  base = c.as_slice-base.ensures.value ∙ c.requires.base;
+}
+
 pub put_next-requires : goal.put_next-requires
-put_next-requires c =
-    let a = (goal.at.put_next-requires c).Then-goes-client-eq1 in
-    record { client = c.requires.client; standing = c.requires.standing; left = goes_left c.args.program.now c.args.standing.now c.args.client (on a) }
+put_next-requires c = record { client = c.requires.client; standing = c.requires.standing; left = left (goal.at.put_next-requires c).Then-goes-client-eq1 }
 
-pub returns-in_ok-push : goal.returns-in_ok-push
-returns-in_ok-push c =
-    let a = (goal.at.returns-in_ok-push c).Then-goes-client-eq1 in
-    record { pushed = inl (c.put_next.new.next, c.in_ok-put_next.ensures.next (on a), c.in_ok-push.ensures.items ∙ ap (λ n. c.args.stack.now.items ++ n ∷ []) c.in_ok-copied.ensures.same) }
+pub returns-in_ok-push-clause-pushed : goal.returns-in_ok-push-clause-pushed
+returns-in_ok-push-clause-pushed c =
+    inl (_, is_next (goal.at.returns-in_ok-push-clause-pushed c).In_ok-values, c.in_ok-push.ensures.items ∙ ap (λ n. c.args.stack.now.items ++ n ∷ []) c.in_ok-put_next.ensures.next)
 
-pub returns-then-was_seen : goal.returns-then-was_seen
-returns-then-was_seen c = record {
-  pushed = inr (
-    inl (has_map (λ r (e : c.write_row.new.row.items ≡ r). (c.put_next.new.next, c.in_ok-put_next.ensures.next (on (goal.at.returns-then-was_seen c).Then-goes-client-eq1), sym c.in_ok-write_row.ensures.row ∙ e)) (rows_in c.args.seen.now.keys) (c.was_seen.ensures.seen c.if-was_seen.true)),
-    refl,
-  );
-}
+pub returns-then-was_seen-clause-pushed : goal.returns-then-was_seen-clause-pushed
+returns-then-was_seen-clause-pushed c =
+    inr (
+      inl (has_map (λ r (e : c.write_next_row.new.row.items ≡ r). (_, is_next (goal.at.returns-then-was_seen-clause-pushed c).In_ok-values, sym (c.in_ok-write_next_row.ensures.row ∙ ap (λ left. row_of c.args.program.now (with_block c.args.standing.now c.args.client c.in_ok-values.values left)) c.as_slice-left.ensures.value) ∙ e)) (rows_in c.args.seen.now.keys) (c.was_seen.ensures.seen c.if-was_seen.true)),
+      refl,
+    )
 
-pub returns-else-goes-client-eq1 : goal.returns-else-goes-client-eq1
-returns-else-goes-client-eq1 c = record {
-  pushed = inr (inr (λ goes. true≢false (sym goes ∙ ((λ i. sym c.requires.goes i c.args.client) ∙ out_of_set c.args.goes c.args.client c.if-goes-client-eq1.false))), refl);
-}
+pub returns-else-goes-client-eq1-clause-pushed : goal.returns-else-goes-client-eq1-clause-pushed
+returns-else-goes-client-eq1-clause-pushed c =
+    inr (inr (λ goes. true≢false (sym goes ∙ ((λ i. sym c.requires.goes i c.args.client) ∙ out_of_set c.args.goes c.args.client c.if-goes-client-eq1.false))), refl)

@@ -6,7 +6,7 @@ use Rattle.qs_outcomes.proofs.Explored.{has_more_than}
 use Rattle.qs_outcomes.proofs.search.visit.Goals as goal
 
 pub push_next-requires : goal.push_next-requires
-push_next-requires c = record { last = c.requires.last; standing = taken c.args.program.now c.args.front.now _ c.args.stack.now.items c.args.found.now.items c.args.standing c.requires.explored }
+push_next-requires c = record { last = c.requires.last; starts = c.requires.starts; base = c.in-Ok-true.ensures.base; standing = taken c.args.program.now c.args.front.now _ c.args.stack.now.items c.args.found.now.items c.args.standing c.requires.explored }
 
 pub returns-in-Err-clause-limit : goal.returns-in-Err-clause-limit
 returns-in-Err-clause-limit c = λ is.

@@ -1,0 +1,9 @@
+use Rattle.std.proofs.Common.{◌≡◌, ◌+◌, drop, length}
+use Rattle.qs_outcomes.specs.Rows.{overwritten}
+use Rattle.qs_outcomes.proofs.rows.put_numbers.Given as goal
+
+abbrev pub invariant-loop-place : goal.invariant-loop-place
+invariant-loop-place l = record {
+  long : length l.row.items ≡ length l.initial.row.items;
+  rest : overwritten l.row.items (l.first + l.place) (drop l.place l.numbers) ≡ overwritten l.initial.row.items l.first l.numbers;
+}
