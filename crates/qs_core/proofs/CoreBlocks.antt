@@ -1,70 +1,316 @@
--- Steps of actors of the program are joined, one list after another: so what `play_in_order` shows is what the machine shows after some
--- picks. It goes one actor at a time, as in `CorePlaying`.
-use Rattle.std.proofs.Common.{◌≡◌, ◌<◌, ◌∙◌, ◌++◌, ◌∷◌, [], ℕ, Bool, true, false, None, List, refl, sym, ap, subst, length, nat_lt, append_assoc, append-nil, arith}
+-- A block that is played alone on the optimised machine, as the code does it: the first turn of the client leads into its block, each turn
+-- leaves fewer steps of the client, and in the end nobody is in a block. The loops of `turn`, `play_block` and `play_clients` stand on
+-- this. Actors that lead on are joined, one list after another, and the blocks that a list of clients names are taken from its front.
+use Rattle.std.proofs.Common.{◌≡◌, ◌<◌, ◌≤◌, ◌∙◌, ◌+◌, ◌++◌, ◌∷◌, [], ℕ, zero, suc, Bool, true, false, None, List, refl, sym, ap, subst, length, slice_index_or, nat_eq, nat_lt, add-one, append_assoc, append-nil, arith}
+use Rattle.std.proofs.lemmas.Bool.Decides.{nat_tests}
 use Rattle.std.specs.Bool.{OnTrue}
-use Rattle.qs_objects.proofs.Choices.{and_cases}
-use Rattle.qs_program.specs.Program.{ProgramShape}
+use Rattle.qs_objects.specs.declared.held.Ticket.{Ticket}
+use Rattle.std.specs.List.{AllByRecursion}
+use Rattle.qs_program.specs.Limits.{most_blocks}
+use Rattle.qs_program.specs.Program.{ClientShape, ProgramShape, blocks_of, no_client}
+use Rattle.qs_program.specs.declared.program.Declared.{Declared}
+use Rattle.qs_program.specs.Sound.{IsSound, IsSoundClient}
+use Rattle.qs_meaning.specs.Configurations.{Configuration, configuration_after, first_configuration, one_block_on}
+use Rattle.qs_meaning.specs.Reduced.{Counts}
+use Rattle.qs_meaning.specs.Serial.{IsLegal, LegalFrom}
+use Rattle.qs_meaning.specs.Solo.{put}
+use Rattle.qs_meaning.proofs.Orders.{configuration-append, legal-rest}
+use Rattle.qs_orders.specs.NamedOrders.{order_from, order_of}
+use Rattle.qs_graph.specs.Steps.{limit}
 use Rattle.qs_syncset.specs.declared.mode.Mode.{Mode}
-use Rattle.qs_played.specs.Isolation.{IsIsolated}
-use Rattle.qs_played.specs.Played.{Played}
-use Rattle.qs_played.specs.Schedule.{all_named, names_actor}
-use Rattle.qs_played.specs.SyncSums.{AreSyncsCounted}
+use Rattle.qs_syncset.proofs.ShortLists.{few_reserved}
+use Rattle.qs_client.specs.ClientModel.{has_ended, is_between}
+use Rattle.qs_played.specs.Schedule.{all_named, or_stay}
 use Rattle.qs_played.specs.declared.schedule.actor.Actor.{Actor}
-use Rattle.qs_core_laws.specs.Core.{core_step}
-use Rattle.qs_core_laws.specs.CoreSchedule.{core_played}
-use Rattle.qs_core.specs.CoreOrders.{CoreLeads, IsPlayedBySome}
-use Rattle.qs_core.specs.CoreState.{CoreIsCounted, CoreIsIsolated, CoreState, CoreSteps, IsPlayedOn, codes_of, core_of}
-use Rattle.qs_core.proofs.CoreCounted.{schedule_counted}
-use Rattle.qs_core.proofs.CorePlaying.{played_more, schedule_isolated, schedule_shown}
+use Rattle.qs_played.specs.declared.schedule.actor.Actor.TheVariants as actor
+use Rattle.qs_played.proofs.JournalRooms.{no_block_beyond}
+use Rattle.qs_played.proofs.Playing.{plays_by-append}
+use Rattle.qs_core_laws.specs.Core.{AreCodes, Core, core_begin, core_step}
+use Rattle.qs_core_laws.specs.CoreSchedule.{core_played, core_plays}
+use Rattle.qs_core_laws.proofs.CoreSteps.{HasInvariant, plays_kept, run_kept}
+use Rattle.qs_core_orders.specs.CoreOrders.{IsPlayedInOrderOn}
+use Rattle.qs_core_orders.specs.CoreQuiet.{IsCoreQuiet, turn_of, two_of_each}
+use Rattle.qs_core_orders.proofs.BlocksPlayed.{begin_quiet, has_begun, named_append, shown_in_order, turn_in, turn_named, turn_on}
+use Rattle.qs_core_orders.proofs.Entering.{block_over, most_turns}
+use Rattle.qs_core_orders.proofs.Turns.{IsWithin}
+use Rattle.qs_core.specs.CoreOrders.{CoreGoes, IsOneBlockOn, IsQuietNow, blocks_begun}
+use Rattle.qs_core.specs.CoreState.{CoreState, CoreSteps, IsCoreState, IsFreshCore, IsPlayedOn, IsReachedCore, codes_of, core_of, side_at}
+use Rattle.qs_core.proofs.CorePlaying.{fresh_played}
+use Rattle.qs_core.proofs.CoreReaching.{core_plays_more}
 
-named_join : (p : ProgramShape) (xs ys : List Actor) → all_named p xs ≡ true → all_named p ys ≡ true → all_named p (xs ++ ys) ≡ true
-named_join p [] ys x y = y
-named_join p (a ∷ xs) ys x y =
-    let both = and_cases (names_actor p a) (all_named p xs) x in
-    rw both.0 (named_join p xs ys both.1 y)
-
-pub leads_none : (s : CoreState) → CoreLeads s s
-leads_none s p mode size actors on = ([], refl, subst (λ xs. IsPlayedOn p mode size xs s) (sym (append-nil actors)) on)
+pub goes_none : (s : CoreState) → CoreGoes s [] s
+goes_none s = record { program = refl; size = refl; codes = refl; played = refl }
 
 -- and the step of one actor more
-pub leads_one : (old mid new : CoreState) (a : Actor) (b : Bool) → CoreLeads old mid → names_actor mid.program a ≡ true → OnTrue b (CoreSteps mid a new)
-    → (b ≡ false → core_step (codes_of mid) mid.size (core_of mid) a ≡ None) → (b ≡ false → new ≡ mid) → CoreLeads old new
-leads_one old mid new a b leads named steps none same p mode size actors on =
-    let first = leads p mode size actors on in
-    let here : names_actor p a ≡ true = subst (λ q. names_actor q a ≡ true) first.2.program named in (
-      first.0 ++ a ∷ [],
-      named_join p first.0 (a ∷ []) first.1 (rw here refl),
-      subst (λ xs. IsPlayedOn p mode size xs new) (append_assoc actors first.0 (a ∷ []))
-          (played_more p mode size (actors ++ first.0) mid new a b first.2 steps none same),
-    )
+pub goes_more : (old mid new : CoreState) (xs : List Actor) (a : Actor) (b : Bool) → CoreGoes old xs mid → OnTrue b (CoreSteps mid a new)
+    → (b ≡ false → core_step (codes_of mid) mid.size (core_of mid) a ≡ None) → (b ≡ false → new ≡ mid) → CoreGoes old (xs ++ a ∷ []) new
+goes_more old mid new xs a true goes steps none same = record {
+  program = steps.program ∙ goes.program;
+  size = steps.size ∙ goes.size;
+  codes = steps.codes ∙ goes.codes;
+  played =
+      sym (ap (or_stay (core_of mid)) steps.steps)
+      ∙ (λ k. or_stay (goes.played k) (core_step (goes.codes k) (goes.size k) (goes.played k) a))
+      ∙ sym (core_plays_more (codes_of old) old.size xs a (core_of old));
+}
+goes_more old mid new xs a false goes steps none same =
+    subst (CoreGoes old (xs ++ a ∷ [])) (sym (same refl)) (record {
+      program = goes.program;
+      size = goes.size;
+      codes = goes.codes;
+      played =
+          sym (ap (or_stay (core_of mid)) (none refl))
+          ∙ (λ k. or_stay (goes.played k) (core_step (goes.codes k) (goes.size k) (goes.played k) a))
+          ∙ sym (core_plays_more (codes_of old) old.size xs a (core_of old));
+    })
 
-pub leads_join : (old mid new : CoreState) → CoreLeads old mid → CoreLeads mid new → CoreLeads old new
-leads_join old mid new before after p mode size actors on =
-    let first = before p mode size actors on in
-    let next = after p mode size (actors ++ first.0) first.2 in
-    (first.0 ++ next.0, named_join p first.0 next.0 first.1 next.1, subst (λ xs. IsPlayedOn p mode size xs new) (append_assoc actors first.0 next.0) next.2)
+pub goes_join : (old mid new : CoreState) (xs ys : List Actor) → CoreGoes old xs mid → CoreGoes mid ys new → CoreGoes old (xs ++ ys) new
+goes_join old mid new xs ys first next = record {
+  program = next.program ∙ first.program;
+  size = next.size ∙ first.size;
+  codes = next.codes ∙ first.codes;
+  played =
+      next.played
+      ∙ (λ k. core_plays (first.codes k) (first.size k) ys (first.played k))
+      ∙ sym (plays_by-append (core_step (codes_of old) old.size) xs ys (core_of old));
+}
 
--- the program stays the same with a step, and without one
-pub same_program : (old new : CoreState) (a : Actor) (b : Bool) → OnTrue b (CoreSteps old a new) → (b ≡ false → new ≡ old) → new.program ≡ old.program
-same_program old new a true steps same = steps.program
-same_program old new a false steps same = ap (λ (s : CoreState). s.program) (same refl)
+-- two steps of the next handler
+pub goes_twice : (old mid one new : CoreState) (c h : ℕ) (a b : Bool) → CoreGoes old (actor.Client c ∷ two_of_each h) mid
+    → OnTrue a (CoreSteps mid (actor.Handler h) one) → (a ≡ false → core_step (codes_of mid) mid.size (core_of mid) (actor.Handler h) ≡ None) → (a ≡ false → one ≡ mid)
+    → OnTrue b (CoreSteps one (actor.Handler h) new) → (b ≡ false → core_step (codes_of one) one.size (core_of one) (actor.Handler h) ≡ None) → (b ≡ false → new ≡ one)
+    → CoreGoes old (actor.Client c ∷ two_of_each (h + 1)) new
+goes_twice old mid one new c h a b goes first none same second none_then same_then =
+    let front = actor.Client c ∷ two_of_each h in
+    let last = actor.Handler h in
+    let both = goes_more old one new (front ++ last ∷ []) last b (goes_more old mid one front last a goes first none same) second none_then same_then in
+    subst (λ xs. CoreGoes old xs new) (append_assoc front (last ∷ []) (last ∷ []) ∙ ap (λ n. actor.Client c ∷ two_of_each n) (sym (add-one h))) both
+
+-- what holds of the machine in each state that the code comes to
+pub record IsFit (s : CoreState) : Type 0 where
+  pub sound : IsSound s.program
+  pub mode : Mode
+  pub codes : AreCodes s.program mode (codes_of s)
+  pub kept : HasInvariant s.program sound mode (codes_of s) codes s.size (core_of s)
+
+pub fit_of : (m s : CoreState) → m ≡ s → IsSound m.program → IsCoreState m → IsReachedCore m → IsFit s
+fit_of m s view sound state reached = subst IsFit view (record {
+  sound = sound;
+  mode = state.mode;
+  codes = state.codes;
+  kept = subst (HasInvariant m.program sound state.mode (codes_of m) state.codes m.size) (sym reached.1)
+      (run_kept m.program sound state.mode (codes_of m) state.codes m.size reached.0);
+})
+
+-- where a client's last block is this one, it has ended exactly where the client stands between two blocks
+pub ended_is : (s : Core) (t : Ticket) → (s.client t.client).begun ≡ suc t.index → has_ended (s.client t.client) t.index ≡ is_between (s.client t.client).stage
+ended_is s t begun =
+    let out : nat_lt (suc t.index) (s.client t.client).begun ≡ false = grind (arith, begun) in
+    let last : nat_eq (suc t.index) (s.client t.client).begun ≡ true = grind (arith, nat_tests, begun) in
+    rw (out, last) refl
+
+-- how the code reads off how many blocks a client has begun, and whether one has ended
+pub begun_is : (m s : CoreState) (c : ℕ) → m ≡ s → (side_at m.clients c).mind.client.begun ≡ blocks_begun s c
+unfolding core_of
+begun_is m s c view = ap (λ (x : CoreState). (side_at x.clients c).mind.client.begun) view
+
+pub ended_told : (m s : CoreState) (c n k : ℕ) (b : Bool) → m ≡ s → n ≡ k → b ≡ has_ended (side_at m.clients c).mind.client n → b ≡ has_ended ((core_of s).client c) k
+unfolding core_of
+ended_told m s c n k b view same is = is ∙ (λ i. has_ended (side_at (view i).clients c).mind.client (same i))
+
+few : (objects : List Declared) (cs : List ClientShape) → AllByRecursion (IsSoundClient objects) cs → (c : ℕ) → length (slice_index_or cs c no_client).blocks ≤ most_blocks
+few objects [] all c = omega arith
+few objects (x ∷ cs) all zero = all.0.blocks
+few objects (x ∷ cs) all (suc c) = few objects cs all.1 c
+
+-- a block's number is a byte
+pub few_blocks : (p : ProgramShape) (c n k : ℕ) → IsSound p → n ≡ k → k < blocks_of p c → n < 256
+few_blocks p c n k sound same less = let most = few p.objects p.clients sound.each c in omega (arith, most, same, less)
+
+-- the blocks of a program are over within fewer turns than a count of 64 bits has
+pub few_turns : (p : ProgramShape) → IsSound p → (t : Ticket) → t.index < blocks_of p t.client → most_turns p t < 18446744073709551615
+unfolding limit
+few_turns p sound t some =
+    let few = few_reserved p t.client t.index sound (no_block_beyond p t.client (omega (arith, some))) some in
+    omega (arith, few)
+
+-- the ticket of a client's next block
+abbrev pub next_ticket : CoreState → ℕ → Ticket
+next_ticket s c = record { client = c; index = blocks_begun s c }
+
+-- Some actors have led from one state to another, in which the client is in its next block, alone; after so many turns of this block, so
+-- many more are left at most.
+pub record StandsIn (first : CoreState) (c turns : ℕ) (s : CoreState) : Type 0 where
+  pub actors : List Actor
+  pub named : all_named first.program actors ≡ true
+  pub goes : CoreGoes first actors s
+  pub n : ℕ
+  pub few : n + turns ≤ most_turns first.program (next_ticket first c)
+  pub within : IsWithin first.program (first.order ++ next_ticket first c ∷ []) (put (blocks_begun first) c (suc (blocks_begun first c))) (next_ticket first c)
+      (length first.program.objects) n (core_of s)
+
+module _ (first : CoreState) (fit : IsFit first) (quiet : IsQuietNow first) (c : ℕ) (left : blocks_begun first c < blocks_of first.program c) where
+  abbrev t : Ticket
+  t = next_ticket first c
+
+  abbrev later : List Ticket
+  later = first.order ++ next_ticket first c ∷ []
+
+  abbrev begun : ℕ → ℕ
+  begun = put (blocks_begun first) c (suc (blocks_begun first c))
+
+  client : c < length first.program.clients
+  client = no_block_beyond first.program c (omega (arith, left))
+
+  latest : begun c ≡ suc (blocks_begun first c)
+  latest = has_begun first.program fit.sound fit.mode (codes_of first) fit.codes first.size (blocks_begun first) t refl
+
+  kept_at : (actors : List Actor) (s : CoreState) → CoreGoes first actors s → HasInvariant first.program fit.sound fit.mode (codes_of first) fit.codes first.size (core_of s)
+  kept_at actors s goes =
+      subst (HasInvariant first.program fit.sound fit.mode (codes_of first) fit.codes first.size) (sym goes.played)
+      (plays_kept first.program fit.sound fit.mode (codes_of first) fit.codes first.size actors (core_of first) fit.kept)
+
+  -- the first turn
+  pub stands_first : (s : CoreState) → CoreGoes first (turn_of first.program c) s → StandsIn first c 0 s
+  stands_first s goes = record {
+    actors = turn_of first.program c;
+    named = turn_named first.program c client;
+    goes = goes;
+    n = most_turns first.program t;
+    few = omega arith;
+    within = subst (IsWithin first.program later begun t (length first.program.objects) (most_turns first.program t)) (sym goes.played)
+        (turn_in first.program fit.sound fit.mode (codes_of first) fit.codes first.size first.order (blocks_begun first) t refl left (core_of first) quiet fit.kept);
+  }
+
+  -- whether the block has ended is told by the client's stage
+  pub stage_is : (turns : ℕ) (s : CoreState) → StandsIn first c turns s → (b : Bool) → b ≡ has_ended ((core_of s).client c) (blocks_begun first c)
+      → is_between ((core_of s).client c).stage ≡ b
+  stage_is turns s now b is = sym (is ∙ ended_is (core_of s) t (now.within.begun c ∙ latest))
+
+  -- one turn more, where the block has not ended
+  pub stands_on : (turns : ℕ) (s next : CoreState) → StandsIn first c turns s → is_between ((core_of s).client c).stage ≡ false → CoreGoes s (turn_of s.program c) next
+      → StandsIn first c (turns + 1) next
+  stands_on turns s next now inside goes =
+      let same : turn_of s.program c ≡ turn_of first.program c = ap (λ (q : ProgramShape). turn_of q c) now.goes.program in
+      let on = turn_on first.program fit.sound fit.mode (codes_of first) fit.codes first.size later begun t latest now.n (core_of s) now.within (kept_at now.actors s now.goes) inside in
+      let played : core_of next ≡ core_plays (codes_of first) first.size (turn_of first.program c) (core_of s) =
+      goes.played ∙ (λ k. core_plays (now.goes.codes k) (now.goes.size k) (same k) (core_of s)) in
+      record {
+        actors = now.actors ++ turn_of first.program c;
+        named = named_append first.program now.actors (turn_of first.program c) now.named (turn_named first.program c client);
+        goes = subst (λ xs. CoreGoes first (now.actors ++ xs) next) same (goes_join first s next now.actors (turn_of s.program c) now.goes goes);
+        n = on.0;
+        few = let less = on.1 in let low = now.few in omega (arith, less, low);
+        within = subst (IsWithin first.program later begun t (length first.program.objects) on.0) (sym played) on.2;
+      }
+
+  -- where it has ended
+  pub one_on : (turns : ℕ) (s : CoreState) → StandsIn first c turns s → is_between ((core_of s).client c).stage ≡ true → IsOneBlockOn first c s
+  one_on turns s now outside = record {
+    actors = now.actors;
+    named = now.named;
+    goes = now.goes;
+    quiet = block_over first.program fit.sound fit.mode (codes_of first) fit.codes first.size later begun t latest now.n (core_of s) now.within (kept_at now.actors s now.goes) outside;
+  }
+
+  -- it has ended before the turns are counted out
+  pub turns_fit : (turns : ℕ) (s : CoreState) → StandsIn first c turns s → turns < 18446744073709551615
+  turns_fit turns s now = let few = now.few in let most = few_turns first.program fit.sound t left in omega (arith, few, most)
+
+  -- the client is one of the machine's
+  pub client_inside : (turns : ℕ) (m s : CoreState) → m ≡ s → IsCoreState m → StandsIn first c turns s → c < length m.clients
+  client_inside turns m s view state now =
+      let less = client in
+      let many = state.clients in
+      let same = ap (λ (x : CoreState). length x.program.clients) view ∙ ap (λ (q : ProgramShape). length q.clients) now.goes.program in
+      omega (arith, less, many, same)
 
 -- some actors of the program have led there
 abbrev pub IsPlayedTo : ProgramShape → Mode → ℕ → CoreState → Type 0
 IsPlayedTo p mode size s = (actors : List Actor) × (all_named p actors ≡ true) × IsPlayedOn p mode size actors s
 
-pub played_to : (p : ProgramShape) (mode : Mode) (size : ℕ) (old new : CoreState) → IsPlayedTo p mode size old → CoreLeads old new → IsPlayedTo p mode size new
-played_to p mode size old new (actors, named, on) leads =
-    let next = leads p mode size actors on in (actors ++ next.0, named_join p actors next.0 named next.1, next.2)
+played_to : (p : ProgramShape) (mode : Mode) (size : ℕ) (old new : CoreState) (more : List Actor) → all_named old.program more ≡ true → CoreGoes old more new
+    → IsPlayedTo p mode size old → IsPlayedTo p mode size new
+played_to p mode size old new more named goes (actors, all, on) = (
+  actors ++ more,
+  named_append p actors more all (subst (λ q. all_named q more ≡ true) on.program named),
+  record {
+    program = goes.program ∙ on.program;
+    size = goes.size ∙ on.size;
+    codes = subst (AreCodes p mode) (sym goes.codes) on.codes;
+    played =
+        goes.played
+        ∙ (λ k. core_plays (codes_of old) (on.size k) more (on.played k))
+        ∙ sym (plays_by-append (core_step (codes_of old) size) actors more (core_begin p))
+        ∙ (λ k. core_plays (sym goes.codes k) size (actors ++ more) (core_begin p));
+  },
+)
 
--- what is shown of it
-pub shown_by_some : (p : ProgramShape) (mode : Mode) (size : ℕ) (s : CoreState) (played : Played) → IsPlayedTo p mode size s → played ≡ core_played s.program (core_of s)
-    → CoreIsIsolated s → CoreIsCounted s → IsPlayedBySome p mode size played
-shown_by_some p mode size s played (actors, named, on) is isolated counted =
-    let there : IsPlayedOn p mode size (actors ++ []) s = subst (λ xs. IsPlayedOn p mode size xs s) (sym (append-nil actors)) on in
+-- the blocks that were played so far, and those that the rest of the list names
+pub record ArePlayed (p : ProgramShape) (mode : Mode) (size : ℕ) (clients rest : List ℕ) (s : CoreState) : Type 0 where
+  pub played : IsPlayedTo p mode size s
+  pub quiet : IsCoreQuiet s.order (configuration_after p s.order).begun (core_of s)
+  pub whole : order_of clients ≡ s.order ++ order_from (configuration_after p s.order).begun rest
+
+module _ (p : ProgramShape) (mode : Mode) (size : ℕ) (clients : List ℕ) (c : ℕ) (rest : List ℕ) (s : CoreState) (now : ArePlayed p mode size clients (c ∷ rest) s) where
+  same_program : s.program ≡ p
+  same_program = now.played.2.program
+
+  counts : ◌≡◌ {A = Counts} (blocks_begun s) (configuration_after p s.order).begun
+  counts = λ i d. now.quiet.begun d i
+
+  pub quiet_now : IsQuietNow s
+  quiet_now = subst (λ b. IsCoreQuiet s.order b (core_of s)) (sym counts) now.quiet
+
+  pub next_left : IsLegal p (order_of clients) → blocks_begun s c < blocks_of s.program c
+  next_left legal =
+      let from : LegalFrom p (configuration_after p s.order).begun (order_from (configuration_after p s.order).begun (c ∷ rest)) =
+      legal-rest p (first_configuration p) s.order (order_from (configuration_after p s.order).begun (c ∷ rest)) (subst (IsLegal p) now.whole legal) in
+      subst (λ q. blocks_begun s c < blocks_of q c) (sym same_program) (subst (λ (b : Counts). b c < blocks_of p c) (sym counts) from.1)
+
+  abbrev ticket : Ticket
+  ticket = record { client = c; index = (configuration_after p s.order).begun c }
+
+  pub one_more : (n : CoreState) → n.order ≡ (core_of n).order → IsOneBlockOn s c n → ArePlayed p mode size clients rest n
+  one_more n own on =
+      let g = configuration_after p s.order in
+      let longer : n.order ≡ s.order ++ ticket ∷ [] =
+      own ∙ (on.quiet.order ∙ ap (λ k. s.order ++ record { client = c; index = k } ∷ []) (now.quiet.begun c)) in
+      let there : configuration_after p n.order ≡ one_block_on p c g =
+      ap (configuration_after p) longer ∙ configuration-append p (first_configuration p) s.order (ticket ∷ []) in
+      let same : ◌≡◌ {A = Counts} (put (blocks_begun s) c (suc (blocks_begun s c))) (configuration_after p n.order).begun =
+      (λ i. put (counts i) c (suc (counts i c))) ∙ sym (ap (λ (h : Configuration). h.begun) there) in
+      record {
+        played = played_to p mode size s n on.actors on.named on.goes now.played;
+        quiet = subst (λ b. IsCoreQuiet n.order b (core_of n)) same
+            (subst (λ o. IsCoreQuiet o (put (blocks_begun s) c (suc (blocks_begun s c))) (core_of n)) (sym (own ∙ on.quiet.order)) on.quiet);
+        whole =
+            now.whole
+            ∙ sym (append_assoc s.order (ticket ∷ []) (order_from (one_block_on p c g).begun rest))
+            ∙ ap (λ ts. ts ++ order_from (one_block_on p c g).begun rest) (sym longer)
+            ∙ ap (λ (h : Configuration). n.order ++ order_from h.begun rest) (sym there);
+      }
+
+pub own_order : (s : CoreState) → s.order ≡ (core_of s).order
+unfolding core_of
+own_order s = refl
+
+pub played_first : (p : ProgramShape) (mode : Mode) (size : ℕ) (clients : List ℕ) (s : CoreState) → IsFreshCore p mode size s → ArePlayed p mode size clients clients s
+played_first p mode size clients s fresh =
+    let none : s.order ≡ [] = own_order s ∙ ap (λ (x : Core). x.order) fresh.begins in
     record {
-      picks = actors;
-      played = (omega arith, named, schedule_shown p mode size actors 0 s played there is);
-      isolated = schedule_isolated p mode size actors 0 s played there is isolated;
-      counted = schedule_counted p mode size actors 0 s played there is counted;
+      played = ([], refl, fresh_played p mode size s fresh);
+      quiet = subst (λ o. IsCoreQuiet o (configuration_after p o).begun (core_of s)) (sym none)
+          (subst (IsCoreQuiet [] (first_configuration p).begun) (sym fresh.begins) (begin_quiet p));
+      whole = subst (λ o. order_of clients ≡ o ++ order_from (configuration_after p o).begun clients) (sym none) refl;
     }
+
+-- what is shown once all were played
+pub all_played : (p : ProgramShape) → IsSound p → (mode : Mode) (size : ℕ) (clients : List ℕ) → IsLegal p (order_of clients) → (s : CoreState) → ArePlayed p mode size clients [] s
+    → IsPlayedInOrderOn p mode size (order_of clients) (core_played s.program (core_of s))
+all_played p sound mode size clients legal s now =
+    let whole : order_of clients ≡ s.order = now.whole ∙ append-nil s.order in
+    let on = now.played.2 in
+    subst (λ q. IsPlayedInOrderOn p mode size (order_of clients) (core_played q (core_of s))) (sym on.program)
+    (shown_in_order p sound mode (codes_of s) on.codes size (order_of clients) legal now.played.0 now.played.1 (core_of s) on.played
+    (subst (λ o. IsCoreQuiet o (configuration_after p o).begun (core_of s)) (sym whole) now.quiet))

@@ -1,13 +1,12 @@
 -- These lemmas play a schedule of the optimised machine one actor at a time, and say what is shown at its end. The loops of
 -- `play_core`, `play_rounds` and `round` keep that their state is where the actors so far lead (`IsPlayedOn`). An actor adds its
 -- step or nothing, and where a round changes nothing, further rounds change nothing, by induction on their number.
-use Rattle.std.proofs.Common.{◌≡◌, ◌<◌, ℕ, zero, suc, ◌+◌, Bool, true, false, length, get_or, take, arith, List, [], ◌∷◌, ◌++◌, map, None, refl, ap, sym, subst, ◌∙◌, add-one, zero-add, append_assoc}
+use Rattle.std.proofs.Common.{◌≡◌, ◌<◌, ℕ, zero, suc, ◌+◌, Bool, true, false, length, get_or, take, arith, List, [], ◌∷◌, ◌++◌, None, refl, ap, sym, subst, ◌∙◌, add-one}
 use Rattle.std.specs.Bool.{OnTrue}
-use Rattle.std.specs.List.{range_with_len}
 use Rattle.qs_program.specs.Program.{ProgramShape}
 use Rattle.qs_syncset.specs.declared.mode.Mode.{Mode}
 use Rattle.qs_played.specs.Isolation.{IsIsolated}
-use Rattle.qs_played.specs.Schedule.{actors_of, rounds_of, schedule}
+use Rattle.qs_played.specs.Schedule.{actors_of, schedule}
 use Rattle.qs_played.specs.Played.{Played}
 use Rattle.qs_played.specs.declared.schedule.actor.Actor.{Actor}
 use Rattle.qs_played.proofs.Playing.{round_more}

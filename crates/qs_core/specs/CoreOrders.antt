@@ -1,23 +1,30 @@
--- Whole blocks on the optimised machine, one client's after another's.
-use Rattle.std.specs.Prelude.{◌≡◌, ℕ, true, List, ◌++◌, Ok}
-use Rattle.qs_program.specs.Program.{ProgramShape}
-use Rattle.qs_syncset.specs.declared.mode.Mode.{Mode}
-use Rattle.qs_played.specs.Played.{Played}
+-- Whole blocks on the optimised machine, as the code runs them.
+use Rattle.std.specs.Prelude.{◌≡◌, ℕ, suc, true, List, [], ◌∷◌, ◌++◌}
+use Rattle.qs_meaning.specs.Solo.{put}
 use Rattle.qs_played.specs.Schedule.{all_named}
-use Rattle.qs_played.specs.SyncSums.{AreSyncsCounted}
 use Rattle.qs_played.specs.declared.schedule.actor.Actor.{Actor}
-use Rattle.qs_core_laws.specs.CoreSchedule.{IsPlayedIn}
-use Rattle.qs_core.specs.CoreState.{CoreState, IsPlayedOn, IsShownIsolated}
+use Rattle.qs_core_laws.specs.CoreSchedule.{core_plays}
+use Rattle.qs_core_orders.specs.CoreQuiet.{IsCoreQuiet}
+use Rattle.qs_core.specs.CoreState.{CoreState, codes_of, core_of}
 
--- some actors of the program lead from one to the other
-abbrev pub CoreLeads : CoreState → CoreState → Type 0
-CoreLeads old new =
-    (p : ProgramShape) (mode : Mode) (size : ℕ) (actors : List Actor) → IsPlayedOn p mode size actors old
-    → (more : List Actor) × (all_named p more ≡ true) × IsPlayedOn p mode size (actors ++ more) new
+-- these actors lead from one to the other, of the same program, codes and chunk size
+pub record CoreGoes (old : CoreState) (actors : List Actor) (new : CoreState) : Type 0 where
+  pub program : new.program ≡ old.program
+  pub size : new.size ≡ old.size
+  pub codes : codes_of new ≡ codes_of old
+  pub played : core_of new ≡ core_plays (codes_of old) old.size actors (core_of old)
 
--- What is shown is what the machine shows after some picks, without a round after them. It is isolated and counted like every run.
-pub record IsPlayedBySome (p : ProgramShape) (mode : Mode) (size : ℕ) (r : Played) : Type 0 where
-  pub picks : List Actor
-  pub played : IsPlayedIn p mode size picks 0 (Ok r)
-  pub isolated : IsShownIsolated p mode size picks 0 r
-  pub counted : AreSyncsCounted p mode r
+-- how many blocks each client has begun
+abbrev pub blocks_begun : CoreState → ℕ → ℕ
+blocks_begun s c = ((core_of s).client c).begun
+
+-- nobody is in a block
+abbrev pub IsQuietNow : CoreState → Type 0
+IsQuietNow s = IsCoreQuiet s.order (blocks_begun s) (core_of s)
+
+-- the next block of a client has run, whole and alone
+pub record IsOneBlockOn (old : CoreState) (c : ℕ) (new : CoreState) : Type 0 where
+  pub actors : List Actor
+  pub named : all_named old.program actors ≡ true
+  pub goes : CoreGoes old actors new
+  pub quiet : IsCoreQuiet (old.order ++ record { client = c; index = blocks_begun old c } ∷ []) (put (blocks_begun old) c (suc (blocks_begun old c))) (core_of new)

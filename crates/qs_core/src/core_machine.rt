@@ -4,7 +4,8 @@ ghost use Rattle.std.specs.Prelude.{◌≡◌, ◌<◌, None, Some, false, lengt
 ghost use Rattle.std.specs.Bool.{OnTrue};
 ghost use Rattle.qs_core_laws.specs.Core.{core_step};
 ghost use Rattle.qs_core_laws.specs.CoreSchedule.{core_played};
-ghost use Rattle.qs_core.specs.CoreState.{AreFreshClients, AreFreshHandlers, CoreKeeps, CoreSteps, GoesOn, IsCoreState, IsFreshClient, IsFreshCore, core_of, codes_of};
+ghost use Rattle.qs_client.specs.ClientModel.{has_ended};
+ghost use Rattle.qs_core.specs.CoreState.{AreFreshClients, AreFreshHandlers, CoreKeeps, CoreSteps, GoesOn, IsCoreState, IsFreshClient, IsFreshCore, core_of, codes_of, side_at};
 ghost use Rattle.qs_core_parts.specs.CoreClients.{CoreClientState};
 ghost use Rattle.qs_core_parts.specs.CoreHandlers.{CanEnterAll, CoreHandlerState, with_ticket_at_all, with_ticket_at, core_handler_at, turns_to};
 ghost use Rattle.qs_client_run.specs.declared.act.Act.TheVariants as wants;
@@ -152,11 +153,20 @@ impl<'p> CoreMachine<'p> {
         self.program
     }
 
-    /// Whether a client wants to reserve its next block.
-    pub(crate) fn wants_block(&self, number: u8) -> bool
+    /// How many blocks a client has begun.
+    pub(crate) fn begun(&self, number: u8) -> usize
         requires { number < length self.now.clients }
+        ensures value { result ≡ (side_at self.now.clients number).mind.client.begun }
     {
-        self.clients[usize::from(number)].wants_block()
+        self.clients[usize::from(number)].begun()
+    }
+
+    /// Whether the block of a client with this number has ended.
+    pub(crate) fn has_ended(&self, number: u8, index: u8) -> bool
+        requires { number < length self.now.clients }
+        ensures value { result ≡ has_ended (side_at self.now.clients number).mind.client index }
+    {
+        self.clients[usize::from(number)].has_ended(index)
     }
 
     /// One step of an actor: true where it has one, and else false, with nothing changed; also where there is no such actor.

@@ -3,7 +3,7 @@
 ghost use Rattle.std.specs.Prelude.{IfOk, IsErrOf};
 ghost use Rattle.qs_meaning.specs.Serial.{IsLegal};
 ghost use Rattle.qs_orders.specs.NamedOrders.{order_of};
-ghost use Rattle.qs_core.specs.CoreOrders.{IsPlayedBySome};
+ghost use Rattle.qs_core_orders.specs.CoreOrders.{IsPlayedInOrderOn};
 
 use crate::optimised::Core;
 use qs_chunk::ChunkSize;
@@ -14,9 +14,9 @@ use qs_syncset::Mode;
 use std::alloc::{AllocError, Global};
 
 /// What a program shows in the optimised machine after the blocks that a list of clients names, each client's in turn: one block after
-/// another, each from its reservation on, while the client and all handlers step in turn until nobody has a step. It is what is shown
-/// after some picks, isolated and counted like every run; that these blocks are the ones that were named, and have ended, no clause says
-/// yet. `Order` comes exactly where no legal order is named, before any allocation; `Memory` where one fails.
+/// another, each from its reservation to its end, by turns of one step of the client and two of each handler. What is shown are exactly
+/// these blocks in this order, all ended, and the run is finished where they are all. `Order` comes exactly where no legal order is named,
+/// before any allocation; `Memory` where one fails. It is isolated and counted like every run.
 pub fn play_in_order(
     alloc: Global,
     program: &Program,
@@ -25,7 +25,7 @@ pub fn play_in_order(
     clients: &[u8],
 ) -> Result<Played, OrderFault>
     ensures legal { IfOk result (λ played. IsLegal program.now (order_of clients.now)) }
-    ensures played { IfOk result (IsPlayedBySome program.now mode size) }
+    ensures played { IfOk result (IsPlayedInOrderOn program.now mode size (order_of clients.now)) }
     ensures order { IsErrOf result OrderFault.Order → ¬ IsLegal program.now (order_of clients.now) }
     ensures memory { IsErrOf result OrderFault.Memory → IsLegal program.now (order_of clients.now) }
 {
@@ -46,8 +46,9 @@ fn play_clients(
     clients: &[u8],
 ) -> Result<Played, AllocError>
     requires legal { IsLegal program.now (order_of clients.now) }
-    ensures played { IfOk result (IsPlayedBySome program.now mode size) }
+    ensures played { IfOk result (IsPlayedInOrderOn program.now mode size (order_of clients.now)) }
 {
+    program.is_sound();
     let mut core = Core::new(alloc, program, mode, size)?;
     for client in clients {
         core.play_block(*client);

@@ -1,6 +1,6 @@
 //! The optimised machine, from its beginning on.
 
-ghost use Rattle.std.specs.Prelude.{◌≡◌, ◌<◌, ◌++◌, ℕ, List, None, false, length, IfOk};
+ghost use Rattle.std.specs.Prelude.{◌≡◌, ◌<◌, ◌++◌, ℕ, List, None, false, IfOk};
 ghost use Rattle.qs_program.specs.Program.{ProgramShape};
 ghost use Rattle.qs_syncset.specs.declared.mode.Mode.{Mode as ModeShape};
 ghost use Rattle.qs_core_laws.specs.CoreSchedule.{core_played};
@@ -8,7 +8,9 @@ ghost use Rattle.qs_played.specs.Schedule.{actors_of, rounds_of};
 ghost use Rattle.qs_played.specs.declared.schedule.actor.Actor.{Actor as ActorShape};
 ghost use Rattle.std.specs.Bool.{OnTrue};
 ghost use Rattle.qs_core_laws.specs.Core.{core_step};
-ghost use Rattle.qs_core.specs.CoreOrders.{CoreLeads};
+ghost use Rattle.qs_program.specs.Program.{blocks_of};
+ghost use Rattle.qs_core_orders.specs.CoreQuiet.{turn_of};
+ghost use Rattle.qs_core.specs.CoreOrders.{CoreGoes, IsOneBlockOn, IsQuietNow, blocks_begun};
 ghost use Rattle.qs_core.specs.CoreState.{CoreIsCounted};
 ghost use Rattle.qs_core.specs.CoreState.{CoreIsIsolated, CoreSteps, IsFreshCore, IsPlayedOn, codes_of, core_of};
 
@@ -119,47 +121,37 @@ impl<'p> Core<'p> {
         }
     }
 
-    // One step of a client, unless it wants to reserve its next block: whether it has stepped.
-    fn go_on(&mut self, client: u8) -> bool
-        requires client { client < length self.old.program.clients }
-        ensures leads { CoreLeads self.old self.new }
-        ensures program { self.new.program ≡ self.old.program }
-    {
-        self.machine.is_machine();
-        if self.machine.wants_block(client) {
-            return false;
-        }
-        self.step(Actor::Client(client))
-    }
-
-    // The same, and then one step of each handler: whether somebody has stepped.
-    fn turn(&mut self, client: u8) -> bool
-        requires client { client < length self.old.program.clients }
-        ensures leads { CoreLeads self.old self.new }
-        ensures program { self.new.program ≡ self.old.program }
+    // A turn of a client: one step of it, and then two of each handler, in text order.
+    fn turn(&mut self, client: u8)
+        ensures goes { CoreGoes self.old (turn_of self.old.program client) self.new }
     {
         let program = self.machine.program();
         program.is_sound();
         let handlers = program.objects() as u8;
-        let mut stepped = self.go_on(client);
+        let _stepped = self.step(Actor::Client(client));
         for handler in 0..handlers {
-            stepped |= self.step(Actor::Handler(handler));
+            let _served = self.step(Actor::Handler(handler));
+            let _given = self.step(Actor::Handler(handler));
         }
-        stepped
     }
 
-    /// The next block of a client: the client steps once, and then it and all handlers step in turn until nobody has a step but for
-    /// the reservation of its block after that.
+    /// The next block of a client, from its reservation to its end, where nobody is in a block: turns of the client, until the block
+    /// has ended.
     pub(crate) fn play_block(&mut self, client: u8)
-        requires client { client < length self.old.program.clients }
-        ensures leads { CoreLeads self.old self.new }
-        ensures program { self.new.program ≡ self.old.program }
+        requires quiet { IsQuietNow self.old }
+        requires left { blocks_begun self.old client < blocks_of self.old.program client }
+        ensures on { IsOneBlockOn self.old client self.new }
     {
-        let _reserved = self.step(Actor::Client(client));
+        self.machine.program().is_sound();
+        self.machine.is_machine();
+        let index = self.machine.begun(client) as u8;
+        self.turn(client);
         for _turn in 0..u64::MAX {
-            if !self.turn(client) {
+            self.machine.is_machine();
+            if self.machine.has_ended(client, index) {
                 return;
             }
+            self.turn(client);
         }
     }
 

@@ -19,8 +19,9 @@ use Rattle.qs_plain_orders.proofs.BlockReached.{orders_played}
 use Rattle.qs_core_laws.specs.Core.{core_begin}
 use Rattle.qs_core_laws.specs.CoreSchedule.{core_plays, core_scheduled, on_way}
 use Rattle.qs_core_laws.proofs.CoreIsolating.{core_isolated}
+use Rattle.qs_core_orders.proofs.BlocksPlayed.{core_orders_played}
 use Rattle.qs_covered.specs.Covered.{CoreRunsAreCovered, IsCovered, PlainRunsAreCovered, ShowsStates, ThreadRunsAreCovered}
-use Rattle.qs_covered.specs.Reached.{CompleteOrdersAreReached}
+use Rattle.qs_covered.specs.Reached.{CompleteOrdersAreReached, CoreReachesCompleteOrders}
 
 pub isolated_covered : (p : ProgramShape) (r : Played) (waits : ℕ → Ticket → List Request) → IsIsolated p r waits → r.finished ≡ true → IsCovered p r
 unfolding IsIsolated
@@ -64,6 +65,23 @@ orders_reached p sound order complete =
           order = shown.order;
           finished = finished;
           covered = plain_covered p sound shown.picks 0 found.0 shown.played finished;
+        },
+      ),
+    )
+
+pub core_orders_reached : CoreReachesCompleteOrders
+core_orders_reached p sound mode code codes size order complete =
+    let found = core_orders_played p sound mode code codes size order complete.legal in
+    let shown = found.1 in
+    let finished : found.0.finished ≡ true = shown.finished complete in (
+      shown.picks,
+      (
+        found.0,
+        record {
+          played = shown.played;
+          order = shown.order;
+          finished = finished;
+          covered = core_covered p sound mode size shown.picks 0 found.0 shown.played finished;
         },
       ),
     )

@@ -1,37 +1,53 @@
-use Rattle.std.proofs.Common.{◌≡◌, ◌<◌, ◌∙◌, ◌∷◌, ◌+◌, [], ℕ, List, add-one, ap, drop, get_or, length, refl, subst, sym}
+use Rattle.std.proofs.Common.{◌+◌, ◌∙◌, ◌∷◌, [], add-one, ap, drop, get_or, subst, sym}
 use Rattle.std.proofs.Math.Seq.{drop-cons}
-use Rattle.std.specs.List.{AllByRecursion}
-use Rattle.qs_orders.proofs.NamedOrders.{named_clients}
+use Rattle.std.proofs.lemmas.List.{drop_all}
+use Rattle.qs_orders.specs.NamedOrders.{order_of}
 use Rattle.qs_played.proofs.ShownRuns.{if_shown}
 use Rattle.qs_core_laws.specs.CoreSchedule.{core_played}
-use Rattle.qs_core.specs.CoreOrders.{IsPlayedBySome}
+use Rattle.qs_core_orders.specs.CoreOrders.{IsPlayedInOrderOn}
 use Rattle.qs_core.specs.CoreState.{core_of}
-use Rattle.qs_core.proofs.CoreBlocks.{played_to, shown_by_some}
-use Rattle.qs_core.proofs.CorePlaying.{fresh_played}
+use Rattle.qs_core.proofs.CoreBlocks.{ArePlayed, all_played, next_left, one_more, own_order, played_first, quiet_now}
 use Rattle.qs_core.proofs.core_orders.play_clients.Goals as goal
+use Rattle.qs_core.proofs.core_orders.play_clients.Goals.{In-loop-client}
+
+-- the client at this place, and those after it
+now_played : (c : In-loop-client) → ArePlayed c.args.program.now c.args.mode c.args.size c.args.clients.now
+    (get_or c.args.clients.now c.loop-client.client-index 0 ∷ drop (c.loop-client.client-index + 1) c.args.clients.now) c.loop-client.core
+now_played c =
+    let cs = c.args.clients.now in
+    let i = c.loop-client.client-index in
+    subst (λ rest. ArePlayed c.args.program.now c.args.mode c.args.size cs rest c.loop-client.core)
+    (drop-cons cs i 0 c.loop-client-test.true ∙ ap (λ n. get_or cs i 0 ∷ drop n cs) (sym (add-one i))) c.loop-client.invariant
 
 pub loop-client-init : goal.loop-client-init
-loop-client-init c = record {
-  played = ([], refl, fresh_played c.args.program.now c.args.mode c.args.size c.in_ok-core.core c.in_ok-core.ensures.fresh);
-  within = named_clients c.args.program.now (λ _. 0) c.args.clients.now c.requires.legal;
-}
+loop-client-init c = played_first c.args.program.now c.args.mode c.args.size c.args.clients.now c.in_ok-core.core c.in_ok-core.ensures.fresh
+
+pub play_block-requires-clause-quiet : goal.play_block-requires-clause-quiet
+play_block-requires-clause-quiet c =
+    let a = (goal.at.play_block-requires-clause-quiet c).In-loop-client in
+    quiet_now c.args.program.now c.args.mode c.args.size c.args.clients.now (get_or c.args.clients.now c.loop-client.client-index 0) (drop (c.loop-client.client-index + 1) c.args.clients.now)
+    c.loop-client.core (now_played a)
+
+pub play_block-requires-clause-left : goal.play_block-requires-clause-left
+play_block-requires-clause-left c =
+    let a = (goal.at.play_block-requires-clause-left c).In-loop-client in
+    next_left c.args.program.now c.args.mode c.args.size c.args.clients.now (get_or c.args.clients.now c.loop-client.client-index 0) (drop (c.loop-client.client-index + 1) c.args.clients.now)
+    c.loop-client.core (now_played a) c.requires.legal
 
 pub loop-client-preserved : goal.loop-client-preserved
 loop-client-preserved c =
-    let p = c.args.program.now in
-    let cs = c.args.clients.now in
-    let i = c.loop-client.client-index in
-    let here = drop-cons cs i 0 c.loop-client-test.true ∙ ap (λ n. get_or cs i 0 ∷ drop n cs) (sym (add-one i)) in
-    record {
-      played = played_to p c.args.mode c.args.size c.loop-client.core c.play_block.new.self c.loop-client.invariant.played c.play_block.ensures.leads;
-      within = (subst (AllByRecursion (λ c. c < length p.clients)) here c.loop-client.invariant.within).1;
-    }
+    let a = (goal.at.loop-client-preserved c).In-loop-client in
+    one_more c.args.program.now c.args.mode c.args.size c.args.clients.now (get_or c.args.clients.now c.loop-client.client-index 0) (drop (c.loop-client.client-index + 1) c.args.clients.now)
+    c.loop-client.core (now_played a) c.play_block.new.self (own_order c.play_block.new.self) c.play_block.ensures.on
 
 pub returns : goal.returns
 returns c =
     let p = c.args.program.now in
+    let cs = c.args.clients.now in
     let s = c.loop-client.core in
+    let all : ArePlayed p c.args.mode c.args.size cs [] s =
+    subst (λ rest. ArePlayed p c.args.mode c.args.size cs rest s) (drop_all c.loop-client.client-index cs c.loop-client-test.false) c.loop-client.invariant in
     record {
-      played = if_shown (IsPlayedBySome p c.args.mode c.args.size) c.into_played.result (core_played s.program (core_of s)) c.into_played.ensures.shown
-          (λ played is. shown_by_some p c.args.mode c.args.size s played c.loop-client.invariant.played is c.into_played.ensures.isolated c.into_played.ensures.counted);
+      played = if_shown (IsPlayedInOrderOn p c.args.mode c.args.size (order_of cs)) c.into_played.result (core_played s.program (core_of s)) c.into_played.ensures.shown
+          (λ played is. subst (IsPlayedInOrderOn p c.args.mode c.args.size (order_of cs)) (sym is) (all_played p c.is_sound.ensures.sound c.args.mode c.args.size cs c.requires.legal s all));
     }

@@ -1,9 +1,5 @@
-use Rattle.std.proofs.Common.{◌≡◌}
-use Rattle.qs_core.specs.CoreOrders.{CoreLeads}
+use Rattle.qs_core.proofs.CoreBlocks.{StandsIn}
 use Rattle.qs_core.proofs.optimised.Core.play_block.Given as goal
 
 abbrev pub invariant-loop-turn : goal.invariant-loop-turn
-invariant-loop-turn l = record {
-  program : l.self.program ≡ l.fn.self.program;
-  leads : CoreLeads l.fn.self l.self;
-}
+invariant-loop-turn l = StandsIn l.fn.self l.client l._turn l.self

@@ -1,9 +1,8 @@
-use Rattle.std.proofs.Common.{◌≡◌}
-use Rattle.qs_core.specs.CoreOrders.{CoreLeads}
+use Rattle.std.proofs.Common.{◌∷◌}
+use Rattle.qs_played.specs.declared.schedule.actor.Actor.TheVariants as actors
+use Rattle.qs_core_orders.specs.CoreQuiet.{two_of_each}
+use Rattle.qs_core.specs.CoreOrders.{CoreGoes}
 use Rattle.qs_core.proofs.optimised.Core.turn.Given as goal
 
 abbrev pub invariant-loop-handler : goal.invariant-loop-handler
-invariant-loop-handler l = record {
-  program : l.self.program ≡ l.fn.self.program;
-  leads : CoreLeads l.fn.self l.self;
-}
+invariant-loop-handler l = CoreGoes l.fn.self (actors.Client l.client ∷ two_of_each l.handler) l.self

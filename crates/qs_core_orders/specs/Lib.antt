@@ -1,0 +1,2 @@
+pub mod CoreQuiet
+pub mod CoreOrders

@@ -1,0 +1,4 @@
+//! Runs of the optimised machine in which whole blocks follow one another.
+#![tactic(auto)]
+
+pub mod laws;
