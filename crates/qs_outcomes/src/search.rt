@@ -170,7 +170,14 @@ fn push_one(
             return Ok(());
         }
         let mut next = spare_standing(alloc, &mut scratch.spare);
-        standing.put_next(program, front, client, &values, &mut scratch.left, &mut next)?;
+        standing.put_next(
+            program,
+            front,
+            client,
+            &values,
+            &mut scratch.left,
+            &mut next,
+        )?;
         stack.push(next)?;
     }
     Ok(())
