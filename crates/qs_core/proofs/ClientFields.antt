@@ -29,8 +29,8 @@ use Rattle.qs_core_laws.specs.Core.{Core, core_step, current, after_act, lies}
 use Rattle.qs_core_parts.specs.CoreClients.{lane_step, turns_to}
 use Rattle.qs_core_parts.specs.LaneStates.{LaneState, lane_at, with_down}
 use Rattle.qs_core_parts.specs.LaneStates as lanes
-use Rattle.qs_core.specs.CoreState.{Side, core_from}
-use Rattle.qs_core.proofs.CoreFields.{by_ticket, each, field_put, in_lanes, lanes_put, lanes_kept, tickets_kept, tickets_put}
+use Rattle.qs_core_state.specs.CoreState.{Side, core_from}
+use Rattle.qs_core_state.proofs.CoreFields.{by_ticket, each, field_put, in_lanes, lanes_put, lanes_kept, tickets_kept, tickets_put}
 
 -- what a client has of each block
 abbrev pub entries_in : Side → ℕ → Locals

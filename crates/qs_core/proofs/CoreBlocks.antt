@@ -34,9 +34,9 @@ use Rattle.qs_core_orders.proofs.BlocksPlayed.{begin_quiet, has_begun, named_app
 use Rattle.qs_core_orders.proofs.Entering.{block_over, most_turns}
 use Rattle.qs_core_orders.proofs.Turns.{IsWithin}
 use Rattle.qs_core.specs.CoreOrders.{CoreGoes, IsOneBlockOn, IsQuietNow, blocks_begun}
-use Rattle.qs_core.specs.CoreState.{CoreState, CoreSteps, IsCoreState, IsFreshCore, IsPlayedOn, IsReachedCore, codes_of, core_of, side_at}
+use Rattle.qs_core_state.specs.CoreState.{CoreState, CoreSteps, IsCoreState, IsFreshCore, IsPlayedOn, IsReachedCore, codes_of, core_of, side_at}
 use Rattle.qs_core.proofs.CorePlaying.{fresh_played}
-use Rattle.qs_core.proofs.CoreReaching.{core_plays_more}
+use Rattle.qs_core_state.proofs.CoreReaching.{core_plays_more}
 
 pub goes_none : (s : CoreState) → CoreGoes s [] s
 goes_none s = record { program = refl; size = refl; codes = refl; played = refl }

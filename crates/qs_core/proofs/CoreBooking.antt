@@ -39,10 +39,10 @@ use Rattle.qs_core_parts.specs.CoreHandlers.{CanEnterAll, CoreHandlerState, IsCo
 use Rattle.qs_core_parts.specs.LaneStates.{IsStocked}
 use Rattle.qs_core_parts.proofs.CoreMinds.{whole_mind}
 use Rattle.qs_core_parts.proofs.ClientModels.{IsSeatOf}
-use Rattle.qs_core.specs.CoreState.{CoreKeeps, CoreState, CoreSteps, IsCoreState, IsSide, Side, all_blocks, codes_of, core_from, core_of, handler_at, side_at, side_of, tickets_at}
-use Rattle.qs_core.proofs.CoreEntering.{can_enter, handlers_entered, length_entered, order_few, rooms_entered, tickets_entered}
-use Rattle.qs_core.proofs.CoreFields.{each, field_kept}
-use Rattle.qs_core.proofs.CoreLists.{all_set, handler_put, map_here, side_put, tickets_put_at}
+use Rattle.qs_core_state.specs.CoreState.{CoreKeeps, CoreState, CoreSteps, IsCoreState, IsSide, Side, all_blocks, codes_of, core_from, core_of, handler_at, side_at, side_of, tickets_at}
+use Rattle.qs_core_state.proofs.CoreEntering.{can_enter, handlers_entered, length_entered, order_few, rooms_entered, tickets_entered}
+use Rattle.qs_core_state.proofs.CoreFields.{each, field_kept}
+use Rattle.qs_core_state.proofs.CoreLists.{all_set, handler_put, map_here, side_put, tickets_put_at}
 use Rattle.qs_core.proofs.CoreMoves.{all_put}
 use Rattle.qs_core.proofs.HandlerFields as handlers
 use Rattle.qs_core.proofs.CoreReserving as reserving

@@ -22,8 +22,8 @@ use Rattle.qs_core_laws.specs.CoreReached.{ReachedCore}
 use Rattle.qs_core_parts.specs.CoreClients.{AreStocked, CoreClientState, HasLane, IsCoreClient, LaneStays, LaneSteps, turns_to, whole_of}
 use Rattle.qs_core_parts.specs.CoreHandlers.{CanEnterAll, CoreHandlerState, with_ticket_at_all}
 use Rattle.qs_core_parts.proofs.ClientModels.{IsSeatOf}
-use Rattle.qs_core.specs.CoreState.{CoreKeeps, CoreState, CoreSteps, GoesOn, IsCoreState, Side, all_blocks, codes_of, core_of, no_side, side_at, side_of}
-use Rattle.qs_core.proofs.CoreLists.{map_here}
+use Rattle.qs_core_state.specs.CoreState.{CoreKeeps, CoreState, CoreSteps, GoesOn, IsCoreState, Side, all_blocks, codes_of, core_of, no_side, side_at, side_of}
+use Rattle.qs_core_state.proofs.CoreLists.{map_here}
 use Rattle.qs_core.proofs.CoreMoves.{client_kept, client_rests, client_steps, with_clients}
 use Rattle.qs_core.proofs.CoreBooking as booking
 

@@ -21,8 +21,8 @@ use Rattle.qs_core_laws.proofs.CoreCodes.{reserved_is}
 use Rattle.qs_core_parts.specs.CoreClients.{AreStocked, CoreClientState, whole_of}
 use Rattle.qs_core_parts.specs.CoreHandlers.{CoreHandlerState, handler_of, no_core_handler}
 use Rattle.qs_core_parts.specs.LaneStates.{IsStocked, LaneState, fresh_lane, lane_at}
-use Rattle.qs_core.specs.CoreState.{AreFreshClients, AreFreshHandlers, CoreState, IsCoreState, IsSide, Side, all_blocks, codes_of, core_of, handler_at, no_side, side_at, side_of, tickets_at}
-use Rattle.qs_core.proofs.CoreLists.{map_here}
+use Rattle.qs_core_state.specs.CoreState.{AreFreshClients, AreFreshHandlers, CoreState, IsCoreState, IsSide, Side, all_blocks, codes_of, core_of, handler_at, no_side, side_at, side_of, tickets_at}
+use Rattle.qs_core_state.proofs.CoreLists.{map_here}
 
 -- the blocks, client by client
 sum_listed : {X : Type 0} (f : X → ℕ) (g : ℕ → ℕ) (xs : List X) (d : X) (a : ℕ) → ((i : ℕ) → i < length xs → f (get_or xs i d) ≡ g (a + i)) → sum_by f xs ≡ sum_by g (range_with_len a (length xs))

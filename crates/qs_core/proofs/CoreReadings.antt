@@ -18,8 +18,8 @@ use Rattle.qs_core_laws.specs.CoreSchedule.{all_of, core_played, found_by, held_
 use Rattle.qs_core_parts.specs.CoreHandlers.{is_waiting, CoreHandlerState, handler_of, no_core_handler, core_handler_at, turns_to}
 use Rattle.qs_core_parts.specs.LaneStates.{lane_at}
 use Rattle.qs_core.specs.CoreShown.{AreBegunBy, AreShowable, AreSomewhere, HaveLanes, TurnTo, are_clear, core_in, held_at, is_clear, is_through, object_at, shown_by}
-use Rattle.qs_core.specs.CoreState.{CoreKeeps, CoreState, IsCoreState, core_of, handler_at, side_at, tickets_at}
-use Rattle.qs_core.proofs.CoreLists.{map_here}
+use Rattle.qs_core_state.specs.CoreState.{CoreKeeps, CoreState, IsCoreState, core_of, handler_at, side_at, tickets_at}
+use Rattle.qs_core_state.proofs.CoreLists.{map_here}
 
 -- two readings of each number of a range that agree
 map_range : {A : Type 0} (f g : ℕ → A) (a n : ℕ) → ((k : ℕ) → k < a + n → f k ≡ g k) → map f (range_with_len a n) ≡ map g (range_with_len a n)

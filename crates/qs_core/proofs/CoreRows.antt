@@ -11,7 +11,7 @@ use Rattle.qs_played.specs.declared.shown.played.Endings.{Endings}
 use Rattle.qs_core_parts.specs.CoreClients.{CoreClientState, rows_of, whole_of}
 use Rattle.qs_core_parts.specs.CoreHandlers.{CoreHandlerState}
 use Rattle.qs_core.specs.CoreShown.{AreBegunBy, AreMinds, IsBegunBy, endings_by, rows_by, shown_by}
-use Rattle.qs_core.specs.CoreState.{side_at}
+use Rattle.qs_core_state.specs.CoreState.{side_at}
 
 -- a client's rows are those of its mind
 pub rows_are : (cs : List CoreClientState) (c : ℕ) → rows_at (rows_by cs) c ≡ rows_of (side_at cs c).mind

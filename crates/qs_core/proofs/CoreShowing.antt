@@ -17,7 +17,7 @@ use Rattle.qs_core_parts.specs.CoreHandlers.{CoreHandlerState, IsCoreHandler, ha
 use Rattle.qs_core_parts.specs.LaneStates.{lane_at}
 use Rattle.qs_core_parts.proofs.CoreMinds.{whole_mind}
 use Rattle.qs_core.specs.CoreShown.{TurnsTo, core_in, most_syncs, object_at}
-use Rattle.qs_core.specs.CoreState.{side_at}
+use Rattle.qs_core_state.specs.CoreState.{side_at}
 
 and_true : (b : Bool) → (b && true) ≡ b
 and_true true = refl

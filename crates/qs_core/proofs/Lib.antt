@@ -1,15 +1,10 @@
-pub mod CoreAbsent
 pub mod CoreBooking
 pub mod ClientFields
 pub mod CoreCounted
-pub mod CoreEntering
-pub mod CoreFields
 pub mod CoreFresh
 pub mod HandlerFields
-pub mod CoreLists
 pub mod CoreMoves
 pub mod CorePlaying
-pub mod CoreReaching
 pub mod CoreReadings
 pub mod CoreReserving
 pub mod ServiceFieldLemmas

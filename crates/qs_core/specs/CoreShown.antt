@@ -14,7 +14,7 @@ use Rattle.qs_core_laws.specs.CoreSchedule.{all_of, found_by, held_or_none}
 use Rattle.qs_core_parts.specs.CoreClients.{CoreClientState, rows_of, whole_of}
 use Rattle.qs_core_parts.specs.CoreHandlers.{CoreHandlerState, handler_of, core_handler_at, turns_to, is_waiting}
 use Rattle.qs_core_parts.specs.LaneStates.{LaneState, lane_at}
-use Rattle.qs_core.specs.CoreState.{core_from, side_at}
+use Rattle.qs_core_state.specs.CoreState.{core_from, side_at}
 
 -- how many Syncs a client sends at most: one at each node that it comes to, of at most 3,000,002 in each of its 64 blocks
 abbrev pub most_syncs : ℕ

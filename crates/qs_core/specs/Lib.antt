@@ -1,3 +1,2 @@
 pub mod CoreShown
 pub mod CoreOrders
-pub mod CoreState

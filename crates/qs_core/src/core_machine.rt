@@ -5,7 +5,7 @@ ghost use Rattle.std.specs.Bool.{OnTrue};
 ghost use Rattle.qs_core_laws.specs.Core.{core_step};
 ghost use Rattle.qs_core_laws.specs.CoreSchedule.{core_played};
 ghost use Rattle.qs_client.specs.ClientModel.{has_ended};
-ghost use Rattle.qs_core.specs.CoreState.{AreFreshClients, AreFreshHandlers, CoreKeeps, CoreSteps, GoesOn, IsCoreState, IsFreshClient, IsFreshCore, core_of, codes_of, side_at};
+ghost use Rattle.qs_core_state.specs.CoreState.{AreFreshClients, AreFreshHandlers, CoreKeeps, CoreSteps, GoesOn, IsCoreState, IsFreshClient, IsFreshCore, core_of, codes_of, side_at};
 ghost use Rattle.qs_core_parts.specs.CoreClients.{CoreClientState};
 ghost use Rattle.qs_core_parts.specs.CoreHandlers.{CanEnterAll, CoreHandlerState, with_ticket_at_all, with_ticket_at, core_handler_at, turns_to};
 ghost use Rattle.qs_client_run.specs.declared.act.Act.TheVariants as wants;
@@ -34,7 +34,7 @@ pub(crate) struct CoreMachine<'p> {
 
 impl<'p> Model for CoreMachine<'p> {
     ghost use Rattle.std.specs.Prelude.{◌≤◌, vec_capacity};
-    ghost use Rattle.qs_core.specs.CoreState.{CoreState, IsCoreState, all_blocks, core_code};
+    ghost use Rattle.qs_core_state.specs.CoreState.{CoreState, IsCoreState, all_blocks, core_code};
 
     ghost Value = { CoreState };
 

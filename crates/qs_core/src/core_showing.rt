@@ -8,7 +8,7 @@ ghost use Rattle.qs_core_parts.specs.CoreClients.{whole_of};
 ghost use Rattle.qs_client.specs.ClientModel.{has_ended};
 ghost use Rattle.qs_core_parts.specs.CoreHandlers.{is_waiting};
 ghost use Rattle.qs_core.specs.CoreShown.{AreBegunBy, AreShowable, AreMinds, AreSomewhere, HaveLane, HaveLanes, IsBegunBy, TurnTo, TurnsTo, are_clear, are_through, are_waiting, endings_by, held_at, most_syncs, object_at, rows_by, shown_by};
-ghost use Rattle.qs_core.specs.CoreState.{side_at};
+ghost use Rattle.qs_core_state.specs.CoreState.{side_at};
 ghost use Rattle.qs_core_parts.specs.CoreHandlers.{IsCoreHandler, core_handler_at};
 
 use qs_core_parts::{CoreClient, CoreHandler};

@@ -11,8 +11,8 @@ ghost use Rattle.qs_core_laws.specs.Core.{core_step};
 ghost use Rattle.qs_program.specs.Program.{blocks_of};
 ghost use Rattle.qs_core_orders.specs.CoreQuiet.{turn_of};
 ghost use Rattle.qs_core.specs.CoreOrders.{CoreGoes, IsOneBlockOn, IsQuietNow, blocks_begun};
-ghost use Rattle.qs_core.specs.CoreState.{CoreIsCounted};
-ghost use Rattle.qs_core.specs.CoreState.{CoreIsIsolated, CoreSteps, IsFreshCore, IsPlayedOn, codes_of, core_of};
+ghost use Rattle.qs_core_state.specs.CoreState.{CoreIsCounted};
+ghost use Rattle.qs_core_state.specs.CoreState.{CoreIsIsolated, CoreSteps, IsFreshCore, IsPlayedOn, codes_of, core_of};
 
 use crate::core_machine::CoreMachine;
 use qs_chunk::ChunkSize;
@@ -35,7 +35,7 @@ impl Drop for Core<'_> {
 }
 
 impl<'p> Model for Core<'p> {
-    ghost use Rattle.qs_core.specs.CoreState.{CoreState, IsReachedCore, core_code};
+    ghost use Rattle.qs_core_state.specs.CoreState.{CoreState, IsReachedCore, core_code};
 
     ghost Value = { CoreState };
 

@@ -1,7 +1,7 @@
 use Rattle.std.proofs.Common.{◌≡◌, map, take}
 use Rattle.qs_objects.specs.declared.held.Ticket.{Ticket}
 use Rattle.qs_client.specs.ClientModel.{has_ended}
-use Rattle.qs_core.specs.CoreState.{side_at}
+use Rattle.qs_core_state.specs.CoreState.{side_at}
 use Rattle.qs_core.proofs.core_showing.endings.Given as goal
 
 abbrev pub invariant-loop-ticket : goal.invariant-loop-ticket

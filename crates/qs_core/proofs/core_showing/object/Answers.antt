@@ -1,7 +1,7 @@
 use Rattle.std.proofs.Common.{◌<◌, length, sym, ap, subst, ◌∙◌}
 use Rattle.qs_chunk.specs.LaneParts.{away_at}
 use Rattle.qs_core_parts.specs.LaneStates.{lane_at}
-use Rattle.qs_core.specs.CoreState.{side_at}
+use Rattle.qs_core_state.specs.CoreState.{side_at}
 use Rattle.qs_core.proofs.CoreShowing.{object_away, object_here, object_never_lost, turned_inside}
 use Rattle.qs_core.proofs.core_showing.object.Goals as goal
 

@@ -2,7 +2,7 @@ use Rattle.std.proofs.Common.{◌+◌, ℕ, ap, sym, ◌∙◌, sum_by, arith}
 use Rattle.std.specs.List.{range_with_len}
 use Rattle.qs_client.specs.ClientModel.{ClientModel}
 use Rattle.qs_played.proofs.Lists.{sum_by-range_more}
-use Rattle.qs_core.specs.CoreState.{side_at}
+use Rattle.qs_core_state.specs.CoreState.{side_at}
 use Rattle.qs_core.proofs.core_showing.syncs.Goals as goal
 
 pub loop-number-preserved : goal.loop-number-preserved

@@ -1,7 +1,7 @@
 use Rattle.std.proofs.Common.{◌≡◌, ◌≤◌, ◌*◌, sum_by}
 use Rattle.std.specs.List.{range_with_len}
 use Rattle.qs_core.specs.CoreShown.{most_syncs}
-use Rattle.qs_core.specs.CoreState.{side_at}
+use Rattle.qs_core_state.specs.CoreState.{side_at}
 use Rattle.qs_core.proofs.core_showing.syncs.Given as goal
 
 abbrev pub invariant-loop-number : goal.invariant-loop-number

@@ -5,7 +5,7 @@ use Rattle.qs_played.specs.Played.{Played}
 use Rattle.qs_core_parts.specs.CoreClients.{CoreClientState}
 use Rattle.qs_core_parts.specs.CoreHandlers.{CoreHandlerState}
 use Rattle.qs_core.specs.CoreShown.{AreShowable, shown_by}
-use Rattle.qs_core.specs.CoreState.{CoreState, IsCoreState}
+use Rattle.qs_core_state.specs.CoreState.{CoreState, IsCoreState}
 use Rattle.qs_core.proofs.CoreReadings.{shown_is, showable}
 use Rattle.qs_core.proofs.core_machine.CoreMachine.into_played.Goals as goal
 

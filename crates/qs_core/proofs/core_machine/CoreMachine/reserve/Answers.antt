@@ -4,7 +4,7 @@ use Rattle.qs_program.specs.Program.{BlockShape, block_at}
 use Rattle.qs_played.specs.Played.{ticket}
 use Rattle.qs_core_parts.specs.CoreClients.{CoreClientState, whole_of}
 use Rattle.qs_core_parts.specs.CoreHandlers.{CanEnterAll}
-use Rattle.qs_core.specs.CoreState.{CoreState}
+use Rattle.qs_core_state.specs.CoreState.{CoreState}
 use Rattle.qs_core.proofs.CoreFieldLemmas.{enters, in_blocks, made_kept, made_steps, order_roomy, seat_is}
 use Rattle.qs_core.proofs.core_machine.CoreMachine.reserve.Goals as goal
 

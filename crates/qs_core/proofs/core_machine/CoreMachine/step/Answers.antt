@@ -1,6 +1,6 @@
 use Rattle.std.proofs.Common.{◌≤◌, length, arith}
-use Rattle.qs_core.specs.CoreState.{CoreState}
-use Rattle.qs_core.proofs.CoreAbsent.{absent_client, absent_handler}
+use Rattle.qs_core_state.specs.CoreState.{CoreState}
+use Rattle.qs_core_state.proofs.CoreAbsent.{absent_client, absent_handler}
 use Rattle.qs_core.proofs.core_machine.CoreMachine.step.Goals as goal
 
 pub returns-else-from-len-clause-none : goal.returns-else-from-len-clause-none

@@ -1,7 +1,7 @@
 use Rattle.std.proofs.Common.{◌≡◌, ◌+◌, ◌-◌, sym, subst, arith}
 use Rattle.std.proofs.lemmas.List.{append-nil}
 use Rattle.qs_played.specs.Schedule.{schedule}
-use Rattle.qs_core.specs.CoreState.{IsPlayedOn}
+use Rattle.qs_core_state.specs.CoreState.{IsPlayedOn}
 use Rattle.qs_core.proofs.CorePlaying.{still_rounds}
 use Rattle.qs_played.proofs.Playing.{round_more}
 use Rattle.qs_core.proofs.optimised.Core.play_rounds.Goals as goal

@@ -3,7 +3,7 @@ use Rattle.std.specs.List.{range_with_len}
 use Rattle.qs_program.specs.Program.{ProgramShape}
 use Rattle.std.proofs.lemmas.Bool.{or_parts}
 use Rattle.qs_played.specs.declared.schedule.actor.Actor.TheVariants as actors
-use Rattle.qs_core.specs.CoreState.{CoreState, IsPlayedOn}
+use Rattle.qs_core_state.specs.CoreState.{CoreState, IsPlayedOn}
 use Rattle.qs_core.proofs.CorePlaying.{played_more}
 use Rattle.qs_played.proofs.Playing.{row_more}
 use Rattle.qs_core.proofs.optimised.Core.round.Goals as goal

@@ -1,7 +1,7 @@
 use Rattle.std.proofs.Common.{subst}
 use Rattle.qs_program.specs.Sound.{IsSound}
 use Rattle.qs_core.proofs.CoreCounted.{core_next_counted}
-use Rattle.qs_core.proofs.CoreReaching.{core_goes_on, core_keeps, core_next, core_next_isolated}
+use Rattle.qs_core_state.proofs.CoreReaching.{core_goes_on, core_keeps, core_next, core_next_isolated}
 use Rattle.qs_core.proofs.optimised.Core.step.Goals as goal
 
 pub step-requires-clause-keeps : goal.step-requires-clause-keeps

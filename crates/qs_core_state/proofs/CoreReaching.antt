@@ -15,7 +15,7 @@ use Rattle.qs_core_laws.specs.CoreSchedule.{core_played, core_plays, on_way}
 use Rattle.qs_played.specs.Schedule.{or_stay}
 use Rattle.qs_core_laws.proofs.CoreIsolating.{core_isolated}
 use Rattle.qs_core_laws.proofs.CoreReached.{reached_keeps}
-use Rattle.qs_core.specs.CoreState.{CoreIsIsolated, CoreKeeps, CoreState, CoreSteps, GoesOn, IsCoreState, IsReachedCore, codes_of, core_of}
+use Rattle.qs_core_state.specs.CoreState.{CoreIsIsolated, CoreKeeps, CoreState, CoreSteps, GoesOn, IsCoreState, IsReachedCore, codes_of, core_of}
 
 pub core_plays_more : (code : ℕ → ClientCode) (size : ℕ) (actors : List Actor) (a : Actor) (s : Core)
     → core_plays code size (actors ++ a ∷ []) s ≡ or_stay (core_plays code size actors s) (core_step code size (core_plays code size actors s) a)

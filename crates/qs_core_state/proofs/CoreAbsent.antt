@@ -6,7 +6,7 @@ use Rattle.qs_played.specs.declared.schedule.actor.Actor.{Actor}
 use Rattle.qs_played.specs.declared.schedule.actor.Actor.TheVariants as actor
 use Rattle.qs_core_laws.specs.Core.{core_step}
 use Rattle.qs_core_laws.specs.CoreReached.{ReachedCore}
-use Rattle.qs_core.specs.CoreState.{CoreKeeps, CoreState, IsCoreState, codes_of, core_of}
+use Rattle.qs_core_state.specs.CoreState.{CoreKeeps, CoreState, IsCoreState, codes_of, core_of}
 
 module _ (r s : CoreState) (view : r ≡ s) (kept : IsCoreState r) (keeps : CoreKeeps s) (a : Actor) where
   abbrev HasNone : CoreState → Type 0

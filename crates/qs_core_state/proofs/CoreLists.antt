@@ -13,7 +13,7 @@ use Rattle.qs_client_run.proofs.HoldingsAsFunctions.{put_same, put_set_at}
 use Rattle.qs_played.specs.JournalRooms.{fresh_held}
 use Rattle.qs_core_parts.specs.CoreClients.{CoreClientState}
 use Rattle.qs_core_parts.specs.CoreHandlers.{CoreHandlerState, handler_of}
-use Rattle.qs_core.specs.CoreState.{handler_at, no_side, side_at, side_of, tickets_at}
+use Rattle.qs_core_state.specs.CoreState.{handler_at, no_side, side_at, side_of, tickets_at}
 
 -- a list of what its members show, changed at one place
 pub map_put : {A B : Type 0} (f : A → B) (xs : List A) (n : ℕ) (x : A) (d : B) → n < length xs → (m : ℕ) → get_or (map f (set xs n x)) m d ≡ put (λ k. get_or (map f xs) k d) n (f x) m

@@ -13,8 +13,8 @@ use Rattle.qs_program.specs.Sound.{is_in}
 use Rattle.qs_client_run.proofs.HoldingsAsFunctions.{put_same}
 use Rattle.qs_played.proofs.Lists.{sum_by-range_more}
 use Rattle.qs_core_parts.specs.CoreHandlers.{CanEnterAll, CoreHandlerState, with_ticket, with_ticket_at_all, with_ticket_at, handler_of, no_core_handler, core_handler_at}
-use Rattle.qs_core.specs.CoreState.{handler_at, tickets_at}
-use Rattle.qs_core.proofs.CoreLists.{all_set, handler_put, map_here, tickets_put_at}
+use Rattle.qs_core_state.specs.CoreState.{handler_at, tickets_at}
+use Rattle.qs_core_state.proofs.CoreLists.{all_set, handler_put, map_here, tickets_put_at}
 
 module _ (t : Ticket) where
   pub length_entered : (hs : List CoreHandlerState) (rs : List ℕ) → length (with_ticket_at_all t hs rs) ≡ length hs

@@ -10,7 +10,7 @@ use Rattle.qs_client_run.proofs.HoldingsAsFunctions.{put_field, put_same, put_se
 use Rattle.qs_played.specs.Played.{ticket}
 use Rattle.qs_core_laws.specs.Core.{put_lane, put_ticket}
 use Rattle.qs_core_parts.specs.LaneStates.{LaneState, fresh_lane, lane_at}
-use Rattle.qs_core.specs.CoreState.{Side}
+use Rattle.qs_core_state.specs.CoreState.{Side}
 
 -- a field at each place
 abbrev pub each : {A B : Type 0} → (A → B) → (ℕ → A) → ℕ → B
