@@ -1,1 +1,2 @@
 pub mod Dues
+mod Gathering

@@ -1,8 +1,8 @@
 // The input, by counted reads.
 
-ghost use Rattle.std.specs.Prelude.{◌≡◌, ◌+◌, ◌-◌, ◌^◌, min, ◌<◌, ◌≤◌, ◌||◌, false, length, take, drop, is_none, vec_len, IfOk, IfSome};
+ghost use Rattle.std.specs.Prelude.{◌≡◌, ◌++◌, ◌+◌, ◌-◌, ◌^◌, min, ◌<◌, ◌≤◌, ◌||◌, false, length, take, drop, is_none, vec_len, IfOk, IfSome};
 ghost use Rattle.std.specs.Io.KnownBytes.{Consumes, IsAtEnd};
-ghost use Rattle.qs_serve.specs.Input.{is_read_fault};
+ghost use Rattle.qs_serve.specs.Input.{IsReadOn, is_read_fault};
 
 use std::alloc::{AllocError, Global};
 use std::io::Read;
@@ -71,8 +71,10 @@ pub enum InputFault {
 
 // Reads up to the end, or until `buf` is full, by at most as many reads as `buf` has places. None where a read fails.
 fn fill<R: Read>(input: &mut Counted<R>, buf: &mut [u8]) -> Option<usize>
-    ensures within { IfSome result (λ n. n ≤ length buf.new) }
-    ensures bytes { IfSome result (λ n. IfSome input.old.remaining (λ bytes. take n buf.new ≡ take (length buf.old) bytes)) }
+    ensures same { length buf.new ≡ length buf.old }
+    ensures within { IfSome result (λ n. n ≤ length buf.old) }
+    ensures bytes { IfSome result (λ n. Consumes input.old.remaining input.new.remaining (take n buf.new)) }
+    ensures end { IfSome result (λ n. n < length buf.old → IsAtEnd input.new.remaining) }
     ensures reads { input.new.reads ≤ input.old.reads + length buf.old }
     ensures failed { input.new.has_failed ≡ (input.old.has_failed || is_none result) }
 {
@@ -96,8 +98,44 @@ fn zeros(alloc: Global, count: usize) -> Result<Vec<u8>, AllocError>
     vec![in alloc; 0u8; count]
 }
 
+// What is asked for at first: most scripts are shorter, and end there.
+const FRONT: usize = 4096;
+
+// Bytes, and others after them. It fails only where memory runs out.
+fn joined(mut bytes: Vec<u8>, rest: &[u8]) -> Result<Vec<u8>, InputFault>
+    ensures both { IfOk result (λ v. v.items ≡ bytes.items ++ rest.now) }
+    ensures memory { is_read_fault result ≡ false }
+{
+    match bytes.extend_from_slice(rest) {
+        Ok(()) => Ok(bytes),
+        Err(_) => Err(InputFault::Memory),
+    }
+}
+
+// The input up to its end or so many bytes, of which some were read before.
+fn gather_more<R: Read>(
+    alloc: Global,
+    input: &mut Counted<R>,
+    bytes: Vec<u8>,
+    longest: usize,
+) -> Result<Vec<u8>, InputFault>
+    requires front { length bytes.items ≤ longest }
+    ensures more { IfOk result (IsReadOn input.old.remaining input.new.remaining longest bytes.items) }
+    ensures fits { IfOk result (λ v. length v.items ≤ longest) }
+    ensures reads { input.new.reads + length bytes.items ≤ input.old.reads + longest }
+    ensures failed { input.new.has_failed ≡ (input.old.has_failed || is_read_fault result) }
+{
+    let Ok(mut rest) = zeros(alloc, longest - bytes.len()) else {
+        return Err(InputFault::Memory);
+    };
+    match fill(input, rest.as_mut_slice()) {
+        Some(n) => joined(bytes, &rest.as_slice()[..n]),
+        None => Err(InputFault::Read),
+    }
+}
+
 /// The input up to its end or its first `longest` bytes, by at most `longest` reads. `Read` comes exactly where a read fails, and no
-/// read comes after it; `Memory` where an allocation failed, before the first read.
+/// read comes after it; `Memory` where an allocation failed.
 pub fn gather<R: Read>(
     alloc: Global,
     input: &mut Counted<R>,
@@ -108,10 +146,11 @@ pub fn gather<R: Read>(
     ensures reads { input.new.reads ≤ input.old.reads + longest }
     ensures failed { input.new.has_failed ≡ (input.old.has_failed || is_read_fault result) }
 {
-    let Ok(mut bytes) = zeros(alloc, longest) else {
+    let Ok(mut bytes) = zeros(alloc, longest.min(FRONT)) else {
         return Err(InputFault::Memory);
     };
     match fill(input, bytes.as_mut_slice()) {
+        Some(n) if n == bytes.len() => gather_more(alloc, input, bytes, longest),
         Some(n) => {
             bytes.truncate(n);
             Ok(bytes)

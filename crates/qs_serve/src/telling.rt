@@ -8,7 +8,7 @@ use crate::due::Due;
 use crate::line_words::put_line;
 use crate::order_words::put_order;
 use crate::pick_words::put_actor;
-use qs_causes::{tell_check, tell_read};
+use qs_causes::{tell_check, tell_excess, tell_read};
 use qs_check::CheckFault;
 use qs_orders::OrderFault;
 use qs_outcomes::OutcomesFault;
@@ -32,7 +32,9 @@ fn plain_words(fault: &Fault) -> Option<&'static [u8]> {
         Fault::Read(ReadFault::Memory) => Some(
             b"error: memory ran out while the script was read\n",
         ),
-        Fault::Check(fault) => check_words(*fault),
+        Fault::Check(CheckFault::Memory) => Some(
+            b"error: memory ran out while the script was checked\n",
+        ),
         Fault::Play(PlayFault::Memory) | Fault::Order(OrderFault::Memory) => Some(
             b"error: memory ran out while the script was played\n",
         ),
@@ -51,19 +53,6 @@ fn plain_words(fault: &Fault) -> Option<&'static [u8]> {
     }
 }
 
-fn check_words(fault: CheckFault) -> Option<&'static [u8]> {
-    match fault {
-        CheckFault::Load => Some(
-            b"error: the blocks of this script can make more than 100000 requests in all\n  = help: a `repeat N` counts its body N times, and an `if` the greater of its two bodies\n",
-        ),
-        CheckFault::Weight => Some(
-            b"error: the blocks of this script can take more than 1000000 steps in all\n  = help: a `repeat N` counts its body N times and one more, and an `if` the greater of its two bodies\n",
-        ),
-        CheckFault::Memory => Some(b"error: memory ran out while the script was checked\n"),
-        _ => None,
-    }
-}
-
 // The text of what is said of a fault of the line, of the script, of a pick or of an order.
 fn told<'a>(
     alloc: Global,
@@ -75,6 +64,9 @@ fn told<'a>(
     match fault {
         Fault::CommandLine => put_line(alloc, &mut out, words)?,
         Fault::Read(_) => tell_read(alloc, &mut out, text)?,
+        Fault::Check(CheckFault::Load | CheckFault::Weight) => {
+            tell_excess(alloc, &mut out, text)?
+        }
         Fault::Check(_) => tell_check(alloc, &mut out, text)?,
         Fault::Play(_) => put_actor(alloc, &mut out, words, text)?,
         Fault::Order(_) => put_order(alloc, &mut out, words, text, "--order")?,
