@@ -25,7 +25,7 @@ use Rattle.qs_check.specs.Checked.{fault_of}
 use Rattle.qs_check.specs.Resolve.{program_of_items}
 use Rattle.qs_program.specs.Program.{ProgramShape}
 use Rattle.qs_core_laws.specs.CoreSchedule.{IsPlayedIn}
-use Rattle.qs_core.specs.CoreOrders.{IsPlayedBySome}
+use Rattle.qs_core_orders.specs.CoreOrders.{IsPlayedInOrderOn}
 use Rattle.qs_plain_laws.specs.PlainSchedule.{IsPlayed}
 use Rattle.qs_plain_orders.specs.PlainOrders.{IsPlayedInOrder}
 use Rattle.qs_played.specs.declared.fault.PlayFault.{PlayFault}
@@ -81,10 +81,10 @@ abbrev pub IsShownByRules : PlanShape → ProgramShape → Played → Type 0
 IsShownByRules (by_schedule rounds picks) p played = IsPlayed p picks rounds (Ok played)
 IsShownByRules (by_order clients) p played = IsLegal p (order_of clients) × IsPlayedInOrder p (order_of clients) played
 
--- what is shown in the optimised machine: the same by a schedule; by an order, which has to be legal, what is shown after some picks
+-- the same in the optimised machine
 abbrev pub IsShownByPlay : Mode → ℕ → PlanShape → ProgramShape → Played → Type 0
 IsShownByPlay mode size (by_schedule rounds picks) p played = IsPlayedIn p mode size picks rounds (Ok played)
-IsShownByPlay mode size (by_order clients) p played = IsLegal p (order_of clients) × IsPlayedBySome p mode size played
+IsShownByPlay mode size (by_order clients) p played = IsLegal p (order_of clients) × IsPlayedInOrderOn p mode size (order_of clients) played
 
 -- what a request makes of a program: its counts; its graphs; the report of its run by the plain rules or in the optimised machine;
 -- that of an outcome which its run on threads may have; or all its outcomes after the blocks of some clients, of so many configurations
