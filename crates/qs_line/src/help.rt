@@ -1,5 +1,18 @@
 // What `--help` says beside the names that `clap` knows: of the program, of each word and of each setting.
 
+// The end of each word's help.
+macro_rules! with_limits {
+    ($text:literal) => {
+        concat!(
+            $text,
+            "\n\nThe script comes on standard input. The status is 0 where a result is written, 2 where the line, the script, a list or\n",
+            "a limit is refused, 3 where memory or threads run out, and 4 where a read or a write fails.\n",
+            "A script has at most 65536 bytes, 8 objects, 8 clients and 8 templates; a client 64 blocks and 16 variables; a repeat\n",
+            "1000 turns; all blocks 100000 requests and 1000000 steps; and a list 1000000 actors."
+        )
+    };
+}
+
 pub const ABOUT: &str = "\
 Plays scripts of SCOOP separate blocks: objects, clients, and blocks that reserve objects. The script is read from standard input.";
 
@@ -12,7 +25,7 @@ A script:
 Examples, with the script in the file my.script:
   qs check < my.script                   whether it is a script, and how large it is
   qs play < my.script                    ann and bob take turns
-  qs play --pick c1,c1,h0 < my.script    bob (client 1) steps twice and a's handler once, before the turns
+  qs play --pick 'bob*2,a' < my.script   bob steps twice and a's handler once, before the turns
   qs run --counts < my.script            on threads, with the synchronisations sent
   qs outcomes < my.script                all results that the script can have
 
@@ -22,61 +35,75 @@ objects' last states and how many synchronisations were sent. `qs WORD --help` s
 pub const CHECK: &str =
     "Checks the script and counts its objects, clients, blocks, load (requests at most) and weight (steps at most)";
 
-pub const CHECK_EXAMPLE: &str = "\
+pub const CHECK_EXAMPLE: &str = with_limits!(
+    "\
 Example:
-  qs check < my.script";
+  qs check < my.script"
+);
 
 pub const GRAPH: &str =
     "Shows each block's control-flow graph, and which objects are held at its nodes";
 
-pub const GRAPH_EXAMPLE: &str = "\
+pub const GRAPH_EXAMPLE: &str = with_limits!(
+    "\
 Example:
   qs graph < my.script
 
 A line `5 sync a removed -> 6 held a` is node 5, a synchronisation with the handler of a, which static coalescing
-removes, since on every path to it a is held; node 6 comes next.";
+removes, since on every path to it a is held; node 6 comes next."
+);
 
 pub const RULES: &str = "Plays the script by the plain rules, one synchronisation for each query";
 
-pub const RULES_EXAMPLE: &str = "\
+pub const RULES_EXAMPLE: &str = with_limits!(
+    "\
 Example:
-  qs rules --pick c1,h0 --rounds 3 < my.script
-  qs rules --order c1,c0 < my.script
+  qs rules --pick 'bob*2,a' --rounds 3 < my.script
+  qs rules --order bob,ann < my.script
 
 First the actors of LIST step, one after another; then, N times, every client steps once and every handler once.
-With --order, a whole block of client 1 runs first, and then one of client 0.";
+With --order, a whole block of bob runs first, and then one of ann.
+An actor is a client or an object, by name or by number: bob or c1, a or h0. `bob*2` stands for `bob,bob`."
+);
 
 pub const PLAY: &str = "Plays the script on the optimised machine: lanes of chunks, and coalescing";
 
-pub const PLAY_EXAMPLE: &str = "\
+pub const PLAY_EXAMPLE: &str = with_limits!(
+    "\
 Example:
-  qs play --mode static --chunk 4 --pick c1,c1,h0 < my.script
-  qs play --order c1,c0 < my.script
+  qs play --mode static --chunk 4 --pick 'bob*2,a' < my.script
+  qs play --order bob,ann < my.script
 
 First the actors of LIST step, one after another; then, N times, every client steps once and every handler once.
-With --order, a whole block of client 1 runs first, and then one of client 0.
+With --order, a whole block of bob runs first, and then one of ann.
+An actor is a client or an object, by name or by number: bob or c1, a or h0. `bob*2` stands for `bob,bob`.
 Along one order of reservations neither the mode nor the size of chunks changes what a block sees. They change how many
-synchronisations are sent, and may change who comes first.";
+synchronisations are sent, and may change who comes first."
+);
 
 pub const RUN: &str = "Runs the script with each client and each handler on a thread of its own";
 
-pub const RUN_EXAMPLE: &str = "\
+pub const RUN_EXAMPLE: &str = with_limits!(
+    "\
 Example:
   qs run --mode none --counts < my.script
 
-The threads decide the order of reservations. Along it, each block shows what it does alone.";
+The threads decide the order of reservations. Along it, each block shows what it does alone."
+);
 
 pub const OUTCOMES: &str =
     "Lists all that the script can come to, each once, with an order of blocks that leads there";
 
-pub const OUTCOMES_EXAMPLE: &str = "\
+pub const OUTCOMES_EXAMPLE: &str = with_limits!(
+    "\
 Example:
   qs outcomes --limit 5000 < my.script
-  qs outcomes --after c1,c0 < my.script
+  qs outcomes --after bob,ann < my.script
 
-The second lists only what comes after a block of client 1 and then one of client 0. A line `outcome 2 c1,c0` begins the second result: the block of client 1 first, then that of client 0. Below it stand the
-objects at the end, and each client with its variables. Configurations, which the last line counts, are where the script
-can stand between two blocks.";
+The second lists only what comes after a block of bob and then one of ann. A line `outcome 2 c1,c0` begins the second
+result: the block of client 1, bob, first, then that of client 0, ann. Below it stand the objects at the end, and each
+client with its variables. Configurations, which the last line counts, are where the script can stand between two blocks."
+);
 
 pub const MODE: &str =
     "Which synchronisations are left out: by none, dynamic or static coalescing, or by both";
@@ -90,13 +117,13 @@ pub const LIMIT: &str =
     "How many configurations are looked at, at most: 1 to 4294967295; where there are more, nothing is listed";
 
 pub const AFTER: &str =
-    "Whose blocks were run before, joined by commas, each client's in turn: c0 is the first client";
+    "Whose blocks were run before, joined by commas, each client's in turn: by name, or c0 for the first client; bob*2 is bob,bob";
 
 pub const ORDER: &str =
-    "Whose blocks run, one whole block after another, joined by commas; not with --pick or --rounds";
+    "Whose blocks run, one whole block after another, joined by commas: by name, or c0 for the first client; bob*2 is bob,bob; not with --pick or --rounds";
 
 pub const PICK: &str =
-    "Who steps first, joined by commas: c0 is the first client, h0 the first object's handler";
+    "Who steps first, joined by commas: a client or an object by name, or c0 for the first client, h0 for the first object; bob*2 is bob,bob";
 
 pub const COUNTS: &str =
     "Shows after each block how many synchronisations it has sent for each of its objects";
