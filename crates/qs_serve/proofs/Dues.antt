@@ -1,8 +1,7 @@
 -- Out of memory is always a due answer, the status 4 is due only after a read has failed, and the report of a run is due where
 -- the line asked for that run. The function `serve` and those that find what is due stand on it. Each goes by cases on what the
 -- line asks for and on the answer.
-use Rattle.std.proofs.Common.{◌≡◌, ◌≤◌, ◌⊎◌, ℕ, Bool, List, Option, Result, Ok, Err, true, false, refl, sym, ap, subst, inl, inr, IsErr, IsOkAnd}
-use Rattle.std.specs.Result.{is_err}
+use Rattle.std.proofs.Common.{◌≡◌, ◌≤◌, ◌⊎◌, ℕ, Bool, List, Option, Result, Ok, true, false, refl, sym, subst, inl, inr, IsOkAnd}
 use Rattle.qs_played.specs.Played.{Played}
 use Rattle.qs_syncset.specs.declared.mode.Mode.{Mode}
 use Rattle.qs_report.specs.declared.faults.Fault.{Fault}
@@ -13,21 +12,15 @@ use Rattle.qs_places.specs.declared.fault.CheckFault.TheVariants as check_fault
 use Rattle.qs_played.specs.declared.fault.PlayFault.TheVariants as play_fault
 use Rattle.qs_run_laws.specs.Outcomes.{IsOutcome}
 use Rattle.qs_program.specs.Program.{ProgramShape}
-use Rattle.qs_meaning.proofs.Each.{each_map}
 use Rattle.qs_orders.specs.NamedOrders.{order_of}
-use Rattle.std.specs.List.{AllByRecursion}
-use Rattle.qs_objects.specs.declared.held.Ticket.{Ticket}
 use Rattle.qs_orders.specs.declared.fault.OrderFault.TheVariants as order_fault
-use Rattle.qs_outcomes.specs.Standings.{StandingShape}
-use Rattle.qs_outcomes.specs.Outcomes.{HasPlaces, IsListedAfter, OutcomesShape}
+use Rattle.qs_outcomes.specs.Outcomes.{OutcomesShape}
 use Rattle.qs_outcomes.specs.declared.fault.OutcomesFault.TheVariants as outcomes_fault
 use Rattle.qs_report.specs.OutcomesText.{AreOutcomesAfter, IsOutcomesText}
-use Rattle.qs_lists.specs.Named.{IsListFault, clients_of}
-use Rattle.qs_lists.specs.declared.fault.ListFault.{ListFault}
-use Rattle.qs_lists.specs.declared.fault.ListFault.TheVariants as list_fault
+use Rattle.qs_lists.specs.Named.{clients_of}
 use Rattle.qs_lists.specs.declared.parts.Part.{Part}
-use Rattle.qs_line.specs.Line.{Line, PlanShape, Request, asks, help, outcomes, play, refused, rules, run, version}
-use Rattle.qs_serve.specs.Due.{IsDue, IsDueOfList, IsDueOfProgram, IsListOf, IsOutOfMemory, IsRefusedBy, IsReportOf, IsShownByPlay, IsShownByRules, IsUnnamedBy, due_status}
+use Rattle.qs_line.specs.Line.{Line, asks, help, outcomes, refused, run, version}
+use Rattle.qs_serve.specs.Due.{IsDue, IsDueOfProgram, IsListOf, IsOutOfMemory, IsRefusedBy, IsReportOf, due_status}
 use Rattle.qs_serve.specs.declared.due.Due.{Due}
 use Rattle.qs_serve.specs.declared.due.Due.TheVariants.{Text, Refused}
 
@@ -73,35 +66,7 @@ four_is_due (asks request) known false (Refused f) is e = absurd (is.0 (status_o
 pub of_named : {A E : Type 0} (P : A → Type 0) (r : Result A E) (x : A) → r ≡ Ok x → P x → IsOkAnd r P
 of_named P r x e holds = subst (λ s. IsOkAnd s P) (sym e) holds
 
--- a list at fault is due as one of the command line
-pub due_by_list : {A : Type 0} (request : Request) (p : ProgramShape) (named : Result (List A) ListFault) (f : ListFault) (due : Due)
-    → (IsErr named → IsUnnamedBy request p) → IsListFault named f → IsDueOfList f due → IsOutOfMemory due ⊎ IsDueOfProgram request p due
-due_by_list request p named f (Text bytes) unnamed is due_is = absurd (no_text f due_is)
-  where
-    no_text : (g : ListFault) → IsDueOfList g (Text bytes) → ⊥
-    no_text list_fault.Memory none = none
-    no_text (list_fault.Part place why) none = none
-due_by_list request p named list_fault.Memory (Refused g) unnamed is due_is = inl (subst (λ h. IsOutOfMemory (Refused h)) (sym due_is) tt)
-due_by_list request p named (list_fault.Part place why) (Refused g) unnamed is due_is =
-    inr (subst (λ h. IsDueOfProgram request p (Refused h)) (sym due_is) (unnamed (ap is_err is)))
-
-pub list_fault_is_no_input : (f : ListFault) (due : Due) → IsDueOfList f due → ¬ IsRefusedBy fault.Input due
-list_fault_is_no_input f (Text bytes) is = λ none. none
-list_fault_is_no_input list_fault.Memory (Refused g) is = λ e. absurd (cc (is, e))
-list_fault_is_no_input (list_fault.Part place why) (Refused g) is = λ e. absurd (cc (is, e))
-
--- a report that is due by what was asked for, in the two ways of playing and on threads
-pub due_by_rules : (counts : Bool) (p : ProgramShape) (plan : PlanShape) (played : Played) (due : Due)
-    → IsShownByRules plan p played → IsReportOf counts p played due → IsOutOfMemory due ⊎ IsDueOfProgram (rules counts plan) p due
-due_by_rules counts p plan played (Text bytes) shows is = inr (played, shows, is)
-due_by_rules counts p plan played (Refused f) shows is = inl (subst (λ g. IsOutOfMemory (Refused g)) (sym is) tt)
-
-pub due_by_play : (counts : Bool) (p : ProgramShape) (mode : Mode) (size : ℕ) (plan : PlanShape) (played : Played) (due : Due)
-    → IsShownByPlay mode size plan p played → IsReportOf counts p played due
-    → IsOutOfMemory due ⊎ IsDueOfProgram (play counts mode size plan) p due
-due_by_play counts p mode size plan played (Text bytes) shows is = inr (played, shows, is)
-due_by_play counts p mode size plan played (Refused f) shows is = inl (subst (λ g. IsOutOfMemory (Refused g)) (sym is) tt)
-
+-- a report of a run on threads that is due by what was asked for
 pub due_by_run : (counts : Bool) (p : ProgramShape) (mode : Mode) (size : ℕ) (outcome : Played) (due : Due)
     → IsOutcome p mode size outcome → IsReportOf counts p outcome due → IsOutOfMemory due ⊎ IsDueOfProgram (run counts mode size) p due
 due_by_run counts p mode size outcome (Text bytes) shows is = inr (outcome, shows, is)
@@ -120,11 +85,3 @@ unfolding IsOutcomesText
 due_by_outcomes p limit front clients all (Text bytes) named are within is =
     inr (of_named (λ xs. IsOutcomesText p limit xs bytes.items) (clients_of p front) clients named (all, are, within, is))
 due_by_outcomes p limit front clients all (Refused f) named are within is = inl (subst (λ g. IsOutOfMemory (Refused g)) (sym is) tt)
-
-pub list_is_no_input : (p : ProgramShape) (all : OutcomesShape) (due : Due) → IsListOf p all due → ¬ IsRefusedBy fault.Input due
-list_is_no_input p all (Text bytes) is = λ none. none
-list_is_no_input p all (Refused f) is = λ e. absurd (cc (is, e))
-
--- what is listed has a place for each client and each object
-pub listed_places : (p : ProgramShape) (front : List Ticket) (found : List StandingShape) → AllByRecursion (IsListedAfter p front) found → AllByRecursion (HasPlaces p) found
-listed_places p front found each = each_map (λ s (is : IsListedAfter p front s). is.places) found each
