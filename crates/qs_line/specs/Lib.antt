@@ -1,5 +1,3 @@
 pub mod Command
-pub mod Picks
-pub mod Clients
 pub mod Line
 pub mod LineExamples

@@ -9,13 +9,12 @@ use Rattle.clap.specs.ValueTests.{is_unsigned_in}
 use Rattle.clap.specs.Words.{Row, Text, first_of, subcommand_of}
 use Rattle.clap.specs.declared.error.kind.ErrorKind.TheVariants.{DisplayHelp, DisplayVersion, OutOfMemory}
 use Rattle.clap.specs.declared.error.kind.ErrorKind.{ErrorKind}
-use Rattle.qs_played.specs.declared.schedule.actor.Actor.{Actor}
 use Rattle.qs_played.specs.Schedule.{most_rounds}
 use Rattle.qs_syncset.specs.declared.mode.Mode.{Mode}
 use Rattle.qs_syncset.specs.declared.mode.Mode.TheVariants.{Plain, Dynamic, Static, Both}
-use Rattle.qs_line.specs.Clients.{clients_in}
+use Rattle.qs_lists.specs.Parts.{clients_in, list_in}
+use Rattle.qs_lists.specs.declared.parts.Part.{Part}
 use Rattle.qs_line.specs.Command.{qs_app}
-use Rattle.qs_line.specs.Picks.{picks_in}
 use Rattle.qs_line.specs.declared.line.LineFault.{LineFault}
 use Rattle.qs_line.specs.declared.line.LineFault.TheVariants as fault
 use Rattle.qs_line.specs.declared.line.Settings.{Settings}
@@ -23,10 +22,11 @@ use Rattle.qs_line.specs.declared.line.Settings.TheVariants as word
 use Rattle.qs_line.specs.declared.plan.Plan.{Plan}
 use Rattle.qs_line.specs.declared.plan.Plan.TheVariants as plan
 
--- who goes when: all actors by a schedule, so many rounds after its picks; or clients in an order, one whole block after another
+-- who goes when: all actors by a schedule, so many rounds after its picks; or clients in an order, one whole block after another. Picks and
+-- orders are lists as they are written: whom they name is the script's.
 pub data PlanShape : Type 0 where
-  by_schedule : (rounds : ℕ) → (picks : List Actor) → PlanShape
-  by_order : (clients : List ℕ) → PlanShape
+  by_schedule : (rounds : ℕ) → (picks : List Part) → PlanShape
+  by_order : (clients : List Part) → PlanShape
 
 -- what is asked for: the counts; the graphs; a run by the plain rules; one in the optimised machine, in a mode and by chunks of a size;
 -- one on threads; or all outcomes after the blocks of some clients, with so many configurations at most. Of a run the counts of
@@ -37,7 +37,7 @@ pub data Request : Type 0 where
   rules : (counts : Bool) → PlanShape → Request
   play : (counts : Bool) → Mode → (chunk : ℕ) → PlanShape → Request
   run : (counts : Bool) → Mode → ℕ → Request
-  outcomes : (limit : ℕ) → (front : List ℕ) → Request
+  outcomes : (limit : ℕ) → (front : List Part) → Request
 
 abbrev pub plan_of : Plan → PlanShape
 plan_of (plan.Schedule rounds picks) = by_schedule rounds picks.items
@@ -89,11 +89,11 @@ abbrev pub limit_at : List Row → Option ℕ
 limit_at rows = option_and_then (number_in 1 4294967295) (first_of (codes "limit") rows)
 
 -- no pick where the line has no list of them
-abbrev pub picks_at : List Row → Option (List Actor)
-picks_at rows = unwrap_or (option_map picks_in (first_of (codes "pick") rows)) (Some [])
+abbrev pub picks_at : List Row → Option (List Part)
+picks_at rows = unwrap_or (option_map list_in (first_of (codes "pick") rows)) (Some [])
 
 -- no client where the line has no list of them
-abbrev pub front_at : List Row → Option (List ℕ)
+abbrev pub front_at : List Row → Option (List Part)
 front_at rows = unwrap_or (option_map clients_in (first_of (codes "after") rows)) (Some [])
 
 abbrev pub schedule_at : List Row → Option PlanShape

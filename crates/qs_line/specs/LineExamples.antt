@@ -2,12 +2,20 @@
 use Rattle.std.specs.Prelude.{◌≡◌, List, [], ◌∷◌, codes, true, false}
 use Rattle.clap.specs.Words.{Text}
 use Rattle.qs_played.specs.declared.schedule.actor.Actor.TheVariants.{Client, Handler}
+use Rattle.qs_lists.specs.declared.parts.Part.{Part}
+use Rattle.qs_lists.specs.declared.parts.Who.TheVariants.{Name, Number}
+use Rattle.qs_lists.specs.Numbers.{once}
+use Rattle.qs_lists.specs.Parts.{times}
 use Rattle.qs_syncset.specs.declared.mode.Mode.TheVariants.{Dynamic, Static, Both}
 use Rattle.qs_line.specs.Line.{Line, asks, by_order, by_schedule, check, graph, help, line_in, outcomes, play, refused, rules, run, version, warns_in}
 
 -- the line of the words after the program's name
 abbrev pub line : List Text → Line
 line words = line_in (codes "qs" ∷ words)
+
+-- a part that is a name alone
+abbrev pub named : Text → Part
+named name = times 1 (Name name)
 
 pub record DefaultLines : Type 0 where
   pub checks : line (codes "check" ∷ []) ≡ asks check
@@ -21,9 +29,9 @@ pub record SetLines : Type 0 where
   pub mode : line (codes "play" ∷ codes "--mode" ∷ codes "static" ∷ []) ≡ asks (play false Static 8 (by_schedule 1000000 []))
   pub chunk : line (codes "play" ∷ codes "--chunk=32" ∷ []) ≡ asks (play false Both 32 (by_schedule 1000000 []))
   pub most_rounds : line (codes "rules" ∷ codes "--rounds" ∷ codes "4294967295" ∷ []) ≡ asks (rules false (by_schedule 4294967295 []))
-  pub picks : line (codes "rules" ∷ codes "--pick" ∷ codes "c0,h9,c0" ∷ []) ≡ asks (rules false (by_schedule 1000000 (Client 0 ∷ Handler 9 ∷ Client 0 ∷ [])))
+  pub picks : line (codes "rules" ∷ codes "--pick" ∷ codes "c0,h9,c0" ∷ []) ≡ asks (rules false (by_schedule 1000000 (once (Client 0) ∷ once (Handler 9) ∷ once (Client 0) ∷ [])))
   pub all : line (codes "play" ∷ codes "--rounds" ∷ codes "0" ∷ codes "--pick=h1" ∷ codes "--chunk" ∷ codes "1" ∷ codes "--mode=dynamic" ∷ [])
-      ≡ asks (play false Dynamic 1 (by_schedule 0 (Handler 1 ∷ [])))
+      ≡ asks (play false Dynamic 1 (by_schedule 0 (once (Handler 1) ∷ [])))
   pub runs : line (codes "run" ∷ codes "--chunk" ∷ codes "4" ∷ codes "--mode=static" ∷ []) ≡ asks (run false Static 4)
 
 pub record LimitLines : Type 0 where
@@ -39,26 +47,30 @@ pub record LimitLines : Type 0 where
   pub counted : line (codes "outcomes" ∷ codes "--counts" ∷ []) ≡ refused
 
 pub record FrontLines : Type 0 where
-  pub one : line (codes "outcomes" ∷ codes "--after" ∷ codes "c1" ∷ []) ≡ asks (outcomes 1000000 (1 ∷ []))
-  pub more : line (codes "outcomes" ∷ codes "--after=c0,c9,c0" ∷ codes "--limit=7" ∷ []) ≡ asks (outcomes 7 (0 ∷ 9 ∷ 0 ∷ []))
+  pub one : line (codes "outcomes" ∷ codes "--after" ∷ codes "c1" ∷ []) ≡ asks (outcomes 1000000 (once (Client 1) ∷ []))
+  pub more : line (codes "outcomes" ∷ codes "--after=c0,c9,c0" ∷ codes "--limit=7" ∷ []) ≡ asks (outcomes 7 (once (Client 0) ∷ once (Client 9) ∷ once (Client 0) ∷ []))
   pub a_handler : line (codes "outcomes" ∷ codes "--after" ∷ codes "c0,h0" ∷ []) ≡ refused
   pub nobody : line (codes "outcomes" ∷ codes "--after" ∷ [] ∷ []) ≡ refused
-  pub two_digits : line (codes "outcomes" ∷ codes "--after" ∷ codes "c10" ∷ []) ≡ refused
+  pub two_digits : line (codes "outcomes" ∷ codes "--after" ∷ codes "c10" ∷ []) ≡ asks (outcomes 1000000 (named (codes "c10") ∷ []))
+  pub repeated : line (codes "outcomes" ∷ codes "--after=ann*2,c1" ∷ []) ≡ asks (outcomes 1000000 (times 2 (Name (codes "ann")) ∷ once (Client 1) ∷ []))
   pub twice : line (codes "outcomes" ∷ codes "--after=c0" ∷ codes "--after=c0" ∷ []) ≡ refused
   pub of_play : line (codes "play" ∷ codes "--after" ∷ codes "c0" ∷ []) ≡ refused
 
 pub record OrderLines : Type 0 where
-  pub by_rules : line (codes "rules" ∷ codes "--order" ∷ codes "c1" ∷ []) ≡ asks (rules false (by_order (1 ∷ [])))
-  pub by_play : line (codes "play" ∷ codes "--order=c0,c9,c0" ∷ []) ≡ asks (play false Both 8 (by_order (0 ∷ 9 ∷ 0 ∷ [])))
+  pub by_rules : line (codes "rules" ∷ codes "--order" ∷ codes "c1" ∷ []) ≡ asks (rules false (by_order (once (Client 1) ∷ [])))
+  pub by_play : line (codes "play" ∷ codes "--order=c0,c9,c0" ∷ [])
+      ≡ asks (play false Both 8 (by_order (once (Client 0) ∷ once (Client 9) ∷ once (Client 0) ∷ [])))
   pub beside_others : line (codes "play" ∷ codes "--counts" ∷ codes "--order=c1" ∷ codes "--chunk=1" ∷ codes "--mode=static" ∷ [])
-      ≡ asks (play true Static 1 (by_order (1 ∷ [])))
+      ≡ asks (play true Static 1 (by_order (once (Client 1) ∷ [])))
   pub beside_picks : line (codes "rules" ∷ codes "--order=c0" ∷ codes "--pick=c0" ∷ []) ≡ refused
   pub after_picks : line (codes "play" ∷ codes "--pick=c0" ∷ codes "--order=c0" ∷ []) ≡ refused
   pub beside_rounds : line (codes "play" ∷ codes "--order=c0" ∷ codes "--rounds=1000000" ∷ []) ≡ refused
   pub after_rounds : line (codes "rules" ∷ codes "--rounds" ∷ codes "7" ∷ codes "--order=c0" ∷ []) ≡ refused
   pub a_handler : line (codes "rules" ∷ codes "--order" ∷ codes "c0,h0" ∷ []) ≡ refused
   pub nobody : line (codes "rules" ∷ codes "--order" ∷ [] ∷ []) ≡ refused
-  pub two_digits : line (codes "rules" ∷ codes "--order" ∷ codes "c10" ∷ []) ≡ refused
+  pub two_digits : line (codes "rules" ∷ codes "--order" ∷ codes "c10" ∷ []) ≡ asks (rules false (by_order (named (codes "c10") ∷ [])))
+  pub repeated : line (codes "rules" ∷ codes "--order=bob,ann*2" ∷ [])
+      ≡ asks (rules false (by_order (named (codes "bob") ∷ times 2 (Name (codes "ann")) ∷ [])))
   pub twice : line (codes "play" ∷ codes "--order=c0" ∷ codes "--order=c0" ∷ []) ≡ refused
   pub of_run : line (codes "run" ∷ codes "--order=c0" ∷ []) ≡ refused
 
@@ -67,7 +79,7 @@ pub record CountedLines : Type 0 where
   pub play_alone : line (codes "play" ∷ codes "--counts" ∷ []) ≡ asks (play true Both 8 (by_schedule 1000000 []))
   pub run_alone : line (codes "run" ∷ codes "--counts" ∷ []) ≡ asks (run true Both 8)
   pub before_others : line (codes "rules" ∷ codes "--counts" ∷ codes "--pick" ∷ codes "c0" ∷ codes "--rounds=4" ∷ [])
-      ≡ asks (rules true (by_schedule 4 (Client 0 ∷ [])))
+      ≡ asks (rules true (by_schedule 4 (once (Client 0) ∷ [])))
   pub between_others : line (codes "play" ∷ codes "--mode=static" ∷ codes "--counts" ∷ codes "--rounds" ∷ codes "4" ∷ [])
       ≡ asks (play true Static 8 (by_schedule 4 []))
   pub after_others : line (codes "run" ∷ codes "--chunk" ∷ codes "4" ∷ codes "--mode=static" ∷ codes "--counts" ∷ []) ≡ asks (run true Static 4)
@@ -80,6 +92,23 @@ pub record UncountedLines : Type 0 where
   pub before_word : line (codes "--counts" ∷ codes "play" ∷ []) ≡ refused
   pub of_check : line (codes "check" ∷ codes "--counts" ∷ []) ≡ refused
   pub of_graph : line (codes "graph" ∷ codes "--counts" ∷ []) ≡ refused
+
+-- a part is an actor by its number or a name, and after a `*` how often
+pub record ListLines : Type 0 where
+  pub names : line (codes "rules" ∷ codes "--pick=ann*3,a,h0*2" ∷ [])
+      ≡ asks (rules false (by_schedule 1000000 (times 3 (Name (codes "ann")) ∷ named (codes "a") ∷ times 2 (Number (Handler 0)) ∷ [])))
+  pub two_digits : line (codes "play" ∷ codes "--pick" ∷ codes "c10" ∷ []) ≡ asks (play false Both 8 (by_schedule 1000000 (named (codes "c10") ∷ [])))
+  pub most : line (codes "rules" ∷ codes "--pick=c0*1000000" ∷ []) ≡ asks (rules false (by_schedule 1000000 (times 1000000 (Number (Client 0)) ∷ [])))
+  pub one_more : line (codes "rules" ∷ codes "--pick=c0*1000001" ∷ []) ≡ refused
+  pub more_in_all : line (codes "rules" ∷ codes "--pick=c0*1000000,h0" ∷ []) ≡ refused
+  pub no_times : line (codes "rules" ∷ codes "--pick=c0*0" ∷ []) ≡ refused
+  pub no_number : line (codes "rules" ∷ codes "--pick=c0*" ∷ []) ≡ refused
+  pub two_numbers : line (codes "rules" ∷ codes "--pick=c0*2*2" ∷ []) ≡ refused
+  pub a_capital : line (codes "rules" ∷ codes "--pick=Ann" ∷ []) ≡ refused
+  pub a_space : line (codes "rules" ∷ codes "--pick=ann, bob" ∷ []) ≡ refused
+  pub longest_name : line (codes "rules" ∷ codes "--order=abcdefghijklmnop" ∷ []) ≡ asks (rules false (by_order (named (codes "abcdefghijklmnop") ∷ [])))
+  pub longer_name : line (codes "rules" ∷ codes "--order=abcdefghijklmnopq" ∷ []) ≡ refused
+  pub handlers_in_an_order : line (codes "rules" ∷ codes "--order=ann,h0*2" ∷ []) ≡ refused
 
 -- `--warn` changes nothing of what is asked for
 pub record WarnedLines : Type 0 where
@@ -100,7 +129,6 @@ pub record OtherLines : Type 0 where
   pub unknown_mode : line (codes "play" ∷ codes "--mode" ∷ codes "fast" ∷ []) ≡ refused
   pub too_many_rounds : line (codes "play" ∷ codes "--rounds" ∷ codes "4294967296" ∷ []) ≡ refused
   pub empty_part : line (codes "play" ∷ codes "--pick" ∷ codes "c0,,h0" ∷ []) ≡ refused
-  pub two_digits : line (codes "play" ∷ codes "--pick" ∷ codes "c10" ∷ []) ≡ refused
   pub run_by_rounds : line (codes "run" ∷ codes "--rounds" ∷ codes "1" ∷ []) ≡ refused
   pub no_picks : line (codes "play" ∷ codes "--pick" ∷ [] ∷ []) ≡ refused
   pub asks_help : line (codes "--help" ∷ []) ≡ help
@@ -117,5 +145,6 @@ pub record LineExamples : Type 0 where
   pub orders : OrderLines
   pub counted : CountedLines
   pub uncounted : UncountedLines
+  pub lists : ListLines
   pub warned : WarnedLines
   pub others : OtherLines

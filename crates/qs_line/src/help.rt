@@ -5,10 +5,10 @@ macro_rules! with_limits {
     ($text:literal) => {
         concat!(
             $text,
-            "\n\nThe script comes on standard input. The status is 0 where a result is written, 2 where the line or the script is\n",
-            "refused, 3 where memory or threads run out, and 4 where a read or a write fails.\n",
+            "\n\nThe script comes on standard input. The status is 0 where a result is written, 2 where the line, the script, a list or\n",
+            "a limit is refused, 3 where memory or threads run out, and 4 where a read or a write fails.\n",
             "A script has at most 65536 bytes, 8 objects, 8 clients and 8 templates; a client 64 blocks and 16 variables; a repeat\n",
-            "1000 turns; and all blocks 100000 requests and 1000000 steps."
+            "1000 turns; all blocks 100000 requests and 1000000 steps; and a list 1000000 actors."
         )
     };
 }
@@ -25,7 +25,7 @@ A script:
 Examples, with the script in the file my.script:
   qs check < my.script                   whether it is a script, and how large it is
   qs play < my.script                    ann and bob take turns
-  qs play --pick c1,c1,h0 < my.script    bob (client 1) steps twice and a's handler once, before the turns
+  qs play --pick 'bob*2,a' < my.script   bob steps twice and a's handler once, before the turns
   qs run --counts < my.script            on threads, with the synchronisations sent
   qs outcomes < my.script                all results that the script can have
 
@@ -58,11 +58,12 @@ pub const RULES: &str = "Plays the script by the plain rules, one synchronisatio
 pub const RULES_EXAMPLE: &str = with_limits!(
     "\
 Example:
-  qs rules --pick c1,h0 --rounds 3 < my.script
-  qs rules --order c1,c0 < my.script
+  qs rules --pick 'bob*2,a' --rounds 3 < my.script
+  qs rules --order bob,ann < my.script
 
 First the actors of LIST step, one after another; then, N times, every client steps once and every handler once.
-With --order, a whole block of client 1 runs first, and then one of client 0."
+With --order, a whole block of bob runs first, and then one of ann.
+An actor is a client or an object, by name or by number: bob or c1, a or h0. `bob*2` stands for `bob,bob`."
 );
 
 pub const PLAY: &str = "Plays the script on the optimised machine: lanes of chunks, and coalescing";
@@ -70,11 +71,12 @@ pub const PLAY: &str = "Plays the script on the optimised machine: lanes of chun
 pub const PLAY_EXAMPLE: &str = with_limits!(
     "\
 Example:
-  qs play --mode static --chunk 4 --pick c1,c1,h0 < my.script
-  qs play --order c1,c0 < my.script
+  qs play --mode static --chunk 4 --pick 'bob*2,a' < my.script
+  qs play --order bob,ann < my.script
 
 First the actors of LIST step, one after another; then, N times, every client steps once and every handler once.
-With --order, a whole block of client 1 runs first, and then one of client 0.
+With --order, a whole block of bob runs first, and then one of ann.
+An actor is a client or an object, by name or by number: bob or c1, a or h0. `bob*2` stands for `bob,bob`.
 Along one order of reservations neither the mode nor the size of chunks changes what a block sees. They change how many
 synchronisations are sent, and may change who comes first."
 );
@@ -96,10 +98,10 @@ pub const OUTCOMES_EXAMPLE: &str = with_limits!(
     "\
 Example:
   qs outcomes --limit 5000 < my.script
-  qs outcomes --after c1,c0 < my.script
+  qs outcomes --after bob,ann < my.script
 
-The second lists only what comes after a block of client 1 and then one of client 0. A line `outcome 2 c1,c0` begins
-the second result: the block of client 1 first, then that of client 0. Below it stand the objects at the end, and each
+The second lists only what comes after a block of bob and then one of ann. A line `outcome 2 c1,c0` begins the second
+result: the block of client 1, bob, first, then that of client 0, ann. Below it stand the objects at the end, and each
 client with its variables. Configurations, which the last line counts, are where the script can stand between two blocks."
 );
 
@@ -115,13 +117,13 @@ pub const LIMIT: &str =
     "How many configurations are looked at, at most: 1 to 4294967295; where there are more, nothing is listed";
 
 pub const AFTER: &str =
-    "Whose blocks were run before, joined by commas, each client's in turn: c0 is the first client";
+    "Whose blocks were run before, joined by commas, each client's in turn: by name, or c0 for the first client; bob*2 is bob,bob";
 
 pub const ORDER: &str =
-    "Whose blocks run, one whole block after another, joined by commas; not with --pick or --rounds";
+    "Whose blocks run, one whole block after another, joined by commas: by name, or c0 for the first client; bob*2 is bob,bob; not with --pick or --rounds";
 
 pub const PICK: &str =
-    "Who steps first, joined by commas: c0 is the first client, h0 the first object's handler";
+    "Who steps first, joined by commas: a client or an object by name, or c0 for the first client, h0 for the first object; bob*2 is bob,bob";
 
 pub const COUNTS: &str =
     "Shows after each block how many synchronisations it has sent for each of its objects";

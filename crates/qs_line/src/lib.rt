@@ -1,17 +1,14 @@
 //! The command line of `qs`, read by `clap`.
 #![tactic(auto)]
 
-mod clients;
 mod command;
 mod found;
 mod help;
 pub mod laws;
 mod line;
-mod picks;
 mod plan;
 mod told;
 
 pub use line::{LineFault, Settings, read_line, warns};
 pub use plan::Plan;
-pub use qs_played::Actor;
 pub use told::{refusal, value_after};

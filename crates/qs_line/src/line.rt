@@ -6,18 +6,18 @@ ghost use Rattle.clap.specs.Faults.{fault_of};
 ghost use Rattle.qs_line.specs.Command.{qs_app};
 ghost use Rattle.qs_line.specs.Line.{IsAnswer, IsFault, IsFaultAmong, chunk_at, counts_at, front_at, limit_at, line_in, mode_at, outcomes_at, play_at, request_at, request_met, request_of, rules_at, run_at, warns_in, warns_met};
 
-use crate::clients::clients_of;
 use crate::command::command;
 use crate::found::text_at;
 use crate::plan::{Plan, given_plan};
 use clap::error::ErrorKind;
 use clap::{ArgMatches, Error};
 use qs_chunk::ChunkSize;
+use qs_lists::{Part, clients_in};
 use qs_syncset::Mode;
 use std::alloc::{AllocError, Global};
 
 /// What an accepted line asks for.
-#[derive(Debug, PartialEq, Eq, Drop)]
+#[derive(Drop)]
 pub enum Settings {
     /// Check the script, and count.
     Check,
@@ -55,7 +55,7 @@ pub enum Settings {
         /// How many configurations are looked at, at most.
         limit: u32,
         /// Whose blocks were run before.
-        front: Vec<u8>,
+        front: Vec<Part>,
     },
 }
 
@@ -114,11 +114,11 @@ fn limit_of(found: &ArgMatches<'_>) -> Option<u32>
 }
 
 // The clients after whose blocks outcomes are asked for; nobody where the line has no list of them.
-fn given_front(alloc: Global, found: &ArgMatches<'_>) -> Result<Option<Vec<u8>>, AllocError>
-    ensures front { IfOk result (λ front. option_map (λ clients. clients.items) front ≡ front_at (rows_of (found_of found.now))) }
+fn given_front(alloc: Global, found: &ArgMatches<'_>) -> Result<Option<Vec<Part>>, AllocError>
+    ensures front { IfOk result (λ front. option_map (λ list. list.items) front ≡ front_at (rows_of (found_of found.now))) }
 {
     match text_at(found, "after") {
-        Some(text) => clients_of(alloc, text),
+        Some(text) => clients_in(alloc, text),
         None => Ok(Some(Vec::new(alloc))),
     }
 }

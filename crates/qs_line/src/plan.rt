@@ -4,26 +4,24 @@ ghost use Rattle.std.specs.Prelude.{◌≡◌, IfOk, option_map};
 ghost use Rattle.clap.specs.Words.{found_of, rows_of};
 ghost use Rattle.qs_line.specs.Line.{has_schedule, order_at, picks_at, plan_at, plan_of, rounds_at, schedule_at};
 
-use crate::Actor;
-use crate::clients::clients_of;
 use crate::found::text_at;
-use crate::picks::picks_of;
 use clap::ArgMatches;
+use qs_lists::{Part, clients_in, list_in};
 use qs_played::MOST_ROUNDS;
 use std::alloc::{AllocError, Global};
 
 /// Who goes when in a run that is played.
-#[derive(Debug, PartialEq, Eq, Drop)]
+#[derive(Drop)]
 pub enum Plan {
     /// All actors, one step at a time.
     Schedule {
         /// How many rounds are played at most.
         rounds: u32,
         /// Who steps before the rounds.
-        picks: Vec<Actor>,
+        picks: Vec<Part>,
     },
     /// Clients, one whole block after another.
-    Order(Vec<u8>),
+    Order(Vec<Part>),
 }
 
 // The rounds of a line; as many as there can be where it has no number of them.
@@ -37,11 +35,11 @@ fn rounds_of(found: &ArgMatches<'_>) -> Option<u32>
 }
 
 // The picks of a line; none where it has no list of them.
-fn given_picks(alloc: Global, found: &ArgMatches<'_>) -> Result<Option<Vec<Actor>>, AllocError>
-    ensures picks { IfOk result (λ picks. option_map (λ actors. actors.items) picks ≡ picks_at (rows_of (found_of found.now))) }
+fn given_picks(alloc: Global, found: &ArgMatches<'_>) -> Result<Option<Vec<Part>>, AllocError>
+    ensures picks { IfOk result (λ picks. option_map (λ list. list.items) picks ≡ picks_at (rows_of (found_of found.now))) }
 {
     match text_at(found, "pick") {
-        Some(text) => picks_of(alloc, text),
+        Some(text) => list_in(alloc, text),
         None => Ok(Some(Vec::new(alloc))),
     }
 }
@@ -69,7 +67,7 @@ fn order_of(alloc: Global, text: &str, found: &ArgMatches<'_>) -> Result<Option<
     if names_schedule(found) {
         return Ok(None);
     }
-    match clients_of(alloc, text)? {
+    match clients_in(alloc, text)? {
         Some(clients) => Ok(Some(Plan::Order(clients))),
         None => Ok(None),
     }

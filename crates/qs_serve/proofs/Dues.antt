@@ -1,7 +1,7 @@
 -- Out of memory is always a due answer, the status 4 is due only after a read has failed, and the report of a run is due where
 -- the line asked for that run. The function `serve` and those that find what is due stand on it. Each goes by cases on what the
 -- line asks for and on the answer.
-use Rattle.std.proofs.Common.{◌≡◌, ◌≤◌, ◌⊎◌, ℕ, Bool, List, Option, Ok, true, false, refl, sym, subst, inl, inr}
+use Rattle.std.proofs.Common.{◌≡◌, ◌≤◌, ◌⊎◌, ℕ, Bool, List, Option, Result, Ok, true, false, refl, sym, subst, inl, inr, IsOkAnd}
 use Rattle.qs_played.specs.Played.{Played}
 use Rattle.qs_syncset.specs.declared.mode.Mode.{Mode}
 use Rattle.qs_report.specs.declared.faults.Fault.{Fault}
@@ -12,17 +12,15 @@ use Rattle.qs_places.specs.declared.fault.CheckFault.TheVariants as check_fault
 use Rattle.qs_played.specs.declared.fault.PlayFault.TheVariants as play_fault
 use Rattle.qs_run_laws.specs.Outcomes.{IsOutcome}
 use Rattle.qs_program.specs.Program.{ProgramShape}
-use Rattle.qs_meaning.proofs.Each.{each_map}
 use Rattle.qs_orders.specs.NamedOrders.{order_of}
-use Rattle.std.specs.List.{AllByRecursion}
-use Rattle.qs_objects.specs.declared.held.Ticket.{Ticket}
 use Rattle.qs_orders.specs.declared.fault.OrderFault.TheVariants as order_fault
-use Rattle.qs_outcomes.specs.Standings.{StandingShape}
-use Rattle.qs_outcomes.specs.Outcomes.{HasPlaces, IsListedAfter, OutcomesShape}
+use Rattle.qs_outcomes.specs.Outcomes.{OutcomesShape}
 use Rattle.qs_outcomes.specs.declared.fault.OutcomesFault.TheVariants as outcomes_fault
 use Rattle.qs_report.specs.OutcomesText.{AreOutcomesAfter, IsOutcomesText}
-use Rattle.qs_line.specs.Line.{Line, PlanShape, asks, help, outcomes, play, refused, rules, run, version}
-use Rattle.qs_serve.specs.Due.{IsDue, IsDueOfProgram, IsListOf, IsOutOfMemory, IsRefusedBy, IsReportOf, IsShownByPlay, IsShownByRules, due_status}
+use Rattle.qs_lists.specs.Named.{clients_of}
+use Rattle.qs_lists.specs.declared.parts.Part.{Part}
+use Rattle.qs_line.specs.Line.{Line, asks, help, outcomes, refused, run, version}
+use Rattle.qs_serve.specs.Due.{IsDue, IsDueOfProgram, IsListOf, IsOutOfMemory, IsRefusedBy, IsReportOf, due_status}
 use Rattle.qs_serve.specs.declared.due.Due.{Due}
 use Rattle.qs_serve.specs.declared.due.Due.TheVariants.{Text, Refused}
 
@@ -64,18 +62,11 @@ four_is_due version known failed (Refused f) (inr none) e = absurd none
 four_is_due (asks request) known true (Refused f) is e = refl
 four_is_due (asks request) known false (Refused f) is e = absurd (is.0 (status_of_input f e))
 
--- a report that is due by what was asked for, in the two ways of playing and on threads
-pub due_by_rules : (counts : Bool) (p : ProgramShape) (plan : PlanShape) (played : Played) (due : Due)
-    → IsShownByRules plan p played → IsReportOf counts p played due → IsOutOfMemory due ⊎ IsDueOfProgram (rules counts plan) p due
-due_by_rules counts p plan played (Text bytes) shows is = inr (played, shows, is)
-due_by_rules counts p plan played (Refused f) shows is = inl (subst (λ g. IsOutOfMemory (Refused g)) (sym is) tt)
+-- what holds of those whom a list names, where they are known
+pub of_named : {A E : Type 0} (P : A → Type 0) (r : Result A E) (x : A) → r ≡ Ok x → P x → IsOkAnd r P
+of_named P r x e holds = subst (λ s. IsOkAnd s P) (sym e) holds
 
-pub due_by_play : (counts : Bool) (p : ProgramShape) (mode : Mode) (size : ℕ) (plan : PlanShape) (played : Played) (due : Due)
-    → IsShownByPlay mode size plan p played → IsReportOf counts p played due
-    → IsOutOfMemory due ⊎ IsDueOfProgram (play counts mode size plan) p due
-due_by_play counts p mode size plan played (Text bytes) shows is = inr (played, shows, is)
-due_by_play counts p mode size plan played (Refused f) shows is = inl (subst (λ g. IsOutOfMemory (Refused g)) (sym is) tt)
-
+-- a report of a run on threads that is due by what was asked for
 pub due_by_run : (counts : Bool) (p : ProgramShape) (mode : Mode) (size : ℕ) (outcome : Played) (due : Due)
     → IsOutcome p mode size outcome → IsReportOf counts p outcome due → IsOutOfMemory due ⊎ IsDueOfProgram (run counts mode size) p due
 due_by_run counts p mode size outcome (Text bytes) shows is = inr (outcome, shows, is)
@@ -87,16 +78,10 @@ report_is_no_input counts p played (Text bytes) is = λ none. none
 report_is_no_input counts p played (Refused f) is = λ e. absurd (cc (is, e))
 
 -- a list that is due by what was asked for
-pub due_by_outcomes : (p : ProgramShape) (limit : ℕ) (front : List ℕ) (all : OutcomesShape) (due : Due) → AreOutcomesAfter p (order_of front) all → all.configurations ≤ limit
-    → IsListOf p all due → IsOutOfMemory due ⊎ IsDueOfProgram (outcomes limit front) p due
+pub due_by_outcomes : (p : ProgramShape) (limit : ℕ) (front : List Part) (clients : List ℕ) (all : OutcomesShape) (due : Due)
+    → clients_of p front ≡ Ok clients → AreOutcomesAfter p (order_of clients) all → all.configurations ≤ limit → IsListOf p all due
+    → IsOutOfMemory due ⊎ IsDueOfProgram (outcomes limit front) p due
 unfolding IsOutcomesText
-due_by_outcomes p limit front all (Text bytes) are within is = inr (all, are, within, is)
-due_by_outcomes p limit front all (Refused f) are within is = inl (subst (λ g. IsOutOfMemory (Refused g)) (sym is) tt)
-
-pub list_is_no_input : (p : ProgramShape) (all : OutcomesShape) (due : Due) → IsListOf p all due → ¬ IsRefusedBy fault.Input due
-list_is_no_input p all (Text bytes) is = λ none. none
-list_is_no_input p all (Refused f) is = λ e. absurd (cc (is, e))
-
--- what is listed has a place for each client and each object
-pub listed_places : (p : ProgramShape) (front : List Ticket) (found : List StandingShape) → AllByRecursion (IsListedAfter p front) found → AllByRecursion (HasPlaces p) found
-listed_places p front found each = each_map (λ s (is : IsListedAfter p front s). is.places) found each
+due_by_outcomes p limit front clients all (Text bytes) named are within is =
+    inr (of_named (λ xs. IsOutcomesText p limit xs bytes.items) (clients_of p front) clients named (all, are, within, is))
+due_by_outcomes p limit front clients all (Refused f) named are within is = inl (subst (λ g. IsOutOfMemory (Refused g)) (sym is) tt)

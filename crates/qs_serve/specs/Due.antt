@@ -1,5 +1,5 @@
 -- What a run has to write, and its status.
-use Rattle.std.specs.Prelude.{◌≡◌, ℕ, ◌⊎◌, List, take, Bool, true, false, Option, Some, None, Ok, Err, Result, Vec, ⊤, IfSome, MatchBool}
+use Rattle.std.specs.Prelude.{◌≡◌, ℕ, ◌⊎◌, List, take, Bool, true, false, Option, Some, None, Ok, Err, Result, Vec, ⊤, IfSome, IsErr, IsOkAnd, MatchBool}
 use Rattle.std.specs.Global.{Global}
 use Rattle.std.specs.Io.KnownBytes.{Appends}
 use Rattle.qs_script.specs.declared.fault.ReadFault.TheVariants as read
@@ -33,6 +33,9 @@ use Rattle.qs_played.specs.Played.{Played}
 use Rattle.qs_syncset.specs.declared.mode.Mode.{Mode}
 use Rattle.qs_run_laws.specs.Outcomes.{IsOutcome}
 use Rattle.qs_run.specs.Starts.{IsRefusal, LetAllStart, worker_count}
+use Rattle.qs_lists.specs.Named.{actors_of, clients_of}
+use Rattle.qs_lists.specs.declared.fault.ListFault.{ListFault}
+use Rattle.qs_lists.specs.declared.fault.ListFault.TheVariants as list_fault
 use Rattle.qs_line.specs.Line.{Line, PlanShape, Request, asks, by_order, by_schedule, check, graph, help, line_in, outcomes, play, refused, rules, run, version}
 use Rattle.qs_serve.specs.declared.due.Due.{Due}
 use Rattle.qs_serve.specs.declared.due.Due.TheVariants.{Text, Refused}
@@ -75,16 +78,19 @@ abbrev pub IsListOf : ProgramShape → OutcomesShape → Due → Type 0
 IsListOf p all (Text bytes) = bytes.items ≡ listed_text p all
 IsListOf p all (Refused f) = f ≡ fault.Memory
 
--- what is shown under the plain rules: the state after the picks and the rounds of a schedule; or the blocks that the clients of an
--- order name, in this order, each of them ended
+-- what is shown under the plain rules: the state after the picks of the actors that a list names in the program, and the rounds of a
+-- schedule; or the blocks that the clients of an order name, in this order, each of them ended
 abbrev pub IsShownByRules : PlanShape → ProgramShape → Played → Type 0
-IsShownByRules (by_schedule rounds picks) p played = IsPlayed p picks rounds (Ok played)
-IsShownByRules (by_order clients) p played = IsLegal p (order_of clients) × IsPlayedInOrder p (order_of clients) played
+IsShownByRules (by_schedule rounds picks) p played = IsOkAnd (actors_of p picks) (λ actors. IsPlayed p actors rounds (Ok played))
+IsShownByRules (by_order list) p played =
+    IsOkAnd (clients_of p list) (λ clients. IsLegal p (order_of clients) × IsPlayedInOrder p (order_of clients) played)
 
 -- the same in the optimised machine
 abbrev pub IsShownByPlay : Mode → ℕ → PlanShape → ProgramShape → Played → Type 0
-IsShownByPlay mode size (by_schedule rounds picks) p played = IsPlayedIn p mode size picks rounds (Ok played)
-IsShownByPlay mode size (by_order clients) p played = IsLegal p (order_of clients) × IsPlayedInOrderOn p mode size (order_of clients) played
+IsShownByPlay mode size (by_schedule rounds picks) p played =
+    IsOkAnd (actors_of p picks) (λ actors. IsPlayedIn p mode size actors rounds (Ok played))
+IsShownByPlay mode size (by_order list) p played =
+    IsOkAnd (clients_of p list) (λ clients. IsLegal p (order_of clients) × IsPlayedInOrderOn p mode size (order_of clients) played)
 
 -- what a request makes of a program: its counts; its graphs; the report of its run by the plain rules or in the optimised machine;
 -- that of an outcome which its run on threads may have; or all its outcomes after the blocks of some clients, of so many configurations
@@ -95,12 +101,30 @@ IsTextBy graph p text = IsGraphText p text
 IsTextBy (rules counts plan) p text = (played : Played) × IsShownByRules plan p played × (text ≡ run_text counts p played)
 IsTextBy (play counts mode size plan) p text = (played : Played) × IsShownByPlay mode size plan p played × (text ≡ run_text counts p played)
 IsTextBy (run counts mode size) p text = (outcome : Played) × IsOutcome p mode size outcome × (text ≡ run_text counts p outcome)
-IsTextBy (outcomes limit front) p text = IsOutcomesText p limit front text
+IsTextBy (outcomes limit front) p text = IsOkAnd (clients_of p front) (λ clients. IsOutcomesText p limit clients text)
+
+-- a list of a plan names nobody in the program: a part of it is at fault
+abbrev pub IsUnnamed : PlanShape → ProgramShape → Type 0
+IsUnnamed (by_schedule rounds picks) p = IsErr (actors_of p picks)
+IsUnnamed (by_order list) p = IsErr (clients_of p list)
+
+-- so does the list that a request asks by
+abbrev pub IsUnnamedBy : Request → ProgramShape → Type 0
+IsUnnamedBy (rules counts plan) p = IsUnnamed plan p
+IsUnnamedBy (play counts mode size plan) p = IsUnnamed plan p
+IsUnnamedBy (outcomes limit front) p = IsErr (clients_of p front)
+IsUnnamedBy _ p = ⊥
+
+-- what is due by the fault of a list: a part at fault is one of the command line
+abbrev pub IsDueOfList : ListFault → Due → Type 0
+IsDueOfList list_fault.Memory due = IsRefusedBy fault.Memory due
+IsDueOfList (list_fault.Part place why) due = IsRefusedBy fault.CommandLine due
 
 -- why a schedule that a request asks for is not played
 abbrev pub IsUnplayedBy : Request → ProgramShape → PlayFault → Type 0
-IsUnplayedBy (rules counts (by_schedule rounds picks)) p f = IsPlayed p picks rounds (Err f)
-IsUnplayedBy (play counts mode size (by_schedule rounds picks)) p f = IsPlayedIn p mode size picks rounds (Err f)
+IsUnplayedBy (rules counts (by_schedule rounds picks)) p f = IsOkAnd (actors_of p picks) (λ actors. IsPlayed p actors rounds (Err f))
+IsUnplayedBy (play counts mode size (by_schedule rounds picks)) p f =
+    IsOkAnd (actors_of p picks) (λ actors. IsPlayedIn p mode size actors rounds (Err f))
 IsUnplayedBy _ p f = ⊥
 
 -- why the order of some clients is not played: it is not legal, or it is and an allocation failed
@@ -110,8 +134,8 @@ IsUnordered p clients order_fault.Memory = IsLegal p (order_of clients)
 
 -- why an order that a request asks for is not played
 abbrev pub IsUnorderedBy : Request → ProgramShape → OrderFault → Type 0
-IsUnorderedBy (rules counts (by_order clients)) p f = IsUnordered p clients f
-IsUnorderedBy (play counts mode size (by_order clients)) p f = IsUnordered p clients f
+IsUnorderedBy (rules counts (by_order list)) p f = IsOkAnd (clients_of p list) (λ clients. IsUnordered p clients f)
+IsUnorderedBy (play counts mode size (by_order list)) p f = IsOkAnd (clients_of p list) (λ clients. IsUnordered p clients f)
 IsUnorderedBy _ p f = ⊥
 
 -- a run on threads is asked for; it may want memory or threads on any program
@@ -119,29 +143,36 @@ abbrev pub IsRun : Request → Type 0
 IsRun (run counts mode size) = Unit {0}
 IsRun _ = ⊥
 
--- why outcomes that are asked for are not listed: there are more configurations than the limit, the clients name no legal order, or an
--- allocation failed
+-- why outcomes after the blocks of some clients are not listed: there are more configurations than the limit, the clients name no legal
+-- order, or an allocation failed
+abbrev pub IsUnlisted : ProgramShape → ℕ → List ℕ → OutcomesFault → Type 0
+IsUnlisted p limit clients outcomes_fault.Limit = HasMoreThanAfter p (order_of clients) limit
+IsUnlisted p limit clients outcomes_fault.Order = ¬ IsLegal p (order_of clients)
+IsUnlisted p limit clients outcomes_fault.Memory = Unit {0}
+
+-- why outcomes that a request asks for are not listed
 abbrev pub IsUnlistedBy : Request → ProgramShape → OutcomesFault → Type 0
-IsUnlistedBy (outcomes limit front) p outcomes_fault.Limit = HasMoreThanAfter p (order_of front) limit
-IsUnlistedBy (outcomes limit front) p outcomes_fault.Order = ¬ IsLegal p (order_of front)
-IsUnlistedBy (outcomes limit front) p outcomes_fault.Memory = Unit {0}
+IsUnlistedBy (outcomes limit front) p f = IsOkAnd (clients_of p front) (λ clients. IsUnlisted p limit clients f)
 IsUnlistedBy _ p f = ⊥
 
 abbrev pub IsDueOfProgram : Request → ProgramShape → Due → Type 0
 IsDueOfProgram request p (Text bytes) = IsTextBy request p bytes.items
+IsDueOfProgram request p (Refused fault.CommandLine) = IsUnnamedBy request p
 IsDueOfProgram request p (Refused (fault.Play f)) = IsUnplayedBy request p f
 IsDueOfProgram request p (Refused (fault.Order f)) = IsUnorderedBy request p f
 IsDueOfProgram request p (Refused (fault.Run f)) = IsRun request
 IsDueOfProgram request p (Refused (fault.Outcomes f)) = IsUnlistedBy request p f
 IsDueOfProgram request p (Refused _) = ⊥
 
--- what a request makes of a text: the result of its program, or the fault of the text, of its script, of its schedule, of its order, of
--- its threads or of its outcomes
+-- what a request makes of a text: the result of its program, or the fault of the text, of its script, of the list whose names are the
+-- script's, of its schedule, of its order, of its threads or of its outcomes
 abbrev pub IsDueOfText : Request → List ℕ → Due → Type 0
 IsDueOfText request text (Text bytes) =
     (s : List Item) × IsScriptText text s × (fault_of s ≡ None) × IsTextBy request (program_of_items s) bytes.items
 IsDueOfText request text (Refused (fault.Read f)) = IsRefused f text
 IsDueOfText request text (Refused (fault.Check f)) = (s : List Item) × IsScriptText text s × (fault_of s ≡ Some f)
+IsDueOfText request text (Refused fault.CommandLine) =
+    (s : List Item) × IsScriptText text s × (fault_of s ≡ None) × IsUnnamedBy request (program_of_items s)
 IsDueOfText request text (Refused (fault.Play f)) =
     (s : List Item) × IsScriptText text s × (fault_of s ≡ None) × IsUnplayedBy request (program_of_items s) f
 IsDueOfText request text (Refused (fault.Order f)) =

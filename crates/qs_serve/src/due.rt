@@ -3,7 +3,7 @@
 ghost use Rattle.std.specs.Prelude.{◌≡◌, ◌+◌, ◌≤◌, ◌⊎◌, false, None, Some, map, IfOk, IfSome};
 ghost use Rattle.qs_report.specs.declared.faults.Fault.TheVariants as fault;
 ghost use Rattle.qs_line.specs.Line.{asks, by_order, by_schedule, line_in, outcomes, plan_of, play, request_by, request_of, rules, run};
-ghost use Rattle.qs_serve.specs.Due.{HasAsked, IsDue, IsDueOfProgram, IsDueOfText, IsRefusedBy, IsListOf, IsReportOf, IsTextOf, IsOutOfMemory, due_status, longest};
+ghost use Rattle.qs_serve.specs.Due.{HasAsked, IsDue, IsDueOfList, IsDueOfProgram, IsDueOfText, IsRefusedBy, IsListOf, IsReportOf, IsTextOf, IsOutOfMemory, due_status, longest};
 ghost use Rattle.std.specs.List.{AllByRecursion};
 ghost use Rattle.qs_outcomes.specs.Outcomes.{HasPlaces};
 
@@ -11,7 +11,8 @@ use crate::input::{Counted, InputFault, gather};
 use qs_check::{Program, check};
 use qs_chunk::ChunkSize;
 use qs_core::{play_in_order, play_plain, play_plain_in_order};
-use qs_line::{Actor, LineFault, Plan, Settings, read_line};
+use qs_line::{LineFault, Plan, Settings, read_line};
+use qs_lists::{ListFault, Part, actors_of, clients_of};
 use qs_outcomes::{AllOutcomes, outcomes_after};
 use qs_played::{Outcome, Played};
 use qs_report::{
@@ -73,29 +74,47 @@ fn due_of_played(alloc: Global, program: &Program, counts: bool, played: Played)
     due_of_bytes(text)
 }
 
+// What is due where a list names nobody, or is not read for want of memory.
+fn due_of_list(fault: ListFault) -> Due
+    ensures due { IsDueOfList fault result }
+{
+    match fault {
+        ListFault::Part { .. } => Due::Refused(Fault::CommandLine),
+        ListFault::Memory => Due::Refused(Fault::Memory),
+    }
+}
+
 // A run by the plain rules, by a schedule.
 fn due_of_scheduled_rules(
     alloc: Global,
     program: &Program,
     counts: bool,
-    picks: &[Actor],
+    picks: &[Part],
     rounds: u32,
 ) -> Due
     ensures not_input { ¬ IsRefusedBy fault.Input result }
     ensures due { IsOutOfMemory result ⊎ IsDueOfProgram (rules counts (by_schedule rounds picks.now)) program.now result }
 {
-    match play_plain(alloc, program, picks, rounds) {
+    let actors = match actors_of(alloc, program, picks) {
+        Ok(actors) => actors,
+        Err(fault) => return due_of_list(fault),
+    };
+    match play_plain(alloc, program, actors.as_slice(), rounds) {
         Ok(played) => due_of_played(alloc, program, counts, played),
         Err(fault) => Due::Refused(Fault::Play(fault)),
     }
 }
 
 // A run by the plain rules, one whole block after another.
-fn due_of_ordered_rules(alloc: Global, program: &Program, counts: bool, clients: &[u8]) -> Due
+fn due_of_ordered_rules(alloc: Global, program: &Program, counts: bool, list: &[Part]) -> Due
     ensures not_input { ¬ IsRefusedBy fault.Input result }
-    ensures due { IsOutOfMemory result ⊎ IsDueOfProgram (rules counts (by_order clients.now)) program.now result }
+    ensures due { IsOutOfMemory result ⊎ IsDueOfProgram (rules counts (by_order list.now)) program.now result }
 {
-    match play_plain_in_order(alloc, program, clients) {
+    let clients = match clients_of(alloc, program, list) {
+        Ok(clients) => clients,
+        Err(fault) => return due_of_list(fault),
+    };
+    match play_plain_in_order(alloc, program, clients.as_slice()) {
         Ok(played) => due_of_played(alloc, program, counts, played),
         Err(fault) => Due::Refused(Fault::Order(fault)),
     }
@@ -110,7 +129,7 @@ fn due_of_rules(alloc: Global, program: &Program, counts: bool, plan: &Plan) -> 
         Plan::Schedule { rounds, picks } => {
             due_of_scheduled_rules(alloc, program, counts, picks.as_slice(), *rounds)
         }
-        Plan::Order(clients) => due_of_ordered_rules(alloc, program, counts, clients.as_slice()),
+        Plan::Order(list) => due_of_ordered_rules(alloc, program, counts, list.as_slice()),
     }
 }
 
@@ -121,13 +140,17 @@ fn due_of_scheduled_play(
     counts: bool,
     mode: Mode,
     chunk: ChunkSize,
-    picks: &[Actor],
+    picks: &[Part],
     rounds: u32,
 ) -> Due
     ensures not_input { ¬ IsRefusedBy fault.Input result }
     ensures due { IsOutOfMemory result ⊎ IsDueOfProgram (play counts mode chunk (by_schedule rounds picks.now)) program.now result }
 {
-    match qs_core::play(alloc, program, mode, chunk, picks, rounds) {
+    let actors = match actors_of(alloc, program, picks) {
+        Ok(actors) => actors,
+        Err(fault) => return due_of_list(fault),
+    };
+    match qs_core::play(alloc, program, mode, chunk, actors.as_slice(), rounds) {
         Ok(played) => due_of_played(alloc, program, counts, played),
         Err(fault) => Due::Refused(Fault::Play(fault)),
     }
@@ -140,12 +163,16 @@ fn due_of_ordered_play(
     counts: bool,
     mode: Mode,
     chunk: ChunkSize,
-    clients: &[u8],
+    list: &[Part],
 ) -> Due
     ensures not_input { ¬ IsRefusedBy fault.Input result }
-    ensures due { IsOutOfMemory result ⊎ IsDueOfProgram (play counts mode chunk (by_order clients.now)) program.now result }
+    ensures due { IsOutOfMemory result ⊎ IsDueOfProgram (play counts mode chunk (by_order list.now)) program.now result }
 {
-    match play_in_order(alloc, program, mode, chunk, clients) {
+    let clients = match clients_of(alloc, program, list) {
+        Ok(clients) => clients,
+        Err(fault) => return due_of_list(fault),
+    };
+    match play_in_order(alloc, program, mode, chunk, clients.as_slice()) {
         Ok(played) => due_of_played(alloc, program, counts, played),
         Err(fault) => Due::Refused(Fault::Order(fault)),
     }
@@ -175,8 +202,8 @@ fn due_of_play(
                 *rounds,
             )
         }
-        Plan::Order(clients) => {
-            due_of_ordered_play(alloc, program, counts, mode, chunk, clients.as_slice())
+        Plan::Order(list) => {
+            due_of_ordered_play(alloc, program, counts, mode, chunk, list.as_slice())
         }
     }
 }
@@ -224,12 +251,16 @@ fn due_of_all(alloc: Global, program: &Program, all: AllOutcomes) -> Due
     due_of_bytes(text)
 }
 
-// All outcomes after the blocks of some clients, found over so many configurations at most.
-fn due_of_outcomes(alloc: Global, program: &Program, limit: u32, front: &[u8]) -> Due
+// All outcomes after the blocks of the clients that a list names, found over so many configurations at most.
+fn due_of_outcomes(alloc: Global, program: &Program, limit: u32, front: &[Part]) -> Due
     ensures not_input { ¬ IsRefusedBy fault.Input result }
     ensures due { IsOutOfMemory result ⊎ IsDueOfProgram (outcomes limit front.now) program.now result }
 {
-    match outcomes_after(alloc, program, front, limit) {
+    let clients = match clients_of(alloc, program, front) {
+        Ok(clients) => clients,
+        Err(fault) => return due_of_list(fault),
+    };
+    match outcomes_after(alloc, program, clients.as_slice(), limit) {
         Ok(all) => due_of_all(alloc, program, all),
         Err(fault) => Due::Refused(Fault::Outcomes(fault)),
     }

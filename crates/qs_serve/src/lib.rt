@@ -4,6 +4,7 @@
 mod due;
 mod input;
 mod line_words;
+mod list_words;
 mod order_words;
 mod output;
 mod pick_words;

@@ -1,6 +1,8 @@
 // What is said of a command line that is refused.
 
 use qs_line::{refusal, value_after};
+use qs_lists::{MOST_ACTORS, Who, part_of};
+use qs_played::Actor;
 use qs_told::{put, put_all};
 use std::alloc::{AllocError, Global};
 
@@ -96,21 +98,44 @@ const BESIDE_ROUNDS: &[u8] =
     b"error: the argument '--order <LIST>' cannot be used with '--rounds <N>'\n";
 
 const NO_ACTOR: &[u8] =
-    b"is no actor\n  = help: an actor is `c` or `h` and one digit, as in `c1,h0`: client 1, and then the handler of object 0\n";
+    b"is no actor\n  = help: an actor is a name, or `c` or `h` and one digit, as in `ann*2,h0`: twice the client ann, and then the handler of object 0\n";
 
 const NO_CLIENT: &[u8] =
-    b"is no client\n  = help: a client is `c` and one digit, as in `c1,c0`: a block of client 1, and then one of client 0\n";
+    b"is no client\n  = help: a client is a name, or `c` and one digit, as in `ann*2,c0`: two blocks of ann, and then one of client 0\n";
 
-// Whether a part of a list is an actor that may stand there: a client, or a handler where handlers may.
-fn may_stand(part: &[u8], may_be_handler: bool) -> bool {
-    match part {
-        [b'c', b'0'..=b'9'] => true,
-        [b'h', b'0'..=b'9'] => may_be_handler,
-        _ => false,
+const NO_TIMES: &[u8] = b"has no number from 1 to 1000000 after its `*`\n";
+
+const TOO_MANY: &[u8] = b"brings the list to more than 1000000\n";
+
+// Whether a text is an actor that may stand in a list: a name, a client, or a handler where handlers may.
+fn may_stand(actor: &str, may_be_handler: bool) -> bool {
+    match part_of(actor.as_bytes()) {
+        Some(part) => may_be_handler || !matches!(&part.who, Who::Number(Actor::Handler(_))),
+        None => false,
     }
 }
 
-// Puts which part of the list after a setting is no actor that may stand there.
+// What is wrong with a part of a list: before its `*` stands no actor that may stand there, or it says by no number how often.
+fn fault_of_part(part: &str, may_be_handler: bool) -> Option<&'static [u8]> {
+    let actor = part.split('*').next().unwrap_or("");
+    if !may_stand(actor, may_be_handler) {
+        return Some(if may_be_handler { NO_ACTOR } else { NO_CLIENT });
+    }
+    if part_of(part.as_bytes()).is_none() {
+        return Some(NO_TIMES);
+    }
+    None
+}
+
+// For how many actors a part of a list stands.
+fn times_of(part: &str) -> u32 {
+    match part_of(part.as_bytes()) {
+        Some(part) => part.count,
+        None => 0,
+    }
+}
+
+// Puts which part of the list after a setting is no actor that may stand there, or one too many.
 fn put_list<'a>(
     out: &mut Vec<u8>,
     words: &'a [&'a str],
@@ -121,11 +146,14 @@ fn put_list<'a>(
         return Ok(());
     };
     let mut place = 1u64;
+    let mut count = 0u32;
     for part in list.split(',') {
-        let part = part.as_bytes();
-        if !may_stand(part, may_be_handler) {
-            let what = if may_be_handler { NO_ACTOR } else { NO_CLIENT };
-            return put_part(out, setting, place, part, what);
+        if let Some(what) = fault_of_part(part, may_be_handler) {
+            return put_part(out, setting, place, part.as_bytes(), what);
+        }
+        count = count.saturating_add(times_of(part));
+        if count > MOST_ACTORS {
+            return put_part(out, setting, place, part.as_bytes(), TOO_MANY);
         }
         place = place.saturating_add(1);
     }

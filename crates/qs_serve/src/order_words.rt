@@ -5,9 +5,10 @@ ghost use Rattle.std.specs.Prelude.{◌<◌, length};
 use crate::line_words::put_part;
 use qs_check::{Program, check};
 use qs_line::value_after;
+use qs_lists::{clients_of, list_in};
 use qs_program::MOST_CLIENTS;
 use qs_script::read;
-use qs_told::put_all;
+use qs_told::{put, put_all};
 use std::alloc::{AllocError, Global};
 
 /// Puts which part of the list after a setting names no block of the script, and what is there.
@@ -25,47 +26,60 @@ pub(crate) fn put_order<'a>(
         return Ok(());
     };
     match check(alloc, script) {
-        Ok(program) => put_surplus(out, &program, setting, list),
+        Ok(program) => put_surplus(alloc, out, &program, setting, list),
         Err(_) => Ok(()),
     }
 }
 
 // Puts the first part that is no client, or that names one more block than its client has.
 fn put_surplus(
+    alloc: Global,
     out: &mut Vec<u8>,
     program: &Program,
     setting: &str,
     list: &str,
 ) -> Result<(), AllocError> {
+    let Some(parts) = list_in(alloc, list)? else {
+        return Ok(());
+    };
+    let Ok(clients) = clients_of(alloc, program, parts.as_slice()) else {
+        return Ok(());
+    };
     let mut begun = [0usize; MOST_CLIENTS];
-    let mut place = 1u64;
-    for part in list.split(',') {
-        let part = part.as_bytes();
-        let Some(client) = client_of(part) else {
+    let mut named = 0usize;
+    for (index, text) in list.split(',').enumerate() {
+        let place = (index as u64).saturating_add(1);
+        let (Some(part), Some(client)) = (parts.get(index), clients.get(named)) else {
             return Ok(());
         };
-        if usize::from(client) >= program.clients() {
-            put_part(out, setting, place, part, b"names no client\n")?;
+        if usize::from(*client) >= program.clients() {
+            put_part(out, setting, place, text.as_bytes(), b"names no client\n")?;
             return put_clients(out, program);
         }
-        let Some(blocks) = begun.get_mut(usize::from(client)) else {
+        let Some(blocks) = begun.get_mut(usize::from(*client)) else {
             return Ok(());
         };
-        *blocks = (*blocks).saturating_add(1);
-        if *blocks > program.blocks_of(client) {
-            put_part(out, setting, place, part, b"names one block too many\n")?;
-            return put_blocks(out, program, client);
+        *blocks = (*blocks).saturating_add(part.count as usize);
+        if *blocks > program.blocks_of(*client) {
+            let surplus = *blocks - program.blocks_of(*client);
+            put_part(out, setting, place, text.as_bytes(), b"names ")?;
+            put_too_many(out, surplus)?;
+            return put_blocks(out, program, *client);
         }
-        place = place.saturating_add(1);
+        named = named.saturating_add(part.count as usize);
     }
     Ok(())
 }
 
-fn client_of(part: &[u8]) -> Option<u8> {
-    match part {
-        [b'c', digit @ b'0'..=b'9'] => Some(*digit - b'0'),
-        _ => None,
+fn put_too_many(out: &mut Vec<u8>, surplus: usize) -> Result<(), AllocError> {
+    if surplus == 1 {
+        return put(out, b"one block too many\n");
     }
+    let mut buffer = itoa::Buffer::new();
+    put_all(
+        out,
+        &[buffer.format(surplus).as_bytes(), b" blocks too many\n"],
+    )
 }
 
 fn put_clients(out: &mut Vec<u8>, program: &Program) -> Result<(), AllocError> {

@@ -3,15 +3,20 @@
 use crate::line_words::put_part;
 use qs_causes::actors;
 use qs_line::value_after;
+use qs_lists::{Who, part_of};
+use qs_played::Actor;
 use qs_told::put_all;
 use std::alloc::{AllocError, Global};
 
-// Whether a part of a list of picks is a client or a handler that is there.
+// Whether a part of a list of picks is a name, or the number of a client or a handler that is there.
 fn is_there(part: &[u8], clients: u64, objects: u64) -> bool {
-    match part {
-        [b'c', digit @ b'0'..=b'9'] => u64::from(*digit - b'0') < clients,
-        [b'h', digit @ b'0'..=b'9'] => u64::from(*digit - b'0') < objects,
-        _ => false,
+    let Some(part) = part_of(part) else {
+        return false;
+    };
+    match part.who {
+        Who::Number(Actor::Client(number)) => u64::from(number) < clients,
+        Who::Number(Actor::Handler(number)) => u64::from(number) < objects,
+        Who::Name(_) => true,
     }
 }
 

@@ -6,6 +6,7 @@ ghost use Rattle.qs_serve.specs.Due.{IsSomeText};
 
 use crate::due::Due;
 use crate::line_words::put_line;
+use crate::list_words::put_names;
 use crate::order_words::put_order;
 use crate::pick_words::put_actor;
 use qs_causes::{tell_check, tell_excess, tell_read};
@@ -53,6 +54,20 @@ fn plain_words(fault: &Fault) -> Option<&'static [u8]> {
     }
 }
 
+// Puts what is said of a line that is refused: of the line itself, or else of its list, whose names are the script's.
+fn put_refused<'a>(
+    alloc: Global,
+    out: &mut Vec<u8>,
+    words: &'a [&'a str],
+    text: &[u8],
+) -> Result<(), AllocError> {
+    put_line(alloc, out, words)?;
+    if out.is_empty() {
+        put_names(alloc, out, words, text)?;
+    }
+    Ok(())
+}
+
 // The text of what is said of a fault of the line, of the script, of a pick or of an order.
 fn told<'a>(
     alloc: Global,
@@ -62,7 +77,7 @@ fn told<'a>(
 ) -> Result<Vec<u8>, AllocError> {
     let mut out = Vec::new(alloc);
     match fault {
-        Fault::CommandLine => put_line(alloc, &mut out, words)?,
+        Fault::CommandLine => put_refused(alloc, &mut out, words, text)?,
         Fault::Read(_) => tell_read(alloc, &mut out, text)?,
         Fault::Check(CheckFault::Load | CheckFault::Weight) => {
             tell_excess(alloc, &mut out, text)?

@@ -20,7 +20,7 @@ returns c = record {
       by_rounds = refl;
       counted = refl;
     };
-    fronts = record { one = refl; more = refl; a_handler = refl; nobody = refl; two_digits = refl; twice = refl; of_play = refl };
+    fronts = record { one = refl; more = refl; a_handler = refl; nobody = refl; two_digits = refl; repeated = refl; twice = refl; of_play = refl };
     orders = record {
       by_rules = refl;
       by_play = refl;
@@ -32,11 +32,27 @@ returns c = record {
       a_handler = refl;
       nobody = refl;
       two_digits = refl;
+      repeated = refl;
       twice = refl;
       of_run = refl;
     };
     counted = record { rules_alone = refl; play_alone = refl; run_alone = refl; before_others = refl; between_others = refl; after_others = refl };
     uncounted = record { twice = refl; by_value = refl; by_true = refl; by_word = refl; before_word = refl; of_check = refl; of_graph = refl };
+    lists = record {
+      names = refl;
+      two_digits = refl;
+      most = refl;
+      one_more = refl;
+      more_in_all = refl;
+      no_times = refl;
+      no_number = refl;
+      two_numbers = refl;
+      a_capital = refl;
+      a_space = refl;
+      longest_name = refl;
+      longer_name = refl;
+      handlers_in_an_order = refl;
+    };
     warned = record { checks = refl; runs = refl; lists = refl; asked = refl; unasked = refl; twice = refl; before_word = refl };
     others = record {
       no_word = refl;
@@ -47,7 +63,6 @@ returns c = record {
       unknown_mode = refl;
       too_many_rounds = refl;
       empty_part = refl;
-      two_digits = refl;
       run_by_rounds = refl;
       no_picks = refl;
       asks_help = refl;

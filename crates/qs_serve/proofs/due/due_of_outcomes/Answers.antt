@@ -1,21 +1,21 @@
+use Rattle.std.proofs.Common.{◌≡◌, ◌∙◌, ap, sym, Ok}
+use Rattle.qs_lists.specs.Named.{clients_of}
 use Rattle.qs_orders.specs.NamedOrders.{order_of}
 use Rattle.qs_report.specs.OutcomesText.{AreOutcomesAfter}
-use Rattle.qs_serve.proofs.Dues.{due_by_outcomes, list_is_no_input, listed_places}
+use Rattle.qs_serve.proofs.Dues.{due_by_outcomes}
 use Rattle.qs_serve.proofs.due.due_of_outcomes.Goals as goal
 
-pub due_of_all-requires : goal.due_of_all-requires
-due_of_all-requires c = record { places = listed_places c.args.program.now (order_of c.args.front.now) c.in-Ok.all.found c.in-Ok.ensures.sound }
-
-pub returns-in-Ok-clause-due : goal.returns-in-Ok-clause-due
-returns-in-Ok-clause-due c =
-    let are : AreOutcomesAfter c.args.program.now (order_of c.args.front.now) c.in-Ok.all = record {
-      legal = c.in-Ok.ensures.legal;
-      sound = c.in-Ok.ensures.sound;
-      complete = c.in-Ok.ensures.complete;
-      once = c.in-Ok.ensures.once;
-      counted = c.in-Ok.ensures.counted;
+pub returns-in-Ok-outcomes_after-clause-due : goal.returns-in-Ok-outcomes_after-clause-due
+returns-in-Ok-outcomes_after-clause-due c =
+    let p = c.args.program.now in
+    let clients = c.as_slice.result.now in
+    let all = c.in-Ok-outcomes_after.all in
+    let named : clients_of p c.args.front.now ≡ Ok clients = c.in-Ok.ensures.clients ∙ ap Ok (sym c.as_slice.ensures.value) in
+    let are : AreOutcomesAfter p (order_of clients) all = record {
+      legal = c.in-Ok-outcomes_after.ensures.legal;
+      sound = c.in-Ok-outcomes_after.ensures.sound;
+      complete = c.in-Ok-outcomes_after.ensures.complete;
+      once = c.in-Ok-outcomes_after.ensures.once;
+      counted = c.in-Ok-outcomes_after.ensures.counted;
     } in
-    due_by_outcomes c.args.program.now c.args.limit c.args.front.now c.in-Ok.all _ are c.in-Ok.ensures.within c.due_of_all.ensures.due
-
-pub returns-in-Ok-clause-not_input : goal.returns-in-Ok-clause-not_input
-returns-in-Ok-clause-not_input c = list_is_no_input c.args.program.now c.in-Ok.all _ c.due_of_all.ensures.due
+    due_by_outcomes p c.args.limit c.args.front.now clients all _ named are c.in-Ok-outcomes_after.ensures.within c.due_of_all.ensures.due
