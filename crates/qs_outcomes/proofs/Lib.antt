@@ -1,5 +1,4 @@
 pub mod Fronts
-pub mod Endings
 pub mod RowSteps
 pub mod Stands
 pub mod Lists

@@ -20,7 +20,7 @@ use Rattle.qs_meaning.specs.Serial.{IsLegal, LegalFrom, declared_states, no_stat
 use Rattle.qs_meaning.specs.Solo.{BlockResult, put, solo}
 use Rattle.qs_meaning.proofs.Orders.{configuration-append, legal_on}
 use Rattle.qs_orders.proofs.Lookups.{lookup-replicate, lookup-set}
-use Rattle.qs_outcomes.specs.Alone.{AreCallsWithin, IsCallWithin, states_in}
+use Rattle.qs_alone.specs.Alone.{AreCallsWithin, IsCallWithin, states_in}
 use Rattle.qs_meaning.specs.Reduced.{IsReducedFrom, goes_on}
 use Rattle.qs_meaning.proofs.Groups.{some_go_on}
 use Rattle.qs_outcomes.specs.Standings.{GoesOn, HasNext, HasRun, IsFirst, IsNext, IsOneOn, IsReducedAfter, IsStanding, StandingShape, configuration_in, with_block}

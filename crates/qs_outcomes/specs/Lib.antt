@@ -1,4 +1,3 @@
-pub mod Alone
 pub mod Going
 pub mod Standings
 pub mod Search

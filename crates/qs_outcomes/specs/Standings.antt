@@ -8,7 +8,7 @@ use Rattle.qs_meaning.specs.Configurations.{Configuration, HasBlockLeft, configu
 use Rattle.qs_meaning.specs.Reduced.{IsReducedFrom, goes_on}
 use Rattle.qs_meaning.specs.Serial.{IsLegal, zeros}
 use Rattle.qs_meaning.specs.Solo.{BlockResult, solo}
-use Rattle.qs_outcomes.specs.Alone.{states_in}
+use Rattle.qs_alone.specs.Alone.{states_in}
 
 -- an order, how many blocks each client has begun along it, the clients' variables, and the objects
 pub record StandingShape : Type 0 where
