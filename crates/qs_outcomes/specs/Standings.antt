@@ -61,6 +61,7 @@ pub record IsOneOn (p : ProgramShape) (s : StandingShape) (c : ℕ) (n : Standin
 -- the same of a client that goes on, after a front
 pub record IsNext (p : ProgramShape) (front : List Ticket) (s : StandingShape) (c : ℕ) (n : StandingShape) : Type 0 where
   pub standing : IsStanding p front n
+  pub order : n.order ≡ s.order ++ record { client = c; index = (configuration_in s).begun c } ∷ []
   pub next : configuration_in n ≡ one_block_on p c (configuration_in s)
 
 -- what a client's next block leaves where it runs alone
