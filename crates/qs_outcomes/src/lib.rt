@@ -9,7 +9,9 @@ mod going;
 mod rows;
 mod search;
 mod standing;
+mod watcher;
 
 pub use fault::OutcomesFault;
-pub use search::{AllOutcomes, outcomes, outcomes_after};
+pub use search::{AllOutcomes, outcomes, outcomes_after, outcomes_watched};
 pub use standing::Standing;
+pub use watcher::Watcher;

@@ -17,6 +17,7 @@ use crate::front::placed;
 use crate::going::{Last, last_blocks};
 use crate::rows::row_starts;
 use crate::standing::Standing;
+use crate::watcher::{Unwatched, Watcher};
 use indexmap::IndexSet;
 use qs_objects::{Object, Ticket};
 use qs_orders::names_order;
@@ -229,14 +230,15 @@ fn add(list: &mut Vec<Standing>, standing: Standing) -> Result<(), AllocError>
 }
 
 // Takes up a standing: nothing where its row was seen, else what the next blocks of those who go on lead to, or an outcome where no block is
-// left.
-fn visit(
+// left. The watcher is told of a standing whose row was not seen.
+fn visit<W: Watcher>(
     alloc: Global,
     program: &Program,
     last: &[Last],
     starts: &[usize],
     front: &[Ticket],
     limit: u32,
+    watcher: &mut W,
     standing: Standing,
     scratch: &mut Scratch,
     seen: &mut IndexSet<Vec<i64>>,
@@ -258,7 +260,7 @@ fn visit(
     match note(alloc, program, front, limit, &standing, scratch, seen) {
         Err(fault) => return Err(fault),
         Ok(false) => return Ok(put_by(&mut scratch.spare, standing)?),
-        Ok(true) => {}
+        Ok(true) => watcher.noted(seen.len()),
     }
     if standing.is_over(program, front) {
         add(found, standing)?;
@@ -272,12 +274,13 @@ fn visit(
 }
 
 // The outcomes after a front, by a search that begins where the program stands after it.
-fn search_from(
+fn search_from<W: Watcher>(
     alloc: Global,
     program: &Program,
     front: &[Ticket],
     first: Standing,
     limit: u32,
+    watcher: &mut W,
 ) -> Result<AllOutcomes, OutcomesFault>
     requires first { IsFirst program.now front.now first }
     ensures sound { IfOk result (λ all. AllByRecursion (IsListedAfter program.now front.now) all.found) }
@@ -309,6 +312,7 @@ fn search_from(
             starts.as_slice(),
             front,
             limit,
+            watcher,
             standing,
             &mut scratch,
             &mut seen,
@@ -320,6 +324,34 @@ fn search_from(
         found,
         configurations: seen.len(),
     })
+}
+
+/// All outcomes of a program after the blocks that a list of clients names, each client's in turn: each once, with a complete order that
+/// begins with these and comes to it, and how many different configurations orders lead to that are reduced after them. `Order` comes
+/// exactly where no legal order is named, `Limit` only where there are more configurations than the limit, `Memory` where memory was
+/// refused. The watcher is told of each new configuration as it is noted.
+pub fn outcomes_watched<W: Watcher>(
+    alloc: Global,
+    program: &Program,
+    front: &[u8],
+    limit: u32,
+    watcher: &mut W,
+) -> Result<AllOutcomes, OutcomesFault>
+    ensures legal { IfOk result (λ all. IsLegal program.now (order_of front.now)) }
+    ensures sound { IfOk result (λ all. AllByRecursion (IsListedAfter program.now (order_of front.now)) all.found) }
+    ensures complete { IfOk result (λ all. AreAllOutcomesAfter program.now (order_of front.now) all.found) }
+    ensures once { IfOk result (λ all. AreApart all.found) }
+    ensures counted { IfOk result (λ all. HasConfigurationsAfter program.now (order_of front.now) all.configurations) }
+    ensures within { IfOk result (λ all. all.configurations ≤ limit) }
+    ensures limit { IsErrOf result OutcomesFault.Limit → HasMoreThanAfter program.now (order_of front.now) limit }
+    ensures order { IsErrOf result OutcomesFault.Order → ¬ IsLegal program.now (order_of front.now) }
+{
+    if !names_order(program, front) {
+        return Err(OutcomesFault::Order);
+    }
+    let first = placed(alloc, program, front)?;
+    let order = copied(alloc, first.order())?;
+    search_from(alloc, program, order.as_slice(), first, limit, watcher)
 }
 
 /// All outcomes of a program after the blocks that a list of clients names, each client's in turn: each once, with a complete order that
@@ -341,12 +373,7 @@ pub fn outcomes_after(
     ensures limit { IsErrOf result OutcomesFault.Limit → HasMoreThanAfter program.now (order_of front.now) limit }
     ensures order { IsErrOf result OutcomesFault.Order → ¬ IsLegal program.now (order_of front.now) }
 {
-    if !names_order(program, front) {
-        return Err(OutcomesFault::Order);
-    }
-    let first = placed(alloc, program, front)?;
-    let order = copied(alloc, first.order())?;
-    search_from(alloc, program, order.as_slice(), first, limit)
+    outcomes_watched(alloc, program, front, limit, &mut Unwatched)
 }
 
 /// All outcomes of a program, each once, with a complete order that comes to it, and how many different configurations reduced orders lead to.
