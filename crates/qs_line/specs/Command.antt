@@ -28,6 +28,11 @@ counts_rule = record (new_rule (codes "counts")) { long = Some (codes "counts");
 abbrev pub warned_app : App → App
 warned_app app = with_rule app (record (new_rule (codes "warn")) { long = Some (codes "warn"); action = Some SetTrue })
 
+-- `check [--verbose] [--warn]`
+abbrev pub check_app : App
+check_app =
+    warned_app (with_rule (new_app (codes "check")) (record (new_rule (codes "verbose")) { long = Some (codes "verbose"); action = Some SetTrue }))
+
 -- `.. [--rounds N] [--pick LIST] [--order LIST] [--counts]`
 abbrev pub planned_app : App → App
 planned_app app =
@@ -58,10 +63,9 @@ outcomes_app = warned_app (with_rule (with_rule (new_app (codes "outcomes")) lim
 abbrev pub named_app : App
 named_app = record (new_app (codes "qs")) { top = record (new_app (codes "qs")).top { disable_help_subcommand = true; has_version = true } }
 
--- `check [--warn]` and `graph [--warn]`
+-- `check [--verbose] [--warn]` and `graph [--warn]`
 abbrev pub texts_app : App
-texts_app =
-    with_subcommand (with_subcommand named_app (warned_app (new_app (codes "check"))).top) (warned_app (new_app (codes "graph"))).top
+texts_app = with_subcommand (with_subcommand named_app check_app.top) (warned_app (new_app (codes "graph"))).top
 
 -- the whole command
 abbrev pub qs_app : App

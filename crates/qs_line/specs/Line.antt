@@ -75,6 +75,11 @@ abbrev pub warns_met : Option (Text × List Row) → Bool
 warns_met None = false
 warns_met (Some entry) = flag_at (codes "warn") entry.1
 
+-- whether the limits that are left are asked for after it
+abbrev pub is_verbose_met : Option (Text × List Row) → Bool
+is_verbose_met None = false
+is_verbose_met (Some entry) = flag_at (codes "verbose") entry.1
+
 abbrev pub mode_at : List Row → Option Mode
 mode_at rows = option_and_then mode_in (first_of (codes "mode") rows)
 
@@ -175,6 +180,10 @@ line_in words = line_by (fault_of qs_app words) (request_met (subcommand_of qs_a
 -- whether the line of these words asks for warnings
 abbrev pub warns_in : List Text → Bool
 warns_in words = warns_met (subcommand_of qs_app words)
+
+-- whether it asks for the limits that are left
+abbrev pub is_verbose_in : List Text → Bool
+is_verbose_in words = is_verbose_met (subcommand_of qs_app words)
 
 -- the fault of a line that clap refuses by an error of this kind
 abbrev pub IsFault : ErrorKind → LineFault → Type 0

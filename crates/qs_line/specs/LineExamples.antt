@@ -7,7 +7,7 @@ use Rattle.qs_lists.specs.declared.parts.Who.TheVariants.{Name, Number}
 use Rattle.qs_lists.specs.Numbers.{once}
 use Rattle.qs_lists.specs.Parts.{times}
 use Rattle.qs_syncset.specs.declared.mode.Mode.TheVariants.{Dynamic, Static, Both}
-use Rattle.qs_line.specs.Line.{Line, asks, by_order, by_schedule, check, graph, help, line_in, outcomes, play, refused, rules, run, version, warns_in}
+use Rattle.qs_line.specs.Line.{Line, asks, by_order, by_schedule, check, graph, help, is_verbose_in, line_in, outcomes, play, refused, rules, run, version, warns_in}
 
 -- the line of the words after the program's name
 abbrev pub line : List Text → Line
@@ -120,6 +120,18 @@ pub record WarnedLines : Type 0 where
   pub twice : line (codes "check" ∷ codes "--warn" ∷ codes "--warn" ∷ []) ≡ refused
   pub before_word : line (codes "--warn" ∷ codes "check" ∷ []) ≡ refused
 
+-- `--verbose` stands after `check` alone, and changes nothing of what is asked for
+pub record VerboseLines : Type 0 where
+  pub checks : line (codes "check" ∷ codes "--verbose" ∷ []) ≡ asks check
+  pub warned : line (codes "check" ∷ codes "--warn" ∷ codes "--verbose" ∷ []) ≡ asks check
+  pub asked : is_verbose_in (codes "qs" ∷ codes "check" ∷ codes "--verbose" ∷ []) ≡ true
+  pub unasked : is_verbose_in (codes "qs" ∷ codes "check" ∷ codes "--warn" ∷ []) ≡ false
+  pub unwarned : warns_in (codes "qs" ∷ codes "check" ∷ codes "--verbose" ∷ []) ≡ false
+  pub twice : line (codes "check" ∷ codes "--verbose" ∷ codes "--verbose" ∷ []) ≡ refused
+  pub by_value : line (codes "check" ∷ codes "--verbose=1" ∷ []) ≡ refused
+  pub of_graph : line (codes "graph" ∷ codes "--verbose" ∷ []) ≡ refused
+  pub before_word : line (codes "--verbose" ∷ codes "check" ∷ []) ≡ refused
+
 pub record OtherLines : Type 0 where
   pub no_word : line [] ≡ refused
   pub unknown_word : line (codes "dance" ∷ []) ≡ refused
@@ -147,4 +159,5 @@ pub record LineExamples : Type 0 where
   pub uncounted : UncountedLines
   pub lists : ListLines
   pub warned : WarnedLines
+  pub verbose : VerboseLines
   pub others : OtherLines

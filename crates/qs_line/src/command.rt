@@ -3,7 +3,7 @@
 ghost use Rattle.std.specs.Prelude.{◌≡◌, IfOk, codes, false};
 ghost use Rattle.clap.specs.Words.{app_of, new_app, rule_of, with_subcommand};
 ghost use Rattle.clap.specs.declared.Command.TheViews.{out-Command as fields_of};
-ghost use Rattle.qs_line.specs.Command.{chunk_rule, counts_rule, defaulted_rule, limit_rule, machine_app, named_app, option_rule, outcomes_app, planned_app, play_app, qs_app, rules_app, run_app, texts_app, warned_app};
+ghost use Rattle.qs_line.specs.Command.{check_app, chunk_rule, counts_rule, defaulted_rule, limit_rule, machine_app, named_app, option_rule, outcomes_app, planned_app, play_app, qs_app, rules_app, run_app, texts_app, warned_app};
 
 use crate::help;
 use clap::{Arg, ArgAction, Command, value_parser};
@@ -92,6 +92,19 @@ fn planned<'a>(alloc: Global, command: Command<'a>) -> Result<Command<'a>, Alloc
         .arg(counts_flag(alloc))
 }
 
+fn check_command<'a>(alloc: Global) -> Result<Command<'a>, AllocError>
+    ensures app { IfOk result (λ command. app_of command ≡ check_app) }
+    ensures local { IfOk result (λ command. (fields_of command).has_globals ≡ false) }
+{
+    let check = word(alloc, "check", help::CHECK, help::CHECK_EXAMPLE).arg(
+        Arg::new(alloc, "verbose")
+            .long("verbose")
+            .help(help::VERBOSE)
+            .action(ArgAction::SetTrue),
+    )?;
+    warned(alloc, check)
+}
+
 fn rules_command<'a>(alloc: Global) -> Result<Command<'a>, AllocError>
     ensures app { IfOk result (λ command. app_of command ≡ rules_app) }
     ensures local { IfOk result (λ command. (fields_of command).has_globals ≡ false) }
@@ -159,11 +172,7 @@ fn named_command<'a>(alloc: Global) -> Command<'a>
 fn texts_command<'a>(alloc: Global) -> Result<Command<'a>, AllocError>
     ensures app { IfOk result (λ command. app_of command ≡ texts_app) }
 {
-    let check = warned(
-        alloc,
-        word(alloc, "check", help::CHECK, help::CHECK_EXAMPLE),
-    )?;
-    let checked = named_command(alloc).subcommand(check)?;
+    let checked = named_command(alloc).subcommand(check_command(alloc)?)?;
     with_graph(alloc, checked)
 }
 

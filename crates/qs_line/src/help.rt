@@ -38,7 +38,10 @@ pub const CHECK: &str =
 pub const CHECK_EXAMPLE: &str = with_limits!(
     "\
 Example:
-  qs check < my.script"
+  qs check < my.script
+  qs check --verbose < my.script
+
+The second says on standard error, too, how much of each limit is left: `limits: 2 of 8 clients, 6 left`."
 );
 
 pub const GRAPH: &str =
@@ -127,6 +130,9 @@ pub const PICK: &str =
 
 pub const COUNTS: &str =
     "Shows after each block how many synchronisations it has sent for each of its objects";
+
+pub const VERBOSE: &str =
+    "Says on standard error how much of each limit of the language the script uses, and how much is left";
 
 pub const WARN: &str =
     "Warns on standard error of what may be meant otherwise, as a variable that is read and never set";

@@ -4,7 +4,7 @@ ghost use Rattle.std.specs.Prelude.{◌≡◌, [], IfOk, IfErr, map, option_map}
 ghost use Rattle.clap.specs.Words.{found_of, kind_of, rows_of, subcommand_of, subcommand_rows_of};
 ghost use Rattle.clap.specs.Faults.{fault_of};
 ghost use Rattle.qs_line.specs.Command.{qs_app};
-ghost use Rattle.qs_line.specs.Line.{IsAnswer, IsFault, IsFaultAmong, chunk_at, counts_at, front_at, limit_at, line_in, mode_at, outcomes_at, play_at, request_at, request_met, request_of, rules_at, run_at, warns_in, warns_met};
+ghost use Rattle.qs_line.specs.Line.{IsAnswer, IsFault, IsFaultAmong, chunk_at, counts_at, flag_at, front_at, is_verbose_in, is_verbose_met, limit_at, line_in, mode_at, outcomes_at, play_at, request_at, request_met, request_of, rules_at, run_at, warns_in, warns_met};
 
 use crate::command::command;
 use crate::found::text_at;
@@ -242,19 +242,43 @@ pub fn read_line<'a>(alloc: Global, words: &'a [&'a str]) -> Result<Settings, Li
     met_settings(alloc, &matches)?.ok_or(LineFault::Refused)
 }
 
-fn are_asked(matches: &ArgMatches<'_>) -> bool
-    ensures asked { result ≡ warns_met (subcommand_rows_of matches.now) }
+/// What a line asks to be told on standard error beside its result.
+#[derive(Clone, Copy, Debug)]
+pub struct Asked {
+    /// What may be meant otherwise.
+    pub warnings: bool,
+    /// How much of each limit is used, and how much is left.
+    pub limits: bool,
+}
+
+fn has_flag(found: &ArgMatches<'_>, name: &str) -> bool
+    ensures flag { result ≡ flag_at name.now (rows_of (found_of found.now)) }
+{
+    matches!(text_at(found, name), Some("true"))
+}
+
+fn asked_of(matches: &ArgMatches<'_>) -> Asked
+    ensures warnings { result.warnings ≡ warns_met (subcommand_rows_of matches.now) }
+    ensures limits { result.limits ≡ is_verbose_met (subcommand_rows_of matches.now) }
 {
     match matches.subcommand() {
-        Some((_, found)) => matches!(text_at(found, "warn"), Some("true")),
-        None => false,
+        Some((_, found)) => Asked {
+            warnings: has_flag(found, "warn"),
+            limits: has_flag(found, "verbose"),
+        },
+        None => Asked {
+            warnings: false,
+            limits: false,
+        },
     }
 }
 
-/// Whether a line that `clap` takes asks for warnings: `--warn` stands after its word.
-pub fn warns<'a>(alloc: Global, words: &'a [&'a str]) -> Result<bool, LineFault>
-    ensures asked { IfOk result (λ asked. asked ≡ warns_in (map (λ word. word.now) words.entry.now)) }
+/// What a line that `clap` takes asks for beside its result: warnings where `--warn` stands after its word, and the limits that are left
+/// where `--verbose` does. A line that `clap` does not take has the fault of `read_line`.
+pub fn asked_for<'a>(alloc: Global, words: &'a [&'a str]) -> Result<Asked, LineFault>
+    ensures warnings { IfOk result (λ asked. asked.warnings ≡ warns_in (map (λ word. word.now) words.entry.now)) }
+    ensures limits { IfOk result (λ asked. asked.limits ≡ is_verbose_in (map (λ word. word.now) words.entry.now)) }
 {
     let matches = matches_of(alloc, words)?;
-    Ok(are_asked(&matches))
+    Ok(asked_of(&matches))
 }

@@ -1,4 +1,4 @@
--- Out of memory is always a due answer, the status 4 is due only after a read has failed, and the report of a run is due where
+-- Out of memory is always a due answer, the status 4 is due only after a read has failed, the status 0 only with a text, and the report of a run is due where
 -- the line asked for that run. The function `serve` and those that find what is due stand on it. Each goes by cases on what the
 -- line asks for and on the answer.
 use Rattle.std.proofs.Common.{◌≡◌, ◌≤◌, ◌⊎◌, ℕ, Bool, List, Option, Result, Ok, true, false, refl, sym, subst, inl, inr, IsOkAnd}
@@ -20,7 +20,7 @@ use Rattle.qs_report.specs.OutcomesText.{AreOutcomesAfter, IsOutcomesText}
 use Rattle.qs_lists.specs.Named.{clients_of}
 use Rattle.qs_lists.specs.declared.parts.Part.{Part}
 use Rattle.qs_line.specs.Line.{Line, asks, help, outcomes, refused, run, version}
-use Rattle.qs_serve.specs.Due.{IsDue, IsDueOfProgram, IsListOf, IsOutOfMemory, IsRefusedBy, IsReportOf, due_status}
+use Rattle.qs_serve.specs.Due.{IsDue, IsDueOfProgram, IsListOf, IsOutOfMemory, IsRefusedBy, IsReportOf, IsSomeText, due_status}
 use Rattle.qs_serve.specs.declared.due.Due.{Due}
 use Rattle.qs_serve.specs.declared.due.Due.TheVariants.{Text, Refused}
 
@@ -49,6 +49,29 @@ status_of_input (fault.Run _) e = absurd (cc e)
 status_of_input (fault.Outcomes outcomes_fault.Memory) e = absurd (cc e)
 status_of_input (fault.Outcomes outcomes_fault.Limit) e = absurd (cc e)
 status_of_input (fault.Outcomes outcomes_fault.Order) e = absurd (cc e)
+
+-- no fault has the status 0
+zero_is_none : (f : Fault) → fault_status f ≡ 0 → ⊥
+zero_is_none fault.Input e = absurd (cc e)
+zero_is_none fault.CommandLine e = absurd (cc e)
+zero_is_none fault.Memory e = absurd (cc e)
+zero_is_none (fault.Read read.Memory) e = absurd (cc e)
+zero_is_none (fault.Read _) e = absurd (cc e)
+zero_is_none (fault.Check check_fault.Memory) e = absurd (cc e)
+zero_is_none (fault.Check _) e = absurd (cc e)
+zero_is_none (fault.Play play_fault.Memory) e = absurd (cc e)
+zero_is_none (fault.Play _) e = absurd (cc e)
+zero_is_none (fault.Order order_fault.Memory) e = absurd (cc e)
+zero_is_none (fault.Order order_fault.Order) e = absurd (cc e)
+zero_is_none (fault.Run _) e = absurd (cc e)
+zero_is_none (fault.Outcomes outcomes_fault.Memory) e = absurd (cc e)
+zero_is_none (fault.Outcomes outcomes_fault.Limit) e = absurd (cc e)
+zero_is_none (fault.Outcomes outcomes_fault.Order) e = absurd (cc e)
+
+-- so what is due with it is a text
+pub zero_is_text : (due : Due) → due_status due ≡ 0 → IsSomeText due
+zero_is_text (Text bytes) e = tt
+zero_is_text (Refused f) e = absurd (zero_is_none f e)
 
 -- a status of 4 that is due says that a read has failed
 pub four_is_due : (line : Line) (known : Option (List ℕ)) (failed : Bool) (due : Due) → IsDue line known failed due → due_status due ≡ 4 → failed ≡ true

@@ -1,3 +1,4 @@
 pub mod Reading
 pub mod Due
 pub mod Input
+pub mod Told

@@ -1,8 +1,10 @@
 //! The program over a reader and a writer: words and bytes in, bytes and a status out.
 #![tactic(auto)]
 
+mod beside;
 mod due;
 mod input;
+mod limit_words;
 mod line_words;
 mod list_words;
 mod order_words;

@@ -1,16 +1,17 @@
 // The program over a reader and a writer.
 
 ghost use Rattle.std.specs.Prelude.{◌≡◌, ◌+◌, ◌≤◌, ◌⊎◌, false, None, map, IsTrue, MatchBool};
-ghost use Rattle.qs_line.specs.Line.{line_in, request_by};
+ghost use Rattle.std.specs.Io.KnownBytes.{Keeps};
+ghost use Rattle.qs_line.specs.Line.{is_verbose_in, line_in, request_by, warns_in};
 ghost use Rattle.qs_report.specs.Faults.{fault_text};
 ghost use Rattle.qs_report.specs.Texts.{AppendsFront};
 ghost use Rattle.qs_serve.specs.Due.{IsDone, Serves, longest};
 
+use crate::beside::tell_beside;
 use crate::due::{Due, due_of};
 use crate::input::Counted;
 use crate::output::finish;
 use crate::telling::{tell, tell_unread};
-use crate::warning_words::warn;
 use qs_report::{Fault, Watch};
 use std::alloc::Global;
 use std::io::{Read, Write};
@@ -19,8 +20,9 @@ use std::thread::Threads;
 
 /// The whole program, over a reader whose reads are counted and a writer whose failures are watched; its status is the answer. The words
 /// are all the process's arguments, the program's name first. The status is 4 exactly where a read, a write or the flush fails. The word `run`
-/// takes threads, and waits for them. What was refused is told on `err` in words, and what is warned of in a script, where `err` is a
-/// terminal or the line asks for it; that changes neither output nor status.
+/// takes threads, and waits for them. What was refused is told on `err` in words; beside a result, how much of each limit is left where the
+/// line asks for it, and what is warned of in a script where `err` is a terminal or the line asks for it. That changes neither output nor
+/// status. Where the status is 0 and nothing of it is asked for, nothing is written to `err`.
 pub fn serve<'a, T: Threads + Wait + Sync, R: Read, W: Write, E: Write>(
     rt: &T,
     alloc: Global,
@@ -40,12 +42,14 @@ pub fn serve<'a, T: Threads + Wait + Sync, R: Read, W: Write, E: Write>(
     ensures unread { request_by (line_in (map (λ word. word.now) words.entry.now)) ≡ None → input.new ≡ input.old }
     ensures reads { input.new.reads ≤ input.old.reads + longest }
     ensures flushed { watch.new.has_failed ≡ false → IsTrue watch.new.is_flushed }
+    ensures silent { result ≡ 0 → is_terminal ≡ false → warns_in (map (λ word. word.now) words.entry.now) ≡ false
+        → is_verbose_in (map (λ word. word.now) words.entry.now) ≡ false → Keeps (E.contents err.old) (E.contents err.new) }
 {
     let mut text = Vec::new(alloc);
     let due = due_of(rt, alloc, words, input, &mut text);
     let status = finish(out, watch, &due);
     tell(alloc, words, text.as_slice(), &due, status != 4, err);
-    warn(alloc, words, text.as_slice(), &due, is_terminal, err);
+    tell_beside(alloc, words, text.as_slice(), &due, is_terminal, err);
     status
 }
 

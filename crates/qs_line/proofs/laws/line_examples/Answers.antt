@@ -54,6 +54,17 @@ returns c = record {
       handlers_in_an_order = refl;
     };
     warned = record { checks = refl; runs = refl; lists = refl; asked = refl; unasked = refl; twice = refl; before_word = refl };
+    verbose = record {
+      checks = refl;
+      warned = refl;
+      asked = refl;
+      unasked = refl;
+      unwarned = refl;
+      twice = refl;
+      by_value = refl;
+      of_graph = refl;
+      before_word = refl;
+    };
     others = record {
       no_word = refl;
       unknown_word = refl;

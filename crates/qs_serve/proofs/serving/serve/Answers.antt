@@ -1,6 +1,7 @@
 use Rattle.std.proofs.Common.{◌≡◌, ◌⊎◌, ◌∙◌, Bool, ℕ, true, false, refl, sym, inl, inr}
 use Rattle.std.specs.Prelude.{MatchBool, IsTrue}
-use Rattle.qs_serve.proofs.Dues.{four_is_due}
+use Rattle.std.proofs.KnownBytes.{Keeps-trans}
+use Rattle.qs_serve.proofs.Dues.{four_is_due, zero_is_text}
 use Rattle.qs_serve.proofs.serving.serve.Goals as goal
 
 -- a status of 4 is that of a failed write, or what is due
@@ -14,3 +15,15 @@ returns-clause-gives_up g c = λ e. elim (by_watch _ c.finish-status.new.watch.h
   | inl four ↦ inl (four_is_due _ _ c.due_of-due.new.input.has_failed c.due_of-due.result c.due_of-due.ensures.due four)
   | inr failed ↦ inr failed
 ]
+
+-- a status of 0 is due, and not that of a failed write
+due_by_zero : (P : Type 0) (failed : Bool) (status due : ℕ) → MatchBool failed (status ≡ 4) (P × (status ≡ due)) → status ≡ 0 → due ≡ 0
+due_by_zero P true status due is e = absurd (cc (is, e))
+due_by_zero P false status due is e = sym is.1 ∙ e
+
+pub returns-clause-silent : goal.returns-clause-silent
+returns-clause-silent g c = λ zero no_terminal no_warnings no_limits.
+    let due = due_by_zero _ c.finish-status.new.watch.has_failed c.finish-status.result _ c.finish-status.ensures.status zero in
+    Keeps-trans _ _ _
+    (c.tell.ensures.silent (zero_is_text c.due_of-due.result due) (rw zero refl))
+    (c.tell_beside.ensures.unasked no_terminal no_warnings no_limits)

@@ -1,0 +1,5 @@
+pub mod Extents
+pub mod Greatest
+pub mod Templates
+pub mod LimitsText
+pub mod LimitsExamples

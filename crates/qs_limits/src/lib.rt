@@ -1,0 +1,12 @@
+//! What a script uses of the limits of the language, and how much of each is left.
+#![tactic(auto)]
+
+mod extents;
+mod greatest;
+pub mod laws;
+mod templates;
+mod text;
+
+pub use greatest::{OfBlock, OfClient, Use, most_of_blocks, most_of_clients};
+pub use templates::{TemplateUse, template_use};
+pub use text::limits_text;

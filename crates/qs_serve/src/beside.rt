@@ -1,0 +1,36 @@
+// What is said on standard error beside a result.
+
+ghost use Rattle.std.specs.Prelude.{◌≡◌, false, map};
+ghost use Rattle.std.specs.Io.KnownBytes.{Keeps};
+ghost use Rattle.qs_line.specs.Line.{is_verbose_in, warns_in};
+ghost use Rattle.qs_serve.specs.Due.{IsSomeText};
+
+use crate::due::Due;
+use crate::limit_words::tell_limits;
+use crate::warning_words::warn;
+use qs_line::asked_for;
+use std::alloc::Global;
+use std::io::Write;
+
+/// Says what was asked for beside a result, where one was due: how much of each limit is left, where the line asks for it, and what is warned
+/// of in the script, where the line asks for it or a terminal shows it. A writer that fails changes nothing else, and neither does memory
+/// that runs out.
+pub(crate) fn tell_beside<'a, W: Write>(
+    alloc: Global,
+    words: &'a [&'a str],
+    text: &[u8],
+    due: &Due,
+    is_terminal: bool,
+    err: &mut W,
+)
+    ensures unasked { is_terminal ≡ false → warns_in (map (λ word. word.now) words.entry.now) ≡ false → is_verbose_in (map (λ word. word.now) words.entry.now) ≡ false
+        → Keeps (W.contents err.old) (W.contents err.new) }
+    ensures refused { ¬ IsSomeText due.now → Keeps (W.contents err.old) (W.contents err.new) }
+{
+    if let Due::Text(_) = due {
+        if let Ok(asked) = asked_for(alloc, words) {
+            tell_limits(alloc, text, asked.limits, err);
+            warn(alloc, text, asked.warnings || is_terminal, err);
+        }
+    }
+}
