@@ -55,7 +55,7 @@ same_line p c reserved g one other below is a b n inside =
     (same_label p c (has one n) (has other n) (place_at g.nodes n).node place.in_range same)
     (same_filter (has one n) (has other n) reserved (each_map same reserved below))
 
-same_texts : (text other : ℕ → List ℕ) (n : ℕ) → ((k : ℕ) → k < n → text k ≡ other k) → texts_up_to n text ≡ texts_up_to n other
+pub same_texts : (text other : ℕ → List ℕ) (n : ℕ) → ((k : ℕ) → k < n → text k ≡ other k) → texts_up_to n text ≡ texts_up_to n other
 same_texts text other zero same = refl
 same_texts text other (suc n) same = ap₂ (λ l m. l ++ m) (same_texts text other n (λ k l. same k (omega arith))) (same n (omega arith))
 
