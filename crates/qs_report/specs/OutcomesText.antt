@@ -77,3 +77,8 @@ pub record AreOutcomesAfter (p : ProgramShape) (front : List Ticket) (all : Outc
 unfoldable pub IsOutcomesText : ProgramShape → (limit : ℕ) → (front : List ℕ) → List ℕ → Type 0
 IsOutcomesText p limit front text =
     (all : OutcomesShape) × AreOutcomesAfter p (order_of front) all × (all.configurations ≤ limit) × (text ≡ listed_text p all)
+
+-- a program has one such text
+abbrev pub OutcomesTextsAreUnique : Type 0
+OutcomesTextsAreUnique =
+    (p : ProgramShape) (limit bound : ℕ) (front one other : List ℕ) → IsOutcomesText p limit front one → IsOutcomesText p bound front other → one ≡ other
