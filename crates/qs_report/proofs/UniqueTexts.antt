@@ -23,7 +23,7 @@ same_truth true b there back = sym (there refl)
 same_truth false true there back = back refl
 same_truth false false there back = refl
 
-same_sets : (g : ControlGraph) (one other : List (List Bool)) → AreSetsOf g one → AreSetsOf g other
+pub same_sets : (g : ControlGraph) (one other : List (List Bool)) → AreSetsOf g one → AreSetsOf g other
     → (n : ℕ) → n < length g.nodes → (h : ℕ) → h < 8 → has one n h ≡ has other n h
 same_sets g one other a b n inside h below =
     let x = a.exact n h inside below in
@@ -39,7 +39,7 @@ same_label p c f g (Query x q) range same = refl
 same_label p c f g (Call q) range same = refl
 same_label p c f g Exit range same = refl
 
-same_filter : (f g : Holding) (hs : List ℕ) → AllByRecursion (λ h. f h ≡ g h) hs → filter f hs ≡ filter g hs
+pub same_filter : (f g : Holding) (hs : List ℕ) → AllByRecursion (λ h. f h ≡ g h) hs → filter f hs ≡ filter g hs
 same_filter f g [] each = refl
 same_filter f g (h ∷ hs) each = ap₂ (λ b l. if b then h ∷ l else l) each.0 (same_filter f g hs each.1)
 
@@ -55,7 +55,7 @@ same_line p c reserved g one other below is a b n inside =
     (same_label p c (has one n) (has other n) (place_at g.nodes n).node place.in_range same)
     (same_filter (has one n) (has other n) reserved (each_map same reserved below))
 
-same_texts : (text other : ℕ → List ℕ) (n : ℕ) → ((k : ℕ) → k < n → text k ≡ other k) → texts_up_to n text ≡ texts_up_to n other
+pub same_texts : (text other : ℕ → List ℕ) (n : ℕ) → ((k : ℕ) → k < n → text k ≡ other k) → texts_up_to n text ≡ texts_up_to n other
 same_texts text other zero same = refl
 same_texts text other (suc n) same = ap₂ (λ l m. l ++ m) (same_texts text other n (λ k l. same k (omega arith))) (same n (omega arith))
 
@@ -72,7 +72,7 @@ one_block p c k sound client block one other a b =
     ∙ ap (λ l. block_line p c k ++ l) (same_texts (node_line p c own.reserved g.nodes a.sets) (node_line p c own.reserved g.nodes b.sets) (length g.nodes) line)
     ∙ sym b.lines
 
-one_up_to : (IsText : ℕ → List ℕ → Type 0) (n : ℕ) → ((k : ℕ) → k < n → (one other : List ℕ) → IsText k one → IsText k other → one ≡ other)
+pub one_up_to : (IsText : ℕ → List ℕ → Type 0) (n : ℕ) → ((k : ℕ) → k < n → (one other : List ℕ) → IsText k one → IsText k other → one ≡ other)
     → (one other : List ℕ) → AreTextsUpTo n IsText one → AreTextsUpTo n IsText other → one ≡ other
 one_up_to IsText zero each one other a b = a ∙ sym b
 one_up_to IsText (suc n) each one other (before, last, texts, is, e) (before2, last2, texts2, is2, f) =

@@ -37,10 +37,10 @@ straight n = straight_from n 0 []
 abbrev to_4 : List ℕ
 to_4 = 3 ∷ 2 ∷ 1 ∷ 0 ∷ []
 
-abbrev in_repeat : Rows
+abbrev pub in_repeat : Rows
 in_repeat = none ∷ none ∷ a ∷ a ∷ a ∷ a ∷ a ∷ a ∷ []
 
-in_repeat_sets : AreSetsOf (graph_of (by_ann (on_a query_in_repeat ∷ [])) 0 0) (sets_in in_repeat)
+pub in_repeat_sets : AreSetsOf (graph_of (by_ann (on_a query_in_repeat ∷ [])) 0 0) (sets_in in_repeat)
 in_repeat_sets = checked_sets (graph_of (by_ann (on_a query_in_repeat ∷ [])) 0 0) in_repeat (straight 7 ++ (4 ∷ to_4) ∷ []) refl refl
 
 abbrev sets_left : Rows
@@ -51,13 +51,13 @@ left_sets =
     checked_sets (graph_of (by_ann (on_a leave_first ∷ [])) 0 0) sets_left
     (straight 6 ++ [] ∷ (4 ∷ to_4) ∷ (7 ∷ 4 ∷ to_4) ∷ (8 ∷ 7 ∷ 4 ∷ to_4) ∷ []) refl refl
 
-abbrev sets_met : Rows
+abbrev pub sets_met : Rows
 sets_met = none ∷ none ∷ none ∷ none ∷ a ∷ none ∷ a ∷ a ∷ []
 
 abbrev to_5 : List ℕ
 to_5 = 2 ∷ 1 ∷ 0 ∷ []
 
-met_sets : AreSetsOf (graph_of (by_ann (on_a two_bodies ∷ [])) 0 0) (sets_in sets_met)
+pub met_sets : AreSetsOf (graph_of (by_ann (on_a two_bodies ∷ [])) 0 0) (sets_in sets_met)
 met_sets =
     checked_sets (graph_of (by_ann (on_a two_bodies ∷ [])) 0 0) sets_met
     (straight 3 ++ (1 ∷ 0 ∷ []) ∷ (3 ∷ 1 ∷ 0 ∷ []) ∷ to_5 ∷ (5 ∷ to_5) ∷ (6 ∷ 5 ∷ to_5) ∷ []) refl refl
@@ -68,19 +68,19 @@ nowhere = none ∷ none ∷ none ∷ none ∷ none ∷ []
 nowhere_sets : AreSetsOf (graph_of (by_ann (on_a empty_bodies ∷ [])) 0 0) (sets_in nowhere)
 nowhere_sets = checked_sets (graph_of (by_ann (on_a empty_bodies ∷ [])) 0 0) nowhere (straight 5) refl refl
 
-abbrev neither : Rows
+abbrev pub neither : Rows
 neither = none ∷ none ∷ []
 
-neither_sets : AreSetsOf (graph_of (by_ann (on_a end ∷ [])) 0 0) (sets_in neither)
+pub neither_sets : AreSetsOf (graph_of (by_ann (on_a end ∷ [])) 0 0) (sets_in neither)
 neither_sets = checked_sets (graph_of (by_ann (on_a end ∷ [])) 0 0) neither (straight 2) refl refl
 
-abbrev either : Rows
+abbrev pub either : Rows
 either = none ∷ none ∷ a ∷ a ∷ both ∷ both ∷ b ∷ b ∷ b ∷ []
 
-abbrev ann_twice : ProgramShape
+abbrev pub ann_twice : ProgramShape
 ann_twice = by_ann (on_a end ∷ on_b_and_a ∷ [])
 
-either_sets : AreSetsOf (graph_of ann_twice 0 1) (sets_in either)
+pub either_sets : AreSetsOf (graph_of ann_twice 0 1) (sets_in either)
 either_sets = checked_sets (graph_of ann_twice 0 1) either (straight 9) refl refl
 
 -- the text of one block alone

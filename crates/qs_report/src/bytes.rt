@@ -7,15 +7,15 @@ ghost use Rattle.qs_report.specs.Texts.{count_line};
 use itoa::Buffer;
 use std::alloc::AllocError;
 
-// Puts a text at the end.
-pub(crate) fn put(out: &mut Vec<u8>, text: &[u8]) -> Result<(), AllocError>
+/// Puts a text at the end. An error says that an allocation failed.
+pub fn put(out: &mut Vec<u8>, text: &[u8]) -> Result<(), AllocError>
     ensures ok { OnOk result (out.new.items ≡ out.old.items ++ text.now) }
 {
     out.extend_from_slice(text)
 }
 
-// Puts texts at the end, one after another.
-pub(crate) fn put_all(out: &mut Vec<u8>, texts: &[&[u8]]) -> Result<(), AllocError>
+/// Puts texts at the end, one after another. An error says that an allocation failed.
+pub fn put_all(out: &mut Vec<u8>, texts: &[&[u8]]) -> Result<(), AllocError>
     ensures ok { OnOk result (out.new.items
         ≡ out.old.items ++ flat_map (λ text. text.now) texts.now) }
 {
@@ -25,8 +25,8 @@ pub(crate) fn put_all(out: &mut Vec<u8>, texts: &[&[u8]]) -> Result<(), AllocErr
     Ok(())
 }
 
-// Puts a number at the end, with a sign where it is negative.
-pub(crate) fn put_number(out: &mut Vec<u8>, number: i64) -> Result<(), AllocError>
+/// Puts a number at the end, with a sign where it is negative. An error says that an allocation failed.
+pub fn put_number(out: &mut Vec<u8>, number: i64) -> Result<(), AllocError>
     ensures ok { OnOk result (out.new.items ≡ out.old.items ++ signed_decimal number) }
 {
     let mut buffer = Buffer::new();

@@ -81,8 +81,8 @@ fn put_targets(out: &mut Vec<u8>, targets: &[usize]) -> Result<(), AllocError>
     Ok(())
 }
 
-// The names of a block's list that are held at a node, in the list's order.
-fn held_at(alloc: Global, reserved: &[u8], sets: &Sets, n: usize) -> Result<Vec<u8>, AllocError>
+/// The names of a block's list that are held at a node, in the list's order; each is one of 8. An error says that an allocation failed.
+pub fn held_at(alloc: Global, reserved: &[u8], sets: &Sets, n: usize) -> Result<Vec<u8>, AllocError>
     requires node { n < length sets.now }
     requires handlers { AllByRecursion (λ h. h < most_handlers) reserved.now }
     ensures held { IfOk result (λ held. held.items ≡ filter (has sets.now n) reserved.now) }
@@ -96,8 +96,9 @@ fn held_at(alloc: Global, reserved: &[u8], sets: &Sets, n: usize) -> Result<Vec<
     Ok(held)
 }
 
-// Names of a client's own text.
-fn put_names(
+/// Puts names of a client's own text at the end, each after a space, or a dash where there are none. An error says that an allocation
+/// failed.
+pub fn put_names(
     out: &mut Vec<u8>,
     program: &Program,
     client: u8,
@@ -215,8 +216,8 @@ fn put_block_line(
     )
 }
 
-// The names of a block's list, each one of 8.
-fn reserved_by(program: &Program, client: u8, block: u8) -> &[u8]
+/// The names of a block's list, each one of 8.
+pub fn reserved_by(program: &Program, client: u8, block: u8) -> &[u8]
     requires client { client < length program.now.clients }
     requires block { block < blocks_of program.now client }
     ensures value { result.now ≡ (own_block program.now client block).reserved }

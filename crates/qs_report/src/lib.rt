@@ -13,9 +13,12 @@ mod states;
 mod tickets;
 mod watching;
 
+pub use bytes::{put, put_all, put_number};
 pub use counts::check_text;
 pub use faults::{Fault, fault_line, fault_line_watched, status};
-pub use graphs::graph_text;
+pub use graphs::{graph_text, held_at, put_names, reserved_by};
+pub use names::{client_name, declared_name, variable_name};
 pub use outcomes::outcomes_text;
 pub use runs::{report, report_counts, report_run, report_run_counts};
+pub use tickets::op_word;
 pub use watching::{Watch, write_text};

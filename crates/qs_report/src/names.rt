@@ -1,9 +1,9 @@
 // The names of a program by number; a number past the last has none.
 
-ghost use Rattle.std.specs.Prelude.{◌≡◌, ◌<◌, length};
+ghost use Rattle.std.specs.Prelude.{◌≡◌, ◌<◌, [], length, slice_index_or};
 ghost use Rattle.qs_program.specs.Program.{object_at, client_at, declared_as};
 
-use qs_program::Program;
+use qs_program::{Names, Program};
 
 pub(crate) fn object_name(program: &Program, object: usize) -> &[u8]
     ensures name { result.now ≡ (object_at program.now object).name }
@@ -16,9 +16,9 @@ pub(crate) fn object_name(program: &Program, object: usize) -> &[u8]
     }
 }
 
-// A name of a client's own text: of a formal of its template, or of an object.
-pub(crate) fn declared_name(program: &Program, client: u8, name: u8) -> &[u8]
-    requires { client < length program.now.clients }
+/// A name of a client's own text: of a formal of its template, or of an object.
+pub fn declared_name(program: &Program, client: u8, name: u8) -> &[u8]
+    requires client { client < length program.now.clients }
     ensures name { result.now ≡ (declared_as program.now client name).name }
 {
     if usize::from(name) < program.declarations(client) {
@@ -28,12 +28,23 @@ pub(crate) fn declared_name(program: &Program, client: u8, name: u8) -> &[u8]
     }
 }
 
-pub(crate) fn client_name(program: &Program, client: u8) -> &[u8]
+/// A client's name.
+pub fn client_name(program: &Program, client: u8) -> &[u8]
     ensures name { result.now ≡ (client_at program.now client).name }
 {
     if usize::from(client) < program.clients() {
         program.client_name(client).as_slice()
     } else {
         b""
+    }
+}
+
+/// A variable's name, by its number among a client's variables.
+pub fn variable_name(variables: &Names, number: usize) -> &[u8]
+    ensures name { result.now ≡ slice_index_or variables.now number [] }
+{
+    match variables.name(number) {
+        Some(name) => name.as_slice(),
+        None => b"",
     }
 }

@@ -1,13 +1,13 @@
 // All outcomes of a program.
 
-ghost use Rattle.std.specs.Prelude.{◌≡◌, ◌<◌, ◌++◌, [], codes, flat_map, length, slice_index_or, IfOk, OnOk};
+ghost use Rattle.std.specs.Prelude.{◌≡◌, ◌<◌, ◌++◌, codes, flat_map, length, slice_index_or, IfOk, OnOk};
 ghost use Rattle.std.specs.List.{AllByRecursion};
 ghost use Rattle.qs_outcomes.specs.Outcomes.{HasPlaces};
 ghost use Rattle.qs_report.specs.OutcomesText.{client_line, clients_text, listed_text, next_client_text, no_standing, object_line, outcome_line, outcome_text, outcome_text_at, variable_text, variables_text};
 ghost use Rattle.qs_report.specs.Texts.{texts_up_to};
 
 use crate::bytes::{put, put_all, put_count, put_number};
-use crate::names::{client_name, object_name};
+use crate::names::{client_name, object_name, variable_name};
 use crate::states::put_state;
 use itoa::Buffer;
 use qs_objects::Ticket;
@@ -56,15 +56,6 @@ fn put_outcome_line(out: &mut Vec<u8>, number: usize, order: &[Ticket]) -> Resul
     put_all(out, &[b"outcome ", buffer.format(number).as_bytes(), b" "])?;
     put_clients_in(out, order)?;
     put(out, b"\n")
-}
-
-fn variable_name(variables: &Names, number: usize) -> &[u8]
-    ensures name { result.now ≡ slice_index_or variables.now number [] }
-{
-    match variables.name(number) {
-        Some(name) => name.as_slice(),
-        None => b"",
-    }
 }
 
 // A variable with its value.

@@ -13,8 +13,8 @@ use qs_played::Played;
 use qs_program::Program;
 use std::alloc::AllocError;
 
-// The script's word of an operation.
-fn op_word(op: Op) -> &'static [u8]
+/// The script's word of an operation.
+pub fn op_word(op: Op) -> &'static [u8]
     ensures word { result.now ≡ op_text op }
 {
     match op {

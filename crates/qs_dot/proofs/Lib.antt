@@ -1,0 +1,4 @@
+pub mod Parts
+pub mod BlocksAdded
+pub mod OneDrawing
+pub mod WorkedDrawings

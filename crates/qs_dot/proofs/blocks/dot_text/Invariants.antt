@@ -1,0 +1,8 @@
+-- The clients before this number are there, after the first line.
+use Rattle.std.proofs.Common.{codes}
+use Rattle.qs_report.specs.GraphText.{AreTextsUpTo, IsAdded}
+use Rattle.qs_dot.specs.DotText.{IsClientDrawn}
+use Rattle.qs_dot.proofs.blocks.dot_text.Given as goal
+
+abbrev pub invariant-loop-client : goal.invariant-loop-client
+invariant-loop-client l = IsAdded (AreTextsUpTo l.client (IsClientDrawn l.program)) (codes "digraph graphs {\n") l.out.items

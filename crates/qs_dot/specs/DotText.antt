@@ -1,0 +1,109 @@
+-- The control-flow graphs of a program as a drawing in the DOT language, as bytes.
+use Rattle.std.specs.Prelude.{◌≡◌, ℕ, List, [], ◌∷◌, ◌++◌, codes, decimal, length, Bool, if◌then◌else◌, nat_eq, slice_index_or}
+use Rattle.std.specs.List.{filter}
+use Rattle.qs_program.specs.Program.{ProgramShape, blocks_of, client_at, own_block}
+use Rattle.qs_program.specs.Sound.{IsSound}
+use Rattle.qs_graph.specs.declared.node.Choice.TheVariants.{If, Repeat}
+use Rattle.qs_graph.specs.declared.node.Node.{Node}
+use Rattle.qs_graph.specs.declared.node.Node.TheVariants.{Entry, Local, Branch, Sync, Query, Call, Exit}
+use Rattle.qs_graph.specs.Names.{graph_of}
+use Rattle.qs_graph.specs.Nodes.{ControlGraph, GraphNode, place_at}
+use Rattle.qs_syncset.specs.Flow.{Holding}
+use Rattle.qs_syncset.specs.Table.{AreSetsOf, has}
+use Rattle.qs_report.specs.GraphText.{AreTextsUpTo, list_text, name_of}
+use Rattle.qs_report.specs.Texts.{texts_up_to}
+use Rattle.qs_dot.specs.Written.{written}
+
+-- the outline of a node, by its kind
+abbrev pub outline_text : Node → List ℕ
+outline_text Entry = codes "oval"
+outline_text (Local a) = codes "box"
+outline_text (Branch (If t)) = codes "diamond"
+outline_text (Branch Repeat) = codes "hexagon"
+outline_text (Sync h) = codes "octagon"
+outline_text (Query x q) = codes "parallelogram"
+outline_text (Call q) = codes "note"
+outline_text Exit = codes "oval"
+
+-- a synchronisation is dashed exactly where its own name is held, as it is removed there
+abbrev pub line_text : Holding → Node → List ℕ
+line_text held (Sync h) = if held h then codes ", style=dashed" else []
+line_text held _ = []
+
+-- the name of node n of block k of client c
+abbrev pub node_name : (c k n : ℕ) → List ℕ
+node_name c k n = codes "n" ++ decimal c ++ codes "_" ++ decimal k ++ codes "_" ++ decimal n
+
+-- a second line of a node's label: the names that are held there, where there are some
+abbrev pub held_text : ProgramShape → (c : ℕ) → List ℕ → List ℕ
+held_text p c [] = []
+held_text p c (h ∷ hs) = codes "\\nheld" ++ list_text (name_of p c) (h ∷ hs)
+
+-- the beginning of a node's line, up to the number in its label: its name, its outline and how that is drawn
+abbrev pub head_text : (c k : ℕ) → List GraphNode → (sets : List (List Bool)) → ℕ → List ℕ
+head_text c k g sets n =
+    codes "    " ++ node_name c k n ++ codes " [shape=" ++ outline_text (place_at g n).node ++ line_text (has sets n) (place_at g n).node
+    ++ codes ", label=\"" ++ decimal n ++ codes " "
+
+-- a node with its outline, its number, what it does, and which names of the block's list are held there, in the list's order
+abbrev pub node_line : ProgramShape → (c k : ℕ) → (reserved : List ℕ) → List GraphNode → (sets : List (List Bool)) → ℕ → List ℕ
+node_line p c k reserved g sets n =
+    head_text c k g sets n ++ written p c (place_at g n).node ++ held_text p c (filter (has sets n) reserved) ++ codes "\"];\n"
+
+-- what stands at the edge of a place among a node's edges: which of the two it is at a branch, and nothing elsewhere
+abbrev pub edge_text : Node → ℕ → List ℕ
+edge_text (Branch (If t)) i = if nat_eq i 0 then codes " [label=\"true\"]" else codes " [label=\"false\"]"
+edge_text (Branch Repeat) i = if nat_eq i 0 then codes " [label=\"once more\"]" else codes " [label=\"done\"]"
+edge_text _ i = []
+
+-- the edge of a place among those of node n
+abbrev pub edge_line : (c k : ℕ) → List GraphNode → (n i : ℕ) → List ℕ
+edge_line c k g n i =
+    codes "    " ++ node_name c k n ++ codes " -> " ++ node_name c k (slice_index_or (place_at g n).edges i 0)
+    ++ edge_text (place_at g n).node i ++ codes ";\n"
+
+-- a node, and the edges that it has
+abbrev pub node_text : ProgramShape → (c k : ℕ) → (reserved : List ℕ) → List GraphNode → (sets : List (List Bool)) → ℕ → List ℕ
+node_text p c k reserved g sets n =
+    node_line p c k reserved g sets n ++ texts_up_to (length (place_at g n).edges) (edge_line c k g n)
+
+abbrev pub nodes_text : ProgramShape → (c k : ℕ) → (reserved : List ℕ) → List GraphNode → (sets : List (List Bool)) → List ℕ
+nodes_text p c k reserved g sets = texts_up_to (length g) (node_text p c k reserved g sets)
+
+-- block k of client c by numbers
+abbrev pub block_name : (c k : ℕ) → List ℕ
+block_name c k = decimal c ++ codes "_" ++ decimal k
+
+-- the beginning of a block's frame, up to its label
+abbrev pub frame_head : (c k : ℕ) → List ℕ
+frame_head c k = codes "  subgraph cluster_" ++ block_name c k ++ codes " {\n    label=\""
+
+-- the frame of a block, which has the client's name and the block's number
+abbrev pub frame_text : ProgramShape → (c k : ℕ) → List ℕ
+frame_text p c k =
+    frame_head c k ++ (client_at p c).name ++ (codes " " ++ decimal k ++ codes "\";\n")
+
+-- the nodes of a graph, with what is held at each on every path, and the end of their block's frame
+abbrev pub AreNodesDrawn : ProgramShape → (c k : ℕ) → (reserved : List ℕ) → ControlGraph → List ℕ → Type 0
+AreNodesDrawn p c k reserved g text =
+    (sets : List (List Bool)) × AreSetsOf g sets × (text ≡ nodes_text p c k reserved g.nodes sets ++ codes "  }\n")
+
+-- block k of client c: the nodes of its graph as it is built, with what is held at each on every path, in a frame
+pub record IsBlockDrawn (p : ProgramShape) (c k : ℕ) (text : List ℕ) : Type 0 where
+  pub sets : List (List Bool)
+  pub held : AreSetsOf (graph_of p c k) sets
+  pub lines : text
+      ≡ frame_text p c k ++ (nodes_text p c k (own_block p c k).reserved (graph_of p c k).nodes sets ++ codes "  }\n")
+
+-- the blocks of client c
+abbrev pub IsClientDrawn : ProgramShape → (c : ℕ) → List ℕ → Type 0
+IsClientDrawn p c text = AreTextsUpTo (blocks_of p c) (IsBlockDrawn p c) text
+
+-- the blocks of all clients, as one drawing
+unfoldable pub IsDotText : ProgramShape → List ℕ → Type 0
+IsDotText p text =
+    (blocks : List ℕ) × AreTextsUpTo (length p.clients) (IsClientDrawn p) blocks × (text ≡ (codes "digraph graphs {\n" ++ blocks) ++ codes "}\n")
+
+-- a program has one such text
+abbrev pub DotTextsAreUnique : Type 0
+DotTextsAreUnique = (p : ProgramShape) (one other : List ℕ) → IsSound p → IsDotText p one → IsDotText p other → one ≡ other

@@ -1,0 +1,132 @@
+// The drawing of a program: each block in a frame of its own.
+
+ghost use Rattle.std.specs.Prelude.{◌≡◌, ◌<◌, ◌++◌, codes, decimal, length, IfOk, OnOk};
+ghost use Rattle.std.specs.List.{AllByRecursion};
+ghost use Rattle.qs_program.specs.Limits.{most_handlers};
+ghost use Rattle.qs_program.specs.Program.{blocks_of};
+ghost use Rattle.qs_report.specs.GraphText.{IsAdded};
+ghost use Rattle.qs_dot.specs.DotText.{AreNodesDrawn, IsBlockDrawn, IsClientDrawn, IsDotText, block_name, frame_head, frame_text};
+
+use crate::nodes::put_nodes;
+use itoa::Buffer;
+use qs_graph::{Graph, graph};
+use qs_objects::Ticket;
+use qs_program::Program;
+use qs_report::{client_name, put, put_all, reserved_by};
+use qs_syncset::held_sets;
+use std::alloc::{AllocError, Global};
+
+// A block by numbers.
+fn put_block_name(out: &mut Vec<u8>, ticket: Ticket) -> Result<(), AllocError>
+    ensures ok { OnOk result (out.new.items ≡ out.old.items ++ block_name ticket.client ticket.index) }
+{
+    let mut client = Buffer::new();
+    let mut block = Buffer::new();
+    put_all(
+        out,
+        &[
+            client.format(ticket.client).as_bytes(),
+            b"_",
+            block.format(ticket.index).as_bytes(),
+        ],
+    )
+}
+
+// The beginning of a block's frame, up to its label.
+fn put_frame_head(out: &mut Vec<u8>, ticket: Ticket) -> Result<(), AllocError>
+    ensures ok { OnOk result (out.new.items ≡ out.old.items ++ frame_head ticket.client ticket.index) }
+{
+    put(out, b"  subgraph cluster_")?;
+    put_block_name(out, ticket)?;
+    put(out, b" {\n    label=\"")
+}
+
+// The end of a frame's label.
+fn put_number_of(out: &mut Vec<u8>, ticket: Ticket) -> Result<(), AllocError>
+    ensures ok { OnOk result (out.new.items ≡ out.old.items ++ (codes " " ++ decimal ticket.index ++ codes "\";\n")) }
+{
+    let mut buffer = Buffer::new();
+    put_all(
+        out,
+        &[b" ", buffer.format(ticket.index).as_bytes(), b"\";\n"],
+    )
+}
+
+// The beginning of a block's frame.
+fn put_frame(out: &mut Vec<u8>, program: &Program, ticket: Ticket) -> Result<(), AllocError>
+    ensures ok { OnOk result (out.new.items ≡ out.old.items ++ frame_text program.now ticket.client ticket.index) }
+{
+    put_frame_head(out, ticket)?;
+    put(out, client_name(program, ticket.client))?;
+    put_number_of(out, ticket)
+}
+
+// The nodes of a graph, with what is held at each, and the end of the frame.
+fn put_graph(
+    alloc: Global,
+    out: &mut Vec<u8>,
+    program: &Program,
+    ticket: Ticket,
+    reserved: &[u8],
+    graph: &Graph,
+) -> Result<(), AllocError>
+    requires client { ticket.client < length program.now.clients }
+    requires handlers { AllByRecursion (λ h. h < most_handlers) reserved.now }
+    ensures ok { OnOk result (IsAdded (AreNodesDrawn program.now ticket.client ticket.index reserved.now graph.now) out.old.items out.new.items) }
+{
+    let sets = held_sets(alloc, graph)?;
+    put_nodes(alloc, out, program, ticket, reserved, graph, &sets)?;
+    put(out, b"  }\n")
+}
+
+fn put_block(
+    alloc: Global,
+    out: &mut Vec<u8>,
+    program: &Program,
+    ticket: Ticket,
+) -> Result<(), AllocError>
+    requires client { ticket.client < length program.now.clients }
+    requires block { ticket.index < blocks_of program.now ticket.client }
+    ensures ok { OnOk result (IsAdded (IsBlockDrawn program.now ticket.client ticket.index) out.old.items out.new.items) }
+{
+    put_frame(out, program, ticket)?;
+    let graph = graph(alloc, program, ticket.client, ticket.index)?;
+    let reserved = reserved_by(program, ticket.client, ticket.index);
+    put_graph(alloc, out, program, ticket, reserved, &graph)
+}
+
+fn put_blocks(
+    alloc: Global,
+    out: &mut Vec<u8>,
+    program: &Program,
+    client: u8,
+) -> Result<(), AllocError>
+    requires client { client < length program.now.clients }
+    ensures ok { OnOk result (IsAdded (IsClientDrawn program.now client) out.old.items out.new.items) }
+{
+    program.is_sound();
+    for block in 0..program.blocks_of(client) {
+        let ticket = Ticket {
+            client,
+            index: block as u8,
+        };
+        put_block(alloc, out, program, ticket)?;
+    }
+    Ok(())
+}
+
+/// A program's control-flow graphs as one drawing in the DOT language, which graphviz draws: each block in a frame of its own, its nodes
+/// outlined by kind and named by what they do and by what is held there, a synchronisation that static coalescing removes with a dashed
+/// outline, and its edges. An error says that an allocation failed, and nothing is left.
+pub fn dot_text(alloc: Global, program: &Program) -> Result<Vec<u8>, AllocError>
+    ensures text { IfOk result (λ bytes. IsDotText program.now bytes.items) }
+{
+    program.is_sound();
+    let mut out = Vec::new(alloc);
+    put(&mut out, b"digraph graphs {\n")?;
+    for client in 0..program.clients() {
+        put_blocks(alloc, &mut out, program, client as u8)?;
+    }
+    put(&mut out, b"}\n")?;
+    Ok(out)
+}

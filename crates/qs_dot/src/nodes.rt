@@ -1,0 +1,248 @@
+// The nodes of a block in the drawing, each with its edges.
+
+ghost use Rattle.std.specs.Prelude.{◌≡◌, ◌<◌, ◌++◌, length, OnOk};
+ghost use Rattle.std.specs.List.{AllByRecursion, filter};
+ghost use Rattle.qs_program.specs.Limits.{most_handlers};
+ghost use Rattle.qs_graph.specs.Nodes.{place_at};
+ghost use Rattle.qs_report.specs.Texts.{texts_up_to};
+ghost use Rattle.qs_syncset.specs.Table.{has};
+ghost use Rattle.qs_dot.specs.Written.{written};
+ghost use Rattle.qs_dot.specs.DotText.{edge_line, edge_text, head_text, held_text, line_text, node_line, node_name, node_text, nodes_text, outline_text};
+
+use crate::written::put_written;
+use itoa::Buffer;
+use qs_graph::{Choice, Graph, Node};
+use qs_objects::Ticket;
+use qs_program::Program;
+use qs_report::{held_at, put, put_all, put_names};
+use qs_syncset::Sets;
+use std::alloc::{AllocError, Global};
+
+fn outline_word(node: &Node) -> &'static [u8]
+    ensures word { result.now ≡ outline_text node.now }
+{
+    match node {
+        Node::Entry | Node::Exit => b"oval",
+        Node::Local(_) => b"box",
+        Node::Branch(Choice::If(_)) => b"diamond",
+        Node::Branch(Choice::Repeat) => b"hexagon",
+        Node::Sync(_) => b"octagon",
+        Node::Query(_, _) => b"parallelogram",
+        Node::Call(_) => b"note",
+    }
+}
+
+// How the outline of a node is drawn.
+fn line_word(graph: &Graph, sets: &Sets, n: usize) -> &'static [u8]
+    requires node { n < length graph.now.nodes }
+    requires sets { length sets.now ≡ length graph.now.nodes }
+    ensures word { result.now ≡ line_text (has sets.now n) (place_at graph.now.nodes n).node }
+{
+    graph.is_graph();
+    match graph.node(n) {
+        Node::Sync(handler) => {
+            if sets.holds(n, *handler) {
+                b", style=dashed"
+            } else {
+                b""
+            }
+        }
+        _ => b"",
+    }
+}
+
+// What stands at the edge of a place among a node's edges.
+fn edge_word(node: &Node, place: usize) -> &'static [u8]
+    ensures word { result.now ≡ edge_text node.now place }
+{
+    match node {
+        Node::Branch(Choice::If(_)) => {
+            if place == 0 {
+                b" [label=\"true\"]"
+            } else {
+                b" [label=\"false\"]"
+            }
+        }
+        Node::Branch(Choice::Repeat) => {
+            if place == 0 {
+                b" [label=\"once more\"]"
+            } else {
+                b" [label=\"done\"]"
+            }
+        }
+        _ => b"",
+    }
+}
+
+// The name of a node of a block.
+fn put_name(out: &mut Vec<u8>, ticket: Ticket, n: usize) -> Result<(), AllocError>
+    ensures ok { OnOk result (out.new.items ≡ out.old.items ++ node_name ticket.client ticket.index n) }
+{
+    let mut client = Buffer::new();
+    let mut block = Buffer::new();
+    let mut node = Buffer::new();
+    put_all(
+        out,
+        &[
+            b"n",
+            client.format(ticket.client).as_bytes(),
+            b"_",
+            block.format(ticket.index).as_bytes(),
+            b"_",
+            node.format(n).as_bytes(),
+        ],
+    )
+}
+
+// The names that are held, where there are some.
+fn put_held(out: &mut Vec<u8>, program: &Program, client: u8, held: &[u8]) -> Result<(), AllocError>
+    requires client { client < length program.now.clients }
+    ensures ok { OnOk result (out.new.items ≡ out.old.items ++ held_text program.now client held.now) }
+{
+    if held.is_empty() {
+        return Ok(());
+    }
+    put(out, b"\\nheld")?;
+    put_names(out, program, client, held)
+}
+
+// The names of a block's list that are held at a node.
+fn put_held_at(
+    alloc: Global,
+    out: &mut Vec<u8>,
+    program: &Program,
+    client: u8,
+    reserved: &[u8],
+    sets: &Sets,
+    n: usize,
+) -> Result<(), AllocError>
+    requires client { client < length program.now.clients }
+    requires node { n < length sets.now }
+    requires handlers { AllByRecursion (λ h. h < most_handlers) reserved.now }
+    ensures ok { OnOk result (out.new.items ≡ out.old.items ++ held_text program.now client (filter (has sets.now n) reserved.now)) }
+{
+    let held = held_at(alloc, reserved, sets, n)?;
+    let put = put_held(out, program, client, held.as_slice());
+    drop(held);
+    put
+}
+
+// The beginning of a node's line, up to the number in its label.
+fn put_head(
+    out: &mut Vec<u8>,
+    ticket: Ticket,
+    graph: &Graph,
+    sets: &Sets,
+    n: usize,
+) -> Result<(), AllocError>
+    requires node { n < length graph.now.nodes }
+    requires sets { length sets.now ≡ length graph.now.nodes }
+    ensures ok { OnOk result (out.new.items ≡ out.old.items ++ head_text ticket.client ticket.index graph.now.nodes sets.now n) }
+{
+    let outline = outline_word(graph.node(n));
+    let line = line_word(graph, sets, n);
+    let mut buffer = Buffer::new();
+    let number = buffer.format(n).as_bytes();
+    put(out, b"    ")?;
+    put_name(out, ticket, n)?;
+    put_all(
+        out,
+        &[b" [shape=", outline, line, b", label=\"", number, b" "],
+    )
+}
+
+fn put_line(
+    alloc: Global,
+    out: &mut Vec<u8>,
+    program: &Program,
+    ticket: Ticket,
+    reserved: &[u8],
+    graph: &Graph,
+    sets: &Sets,
+    n: usize,
+) -> Result<(), AllocError>
+    requires client { ticket.client < length program.now.clients }
+    requires node { n < length graph.now.nodes }
+    requires sets { length sets.now ≡ length graph.now.nodes }
+    requires handlers { AllByRecursion (λ h. h < most_handlers) reserved.now }
+    ensures ok { OnOk result (out.new.items
+        ≡ out.old.items ++ node_line program.now ticket.client ticket.index reserved.now graph.now.nodes sets.now n) }
+{
+    put_head(out, ticket, graph, sets, n)?;
+    put_written(out, program, ticket.client, graph.node(n))?;
+    put_held_at(alloc, out, program, ticket.client, reserved, sets, n)?;
+    put(out, b"\"];\n")
+}
+
+// The edge of a place among those of a node.
+fn put_edge(
+    out: &mut Vec<u8>,
+    ticket: Ticket,
+    graph: &Graph,
+    n: usize,
+    place: usize,
+) -> Result<(), AllocError>
+    requires node { n < length graph.now.nodes }
+    requires place { place < length (place_at graph.now.nodes n).edges }
+    ensures ok { OnOk result (out.new.items ≡ out.old.items ++ edge_line ticket.client ticket.index graph.now.nodes n place) }
+{
+    put(out, b"    ")?;
+    put_name(out, ticket, n)?;
+    put(out, b" -> ")?;
+    put_name(out, ticket, graph.edges(n)[place])?;
+    put_all(out, &[edge_word(graph.node(n), place), b";\n"])
+}
+
+fn put_edges(out: &mut Vec<u8>, ticket: Ticket, graph: &Graph, n: usize) -> Result<(), AllocError>
+    requires node { n < length graph.now.nodes }
+    ensures ok { OnOk result (out.new.items
+        ≡ out.old.items ++ texts_up_to (length (place_at graph.now.nodes n).edges) (edge_line ticket.client ticket.index graph.now.nodes n)) }
+{
+    for place in 0..graph.edges(n).len() {
+        put_edge(out, ticket, graph, n, place)?;
+    }
+    Ok(())
+}
+
+fn put_node(
+    alloc: Global,
+    out: &mut Vec<u8>,
+    program: &Program,
+    ticket: Ticket,
+    reserved: &[u8],
+    graph: &Graph,
+    sets: &Sets,
+    n: usize,
+) -> Result<(), AllocError>
+    requires client { ticket.client < length program.now.clients }
+    requires node { n < length graph.now.nodes }
+    requires sets { length sets.now ≡ length graph.now.nodes }
+    requires handlers { AllByRecursion (λ h. h < most_handlers) reserved.now }
+    ensures ok { OnOk result (out.new.items
+        ≡ out.old.items ++ node_text program.now ticket.client ticket.index reserved.now graph.now.nodes sets.now n) }
+{
+    put_line(alloc, out, program, ticket, reserved, graph, sets, n)?;
+    put_edges(out, ticket, graph, n)
+}
+
+/// Puts the nodes of a block at the end, each with its edges.
+pub(crate) fn put_nodes(
+    alloc: Global,
+    out: &mut Vec<u8>,
+    program: &Program,
+    ticket: Ticket,
+    reserved: &[u8],
+    graph: &Graph,
+    sets: &Sets,
+) -> Result<(), AllocError>
+    requires client { ticket.client < length program.now.clients }
+    requires sets { length sets.now ≡ length graph.now.nodes }
+    requires handlers { AllByRecursion (λ h. h < most_handlers) reserved.now }
+    ensures ok { OnOk result (out.new.items
+        ≡ out.old.items ++ nodes_text program.now ticket.client ticket.index reserved.now graph.now.nodes sets.now) }
+{
+    for n in 0..graph.len() {
+        put_node(alloc, out, program, ticket, reserved, graph, sets, n)?;
+    }
+    Ok(())
+}
