@@ -33,6 +33,10 @@ abbrev pub check_app : App
 check_app =
     warned_app (with_rule (new_app (codes "check")) (record (new_rule (codes "verbose")) { long = Some (codes "verbose"); action = Some SetTrue }))
 
+-- `graph [--format F] [--warn]`
+abbrev pub graph_app : App
+graph_app = warned_app (with_rule (new_app (codes "graph")) (defaulted_rule (codes "format") (codes "text")))
+
 -- `.. [--rounds N] [--pick LIST] [--order LIST] [--counts]`
 abbrev pub planned_app : App → App
 planned_app app =
@@ -63,9 +67,9 @@ outcomes_app = warned_app (with_rule (with_rule (new_app (codes "outcomes")) lim
 abbrev pub named_app : App
 named_app = record (new_app (codes "qs")) { top = record (new_app (codes "qs")).top { disable_help_subcommand = true; has_version = true } }
 
--- `check [--verbose] [--warn]` and `graph [--warn]`
+-- `check [--verbose] [--warn]` and `graph [--format F] [--warn]`
 abbrev pub texts_app : App
-texts_app = with_subcommand (with_subcommand named_app check_app.top) (warned_app (new_app (codes "graph"))).top
+texts_app = with_subcommand (with_subcommand named_app check_app.top) graph_app.top
 
 -- the whole command
 abbrev pub qs_app : App

@@ -15,6 +15,8 @@ use Rattle.qs_syncset.specs.declared.mode.Mode.TheVariants.{Plain, Dynamic, Stat
 use Rattle.qs_lists.specs.Parts.{clients_in, list_in}
 use Rattle.qs_lists.specs.declared.parts.Part.{Part}
 use Rattle.qs_line.specs.Command.{qs_app}
+use Rattle.qs_line.specs.declared.line.Format.{Format}
+use Rattle.qs_line.specs.declared.line.Format.TheVariants as format
 use Rattle.qs_line.specs.declared.line.LineFault.{LineFault}
 use Rattle.qs_line.specs.declared.line.LineFault.TheVariants as fault
 use Rattle.qs_line.specs.declared.line.Settings.{Settings}
@@ -28,12 +30,12 @@ pub data PlanShape : Type 0 where
   by_schedule : (rounds : ℕ) → (picks : List Part) → PlanShape
   by_order : (clients : List Part) → PlanShape
 
--- what is asked for: the counts; the graphs; a run by the plain rules; one in the optimised machine, in a mode and by chunks of a size;
+-- what is asked for: the counts; the graphs, in a format; a run by the plain rules; one in the optimised machine, in a mode and by chunks of a size;
 -- one on threads; or all outcomes after the blocks of some clients, with so many configurations at most. Of a run the counts of
 -- synchronisations may be asked for as well.
 pub data Request : Type 0 where
   check : Request
-  graph : Request
+  graph : Format → Request
   rules : (counts : Bool) → PlanShape → Request
   play : (counts : Bool) → Mode → (chunk : ℕ) → PlanShape → Request
   run : (counts : Bool) → Mode → ℕ → Request
@@ -45,11 +47,16 @@ plan_of (plan.Order clients) = by_order clients.items
 
 abbrev pub request_of : Settings → Request
 request_of word.Check = check
-request_of word.Graph = graph
+request_of (word.Graph how) = graph how
 request_of (word.Rules counts plan) = rules counts (plan_of plan)
 request_of (word.Play counts mode chunk plan) = play counts mode chunk (plan_of plan)
 request_of (word.Run counts mode chunk) = run counts mode chunk
 request_of (word.Outcomes limit front) = outcomes limit front.items
+
+abbrev pub format_in : Text → Option Format
+format_in text =
+    if bytes_eq text (codes "text") then Some format.Text
+    else if bytes_eq text (codes "dot") then Some format.Dot else None
 
 abbrev pub mode_in : Text → Option Mode
 mode_in text =
@@ -79,6 +86,9 @@ warns_met (Some entry) = flag_at (codes "warn") entry.1
 abbrev pub is_verbose_met : Option (Text × List Row) → Bool
 is_verbose_met None = false
 is_verbose_met (Some entry) = flag_at (codes "verbose") entry.1
+
+abbrev pub format_at : List Row → Option Format
+format_at rows = option_and_then format_in (first_of (codes "format") rows)
 
 abbrev pub mode_at : List Row → Option Mode
 mode_at rows = option_and_then mode_in (first_of (codes "mode") rows)
@@ -116,6 +126,9 @@ order_at text rows = if has_schedule rows then None else option_map by_order (cl
 abbrev pub plan_at : List Row → Option PlanShape
 plan_at rows = option_map_or (λ text. order_at text rows) (first_of (codes "order") rows) (schedule_at rows)
 
+abbrev pub graph_at : List Row → Option Request
+graph_at rows = option_map graph (format_at rows)
+
 abbrev pub rules_at : List Row → Option Request
 rules_at rows = option_map (rules (counts_at rows)) (plan_at rows)
 
@@ -133,7 +146,7 @@ outcomes_at rows = option_and_then (λ limit. option_map (outcomes limit) (front
 abbrev pub request_at : Text → List Row → Option Request
 request_at name rows =
     if bytes_eq name (codes "check") then Some check
-    else if bytes_eq name (codes "graph") then Some graph
+    else if bytes_eq name (codes "graph") then graph_at rows
     else if bytes_eq name (codes "rules") then rules_at rows
     else if bytes_eq name (codes "play") then play_at rows
     else if bytes_eq name (codes "run") then run_at rows

@@ -7,6 +7,7 @@ use Rattle.qs_lists.specs.declared.parts.Who.TheVariants.{Name, Number}
 use Rattle.qs_lists.specs.Numbers.{once}
 use Rattle.qs_lists.specs.Parts.{times}
 use Rattle.qs_syncset.specs.declared.mode.Mode.TheVariants.{Dynamic, Static, Both}
+use Rattle.qs_line.specs.declared.line.Format.TheVariants as format
 use Rattle.qs_line.specs.Line.{Line, asks, by_order, by_schedule, check, graph, help, is_verbose_in, line_in, outcomes, play, refused, rules, run, version, warns_in}
 
 -- the line of the words after the program's name
@@ -19,7 +20,7 @@ named name = times 1 (Name name)
 
 pub record DefaultLines : Type 0 where
   pub checks : line (codes "check" ∷ []) ≡ asks check
-  pub graphs : line (codes "graph" ∷ []) ≡ asks graph
+  pub graphs : line (codes "graph" ∷ []) ≡ asks (graph format.Text)
   pub rules_alone : line (codes "rules" ∷ []) ≡ asks (rules false (by_schedule 1000000 []))
   pub play_alone : line (codes "play" ∷ []) ≡ asks (play false Both 8 (by_schedule 1000000 []))
   pub run_alone : line (codes "run" ∷ []) ≡ asks (run false Both 8)
@@ -73,6 +74,18 @@ pub record OrderLines : Type 0 where
       ≡ asks (rules false (by_order (named (codes "bob") ∷ times 2 (Name (codes "ann")) ∷ [])))
   pub twice : line (codes "play" ∷ codes "--order=c0" ∷ codes "--order=c0" ∷ []) ≡ refused
   pub of_run : line (codes "run" ∷ codes "--order=c0" ∷ []) ≡ refused
+
+pub record FormatLines : Type 0 where
+  pub text : line (codes "graph" ∷ codes "--format" ∷ codes "text" ∷ []) ≡ asks (graph format.Text)
+  pub dot : line (codes "graph" ∷ codes "--format" ∷ codes "dot" ∷ []) ≡ asks (graph format.Dot)
+  pub warned : line (codes "graph" ∷ codes "--warn" ∷ codes "--format=dot" ∷ []) ≡ asks (graph format.Dot)
+  pub unknown : line (codes "graph" ∷ codes "--format=svg" ∷ []) ≡ refused
+  pub capital : line (codes "graph" ∷ codes "--format" ∷ codes "Dot" ∷ []) ≡ refused
+  pub empty : line (codes "graph" ∷ codes "--format" ∷ [] ∷ []) ≡ refused
+  pub without_value : line (codes "graph" ∷ codes "--format" ∷ []) ≡ refused
+  pub twice : line (codes "graph" ∷ codes "--format=dot" ∷ codes "--format=dot" ∷ []) ≡ refused
+  pub of_check : line (codes "check" ∷ codes "--format=dot" ∷ []) ≡ refused
+  pub before_word : line (codes "--format=dot" ∷ codes "graph" ∷ []) ≡ refused
 
 pub record CountedLines : Type 0 where
   pub rules_alone : line (codes "rules" ∷ codes "--counts" ∷ []) ≡ asks (rules true (by_schedule 1000000 []))
@@ -155,6 +168,7 @@ pub record LineExamples : Type 0 where
   pub limits : LimitLines
   pub fronts : FrontLines
   pub orders : OrderLines
+  pub formats : FormatLines
   pub counted : CountedLines
   pub uncounted : UncountedLines
   pub lists : ListLines

@@ -3,7 +3,7 @@
 ghost use Rattle.std.specs.Prelude.{◌≡◌, IfOk, codes, false};
 ghost use Rattle.clap.specs.Words.{app_of, new_app, rule_of, with_subcommand};
 ghost use Rattle.clap.specs.declared.Command.TheViews.{out-Command as fields_of};
-ghost use Rattle.qs_line.specs.Command.{check_app, chunk_rule, counts_rule, defaulted_rule, limit_rule, machine_app, named_app, option_rule, outcomes_app, planned_app, play_app, qs_app, rules_app, run_app, texts_app, warned_app};
+ghost use Rattle.qs_line.specs.Command.{check_app, chunk_rule, counts_rule, defaulted_rule, graph_app, limit_rule, machine_app, named_app, option_rule, outcomes_app, planned_app, play_app, qs_app, rules_app, run_app, texts_app, warned_app};
 
 use crate::help;
 use clap::{Arg, ArgAction, Command, value_parser};
@@ -105,6 +105,19 @@ fn check_command<'a>(alloc: Global) -> Result<Command<'a>, AllocError>
     warned(alloc, check)
 }
 
+fn graph_command<'a>(alloc: Global) -> Result<Command<'a>, AllocError>
+    ensures app { IfOk result (λ command. app_of command ≡ graph_app) }
+    ensures local { IfOk result (λ command. (fields_of command).has_globals ≡ false) }
+{
+    let graph = word(alloc, "graph", help::GRAPH, help::GRAPH_EXAMPLE).arg(option(
+        alloc,
+        "format",
+        "F",
+        help::FORMAT,
+    ).default_value("text"))?;
+    warned(alloc, graph)
+}
+
 fn rules_command<'a>(alloc: Global) -> Result<Command<'a>, AllocError>
     ensures app { IfOk result (λ command. app_of command ≡ rules_app) }
     ensures local { IfOk result (λ command. (fields_of command).has_globals ≡ false) }
@@ -178,12 +191,9 @@ fn texts_command<'a>(alloc: Global) -> Result<Command<'a>, AllocError>
 
 // With the word `graph`.
 fn with_graph<'a>(alloc: Global, command: Command<'a>) -> Result<Command<'a>, AllocError>
-    ensures app { IfOk result (λ whole. app_of whole ≡ with_subcommand (app_of command.entry) (warned_app (new_app (codes "graph"))).top) }
+    ensures app { IfOk result (λ whole. app_of whole ≡ with_subcommand (app_of command.entry) graph_app.top) }
 {
-    match warned(
-        alloc,
-        word(alloc, "graph", help::GRAPH, help::GRAPH_EXAMPLE),
-    ) {
+    match graph_command(alloc) {
         Ok(graph) => command.subcommand(graph),
         Err(error) => {
             drop(command);

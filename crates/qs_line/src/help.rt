@@ -49,10 +49,11 @@ pub const GRAPH: &str =
 
 pub const GRAPH_EXAMPLE: &str = with_limits!(
     "\
-Example:
+Examples:
   qs graph < my.script
+  qs graph --format dot < my.script | dot -Tsvg > my.svg
 
-A line `5 sync a removed -> 6 held a` is node 5, a synchronisation with the handler of a, which static coalescing
+The second draws the graphs, by `dot` of graphviz. In the first a line `5 sync a removed -> 6 held a` is node 5, a synchronisation with the handler of a, which static coalescing
 removes, since on every path to it a is held; node 6 comes next."
 );
 
@@ -107,6 +108,9 @@ The second lists only what comes after a block of bob and then one of ann. A lin
 result: the block of client 1, bob, first, then that of client 0, ann. Below it stand the objects at the end, and each
 client with its variables. Configurations, which the last line counts, are where the script can stand between two blocks."
 );
+
+pub const FORMAT: &str =
+    "How the graphs are written: as text, or as a drawing that graphviz draws: text or dot";
 
 pub const MODE: &str =
     "Which synchronisations are left out: by none, dynamic or static coalescing, or by both";

@@ -9,6 +9,6 @@ mod line;
 mod plan;
 mod told;
 
-pub use line::{Asked, LineFault, Settings, asked_for, read_line};
+pub use line::{Asked, Format, LineFault, Settings, asked_for, read_line};
 pub use plan::Plan;
 pub use told::{refusal, value_after};

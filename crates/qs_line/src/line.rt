@@ -4,7 +4,7 @@ ghost use Rattle.std.specs.Prelude.{◌≡◌, [], IfOk, IfErr, map, option_map}
 ghost use Rattle.clap.specs.Words.{found_of, kind_of, rows_of, subcommand_of, subcommand_rows_of};
 ghost use Rattle.clap.specs.Faults.{fault_of};
 ghost use Rattle.qs_line.specs.Command.{qs_app};
-ghost use Rattle.qs_line.specs.Line.{IsAnswer, IsFault, IsFaultAmong, chunk_at, counts_at, flag_at, front_at, is_verbose_in, is_verbose_met, limit_at, line_in, mode_at, outcomes_at, play_at, request_at, request_met, request_of, rules_at, run_at, warns_in, warns_met};
+ghost use Rattle.qs_line.specs.Line.{IsAnswer, IsFault, IsFaultAmong, chunk_at, counts_at, flag_at, format_at, front_at, graph_at, is_verbose_in, is_verbose_met, limit_at, line_in, mode_at, outcomes_at, play_at, request_at, request_met, request_of, rules_at, run_at, warns_in, warns_met};
 
 use crate::command::command;
 use crate::found::text_at;
@@ -16,13 +16,25 @@ use qs_lists::{Part, clients_in};
 use qs_syncset::Mode;
 use std::alloc::{AllocError, Global};
 
+/// How graphs are written.
+#[derive(Clone, Copy, Debug)]
+pub enum Format {
+    /// As lines of words.
+    Text,
+    /// As a drawing in the DOT language, which graphviz draws.
+    Dot,
+}
+
 /// What an accepted line asks for.
 #[derive(Drop)]
 pub enum Settings {
     /// Check the script, and count.
     Check,
     /// Check it, and show the graphs of its blocks.
-    Graph,
+    Graph {
+        /// How they are written.
+        format: Format,
+    },
     /// Check it, and play it by the plain rules.
     Rules {
         /// Whether each block's synchronisations are shown.
@@ -88,6 +100,16 @@ fn counts_of(found: &ArgMatches<'_>) -> bool
     matches!(text_at(found, "counts"), Some("true"))
 }
 
+fn format_of(found: &ArgMatches<'_>) -> Option<Format>
+    ensures format { result ≡ format_at (rows_of (found_of found.now)) }
+{
+    match text_at(found, "format")? {
+        "text" => Some(Format::Text),
+        "dot" => Some(Format::Dot),
+        _ => None,
+    }
+}
+
 fn mode_of(found: &ArgMatches<'_>) -> Option<Mode>
     ensures mode { result ≡ mode_at (rows_of (found_of found.now)) }
 {
@@ -121,6 +143,13 @@ fn given_front(alloc: Global, found: &ArgMatches<'_>) -> Result<Option<Vec<Part>
         Some(text) => clients_in(alloc, text),
         None => Ok(Some(Vec::new(alloc))),
     }
+}
+
+fn graph_settings(found: &ArgMatches<'_>) -> Option<Settings>
+    ensures settings { option_map request_of result ≡ graph_at (rows_of (found_of found.now)) }
+{
+    let format = format_of(found)?;
+    Some(Settings::Graph { format })
 }
 
 fn rules_settings(alloc: Global, found: &ArgMatches<'_>) -> Result<Option<Settings>, AllocError>
@@ -183,7 +212,7 @@ fn settings_of(
 {
     match name {
         "check" => Ok(Some(Settings::Check)),
-        "graph" => Ok(Some(Settings::Graph)),
+        "graph" => Ok(graph_settings(found)),
         "rules" => rules_settings(alloc, found),
         "play" => play_settings(alloc, found),
         "run" => Ok(run_settings(found)),
@@ -232,7 +261,7 @@ fn matches_of<'a>(alloc: Global, words: &'a [&'a str]) -> Result<ArgMatches<'a>,
 }
 
 /// The settings of a line, whose first word is the program's name: those that `clap` finds, and its defaults. `Refused` comes exactly where
-/// `clap` refuses the words by an error, where a mode, a number or a list does not read, or where an order stands beside picks or a number
+/// `clap` refuses the words by an error, where a format, a mode, a number or a list does not read, or where an order stands beside picks or a number
 /// of rounds; `Help` and
 /// `Version` come exactly where it answers with help or with the version. `Memory` may come in place of each.
 pub fn read_line<'a>(alloc: Global, words: &'a [&'a str]) -> Result<Settings, LineFault>

@@ -17,6 +17,7 @@ use Rattle.qs_report.specs.declared.faults.Fault.TheVariants as fault
 use Rattle.qs_report.specs.Faults.{fault_text, fault_status}
 use Rattle.qs_report.specs.Report.{run_text, counts_text}
 use Rattle.qs_report.specs.GraphText.{IsGraphText}
+use Rattle.qs_dot.specs.DotText.{IsDotText}
 use Rattle.qs_report.specs.OutcomesText.{IsOutcomesText, listed_text}
 use Rattle.qs_report.specs.Texts.{AppendsFront}
 use Rattle.qs_script.specs.Reads.{IsRefused, IsScriptText}
@@ -36,6 +37,8 @@ use Rattle.qs_run.specs.Starts.{IsRefusal, LetAllStart, worker_count}
 use Rattle.qs_lists.specs.Named.{actors_of, clients_of}
 use Rattle.qs_lists.specs.declared.fault.ListFault.{ListFault}
 use Rattle.qs_lists.specs.declared.fault.ListFault.TheVariants as list_fault
+use Rattle.qs_line.specs.declared.line.Format.{Format}
+use Rattle.qs_line.specs.declared.line.Format.TheVariants as format
 use Rattle.qs_line.specs.Line.{Line, PlanShape, Request, asks, by_order, by_schedule, check, graph, help, line_in, outcomes, play, refused, rules, run, version}
 use Rattle.qs_serve.specs.declared.due.Due.{Due}
 use Rattle.qs_serve.specs.declared.due.Due.TheVariants.{Text, Refused}
@@ -92,12 +95,17 @@ IsShownByPlay mode size (by_schedule rounds picks) p played =
 IsShownByPlay mode size (by_order list) p played =
     IsOkAnd (clients_of p list) (λ clients. IsLegal p (order_of clients) × IsPlayedInOrderOn p mode size (order_of clients) played)
 
+-- the graphs of a program, as lines of words or as a drawing
+abbrev pub IsTextOfGraphs : Format → ProgramShape → List ℕ → Type 0
+IsTextOfGraphs format.Text p text = IsGraphText p text
+IsTextOfGraphs format.Dot p text = IsDotText p text
+
 -- what a request makes of a program: its counts; its graphs; the report of its run by the plain rules or in the optimised machine;
 -- that of an outcome which its run on threads may have; or all its outcomes after the blocks of some clients, of so many configurations
 -- at most. A report has the counts of synchronisations where they are asked for.
 abbrev pub IsTextBy : Request → ProgramShape → List ℕ → Type 0
 IsTextBy check p text = text ≡ counts_text p
-IsTextBy graph p text = IsGraphText p text
+IsTextBy (graph how) p text = IsTextOfGraphs how p text
 IsTextBy (rules counts plan) p text = (played : Played) × IsShownByRules plan p played × (text ≡ run_text counts p played)
 IsTextBy (play counts mode size plan) p text = (played : Played) × IsShownByPlay mode size plan p played × (text ≡ run_text counts p played)
 IsTextBy (run counts mode size) p text = (outcome : Played) × IsOutcome p mode size outcome × (text ≡ run_text counts p outcome)

@@ -2,7 +2,7 @@
 
 ghost use Rattle.std.specs.Prelude.{◌≡◌, ◌+◌, ◌≤◌, ◌⊎◌, false, None, Some, map, IfOk, IfSome};
 ghost use Rattle.qs_report.specs.declared.faults.Fault.TheVariants as fault;
-ghost use Rattle.qs_line.specs.Line.{asks, by_order, by_schedule, line_in, outcomes, plan_of, play, request_by, request_of, rules, run};
+ghost use Rattle.qs_line.specs.Line.{asks, by_order, by_schedule, graph, line_in, outcomes, plan_of, play, request_by, request_of, rules, run};
 ghost use Rattle.qs_serve.specs.Due.{HasAsked, IsDue, IsDueOfList, IsDueOfProgram, IsDueOfText, IsRefusedBy, IsListOf, IsReportOf, IsTextOf, IsOutOfMemory, due_status, longest};
 ghost use Rattle.std.specs.List.{AllByRecursion};
 ghost use Rattle.qs_outcomes.specs.Outcomes.{HasPlaces};
@@ -11,7 +11,8 @@ use crate::input::{Counted, InputFault, gather};
 use qs_check::{Program, check};
 use qs_chunk::ChunkSize;
 use qs_core::{play_in_order, play_plain, play_plain_in_order};
-use qs_line::{LineFault, Plan, Settings, read_line};
+use qs_dot::dot_text;
+use qs_line::{Format, LineFault, Plan, Settings, read_line};
 use qs_lists::{ListFault, Part, actors_of, clients_of};
 use qs_outcomes::{AllOutcomes, outcomes_after};
 use qs_played::{Outcome, Played};
@@ -81,6 +82,17 @@ fn due_of_list(fault: ListFault) -> Due
     match fault {
         ListFault::Part { .. } => Due::Refused(Fault::CommandLine),
         ListFault::Memory => Due::Refused(Fault::Memory),
+    }
+}
+
+// The graphs, in a format.
+fn due_of_graphs(alloc: Global, program: &Program, format: Format) -> Due
+    ensures not_input { ¬ IsRefusedBy fault.Input result }
+    ensures due { IsOutOfMemory result ⊎ IsDueOfProgram (graph format) program.now result }
+{
+    match format {
+        Format::Text => due_of_bytes(graph_text(alloc, program)),
+        Format::Dot => due_of_bytes(dot_text(alloc, program)),
     }
 }
 
@@ -294,7 +306,7 @@ fn due_of_program<T: Threads + Wait + Sync>(
             due_of_outcomes(alloc, program, *limit, front.as_slice())
         }
         Settings::Check => due_of_bytes(check_text(alloc, program)),
-        Settings::Graph => due_of_bytes(graph_text(alloc, program)),
+        Settings::Graph { format } => due_of_graphs(alloc, program, *format),
     }
 }
 

@@ -36,6 +36,18 @@ returns c = record {
       twice = refl;
       of_run = refl;
     };
+    formats = record {
+      text = refl;
+      dot = refl;
+      warned = refl;
+      unknown = refl;
+      capital = refl;
+      empty = refl;
+      without_value = refl;
+      twice = refl;
+      of_check = refl;
+      before_word = refl;
+    };
     counted = record { rules_alone = refl; play_alone = refl; run_alone = refl; before_others = refl; between_others = refl; after_others = refl };
     uncounted = record { twice = refl; by_value = refl; by_true = refl; by_word = refl; before_word = refl; of_check = refl; of_graph = refl };
     lists = record {
