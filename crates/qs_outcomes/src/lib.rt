@@ -1,7 +1,6 @@
-//! Everything that a program can come to: blocks run alone, and the search over configurations.
+//! Everything that a program can come to: a search over the configurations between whole blocks.
 #![tactic(auto)]
 
-mod alone;
 mod copies;
 mod fault;
 mod front;

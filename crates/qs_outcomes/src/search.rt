@@ -4,9 +4,11 @@ ghost use Rattle.std.specs.Prelude.{◌≡◌, ◌<◌, ◌≤◌, ◌+◌, ℕ,
 ghost use Rattle.std.specs.List.{AllByRecursion};
 ghost use Rattle.qs_orders.specs.NamedOrders.{order_of};
 ghost use Rattle.qs_meaning.specs.Serial.{IsLegal};
-ghost use Rattle.qs_outcomes.specs.Outcomes.{AreAllOutcomes, AreAllOutcomesAfter, AreApart, HasConfigurations, HasConfigurationsAfter, HasMoreThan, HasMoreThanAfter, IsListed, IsListedAfter};
+ghost use Rattle.qs_outcomes.specs.Outcomes.{AreAllOutcomes, AreAllOutcomesAfter, AreApart, HasConfigurations, HasConfigurationsAfter, HasMoreThan, HasMoreThanAfter, IsLeast, IsLeastAfter, IsListed, IsListedAfter};
+ghost use Rattle.qs_outcomes.specs.LeastOrders.{AreSorted};
+ghost use Rattle.qs_outcomes.specs.Lists.{HasOne};
 ghost use Rattle.qs_outcomes.specs.Rows.{AreStarts, rows_in};
-ghost use Rattle.qs_outcomes.specs.Search.{HasOne, IsExplored, IsInserted, IsLonger, IsNoted, IsPushed, work_left};
+ghost use Rattle.qs_outcomes.specs.Search.{IsExplored, IsInserted, IsLonger, IsNoted, IsPushed, work_left};
 ghost use Rattle.qs_meaning.specs.Reduced.{goes_on};
 ghost use Rattle.qs_outcomes.specs.Going.{AreLast, in_byte};
 ghost use Rattle.qs_outcomes.specs.Standings.{IsFirst, IsStanding, configuration_in, row_of};
@@ -285,6 +287,8 @@ fn search_from<W: Watcher>(
     requires first { IsFirst program.now front.now first }
     ensures sound { IfOk result (λ all. AllByRecursion (IsListedAfter program.now front.now) all.found) }
     ensures complete { IfOk result (λ all. AreAllOutcomesAfter program.now front.now all.found) }
+    ensures least { IfOk result (λ all. AllByRecursion (IsLeastAfter program.now front.now) all.found) }
+    ensures sorted { IfOk result (λ all. AreSorted all.found) }
     ensures once { IfOk result (λ all. AreApart all.found) }
     ensures counted { IfOk result (λ all. HasConfigurationsAfter program.now front.now all.configurations) }
     ensures within { IfOk result (λ all. all.configurations ≤ limit) }
@@ -326,10 +330,10 @@ fn search_from<W: Watcher>(
     })
 }
 
-/// All outcomes of a program after the blocks that a list of clients names, each client's in turn: each once, with a complete order that
-/// begins with these and comes to it, and how many different configurations orders lead to that are reduced after them. `Order` comes
-/// exactly where no legal order is named, `Limit` only where there are more configurations than the limit, `Memory` where memory was
-/// refused. The watcher is told of each new configuration as it is noted.
+/// All outcomes of a program after the blocks that a list of clients names, each client's in turn: each once, with the least complete order
+/// that begins with these, is reduced after them and comes to it, and sorted by these orders; and how many different configurations orders
+/// lead to that are reduced after them. `Order` comes exactly where no legal order is named, `Limit` only where there are more
+/// configurations than the limit, `Memory` where memory was refused. The watcher is told of each new configuration as it is noted.
 pub fn outcomes_watched<W: Watcher>(
     alloc: Global,
     program: &Program,
@@ -340,6 +344,8 @@ pub fn outcomes_watched<W: Watcher>(
     ensures legal { IfOk result (λ all. IsLegal program.now (order_of front.now)) }
     ensures sound { IfOk result (λ all. AllByRecursion (IsListedAfter program.now (order_of front.now)) all.found) }
     ensures complete { IfOk result (λ all. AreAllOutcomesAfter program.now (order_of front.now) all.found) }
+    ensures least { IfOk result (λ all. AllByRecursion (IsLeastAfter program.now (order_of front.now)) all.found) }
+    ensures sorted { IfOk result (λ all. AreSorted all.found) }
     ensures once { IfOk result (λ all. AreApart all.found) }
     ensures counted { IfOk result (λ all. HasConfigurationsAfter program.now (order_of front.now) all.configurations) }
     ensures within { IfOk result (λ all. all.configurations ≤ limit) }
@@ -354,10 +360,10 @@ pub fn outcomes_watched<W: Watcher>(
     search_from(alloc, program, order.as_slice(), first, limit, watcher)
 }
 
-/// All outcomes of a program after the blocks that a list of clients names, each client's in turn: each once, with a complete order that
-/// begins with these and comes to it, and how many different configurations orders lead to that are reduced after them. `Order` comes
-/// exactly where no legal order is named, `Limit` only where there are more configurations than the limit, `Memory` where memory was
-/// refused.
+/// All outcomes of a program after the blocks that a list of clients names, each client's in turn: each once, with the least complete order
+/// that begins with these, is reduced after them and comes to it, and sorted by these orders; and how many different configurations orders
+/// lead to that are reduced after them. `Order` comes exactly where no legal order is named, `Limit` only where there are more
+/// configurations than the limit, `Memory` where memory was refused.
 pub fn outcomes_after(
     alloc: Global,
     program: &Program,
@@ -367,6 +373,8 @@ pub fn outcomes_after(
     ensures legal { IfOk result (λ all. IsLegal program.now (order_of front.now)) }
     ensures sound { IfOk result (λ all. AllByRecursion (IsListedAfter program.now (order_of front.now)) all.found) }
     ensures complete { IfOk result (λ all. AreAllOutcomesAfter program.now (order_of front.now) all.found) }
+    ensures least { IfOk result (λ all. AllByRecursion (IsLeastAfter program.now (order_of front.now)) all.found) }
+    ensures sorted { IfOk result (λ all. AreSorted all.found) }
     ensures once { IfOk result (λ all. AreApart all.found) }
     ensures counted { IfOk result (λ all. HasConfigurationsAfter program.now (order_of front.now) all.configurations) }
     ensures within { IfOk result (λ all. all.configurations ≤ limit) }
@@ -376,11 +384,14 @@ pub fn outcomes_after(
     outcomes_watched(alloc, program, front, limit, &mut Unwatched)
 }
 
-/// All outcomes of a program, each once, with a complete order that comes to it, and how many different configurations reduced orders lead to.
-/// `Limit` comes only where there are more configurations than the limit, `Memory` where memory was refused, and `Order` never.
+/// All outcomes of a program, each once, with the least reduced order that comes to it, and sorted by these orders; and how many different
+/// configurations reduced orders lead to. `Limit` comes only where there are more configurations than the limit, `Memory` where memory was
+/// refused, and `Order` never.
 pub fn outcomes(alloc: Global, program: &Program, limit: u32) -> Result<AllOutcomes, OutcomesFault>
     ensures sound { IfOk result (λ all. AllByRecursion (IsListed program.now) all.found) }
     ensures complete { IfOk result (λ all. AreAllOutcomes program.now all.found) }
+    ensures least { IfOk result (λ all. AllByRecursion (IsLeast program.now) all.found) }
+    ensures sorted { IfOk result (λ all. AreSorted all.found) }
     ensures once { IfOk result (λ all. AreApart all.found) }
     ensures counted { IfOk result (λ all. HasConfigurations program.now all.configurations) }
     ensures within { IfOk result (λ all. all.configurations ≤ limit) }

@@ -8,7 +8,7 @@ use Rattle.qs_outcomes.specs.Outcomes.{HasConfigurationsAfter}
 use Rattle.qs_outcomes.specs.Rows.{rows_in}
 use Rattle.qs_outcomes.specs.Search.{IsExplored}
 use Rattle.qs_outcomes.specs.Standings.{StandingShape}
-use Rattle.qs_outcomes.proofs.Explored.{all_apart, all_listed, all_outcomes, has_configurations}
+use Rattle.qs_outcomes.proofs.Explored.{all_apart, all_least, all_listed, all_outcomes, has_configurations}
 use Rattle.qs_outcomes.proofs.search.search_from.Goals as goal
 
 none_left : (xs : List StandingShape) → length xs ≡ 0 → xs ≡ []
@@ -30,6 +30,15 @@ returns-clause-complete g c =
     all_outcomes c.args.program.now c.args.front.now c.is_sound.ensures.sound (rows_in c.loop-standing.seen.keys) c.loop-standing.found.items
     (over c.args.program.now c.args.front.now (rows_in c.loop-standing.seen.keys) c.loop-standing.stack.items c.loop-standing.found.items
     (let e = c.in_default.ensures.cases.0 in let k = c.loop-standing.stack.ok.0 in omega (arith, e, k)) c.loop-standing.invariant.explored)
+
+pub returns-clause-least : goal.returns-clause-least
+returns-clause-least g c =
+    all_least c.args.program.now c.args.front.now c.is_sound.ensures.sound (rows_in c.loop-standing.seen.keys) c.loop-standing.found.items
+    (over c.args.program.now c.args.front.now (rows_in c.loop-standing.seen.keys) c.loop-standing.stack.items c.loop-standing.found.items
+    (let e = c.in_default.ensures.cases.0 in let k = c.loop-standing.stack.ok.0 in omega (arith, e, k)) c.loop-standing.invariant.explored)
+
+pub returns-clause-sorted : goal.returns-clause-sorted
+returns-clause-sorted g c = c.loop-standing.invariant.explored.least.sorted
 
 pub returns-clause-once : goal.returns-clause-once
 returns-clause-once g c =

@@ -15,6 +15,8 @@ returns-in-Ok-outcomes_after-clause-due c =
       legal = c.in-Ok-outcomes_after.ensures.legal;
       sound = c.in-Ok-outcomes_after.ensures.sound;
       complete = c.in-Ok-outcomes_after.ensures.complete;
+      least = c.in-Ok-outcomes_after.ensures.least;
+      sorted = c.in-Ok-outcomes_after.ensures.sorted;
       once = c.in-Ok-outcomes_after.ensures.once;
       counted = c.in-Ok-outcomes_after.ensures.counted;
     } in
