@@ -1,6 +1,6 @@
 -- Tokens that stand in a text are within it, and a fault of the text's script stands at one of them. The first goes by induction on
 -- the tokens; the second since the anchors of a script are those of the tokens of its text.
-use Rattle.std.proofs.Common.{◌≡◌, ℕ, zero, suc, ◌<◌, ◌≤◌, true, List, [], ◌∷◌, length, get_or, take, refl, ap, sym, ◌∙◌, arith, Some, Result, Ok}
+use Rattle.std.proofs.Common.{◌≡◌, ℕ, zero, suc, ◌<◌, ◌≤◌, true, List, [], ◌∷◌, length, get_or, take, refl, ap, sym, ◌∙◌, arith, Option, Some, None, unwrap_or, Result, Ok}
 use Rattle.std.proofs.lemmas.List.{length-map}
 use Rattle.qs_tokens.specs.declared.token.Token.{Token}
 use Rattle.qs_tokens.specs.declared.token.Token.TheVariants.{Semicolon}
@@ -15,6 +15,8 @@ use Rattle.qs_anchors.proofs.BlockNumbers.{blocks_have_anchors}
 use Rattle.qs_anchors.proofs.Tokens.{anchors_are_tokens}
 use Rattle.qs_anchors.proofs.Within.{first_is_an_anchor}
 use Rattle.qs_causes.specs.declared.spans.PlacedToken.{PlacedToken}
+use Rattle.qs_check.specs.declared.excess.Excess.{Excess}
+use Rattle.qs_causes.specs.CheckTold.{IsFirstOr, IsRefusedAt, block_anchor_of}
 use Rattle.qs_causes.specs.Spans.{ArePlaced, Stand, tokens_in}
 
 pub stands_within : (text : List ℕ) (ps : List PlacedToken) (later : Result (List Token) TokenFault) (i : ℕ) (d : PlacedToken) → Stand text ps later → i < length ps
@@ -43,6 +45,22 @@ pub block_there : (text : List ℕ) (ps : List PlacedToken) (items : List Item) 
     → block_number 0 items c k ≡ Some number → number < length (anchors_in (tokens_in ps))
 block_there text ps items c k number placed reads found =
     omega (arith, anchor_count text ps items placed reads, blocks_have_anchors items c k number found)
+
+excess_there : (text : List ℕ) (ps : List PlacedToken) (items : List Item) (found : Option Excess) (number : ℕ) → ArePlaced text ps → IsScriptText text items
+    → Some number ≡ block_anchor_of items found → number < length (anchors_in (tokens_in ps))
+excess_there text ps items None number placed reads same = absurd (cc same)
+excess_there text ps items (Some e) number placed reads same = block_there text ps items e.client e.block number placed reads (sym same)
+
+-- and so is the anchor at which a script is refused
+pub refusal_there : (text : List ℕ) (ps : List PlacedToken) (items : List Item) (number : ℕ) → ArePlaced text ps → IsScriptText text items → IsRefusedAt items (Some number)
+    → number < length (anchors_in (tokens_in ps))
+refusal_there text ps items number placed reads refused = by_first (first_anchored items) refl refused
+  where
+    by_first : (o : Option Anchored) → first_anchored items ≡ o → IsFirstOr items o (Some number) → number < length (anchors_in (tokens_in ps))
+    by_first None found e = excess_there text ps items e.0 number placed reads e.2
+    by_first (Some first) found same =
+        let number_is : number ≡ first.anchor = ap (λ o. unwrap_or o 0) same in
+        omega (arith, anchor_there text ps items first placed reads found, number_is)
 
 -- the token at a place of some, and the tokens before it
 token_at : (ps : List PlacedToken) (i : ℕ) (p : PlacedToken) → i < length ps → get_or (tokens_in ps) i Semicolon ≡ (get_or ps i p).token

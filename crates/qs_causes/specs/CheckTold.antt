@@ -1,5 +1,6 @@
--- What is told of a script with a fault: a diagnosis of the token at which its first fault stands.
-use Rattle.std.specs.Prelude.{◌≡◌, ℕ, ◌-◌, List, get_or, Option, Some, None}
+-- What is told of a script that is refused: a diagnosis of the token at which its first fault stands, or of the block with which it
+-- passes a limit.
+use Rattle.std.specs.Prelude.{◌≡◌, ℕ, ◌-◌, List, get_or, Option, Some, None, option_map}
 use Rattle.qs_tokens.specs.declared.token.Token.TheVariants as t
 use Rattle.qs_script.specs.declared.tree.Item.{Item}
 use Rattle.qs_script.specs.Reads.{IsScriptText}
@@ -9,6 +10,10 @@ use Rattle.qs_told.specs.Told.{IsTold}
 use Rattle.qs_anchors.specs.declared.finding.Anchored.{Anchored}
 use Rattle.qs_anchors.specs.Anchors.{IsAnchorAt}
 use Rattle.qs_anchors.specs.Anchored.{first_anchored}
+use Rattle.qs_anchors.specs.Blocks.{block_number}
+use Rattle.qs_check.specs.declared.excess.Excess.{Excess}
+use Rattle.qs_check.specs.Excess.{IsExcessOf}
+use Rattle.qs_causes.specs.declared.refusal.Refusal.{Refusal}
 use Rattle.qs_causes.specs.declared.spans.PlacedToken.{PlacedToken}
 use Rattle.qs_causes.specs.Spans.{ArePlaced, tokens_in}
 
@@ -34,11 +39,36 @@ pub record IsToldAt (text : List ℕ) (number : ℕ) (old new : List ℕ) : Type
   pub stands : IsAnchorAt (tokens_in tokens) number place
   pub said : IsSaidAt text (span_at tokens place) old new
 
--- nothing was put there, where nothing is wrong
-abbrev pub IsFirstTold : List ℕ → Option Anchored → List ℕ → List ℕ → Type 0
-IsFirstTold text None old new = new ≡ old
-IsFirstTold text (Some first) old new = IsToldAt text first.anchor old new
+-- a diagnosis of the anchor of a number, if there is one
+abbrev pub IsMaybeToldAt : List ℕ → Option ℕ → List ℕ → List ℕ → Type 0
+IsMaybeToldAt text None old new = new ≡ old
+IsMaybeToldAt text (Some number) old new = IsToldAt text number old new
 
--- the first fault of the text's script was told
+abbrev pub anchor_of : Option Refusal → Option ℕ
+anchor_of found = option_map (λ (refusal : Refusal). refusal.anchor) found
+
+-- the anchor of a block of a script
+abbrev pub block_anchor_of : List Item → Option Excess → Option ℕ
+block_anchor_of items None = None
+block_anchor_of items (Some e) = block_number 0 items e.client e.block
+
+-- the anchor of the block with which a script passes a limit; none, where it passes none
+abbrev pub IsExcessAt : List Item → Option ℕ → Type 0
+IsExcessAt items anchor = (found : Option Excess) × IsExcessOf items found × (anchor ≡ block_anchor_of items found)
+
+-- the anchor of the first fault of a script's text, if there is one, or else that of the block with which it passes a limit
+abbrev pub IsFirstOr : List Item → Option Anchored → Option ℕ → Type 0
+IsFirstOr items None anchor = IsExcessAt items anchor
+IsFirstOr items (Some first) anchor = anchor ≡ Some first.anchor
+
+-- the anchor at which a script is refused; none, where it is not
+abbrev pub IsRefusedAt : List Item → Option ℕ → Type 0
+IsRefusedAt items anchor = IsFirstOr items (first_anchored items) anchor
+
+-- a diagnosis of this anchor was put at the end; nothing, where there is none
+abbrev pub IsRefusalTold : List ℕ → List Item → List ℕ → List ℕ → Type 0
+IsRefusalTold text items old new = (anchor : Option ℕ) × IsRefusedAt items anchor × IsMaybeToldAt text anchor old new
+
+-- of the text's script, why it is refused was told
 abbrev pub IsCheckTold : List ℕ → List ℕ → List ℕ → Type 0
-IsCheckTold text old new = (items : List Item) → IsScriptText text items → IsFirstTold text (first_anchored items) old new
+IsCheckTold text old new = (items : List Item) → IsScriptText text items → IsRefusalTold text items old new

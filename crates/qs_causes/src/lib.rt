@@ -9,6 +9,7 @@ mod form;
 mod known;
 mod nearness;
 mod operations;
+mod refusal;
 mod said;
 mod shape;
 mod source;
@@ -17,7 +18,6 @@ mod telling;
 mod usual;
 mod words;
 
-pub use excess::tell_excess;
 pub use nearness::is_near;
 pub use source::Source;
 pub use spans::{PlacedToken, SpanFault, placed_tokens};

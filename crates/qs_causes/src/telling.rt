@@ -3,26 +3,23 @@
 ghost use Rattle.std.specs.Prelude.{◌≡◌, ◌≤◌, ◌<◌, OnOk, List, [], length, Ok, Some, ℕ};
 ghost use Rattle.qs_script.specs.Reads.{IsScriptText};
 ghost use Rattle.qs_script.specs.declared.tree.Item.{Item};
-ghost use Rattle.qs_anchors.specs.Anchored.{first_anchored};
 ghost use Rattle.qs_causes.specs.Spans.{ArePlaced, Stand};
-ghost use Rattle.qs_causes.specs.CheckTold.{IsSaidAt, IsToldAt, IsFirstTold, IsCheckTold, span_at};
+ghost use Rattle.qs_causes.specs.CheckTold.{IsCheckTold, IsRefusalTold, IsRefusedAt, IsSaidAt, IsToldAt, span_at};
 
 use crate::bytes::say_token;
 use crate::finding::Search;
-use crate::said::{Said, say};
+use crate::refusal::{Refusal, Why, refusal_of, say_refusal};
+use crate::said::Said;
 use crate::shape::say_form;
 use crate::source::Source;
 use crate::spans::{PlacedToken, SpanFault, place_of_anchor, placed_tokens};
-use crate::words::say_cause;
-use qs_anchors::{Anchored, first_fault};
-use qs_places::CheckFault;
 use qs_script::{ReadFault, Script, read};
 use qs_tokens::Token;
 use qs_told::{Diagnosis, Span, put_diagnosis};
 use std::alloc::{AllocError, Global};
 
 // Puts what is said of some bytes at the end.
-pub(crate) fn put_said(
+fn put_said(
     alloc: Global,
     out: &mut Vec<u8>,
     text: &[u8],
@@ -93,29 +90,6 @@ pub fn tell_read(alloc: Global, out: &mut Vec<u8>, text: &[u8]) -> Result<(), Al
     }
 }
 
-// What is said of a fault at the place of a token.
-fn say_fault(
-    alloc: Global,
-    source: Source<'_>,
-    place: usize,
-    fault: CheckFault,
-) -> Result<Said, AllocError> {
-    let mut search = Search::new(alloc);
-    search.learn(source, place)?;
-    let said = match search.cause_of(source, place, fault) {
-        Some(cause) => say_cause(alloc, source, &search.known, place, cause)?,
-        None => say(
-            alloc,
-            source.span(place),
-            &[b"the script is refused here"],
-            &[],
-            &[],
-        )?,
-    };
-    drop(search);
-    Ok(said)
-}
-
 // Tells what is wrong at a token.
 fn tell_at(
     alloc: Global,
@@ -123,19 +97,19 @@ fn tell_at(
     text: &[u8],
     tokens: &[PlacedToken],
     place: usize,
-    fault: CheckFault,
+    why: Why,
 ) -> Result<(), AllocError>
     requires place { place < length tokens.now }
     requires stand { Stand text.now tokens.now (Ok []) }
     ensures told { OnOk result (IsSaidAt text.now (span_at tokens.now place) out.old.items out.new.items) }
 {
-    let said = say_fault(alloc, Source::new(text, tokens), place, fault)?;
+    let said = say_refusal(alloc, Source::new(text, tokens), place, why)?;
     let span = span_of(text, tokens, place);
     put_said(alloc, out, text, span, &said)
 }
 
 // The bytes of a token.
-pub(crate) fn span_of(text: &[u8], tokens: &[PlacedToken], place: usize) -> Span
+fn span_of(text: &[u8], tokens: &[PlacedToken], place: usize) -> Span
     requires place { place < length tokens.now }
     requires stand { Stand text.now tokens.now (Ok []) }
     ensures span { result ≡ span_at tokens.now place }
@@ -148,25 +122,25 @@ pub(crate) fn span_of(text: &[u8], tokens: &[PlacedToken], place: usize) -> Span
     }
 }
 
-// Tells the first fault of a script at its anchor.
-fn tell_first(
+// Tells why a script is refused, at its anchor.
+fn tell_refusal(
     alloc: Global,
     out: &mut Vec<u8>,
     text: &[u8],
     tokens: &[PlacedToken],
-    first: Anchored,
+    refusal: Refusal,
 ) -> Result<(), AllocError>
     requires placed { ArePlaced text.now tokens.now }
-    requires anchor { (items : List Item) × IsScriptText text.now items × (first_anchored items ≡ Some first) }
-    ensures told { OnOk result (IsToldAt text.now first.anchor out.old.items out.new.items) }
+    requires anchor { (items : List Item) × IsScriptText text.now items × IsRefusedAt items (Some refusal.anchor) }
+    ensures told { OnOk result (IsToldAt text.now refusal.anchor out.old.items out.new.items) }
 {
-    match place_of_anchor(tokens, first.anchor) {
-        Some(place) => tell_at(alloc, out, text, tokens, place, first.fault),
+    match place_of_anchor(tokens, refusal.anchor) {
+        Some(place) => tell_at(alloc, out, text, tokens, place, refusal.why),
         None => unreachable!(),
     }
 }
 
-// Tells the first fault of the script of a text, if it has one.
+// Tells why the script of a text is refused, if it is.
 fn tell_script(
     alloc: Global,
     out: &mut Vec<u8>,
@@ -174,20 +148,22 @@ fn tell_script(
     script: &Script,
 ) -> Result<(), AllocError>
     requires text { IsScriptText text.now script.now }
-    ensures told { OnOk result (IsFirstTold text.now (first_anchored script.now) out.old.items out.new.items) }
+    ensures told { OnOk result (IsRefusalTold text.now script.now out.old.items out.new.items) }
 {
-    let Some(first) = first_fault(alloc, script)? else {
+    let Some(refusal) = refusal_of(alloc, script)? else {
         return Ok(());
     };
     match placed_tokens(alloc, text) {
-        Ok(tokens) => tell_first(alloc, out, text, tokens.as_slice(), first),
+        Ok(tokens) => tell_refusal(alloc, out, text, tokens.as_slice(), refusal),
         Err(SpanFault::Memory) => Err(AllocError),
         Err(SpanFault::Token { fault: _, start: _ }) => unreachable!(),
     }
 }
 
-/// Puts the diagnosis of a script with a fault in its text at the end: of the token at which the first fault in text order stands, which
-/// is the fault that `check` answers. Nothing, where the script has none, or the text is no script.
+/// Puts the diagnosis of a script that is refused at the end: of the token at which its first fault in text order stands, which is the
+/// fault that `check` answers; or, where its text has none, of the block with which it passes the limit of the load or of the weight, at
+/// its `separate`, or at its client's name where the client is started with a template. Nothing, where the script is not refused, or the
+/// text is no script.
 pub fn tell_check(alloc: Global, out: &mut Vec<u8>, text: &[u8]) -> Result<(), AllocError>
     ensures told { OnOk result (IsCheckTold text.now out.old.items out.new.items) }
     ensures no_script { OnOk result (((items : List Item) → IsScriptText text.now items → ⊥) → out.new.items ≡ out.old.items) }

@@ -5,7 +5,7 @@ use Rattle.qs_program.specs.Sound.{IsSound}
 use Rattle.qs_meaning.specs.Configurations.{IsComplete, outcome_of}
 use Rattle.qs_meaning.specs.Solo.{States}
 use Rattle.qs_outcomes.specs.Outcomes.{AreAllOutcomes, outcome_at}
-use Rattle.qs_outcomes.specs.Search.{HasOne}
+use Rattle.qs_outcomes.specs.Lists.{HasOne}
 use Rattle.qs_outcomes.specs.Standings.{StandingShape}
 use Rattle.qs_syncset.specs.declared.mode.Mode.{Mode}
 use Rattle.qs_played.specs.Isolation.{state_of}

@@ -2,6 +2,7 @@
 -- names them. It goes by cases of the letter, and by induction on the list.
 use Rattle.std.proofs.Common.{◌≡◌, ◌≤◌, ◌+◌, ◌-◌, ◌==◌, ◌&&◌, ℕ, suc, Bool, true, false, List, [], ◌∷◌, length, map, Option, Some, None, Ok, Result, refl, sym, ap, ap₂, ◌∙◌, arith, nat_le, if◌then◌else◌, option_map, option_and_then, unwrap_or}
 use Rattle.std.specs.List.{fold, position, slice_split}
+use Rattle.std.proofs.lemmas.List.{length-map}
 use Rattle.std.proofs.lemmas.Bool.{eqb-true, false_from_ne_true, le-leb, leb-true}
 use Rattle.qs_tokens.specs.Tokens.{is_digit}
 use Rattle.qs_played.specs.declared.schedule.actor.Actor.{Actor}
@@ -10,9 +11,9 @@ use Rattle.qs_program.specs.Program.{ProgramShape}
 use Rattle.qs_lists.specs.declared.parts.Part.{Part}
 use Rattle.qs_lists.specs.declared.fault.ListFault.{ListFault}
 use Rattle.qs_lists.specs.Limits.{most_actors}
-use Rattle.qs_lists.specs.Named.{actor_of, actors_of, listed_from, repeated}
-use Rattle.qs_lists.specs.Numbers.{NumbersStay, numbers_of, once}
-use Rattle.qs_lists.specs.Parts.{actor_by, actor_in, list_in, named_in, part_by, part_in, parts_of, times, within_limit}
+use Rattle.qs_lists.specs.Named.{actor_of, actors_of, client_of, clients_of, listed_from, repeated}
+use Rattle.qs_lists.specs.Numbers.{ClientNumbersStay, NumbersStay, numbers_of, once}
+use Rattle.qs_lists.specs.Parts.{actor_by, actor_in, has_handler, list_in, named_in, part_by, part_in, parts_of, times, within_limit, without_handlers}
 
 other : (n m : ℕ) → (n ≡ m → ⊥) → (n == m) ≡ false
 other n m h = false_from_ne_true (n == m) (λ e. h (eqb-true n m e))
@@ -85,3 +86,17 @@ numbers_stay_proof p text actors e h = (
   ap (λ o. option_and_then within_limit o) (parts_are (slice_split (λ byte. byte == 44) text) actors e) ∙ short actors h,
   named p 0 actors,
 )
+
+clients_named : (p : ProgramShape) (place : ℕ) (clients : List ℕ) → listed_from (client_of p) place (map once (map Client clients)) ≡ Ok clients
+clients_named p place [] = refl
+clients_named p place (c ∷ later) = ap (λ (r : Result (List ℕ) ListFault). repeated 1 (Ok c) place r) (clients_named p (suc place) later)
+
+no_handler : (clients : List ℕ) → has_handler (map once (map Client clients)) ≡ false
+no_handler [] = refl
+no_handler (c ∷ later) = no_handler later
+
+pub client_numbers_stay_proof : ClientNumbersStay
+client_numbers_stay_proof p text clients e h =
+    let (read, actors) = numbers_stay_proof p text (map Client clients) e (omega (arith, length-map clients Client, h)) in
+    let parts = map once (map Client clients) in
+    (ap (option_and_then without_handlers) read ∙ ap (λ b. if b then None else Some parts) (no_handler clients), clients_named p 0 clients)

@@ -1,14 +1,15 @@
--- Lists of actors by number alone, which were all lists before there were names: each is read as it was, and names the same actors in
--- every program.
+-- Lists of actors or of clients by number alone, which were all lists before there were names: each is read as it was, and names the same
+-- actors or clients in every program.
 use Rattle.std.specs.Prelude.{◌≡◌, ◌≤◌, ◌==◌, ℕ, List, [], ◌∷◌, length, map, Option, Some, None, Ok, option_map, option_and_then}
 use Rattle.std.specs.List.{slice_split}
 use Rattle.qs_played.specs.declared.schedule.actor.Actor.{Actor}
+use Rattle.qs_played.specs.declared.schedule.actor.Actor.TheVariants.{Client}
 use Rattle.qs_program.specs.Program.{ProgramShape}
 use Rattle.qs_lists.specs.declared.parts.Part.{Part}
 use Rattle.qs_lists.specs.declared.parts.Who.TheVariants.{Number}
 use Rattle.qs_lists.specs.Limits.{most_actors}
-use Rattle.qs_lists.specs.Named.{actors_of}
-use Rattle.qs_lists.specs.Parts.{actor_in, list_in}
+use Rattle.qs_lists.specs.Named.{actors_of, clients_of}
+use Rattle.qs_lists.specs.Parts.{actor_in, clients_in, list_in}
 
 -- the actors of some texts, where each is an actor by its number
 abbrev pub numbers_of : List (List ℕ) → Option (List Actor)
@@ -22,3 +23,9 @@ abbrev pub NumbersStay : Type 0
 NumbersStay = (p : ProgramShape) (text : List ℕ) (actors : List Actor)
     → numbers_of (slice_split (λ byte. byte == 44) text) ≡ Some actors → length actors ≤ most_actors
     → (list_in text ≡ Some (map once actors)) × (actors_of p (map once actors) ≡ Ok actors)
+
+-- the same of a list of clients
+abbrev pub ClientNumbersStay : Type 0
+ClientNumbersStay = (p : ProgramShape) (text clients : List ℕ)
+    → numbers_of (slice_split (λ byte. byte == 44) text) ≡ Some (map Client clients) → length clients ≤ most_actors
+    → (clients_in text ≡ Some (map once (map Client clients))) × (clients_of p (map once (map Client clients)) ≡ Ok clients)

@@ -1,5 +1,5 @@
 -- What an explored program tells, once nothing is left on the stack: along any legal order the configuration was seen, at the end of a complete
--- one it was found, and each that was found is the end of its own complete order. Two that were found differ in what they come to, as equal
+-- one it was found, and each that was found is the end of its own complete order, the least that comes to the same. Two that were found differ in what they come to, as equal
 -- numbers make equal rows. The rows that were seen count the configurations.
 use Rattle.std.proofs.Common.{◌≡◌, ◌<◌, ◌≤◌, ℕ, suc, true, List, [], ◌∷◌, ◌++◌, length, get_or, refl, sym, ap, ◌∙◌, subst, arith, inl, inr, length-append, ℤ}
 use Rattle.std.specs.List.{AllByRecursion}
@@ -10,21 +10,15 @@ use Rattle.qs_meaning.specs.Configurations.{Configuration, OrderOutcome, configu
 use Rattle.qs_meaning.specs.Serial.{LegalFrom, no_state, zeros}
 use Rattle.qs_meaning.specs.Reduced.{IsReducedFrom, goes_on}
 use Rattle.qs_meaning.proofs.Reductions.{reduced_from}
-use Rattle.qs_meaning.proofs.Each.{each_map, each_snoc}
+use Rattle.qs_meaning.proofs.Each.{each_both, each_map, each_snoc}
 use Rattle.qs_meaning.proofs.Orders.{begun_within, complete_orders_leave_none, configuration-append, configurations_follow_orders, legal-rest, legal_on}
-use Rattle.qs_outcomes.specs.Outcomes.{AreAllOutcomesAfter, AreApart, AreDifferent, HasConfigurationsAfter, HasMoreThanAfter, IsListedAfter, outcome_at}
-use Rattle.qs_outcomes.specs.Search.{HasOne, IsExplored, IsFound, IsReached, IsSeen, NoTwo, NoneNext}
+use Rattle.qs_outcomes.specs.Outcomes.{AreAllOutcomesAfter, AreApart, AreDifferent, HasConfigurationsAfter, HasMoreThanAfter, IsLeastAfter, IsListedAfter, outcome_at}
+use Rattle.qs_outcomes.specs.LeastOrders.{IsLeastThere}
+use Rattle.qs_outcomes.specs.Lists.{HasOne, NoTwo}
+use Rattle.qs_outcomes.specs.Search.{IsExplored, IsFound, IsReached, IsSeen, NoneNext}
 use Rattle.qs_outcomes.specs.Standings.{GoesOn, IsFirst, IsNext, IsStanding, StandingShape, configuration_in, row_of}
 use Rattle.qs_outcomes.proofs.Lists.{has_map, has_some, none_of, same_list, two_snoc}
-use Rattle.qs_outcomes.proofs.RowTells.{row_tells, same_row}
-
--- equal configurations have equal rows
-same_configurations : (p : ProgramShape) (front : List Ticket) (s t : StandingShape) → IsStanding p front s → IsStanding p front t → configuration_in s ≡ configuration_in t → row_of p s ≡ row_of p t
-same_configurations p front s t a b e =
-    same_row p s t
-    (same_list 0 s.begun t.begun (a.begun ∙ sym b.begun) (λ i. ap (λ (g : Configuration). g.begun i) e))
-    (same_list zeros s.locals t.locals (a.locals ∙ sym b.locals) (λ i. ap (λ (g : Configuration). g.locals i) e))
-    (same_list no_state s.states t.states (a.states ∙ sym b.states) (λ i. ap (λ (g : Configuration). g.states i) e))
+use Rattle.qs_outcomes.proofs.RowTells.{pick, row_tells, same_configurations, same_row}
 
 -- no block left: each client has begun all that it has
 all_begun : (p : ProgramShape) (front : List Ticket) (s : StandingShape) → IsStanding p front s → NoneNext p s → (c : ℕ) → get_or s.begun c 0 ≡ blocks_of p c
@@ -58,12 +52,6 @@ all_but R S f x q (y ∷ ys) each h = (λ s. h.0 (f x y q each.0 s), all_but R S
 two_map : {X : Type 0} {Q : X → Type 0} (R S : X → X → Type 0) → ((x y : X) → Q x → Q y → S x y → R x y) → (xs : List X) → AllByRecursion Q xs → NoTwo R xs → NoTwo S xs
 two_map R S f [] each h = tt
 two_map R S f (x ∷ xs) each h = (all_but R S f x each.0 xs each.1 h.0, two_map R S f xs each.1 h.1)
-
--- whose row was seen
-pick : (p : ProgramShape) (Q : StandingShape → Type 0) (rows : List (List ℤ)) → HasOne (λ r. (n : StandingShape) × Q n × (row_of p n ≡ r)) rows → (n : StandingShape) × Q n × HasOne (λ r. row_of p n ≡ r) rows
-pick p Q [] h = absurd h
-pick p Q (r ∷ rows) (inl (n, q, e)) = (n, q, inl e)
-pick p Q (r ∷ rows) (inr h) = let later = pick p Q rows h in (later.0, later.1, inr later.2)
 
 seen_one : (p : ProgramShape) (Q : StandingShape → Type 0) (rows : List (List ℤ)) → IsReached p Q rows [] → (n : StandingShape) × Q n × HasOne (λ r. row_of p n ≡ r) rows
 seen_one p Q rows (inl h) = absurd h
@@ -118,6 +106,14 @@ module _ (p : ProgramShape) (front : List Ticket) (sound : IsSound p) (rows : Li
 
   pub all_listed : AllByRecursion (IsListedAfter p front) found
   all_listed = each_map (listed p front rows) found explored.found
+
+  -- a complete order that comes to the same leads to the same configuration
+  pub all_least : AllByRecursion (IsLeastAfter p front) found
+  all_least = each_both {R = IsLeastAfter p front} (λ s (f : IsFound p front rows s) (l : IsLeastThere p front s). λ order complete reduced same before.
+      (let e : outcome_in (configuration_after p order) ≡ outcome_in (configuration_in s) = configurations_follow_orders p order complete.legal ∙ same in
+      let begun : ◌≡◌ {A = ℕ → ℕ} (configuration_after p order).begun (configuration_in s).begun =
+      λ i c. ((complete_orders_leave_none p order complete.legal).0 complete c ∙ sym (all_begun p front s f.standing f.over c)) i in
+      l order complete.legal reduced (λ i. record { begun = begun i; locals = (e i).locals; states = (e i).states }) before)) found explored.found explored.least.least
 
   pub all_apart : AreApart found
   all_apart = two_map (λ x y. row_of p x ≡ row_of p y) (λ x y. outcome_at x ≡ outcome_at y) (found_apart p front rows) found explored.found explored.apart

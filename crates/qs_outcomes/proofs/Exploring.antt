@@ -1,25 +1,20 @@
 -- What the search keeps true: each standing that was taken off the stack is seen, what its next blocks lead to is seen or on the stack, and it
 -- is found where no block is left. So once the stack is empty, what was seen is closed, and by induction along any legal order its configuration
 -- was seen; where the order is complete, it was found. Rows of equal numbers stand for one configuration.
-use Rattle.std.proofs.Common.{◌≡◌, ◌<◌, ◌≤◌, ◌+◌, ℕ, suc, Bool, true, false, List, [], ◌∷◌, ◌++◌, length, get_or, refl, sym, ap, ◌∙◌, subst, arith, ◌⊎◌, inl, inr, ⊎_elim, append_assoc, append-nil, length-append, ℤ}
+use Rattle.std.proofs.Common.{◌≡◌, ◌<◌, ◌≤◌, ◌+◌, ℕ, suc, Bool, true, false, List, [], ◌∷◌, ◌++◌, length, refl, sym, ap, ◌∙◌, subst, arith, ◌⊎◌, inl, inr, ⊎_elim, append_assoc, append-nil, length-append, ℤ}
 use Rattle.std.specs.List.{AllByRecursion}
 use Rattle.qs_objects.specs.declared.held.Ticket.{Ticket}
-use Rattle.qs_program.specs.Program.{ClientShape, ProgramShape, blocks_of, no_client}
+use Rattle.qs_program.specs.Program.{ProgramShape}
+use Rattle.qs_program.specs.Sound.{IsSound}
 use Rattle.qs_meaning.proofs.Each.{each_back, each_front, each_join, each_map, each_snoc}
-use Rattle.qs_outcomes.specs.Search.{AreNextFrom, HasOne, IsExplored, IsFound, IsLonger, IsNoted, IsPushed, IsReached, IsSeen, NoTwo, NoneNext, WasSeen, work_left}
+use Rattle.qs_outcomes.specs.LeastOrders.{IsBefore, IsLeastFirst}
+use Rattle.qs_outcomes.specs.Lists.{HasOne, NoTwo}
+use Rattle.qs_outcomes.specs.Search.{AreNextFrom, IsExplored, IsFound, IsLonger, IsNoted, IsPushed, IsReached, IsSeen, NoneNext, WasSeen, work_left}
 use Rattle.qs_outcomes.specs.Standings.{GoesOn, HasNext, IsFirst, IsNext, IsStanding, StandingShape, configuration_in, row_of}
-use Rattle.qs_outcomes.proofs.Lists.{has_back, has_either, has_front, has_map, none_of, two_snoc}
-use Rattle.qs_outcomes.proofs.Stands.{below_or_past, goes_left, past_end}
-
--- a client that has a block left is one of the program's
-pub in_program : (p : ProgramShape) (s : StandingShape) (c : ℕ) → HasNext p s c → c < length p.clients
-in_program p s c left =
-    ⊎_elim
-    (λ (l : c < length p.clients). l)
-    (λ (past : length p.clients ≤ c).
-    let none : blocks_of p c ≡ 0 = ap (λ (client : ClientShape). length client.blocks) (past_end p.clients c no_client past) in
-    let has : get_or s.begun c 0 < blocks_of p c = left in absurd (omega (arith, none, has)))
-    (below_or_past c (length p.clients))
+use Rattle.qs_outcomes.proofs.Before.{fork}
+use Rattle.qs_outcomes.proofs.LeastFirst.{first_ends, first_pushes, first_skips}
+use Rattle.qs_outcomes.proofs.Lists.{has_back, has_either, has_front, has_map, has_only, none_of, pairs_join, two_snoc}
+use Rattle.qs_outcomes.proofs.Stands.{below_or_past, goes_left, in_program}
 
 here_or_above : (c d : ℕ) → c ≤ d → (c ≡ d) ⊎ (suc c ≤ d)
 here_or_above c d h =
@@ -35,15 +30,11 @@ reached_on : (p : ProgramShape) (Q : StandingShape → Type 0) (rows later : Lis
 reached_on p Q rows later stack now s seen more on (inl h) =
     ⊎_elim
     (λ (before : HasOne Q stack). inl (on Q before))
-    (λ (last : HasOne Q (s ∷ [])). inr (has_map (λ r (e : row_of p s ≡ r). (s, last_is last, e)) later seen))
+    (λ (last : HasOne Q (s ∷ [])). inr (has_map (λ r (e : row_of p s ≡ r). (s, has_only Q s last, e)) later seen))
     (has_either Q stack (s ∷ []) h)
-  where
-    last_is : HasOne Q (s ∷ []) → Q s
-    last_is (inl q) = q
-    last_is (inr h) = absurd h
 reached_on p Q rows later stack now s seen more on (inr h) = inr (more _ h)
 
-module _ (p : ProgramShape) (front : List Ticket) (rows : List (List ℤ)) (stack found : List StandingShape) (s : StandingShape) (explored : IsExplored p front rows (stack ++ s ∷ []) found) where
+module _ (p : ProgramShape) (front : List Ticket) (sound : IsSound p) (rows : List (List ℤ)) (stack found : List StandingShape) (s : StandingShape) (explored : IsExplored p front rows (stack ++ s ∷ []) found) where
   pub taken : IsStanding p front s
   taken = (each_back (IsStanding p front) stack (s ∷ []) explored.stack).0
 
@@ -64,11 +55,13 @@ module _ (p : ProgramShape) (front : List Ticket) (rows : List (List ℤ)) (stac
     once = explored.once;
     found = explored.found;
     apart = explored.apart;
+    least = first_skips p front sound rows stack found s taken explored.least seen;
   }
 
   module _ (new : HasOne (λ r. row_of p s ≡ r) rows → ⊥) (added results : List StandingShape) (next : AreNextFrom p front (rows ++ row_of p s ∷ []) s 0 added)
       (more : (P : StandingShape → Type 0) → HasOne P found → HasOne P results) (over : NoneNext p s → HasOne (λ x. configuration_in x ≡ configuration_in s) results)
-      (all : AllByRecursion (IsFound p front (rows ++ row_of p s ∷ [])) results) (apart : NoTwo (λ x y. row_of p x ≡ row_of p y) results) where
+      (all : AllByRecursion (IsFound p front (rows ++ row_of p s ∷ [])) results) (apart : NoTwo (λ x y. row_of p x ≡ row_of p y) results)
+      (least : IsLeastFirst p front (rows ++ row_of p s ∷ []) (stack ++ added) results) where
     here : HasOne (λ r. row_of p s ≡ r) (rows ++ row_of p s ∷ [])
     here = has_back (λ r. row_of p s ≡ r) rows (row_of p s ∷ []) (inl refl)
 
@@ -82,7 +75,8 @@ module _ (p : ProgramShape) (front : List Ticket) (rows : List (List ℤ)) (stac
     -- a new one is seen now, with what its next blocks lead to on the stack
     pub sees : IsExplored p front (rows ++ row_of p s ∷ []) (stack ++ added) results
     sees = record {
-      stack = each_join (IsStanding p front) stack added (each_front (IsStanding p front) stack (s ∷ []) explored.stack) next.standing;
+      stack = each_join (IsStanding p front) stack added (each_front (IsStanding p front) stack (s ∷ []) explored.stack)
+          (each_map (λ n (on : (c : ℕ) × (0 ≤ c) × IsNext p front s c n). on.2.standing) added next.next);
       first = onward (IsFirst p front) explored.first;
       seen = each_snoc (λ r. (t : StandingShape) × IsSeen p front (rows ++ row_of p s ∷ []) (stack ++ added) results r t) rows (row_of p s)
           (each_map (λ r (w : (t : StandingShape) × IsSeen p front rows (stack ++ s ∷ []) found r t). (
@@ -105,27 +99,30 @@ module _ (p : ProgramShape) (front : List Ticket) (rows : List (List ℤ)) (stac
       once = two_snoc ◌≡◌ rows (row_of p s) explored.once (each_map {Q = λ r. r ≡ row_of p s → ⊥} (λ r (other : row_of p s ≡ r → ⊥) e. other (sym e)) rows (none_of (λ r. row_of p s ≡ r) rows new));
       found = all;
       apart = apart;
+      least = least;
     }
 
   -- where blocks are left, nothing more is found
   pub sees_on : (HasOne (λ r. row_of p s ≡ r) rows → ⊥) → (added : List StandingShape) → AreNextFrom p front (rows ++ row_of p s ∷ []) s 0 added → (NoneNext p s → ⊥)
       → IsExplored p front (rows ++ row_of p s ∷ []) (stack ++ added) found
   sees_on new added next some = sees new added found next (λ P h. h) (λ none. absurd (some none)) (found_on found explored.found) explored.apart
+      (first_pushes p front sound rows stack found s taken explored.least added next)
     where
       found_on : (xs : List StandingShape) → AllByRecursion (IsFound p front rows) xs → AllByRecursion (IsFound p front (rows ++ row_of p s ∷ [])) xs
       found_on xs h = each_map (λ x (f : IsFound p front rows x). record { standing = f.standing; over = f.over; seen = has_front (λ r. row_of p x ≡ r) rows (row_of p s ∷ []) f.seen }) xs h
 
   -- where none is left, the standing is found
-  pub sees_end : (HasOne (λ r. row_of p s ≡ r) rows → ⊥) → (added : List StandingShape) → AreNextFrom p front (rows ++ row_of p s ∷ []) s 0 added → NoneNext p s
-      → IsExplored p front (rows ++ row_of p s ∷ []) (stack ++ added) (found ++ s ∷ [])
-  sees_end new added next none =
-      sees new added (found ++ s ∷ []) next (λ P. has_front P found (s ∷ []))
+  pub sees_end : (HasOne (λ r. row_of p s ≡ r) rows → ⊥) → AreNextFrom p front (rows ++ row_of p s ∷ []) s 0 [] → NoneNext p s
+      → IsExplored p front (rows ++ row_of p s ∷ []) (stack ++ []) (found ++ s ∷ [])
+  sees_end new next none =
+      sees new [] (found ++ s ∷ []) next (λ P. has_front P found (s ∷ []))
       (λ _. has_back (λ x. configuration_in x ≡ configuration_in s) found (s ∷ []) (inl refl))
       (each_snoc (IsFound p front (rows ++ row_of p s ∷ [])) found s
       (each_map (λ x (f : IsFound p front rows x). record { standing = f.standing; over = f.over; seen = has_front (λ r. row_of p x ≡ r) rows (row_of p s ∷ []) f.seen }) found explored.found)
       (record { standing = taken; over = none; seen = has_back (λ r. row_of p s ≡ r) rows (row_of p s ∷ []) (inl refl) }))
       (two_snoc (λ x y. row_of p x ≡ row_of p y) found s explored.apart
       (each_map {Q = λ x. row_of p x ≡ row_of p s → ⊥} (λ x (f : IsFound p front rows x) e. new (has_map (λ r (is : row_of p x ≡ r). sym e ∙ is) rows f.seen)) found explored.found))
+      (first_ends p front sound rows stack found s taken explored.least new next)
 
 -- one more pushed: those of one more client
 pub pushed_on : (p : ProgramShape) (front : List Ticket) (rows : List (List ℤ)) (s : StandingShape) (c : ℕ) (before middle after : List StandingShape) → c < length p.clients
@@ -134,7 +131,10 @@ pushed_on p front rows s c before middle after client (added, is, next) (inl (n,
   added ++ n ∷ [],
   now ∙ (ap (λ xs. xs ++ n ∷ []) is ∙ append_assoc before added (n ∷ [])),
   record {
-    standing = each_snoc (IsStanding p front) added n next.standing on.standing;
+    next = each_snoc (λ m. (d : ℕ) × (c ≤ d) × IsNext p front s d m) added n
+        (each_map (λ m (w : (d : ℕ) × (suc c ≤ d) × IsNext p front s d m). (w.0, (let above = w.1 in omega (arith, above)), w.2)) added next.next) (c, omega arith, on);
+    sorted = pairs_join (λ l m. IsBefore m.order l.order) added (n ∷ []) next.sorted (tt, tt)
+        (each_map (λ m (w : (d : ℕ) × (suc c ≤ d) × IsNext p front s d m). (next_before m w.0 w.1 w.2, tt)) added next.next);
     each = λ d from within goes.
         ⊎_elim
         (λ (same : c ≡ d). inl (has_back (IsNext p front s d) added (n ∷ []) (inl (subst (λ e. IsNext p front s e n) same on))))
@@ -144,6 +144,12 @@ pushed_on p front rows s c before middle after client (added, is, next) (inl (n,
   },
 )
   where
+    next_before : (m : StandingShape) (d : ℕ) → suc c ≤ d → IsNext p front s d m → IsBefore n.order m.order
+    next_before m d above later =
+        subst (λ ts. IsBefore ts m.order) (sym on.order)
+        (subst (IsBefore (s.order ++ record { client = c; index = (configuration_in s).begun c } ∷ [])) (sym later.order)
+        (fork s.order (record { client = c; index = (configuration_in s).begun c }) (record { client = d; index = (configuration_in s).begun d }) (omega (arith, above))))
+
     longer : (d : ℕ) → IsReached p (IsNext p front s d) rows added → IsReached p (IsNext p front s d) rows (added ++ n ∷ [])
     longer d (inl h) = inl (has_front (IsNext p front s d) added (n ∷ []) h)
     longer d (inr h) = inr h
@@ -151,7 +157,8 @@ pushed_on p front rows s c before middle after client (added, is, next) (inr (wh
   added,
   now ∙ is,
   record {
-    standing = next.standing;
+    next = each_map (λ m (w : (d : ℕ) × (suc c ≤ d) × IsNext p front s d m). (w.0, (let above = w.1 in omega (arith, above)), w.2)) added next.next;
+    sorted = next.sorted;
     each = λ d from within goes.
         ⊎_elim
         (λ (same : c ≡ d). subst (λ e. GoesOn p s e → IsReached p (IsNext p front s e) rows added) same (λ here. seen_or_not why here) goes)
@@ -171,7 +178,8 @@ none_pushed p front rows s before = (
   [],
   sym (append-nil before),
   record {
-    standing = tt;
+    next = tt;
+    sorted = tt;
     each = λ c from within. absurd (omega (arith, from, within));
     few = omega arith;
   },
@@ -180,7 +188,8 @@ none_pushed p front rows s before = (
 -- where no block is left nobody goes on
 pub none_next : (p : ProgramShape) (front : List Ticket) (rows : List (List ℤ)) (s : StandingShape) → NoneNext p s → AreNextFrom p front rows s 0 []
 none_next p front rows s none = record {
-  standing = tt;
+  next = tt;
+  sorted = tt;
   each = λ c from within goes. absurd (none c (goes_left p s c goes));
   few = omega arith;
 }
@@ -190,12 +199,12 @@ pub nobody_left : (p : ProgramShape) (s : StandingShape) (n : ℕ) → length p.
 nobody_left p s n all none c left = none c (let less = in_program p s c left in omega (arith, less, all)) left
 
 -- a standing that was taken up, by what was noted of it and what was added
-module _ (p : ProgramShape) (front : List Ticket) (limit : ℕ) (rows later : List (List ℤ)) (stack now found : List StandingShape) (s : StandingShape) (explored : IsExplored p front rows (stack ++ s ∷ []) found) (new : Bool)
+module _ (p : ProgramShape) (front : List Ticket) (sound : IsSound p) (limit : ℕ) (rows later : List (List ℤ)) (stack now found : List StandingShape) (s : StandingShape) (explored : IsExplored p front rows (stack ++ s ∷ []) found) (new : Bool)
     (noted : IsNoted rows (row_of p s) limit new later) where
   pub skipped : new ≡ false → IsExplored p front later stack found
   skipped old =
       let same : IsNoted rows (row_of p s) limit false later = subst (λ b. IsNoted rows (row_of p s) limit b later) old noted in
-      subst (λ rs. IsExplored p front rs stack found) (sym same.0.0) (skips p front rows stack found s explored same.0.1)
+      subst (λ rs. IsExplored p front rs stack found) (sym same.0.0) (skips p front sound rows stack found s explored same.0.1)
 
   fresh : new ≡ true → IsNoted rows (row_of p s) limit true later
   fresh is = subst (λ b. IsNoted rows (row_of p s) limit b later) is noted
@@ -205,7 +214,7 @@ module _ (p : ProgramShape) (front : List Ticket) (limit : ℕ) (rows later : Li
       let n = fresh is in
       subst (λ rs. IsExplored p front rs now found) (sym n.0.0)
       (subst (λ ts. IsExplored p front (rows ++ row_of p s ∷ []) ts found) (sym e)
-      (sees_on p front rows stack found s explored n.0.1 added (subst (λ rs. AreNextFrom p front rs s 0 added) n.0.0 next) some))
+      (sees_on p front sound rows stack found s explored n.0.1 added (subst (λ rs. AreNextFrom p front rs s 0 added) n.0.0 next) some))
 
   pub ended : new ≡ true → NoneNext p s → (results : List StandingShape) → results ≡ found ++ s ∷ [] → IsExplored p front later stack results
   ended is none results last =
@@ -213,7 +222,7 @@ module _ (p : ProgramShape) (front : List Ticket) (limit : ℕ) (rows later : Li
       subst (λ rs. IsExplored p front rs stack results) (sym n.0.0)
       (subst (λ ts. IsExplored p front (rows ++ row_of p s ∷ []) ts results) (append-nil stack)
       (subst (λ xs. IsExplored p front (rows ++ row_of p s ∷ []) (stack ++ []) xs) (sym last)
-      (sees_end p front rows stack found s explored n.0.1 [] (none_next p front (rows ++ row_of p s ∷ []) s none) none)))
+      (sees_end p front sound rows stack found s explored n.0.1 (none_next p front (rows ++ row_of p s ∷ []) s none) none)))
 
   pub less_left : new ≡ true → IsLonger p front later s 0 stack now → length p.clients ≤ 8 → work_left limit later now < work_left limit rows stack + 1
   less_left is (added, e, next) clients =

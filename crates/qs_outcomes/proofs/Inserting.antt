@@ -7,7 +7,8 @@ use Rattle.std.specs.List.{list_any}
 use Rattle.std.proofs.lemmas.List.{map-append}
 use Rattle.indexmap.specs.IndexSet.{insert_key}
 use Rattle.qs_outcomes.specs.Rows.{rows_in}
-use Rattle.qs_outcomes.specs.Search.{HasOne, IsInserted}
+use Rattle.qs_outcomes.specs.Lists.{HasOne}
+use Rattle.qs_outcomes.specs.Search.{IsInserted}
 
 module _ (E : Vec ℤ Global → Vec ℤ Global → Bool) (tells : (v w : Vec ℤ Global) → E v w ≡ true → v.items ≡ w.items) (holds : (v w : Vec ℤ Global) → v.items ≡ w.items → E v w ≡ true) where
   pub among : (v : Vec ℤ Global) (keys : List (Vec ℤ Global)) → list_any (E v) keys ≡ true → HasOne (λ r. v.items ≡ r) (rows_in keys)

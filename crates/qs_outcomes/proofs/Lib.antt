@@ -1,8 +1,9 @@
 pub mod Fronts
-pub mod Endings
 pub mod RowSteps
 pub mod Stands
 pub mod Lists
+pub mod Before
+pub mod LeastFirst
 pub mod RowTells
 pub mod Exploring
 pub mod Explored

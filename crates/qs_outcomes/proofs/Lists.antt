@@ -2,7 +2,8 @@
 -- that agree place by place. The search keeps such facts of what it has seen and found. Each goes by induction on the list.
 use Rattle.std.proofs.Common.{◌≡◌, ℕ, suc, List, [], ◌∷◌, ◌++◌, length, get_or, refl, ap₂, arith, ◌⊎◌, inl, inr}
 use Rattle.std.specs.List.{AllByRecursion}
-use Rattle.qs_outcomes.specs.Search.{HasOne, NoTwo}
+use Rattle.qs_meaning.proofs.Each.{each_back, each_front, each_join, each_map}
+use Rattle.qs_outcomes.specs.Lists.{EachTwo, HasOne, NoTwo}
 
 pub has_map : {X : Type 0} {P Q : X → Type 0} → ((x : X) → P x → Q x) → (xs : List X) → HasOne P xs → HasOne Q xs
 has_map f [] h = absurd h
@@ -35,13 +36,24 @@ has_some f [] h each = absurd h
 has_some f (x ∷ xs) (inl h) each = f x h each.0
 has_some f (x ∷ xs) (inr h) each = has_some f xs h each.1
 
+pub has_only : {X : Type 0} (P : X → Type 0) (x : X) → HasOne P (x ∷ []) → P x
+has_only P x (inl h) = h
+has_only P x (inr h) = absurd h
+
+pub pairs_front : {X : Type 0} (R : X → X → Type 0) (xs ys : List X) → EachTwo R (xs ++ ys) → EachTwo R xs
+pairs_front R [] ys h = tt
+pairs_front R (x ∷ xs) ys h = (each_front (R x) xs ys h.0, pairs_front R xs ys h.1)
+
+pub pairs_last : {X : Type 0} (R : X → X → Type 0) (xs : List X) (y : X) → EachTwo R (xs ++ y ∷ []) → AllByRecursion (λ x. R x y) xs
+pairs_last R [] y h = tt
+pairs_last R (x ∷ xs) y h = ((each_back (R x) xs (y ∷ []) h.0).0, pairs_last R xs y h.1)
+
+pub pairs_join : {X : Type 0} (R : X → X → Type 0) (xs ys : List X) → EachTwo R xs → EachTwo R ys → AllByRecursion (λ x. AllByRecursion (R x) ys) xs → EachTwo R (xs ++ ys)
+pairs_join R [] ys h k all = k
+pairs_join R (x ∷ xs) ys h k all = (each_join (R x) xs ys h.0 all.0, pairs_join R xs ys h.1 k all.1)
+
 pub two_snoc : {X : Type 0} (R : X → X → Type 0) (xs : List X) (y : X) → NoTwo R xs → AllByRecursion (λ x. R x y → ⊥) xs → NoTwo R (xs ++ y ∷ [])
-two_snoc R [] y apart each = (tt, tt)
-two_snoc R (x ∷ xs) y apart each = (last xs apart.0, two_snoc R xs y apart.1 each.1)
-  where
-    last : (zs : List _) → AllByRecursion (λ z. R x z → ⊥) zs → AllByRecursion (λ z. R x z → ⊥) (zs ++ y ∷ [])
-    last [] h = (each.0, tt)
-    last (z ∷ zs) h = (h.0, last zs h.1)
+two_snoc R xs y apart each = pairs_join (λ a b. R a b → ⊥) xs (y ∷ []) apart (tt, tt) (each_map (λ x other. (other, tt)) xs each)
 
 pub none_of : {X : Type 0} (P : X → Type 0) (xs : List X) → (HasOne P xs → ⊥) → AllByRecursion (λ x. P x → ⊥) xs
 none_of P [] h = tt

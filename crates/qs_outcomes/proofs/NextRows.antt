@@ -14,7 +14,7 @@ use Rattle.qs_program.specs.Values.{Locals}
 use Rattle.qs_meaning.specs.Serial.{zeros}
 use Rattle.qs_outcomes.specs.Rows.{named_before, overwritten}
 use Rattle.qs_outcomes.specs.Standings.{IsStanding, StandingShape, named_from, row_of, state_row, with_block}
-use Rattle.qs_outcomes.proofs.Endings.{nothing_left}
+use Rattle.qs_alone.proofs.Endings.{nothing_left}
 use Rattle.qs_outcomes.proofs.RowSteps.{few_variables}
 use Rattle.qs_outcomes.proofs.RowTells.{named}
 

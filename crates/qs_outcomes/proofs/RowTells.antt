@@ -1,7 +1,7 @@
 -- A row tells the configuration: each part of it is as long in any row of the program or says how long it is, so two rows are equal only where
 -- all their parts are; and a variable that no text names is 0. By this what was seen under a row need not be looked at again. It goes part by
 -- part, with the rest of the rows in hand.
-use Rattle.std.proofs.Common.{◌≡◌, ℕ, List, [], ◌∷◌, ◌++◌, length, map, flat_map, refl, sym, ap, ap₂, ◌∙◌, ℤ, pos, append_assoc, arith}
+use Rattle.std.proofs.Common.{◌≡◌, ℕ, List, [], ◌∷◌, ◌++◌, length, map, flat_map, refl, sym, ap, ap₂, ◌∙◌, ℤ, pos, append_assoc, arith, inl, inr}
 use Rattle.qs_objects.specs.Act.{account, buffer, grid}
 use Rattle.std.proofs.Common.{◌<◌, ◌+◌, suc, get_or, take, drop, subst}
 use Rattle.std.proofs.lemmas.List.{length-map, length-take}
@@ -10,9 +10,11 @@ use Rattle.qs_program.specs.Program.{ProgramShape, client_at}
 use Rattle.qs_program.specs.Sound.{IsSound}
 use Rattle.qs_program.specs.Values.{Locals}
 use Rattle.qs_meaning.specs.Configurations.{AreNamedAlone, Configuration}
-use Rattle.qs_meaning.specs.Serial.{zeros}
+use Rattle.qs_meaning.specs.Serial.{no_state, zeros}
 use Rattle.qs_meaning.proofs.Unnamed.{unnamed_stay_zero}
+use Rattle.qs_outcomes.specs.Lists.{HasOne}
 use Rattle.qs_outcomes.specs.Standings.{IsStanding, StandingShape, configuration_in, content_row, counted, named_from, row_of, state_row}
+use Rattle.qs_outcomes.proofs.Lists.{same_list}
 
 -- the first number, and the rest
 head : {x y : ℤ} {xs ys : List ℤ} → ◌≡◌ {A = List ℤ} (x ∷ xs) (y ∷ ys) → x ≡ y
@@ -130,3 +132,17 @@ module _ (p : ProgramShape) (front : List Ticket) (sound : IsSound p) where
 -- and equal configurations of as many clients and objects have equal rows
 pub same_row : (p : ProgramShape) (s t : StandingShape) → s.begun ≡ t.begun → s.locals ≡ t.locals → s.states ≡ t.states → row_of p s ≡ row_of p t
 same_row p s t a b c = λ i. row_of p (record { order = s.order; begun = a i; locals = b i; states = c i })
+
+-- equal configurations have equal rows
+pub same_configurations : (p : ProgramShape) (front : List Ticket) (s t : StandingShape) → IsStanding p front s → IsStanding p front t → configuration_in s ≡ configuration_in t → row_of p s ≡ row_of p t
+same_configurations p front s t a b e =
+    same_row p s t
+    (same_list 0 s.begun t.begun (a.begun ∙ sym b.begun) (λ i. ap (λ (g : Configuration). g.begun i) e))
+    (same_list zeros s.locals t.locals (a.locals ∙ sym b.locals) (λ i. ap (λ (g : Configuration). g.locals i) e))
+    (same_list no_state s.states t.states (a.states ∙ sym b.states) (λ i. ap (λ (g : Configuration). g.states i) e))
+
+-- whose row was seen
+pub pick : (p : ProgramShape) (Q : StandingShape → Type 0) (rows : List (List ℤ)) → HasOne (λ r. (n : StandingShape) × Q n × (row_of p n ≡ r)) rows → (n : StandingShape) × Q n × HasOne (λ r. row_of p n ≡ r) rows
+pick p Q [] h = absurd h
+pick p Q (r ∷ rows) (inl (n, q, e)) = (n, q, inl e)
+pick p Q (r ∷ rows) (inr h) = let later = pick p Q rows h in (later.0, later.1, inr later.2)

@@ -12,7 +12,7 @@ use Rattle.qs_objects.proofs.Choices.{eqb_true}
 use Rattle.qs_objects.proofs.Arities.{arity_small}
 use Rattle.qs_program.specs.declared.code.Call.{Call}
 use Rattle.qs_program.specs.declared.program.Declared.{Declared}
-use Rattle.qs_program.specs.Program.{BlockShape, ProgramShape, block_at, blocks_of, no_object}
+use Rattle.qs_program.specs.Program.{BlockShape, ClientShape, ProgramShape, block_at, blocks_of, no_client, no_object}
 use Rattle.qs_program.specs.Sound.{IsSoundBlock, IsSoundBody, IsSoundCall, is_in}
 use Rattle.qs_program.specs.Statements.{Statements, end, command, query, assign, choose, again, leave}
 use Rattle.qs_meaning.specs.Configurations.{Configuration, configuration_after, configuration_from, first_configuration, one_block_on}
@@ -20,7 +20,7 @@ use Rattle.qs_meaning.specs.Serial.{IsLegal, LegalFrom, declared_states, no_stat
 use Rattle.qs_meaning.specs.Solo.{BlockResult, put, solo}
 use Rattle.qs_meaning.proofs.Orders.{configuration-append, legal_on}
 use Rattle.qs_orders.proofs.Lookups.{lookup-replicate, lookup-set}
-use Rattle.qs_outcomes.specs.Alone.{AreCallsWithin, IsCallWithin, states_in}
+use Rattle.qs_alone.specs.Alone.{AreCallsWithin, IsCallWithin, states_in}
 use Rattle.qs_meaning.specs.Reduced.{IsReducedFrom, goes_on}
 use Rattle.qs_meaning.proofs.Groups.{some_go_on}
 use Rattle.qs_outcomes.specs.Standings.{GoesOn, HasNext, HasRun, IsFirst, IsNext, IsOneOn, IsReducedAfter, IsStanding, StandingShape, configuration_in, with_block}
@@ -57,6 +57,16 @@ reduced-snoc p g (u ∷ ts) t reduced goes = (reduced.0, reduced-snoc p (one_blo
 -- who goes on has a block left
 pub goes_left : (p : ProgramShape) (s : StandingShape) (c : ℕ) → GoesOn p s c → HasNext p s c
 goes_left p s c goes = (some_go_on p (configuration_in s).begun).undisturbed.left c goes
+
+-- a client that has a block left is one of the program's
+pub in_program : (p : ProgramShape) (s : StandingShape) (c : ℕ) → HasNext p s c → c < length p.clients
+in_program p s c left =
+    ⊎_elim
+    (λ (l : c < length p.clients). l)
+    (λ (past : length p.clients ≤ c).
+    let none : blocks_of p c ≡ 0 = ap (λ (client : ClientShape). length client.blocks) (past_end p.clients c no_client past) in
+    let has : get_or s.begun c 0 < blocks_of p c = left in absurd (omega (arith, none, has)))
+    (below_or_past c (length p.clients))
 
 module _ (p : ProgramShape) (front : List Ticket) (s n : StandingShape) (c : ℕ) (standing : IsStanding p front s) (client : c < length p.clients) (left : HasNext p s c) where
   abbrev ran : BlockResult
@@ -114,6 +124,7 @@ module _ (p : ProgramShape) (front : List Ticket) (s n : StandingShape) (c : ℕ
       reduced = subst (IsReducedAfter p front) (sym on.order) (reduced_on goes);
       stands = on.standing.stands;
     };
+    order = on.order;
     next = on.next;
   }
 

@@ -1,6 +1,7 @@
-pub mod Alone
 pub mod Going
 pub mod Standings
+pub mod Lists
+pub mod LeastOrders
 pub mod Search
 pub mod Rows
 pub mod Outcomes

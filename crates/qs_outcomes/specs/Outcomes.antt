@@ -6,7 +6,8 @@ use Rattle.qs_program.specs.Program.{ProgramShape}
 use Rattle.qs_meaning.specs.Configurations.{IsComplete, OrderOutcome, configuration_after, outcome_in, outcome_of}
 use Rattle.qs_meaning.specs.Reduced.{IsReducedFrom}
 use Rattle.qs_meaning.specs.Serial.{IsLegal}
-use Rattle.qs_outcomes.specs.Search.{HasOne, NoTwo}
+use Rattle.qs_outcomes.specs.LeastOrders.{IsBefore}
+use Rattle.qs_outcomes.specs.Lists.{HasOne, NoTwo}
 use Rattle.qs_outcomes.specs.Standings.{IsReducedAfter, IsStanding, StandingShape, configuration_in}
 
 -- what was found, and how many configurations there are
@@ -44,6 +45,14 @@ AreAllOutcomes p found = (order : List Ticket) → IsComplete p order → HasOne
 
 abbrev pub AreApart : List StandingShape → Type 0
 AreApart found = NoTwo (λ s t. outcome_at s ≡ outcome_at t) found
+
+-- no complete order that is reduced after the front and comes to the same is before its own
+abbrev pub IsLeastAfter : ProgramShape → List Ticket → StandingShape → Type 0
+IsLeastAfter p front s =
+    (order : List Ticket) → IsComplete p order → IsReducedAfter p front order → outcome_of p order ≡ outcome_at s → IsBefore order s.order → ⊥
+
+abbrev pub IsLeast : ProgramShape → StandingShape → Type 0
+IsLeast p s = IsLeastAfter p [] s
 
 -- as many different configurations, each after some order that is reduced after the front
 pub record AreDifferent (p : ProgramShape) (front : List Ticket) (ss : List StandingShape) (many : ℕ) : Type 0 where

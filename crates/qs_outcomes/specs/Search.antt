@@ -3,17 +3,9 @@ use Rattle.std.specs.Prelude.{◌≡◌, ℕ, List, [], ◌∷◌, ◌++◌, ℤ
 use Rattle.std.specs.List.{AllByRecursion}
 use Rattle.qs_objects.specs.declared.held.Ticket.{Ticket}
 use Rattle.qs_program.specs.Program.{ProgramShape}
+use Rattle.qs_outcomes.specs.LeastOrders.{IsBefore, IsLeastFirst}
+use Rattle.qs_outcomes.specs.Lists.{EachTwo, HasOne, NoTwo}
 use Rattle.qs_outcomes.specs.Standings.{GoesOn, HasNext, IsFirst, IsNext, IsStanding, StandingShape, configuration_in, row_of}
-
--- one of a list has the property
-abbrev pub HasOne : {X : Type 0} → (X → Type 0) → List X → Type 0
-HasOne P [] = ⊥
-HasOne P (x ∷ xs) = P x ⊎ HasOne P xs
-
--- no two of a list are in this relation
-abbrev pub NoTwo : {X : Type 0} → (X → X → Type 0) → List X → Type 0
-NoTwo R [] = Unit {0}
-NoTwo R (x ∷ xs) = AllByRecursion (λ y. R x y → ⊥) xs × NoTwo R xs
 
 abbrev pub NoneNext : ProgramShape → StandingShape → Type 0
 NoneNext p s = (c : ℕ) → HasNext p s c → ⊥
@@ -43,10 +35,13 @@ pub record IsExplored (p : ProgramShape) (front : List Ticket) (rows : List (Lis
   pub once : NoTwo ◌≡◌ rows
   pub found : AllByRecursion (IsFound p front rows) results
   pub apart : NoTwo (λ x y. row_of p x ≡ row_of p y) results
+  pub least : IsLeastFirst p front rows ahead results
 
--- these were added: for each client from a number on that goes on, where its next block leads is among them, or its row was seen
+-- These were added: for each client from a number on that goes on, where its next block leads is among them, or its row was seen. Each is
+-- before those that were added earlier.
 pub record AreNextFrom (p : ProgramShape) (front : List Ticket) (rows : List (List ℤ)) (s : StandingShape) (from : ℕ) (added : List StandingShape) : Type 0 where
-  pub standing : AllByRecursion (IsStanding p front) added
+  pub next : AllByRecursion (λ n. (c : ℕ) × (from ≤ c) × IsNext p front s c n) added
+  pub sorted : EachTwo (λ m n. IsBefore n.order m.order) added
   pub each : (c : ℕ) → from ≤ c → c < length p.clients → GoesOn p s c → IsReached p (IsNext p front s c) rows added
   pub few : length added + from ≤ length p.clients
 

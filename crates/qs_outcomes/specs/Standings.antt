@@ -8,7 +8,7 @@ use Rattle.qs_meaning.specs.Configurations.{Configuration, HasBlockLeft, configu
 use Rattle.qs_meaning.specs.Reduced.{IsReducedFrom, goes_on}
 use Rattle.qs_meaning.specs.Serial.{IsLegal, zeros}
 use Rattle.qs_meaning.specs.Solo.{BlockResult, solo}
-use Rattle.qs_outcomes.specs.Alone.{states_in}
+use Rattle.qs_alone.specs.Alone.{states_in}
 
 -- an order, how many blocks each client has begun along it, the clients' variables, and the objects
 pub record StandingShape : Type 0 where
@@ -61,6 +61,7 @@ pub record IsOneOn (p : ProgramShape) (s : StandingShape) (c : ℕ) (n : Standin
 -- the same of a client that goes on, after a front
 pub record IsNext (p : ProgramShape) (front : List Ticket) (s : StandingShape) (c : ℕ) (n : StandingShape) : Type 0 where
   pub standing : IsStanding p front n
+  pub order : n.order ≡ s.order ++ record { client = c; index = (configuration_in s).begun c } ∷ []
   pub next : configuration_in n ≡ one_block_on p c (configuration_in s)
 
 -- what a client's next block leaves where it runs alone

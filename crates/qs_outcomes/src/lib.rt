@@ -1,7 +1,6 @@
-//! Everything that a program can come to: blocks run alone, and the search over configurations.
+//! Everything that a program can come to: a search over the configurations between whole blocks.
 #![tactic(auto)]
 
-mod alone;
 mod copies;
 mod fault;
 mod front;
@@ -9,7 +8,9 @@ mod going;
 mod rows;
 mod search;
 mod standing;
+mod watcher;
 
 pub use fault::OutcomesFault;
-pub use search::{AllOutcomes, outcomes, outcomes_after};
+pub use search::{AllOutcomes, outcomes, outcomes_after, outcomes_watched};
 pub use standing::Standing;
+pub use watcher::Watcher;

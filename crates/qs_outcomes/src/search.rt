@@ -4,9 +4,11 @@ ghost use Rattle.std.specs.Prelude.{◌≡◌, ◌<◌, ◌≤◌, ◌+◌, ℕ,
 ghost use Rattle.std.specs.List.{AllByRecursion};
 ghost use Rattle.qs_orders.specs.NamedOrders.{order_of};
 ghost use Rattle.qs_meaning.specs.Serial.{IsLegal};
-ghost use Rattle.qs_outcomes.specs.Outcomes.{AreAllOutcomes, AreAllOutcomesAfter, AreApart, HasConfigurations, HasConfigurationsAfter, HasMoreThan, HasMoreThanAfter, IsListed, IsListedAfter};
+ghost use Rattle.qs_outcomes.specs.Outcomes.{AreAllOutcomes, AreAllOutcomesAfter, AreApart, HasConfigurations, HasConfigurationsAfter, HasMoreThan, HasMoreThanAfter, IsLeast, IsLeastAfter, IsListed, IsListedAfter};
+ghost use Rattle.qs_outcomes.specs.LeastOrders.{AreSorted};
+ghost use Rattle.qs_outcomes.specs.Lists.{HasOne};
 ghost use Rattle.qs_outcomes.specs.Rows.{AreStarts, rows_in};
-ghost use Rattle.qs_outcomes.specs.Search.{HasOne, IsExplored, IsInserted, IsLonger, IsNoted, IsPushed, work_left};
+ghost use Rattle.qs_outcomes.specs.Search.{IsExplored, IsInserted, IsLonger, IsNoted, IsPushed, work_left};
 ghost use Rattle.qs_meaning.specs.Reduced.{goes_on};
 ghost use Rattle.qs_outcomes.specs.Going.{AreLast, in_byte};
 ghost use Rattle.qs_outcomes.specs.Standings.{IsFirst, IsStanding, configuration_in, row_of};
@@ -17,6 +19,7 @@ use crate::front::placed;
 use crate::going::{Last, last_blocks};
 use crate::rows::row_starts;
 use crate::standing::Standing;
+use crate::watcher::{Unwatched, Watcher};
 use indexmap::IndexSet;
 use qs_objects::{Object, Ticket};
 use qs_orders::names_order;
@@ -229,14 +232,15 @@ fn add(list: &mut Vec<Standing>, standing: Standing) -> Result<(), AllocError>
 }
 
 // Takes up a standing: nothing where its row was seen, else what the next blocks of those who go on lead to, or an outcome where no block is
-// left.
-fn visit(
+// left. The watcher is told of a standing whose row was not seen.
+fn visit<W: Watcher>(
     alloc: Global,
     program: &Program,
     last: &[Last],
     starts: &[usize],
     front: &[Ticket],
     limit: u32,
+    watcher: &mut W,
     standing: Standing,
     scratch: &mut Scratch,
     seen: &mut IndexSet<Vec<i64>>,
@@ -258,7 +262,7 @@ fn visit(
     match note(alloc, program, front, limit, &standing, scratch, seen) {
         Err(fault) => return Err(fault),
         Ok(false) => return Ok(put_by(&mut scratch.spare, standing)?),
-        Ok(true) => {}
+        Ok(true) => watcher.noted(seen.len()),
     }
     if standing.is_over(program, front) {
         add(found, standing)?;
@@ -272,16 +276,19 @@ fn visit(
 }
 
 // The outcomes after a front, by a search that begins where the program stands after it.
-fn search_from(
+fn search_from<W: Watcher>(
     alloc: Global,
     program: &Program,
     front: &[Ticket],
     first: Standing,
     limit: u32,
+    watcher: &mut W,
 ) -> Result<AllOutcomes, OutcomesFault>
     requires first { IsFirst program.now front.now first }
     ensures sound { IfOk result (λ all. AllByRecursion (IsListedAfter program.now front.now) all.found) }
     ensures complete { IfOk result (λ all. AreAllOutcomesAfter program.now front.now all.found) }
+    ensures least { IfOk result (λ all. AllByRecursion (IsLeastAfter program.now front.now) all.found) }
+    ensures sorted { IfOk result (λ all. AreSorted all.found) }
     ensures once { IfOk result (λ all. AreApart all.found) }
     ensures counted { IfOk result (λ all. HasConfigurationsAfter program.now front.now all.configurations) }
     ensures within { IfOk result (λ all. all.configurations ≤ limit) }
@@ -309,6 +316,7 @@ fn search_from(
             starts.as_slice(),
             front,
             limit,
+            watcher,
             standing,
             &mut scratch,
             &mut seen,
@@ -322,19 +330,22 @@ fn search_from(
     })
 }
 
-/// All outcomes of a program after the blocks that a list of clients names, each client's in turn: each once, with a complete order that
-/// begins with these and comes to it, and how many different configurations orders lead to that are reduced after them. `Order` comes
-/// exactly where no legal order is named, `Limit` only where there are more configurations than the limit, `Memory` where memory was
-/// refused.
-pub fn outcomes_after(
+/// All outcomes of a program after the blocks that a list of clients names, each client's in turn: each once, with the least complete order
+/// that begins with these, is reduced after them and comes to it, and sorted by these orders; and how many different configurations orders
+/// lead to that are reduced after them. `Order` comes exactly where no legal order is named, `Limit` only where there are more
+/// configurations than the limit, `Memory` where memory was refused. The watcher is told of each new configuration as it is noted.
+pub fn outcomes_watched<W: Watcher>(
     alloc: Global,
     program: &Program,
     front: &[u8],
     limit: u32,
+    watcher: &mut W,
 ) -> Result<AllOutcomes, OutcomesFault>
     ensures legal { IfOk result (λ all. IsLegal program.now (order_of front.now)) }
     ensures sound { IfOk result (λ all. AllByRecursion (IsListedAfter program.now (order_of front.now)) all.found) }
     ensures complete { IfOk result (λ all. AreAllOutcomesAfter program.now (order_of front.now) all.found) }
+    ensures least { IfOk result (λ all. AllByRecursion (IsLeastAfter program.now (order_of front.now)) all.found) }
+    ensures sorted { IfOk result (λ all. AreSorted all.found) }
     ensures once { IfOk result (λ all. AreApart all.found) }
     ensures counted { IfOk result (λ all. HasConfigurationsAfter program.now (order_of front.now) all.configurations) }
     ensures within { IfOk result (λ all. all.configurations ≤ limit) }
@@ -346,14 +357,41 @@ pub fn outcomes_after(
     }
     let first = placed(alloc, program, front)?;
     let order = copied(alloc, first.order())?;
-    search_from(alloc, program, order.as_slice(), first, limit)
+    search_from(alloc, program, order.as_slice(), first, limit, watcher)
 }
 
-/// All outcomes of a program, each once, with a complete order that comes to it, and how many different configurations reduced orders lead to.
-/// `Limit` comes only where there are more configurations than the limit, `Memory` where memory was refused, and `Order` never.
+/// All outcomes of a program after the blocks that a list of clients names, each client's in turn: each once, with the least complete order
+/// that begins with these, is reduced after them and comes to it, and sorted by these orders; and how many different configurations orders
+/// lead to that are reduced after them. `Order` comes exactly where no legal order is named, `Limit` only where there are more
+/// configurations than the limit, `Memory` where memory was refused.
+pub fn outcomes_after(
+    alloc: Global,
+    program: &Program,
+    front: &[u8],
+    limit: u32,
+) -> Result<AllOutcomes, OutcomesFault>
+    ensures legal { IfOk result (λ all. IsLegal program.now (order_of front.now)) }
+    ensures sound { IfOk result (λ all. AllByRecursion (IsListedAfter program.now (order_of front.now)) all.found) }
+    ensures complete { IfOk result (λ all. AreAllOutcomesAfter program.now (order_of front.now) all.found) }
+    ensures least { IfOk result (λ all. AllByRecursion (IsLeastAfter program.now (order_of front.now)) all.found) }
+    ensures sorted { IfOk result (λ all. AreSorted all.found) }
+    ensures once { IfOk result (λ all. AreApart all.found) }
+    ensures counted { IfOk result (λ all. HasConfigurationsAfter program.now (order_of front.now) all.configurations) }
+    ensures within { IfOk result (λ all. all.configurations ≤ limit) }
+    ensures limit { IsErrOf result OutcomesFault.Limit → HasMoreThanAfter program.now (order_of front.now) limit }
+    ensures order { IsErrOf result OutcomesFault.Order → ¬ IsLegal program.now (order_of front.now) }
+{
+    outcomes_watched(alloc, program, front, limit, &mut Unwatched)
+}
+
+/// All outcomes of a program, each once, with the least reduced order that comes to it, and sorted by these orders; and how many different
+/// configurations reduced orders lead to. `Limit` comes only where there are more configurations than the limit, `Memory` where memory was
+/// refused, and `Order` never.
 pub fn outcomes(alloc: Global, program: &Program, limit: u32) -> Result<AllOutcomes, OutcomesFault>
     ensures sound { IfOk result (λ all. AllByRecursion (IsListed program.now) all.found) }
     ensures complete { IfOk result (λ all. AreAllOutcomes program.now all.found) }
+    ensures least { IfOk result (λ all. AllByRecursion (IsLeast program.now) all.found) }
+    ensures sorted { IfOk result (λ all. AreSorted all.found) }
     ensures once { IfOk result (λ all. AreApart all.found) }
     ensures counted { IfOk result (λ all. HasConfigurations program.now all.configurations) }
     ensures within { IfOk result (λ all. all.configurations ≤ limit) }

@@ -3,12 +3,12 @@
 ghost use Rattle.std.specs.Prelude.{◌≡◌, ◌<◌, ◌↔◌, true, false, ℕ, IfOk, OnOk, [], ◌∷◌, ◌++◌, length, replicate, slice_index_or, slice_set};
 ghost use Rattle.qs_meaning.specs.Serial.{declared_states, no_state, zeros};
 ghost use Rattle.qs_meaning.specs.Solo.{solo};
-ghost use Rattle.qs_outcomes.specs.Alone.{AreCallsWithin, states_in};
+ghost use Rattle.qs_alone.specs.Alone.{AreCallsWithin, states_in};
 ghost use Rattle.qs_program.specs.Program.{blocks_of};
 
-use crate::alone::run_body;
 use crate::going::{Last, goes_on};
 use crate::rows::{add_begun, add_locals, add_objects, put_stem};
+use qs_alone::run_body;
 use qs_objects::{Object, ObjectFault, Ticket};
 use qs_program::{Block, Locals, MOST_VARIABLES, Program};
 use std::alloc::{AllocError, Global};

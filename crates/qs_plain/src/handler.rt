@@ -80,6 +80,18 @@ impl HandlerState {
         }
     }
 
+    /// Logs an item in the ticket's private queue. Where no other reservation waits, the item itself goes there, and no copy of it.
+    pub(crate) fn log_own(&mut self, ticket: Ticket, item: QueueItem)
+        requires { IsLoggable ticket self.old.queues }
+        ensures logged { self.new ≡ record { queues = map (after_put ticket item) self.old.queues; room = self.old.room; held = self.old.held } }
+    {
+        if self.queues.len() == 1 {
+            self.queues[0].put_own(ticket, item);
+        } else {
+            self.log(ticket, &item);
+        }
+    }
+
     /// Takes the first item of the first private queue: a request is run, an end mark takes the private queue away.
     pub(crate) fn serve(&mut self) -> Served
         ensures serves { ServesFirst self.old self.old.queues result self.new }

@@ -26,7 +26,8 @@ pub(crate) fn log_once(
     requires { CanLog ticket handlers.old.items object }
     ensures logged { handlers.new.items ≡ logged_at ticket item handlers.old.items object }
 {
-    log_at(handlers, object, ticket, &item);
+    let handler = &mut handlers[usize::from(object)];
+    handler.log_own(ticket, item);
 }
 
 fn log_at(handlers: &mut Vec<HandlerState>, object: u8, ticket: Ticket, item: &QueueItem)

@@ -61,14 +61,33 @@ impl PrivateQueue {
         self.ticket
     }
 
-    /// Logs an item if the queue is the ticket's.
+    // Whether it is the ticket's.
+    fn is_of(&self, ticket: Ticket) -> bool
+        ensures value { result ≡ same_ticket ticket self.now.queue.ticket }
+    {
+        self.ticket.client == ticket.client && self.ticket.index == ticket.index
+    }
+
+    /// Logs an item if the queue is the ticket's; its copy goes into the queue.
     pub fn put(&mut self, ticket: Ticket, item: &QueueItem)
         requires { same_ticket ticket self.old.queue.ticket ≡ true → 0 < self.old.room }
         ensures queue { self.new.queue ≡ put_item ticket item.now self.old.queue }
         ensures room { self.new.room ≡ self.old.room - (if same_ticket ticket self.old.queue.ticket then 1 else 0) }
     {
-        if self.ticket.client == ticket.client && self.ticket.index == ticket.index {
+        if self.is_of(ticket) {
             self.items.push_back_reserved(item.copied());
+            self.room -= 1;
+        }
+    }
+
+    /// Logs an item if the queue is the ticket's; the item itself goes into the queue.
+    pub fn put_own(&mut self, ticket: Ticket, item: QueueItem)
+        requires { same_ticket ticket self.old.queue.ticket ≡ true → 0 < self.old.room }
+        ensures queue { self.new.queue ≡ put_item ticket item self.old.queue }
+        ensures room { self.new.room ≡ self.old.room - (if same_ticket ticket self.old.queue.ticket then 1 else 0) }
+    {
+        if self.is_of(ticket) {
+            self.items.push_back_reserved(item);
             self.room -= 1;
         }
     }

@@ -8,7 +8,8 @@ use Rattle.qs_program.specs.Program.{ProgramShape, client_at, object_at}
 use Rattle.qs_program.specs.Values.{Locals}
 use Rattle.qs_orders.specs.NamedOrders.{order_of}
 use Rattle.qs_meaning.specs.Serial.{IsLegal, zeros}
-use Rattle.qs_outcomes.specs.Outcomes.{AreAllOutcomesAfter, AreApart, HasConfigurationsAfter, IsListedAfter, OutcomesShape}
+use Rattle.qs_outcomes.specs.LeastOrders.{AreSorted}
+use Rattle.qs_outcomes.specs.Outcomes.{AreAllOutcomesAfter, AreApart, HasConfigurationsAfter, IsLeastAfter, IsListedAfter, OutcomesShape}
 use Rattle.qs_outcomes.specs.Standings.{StandingShape}
 use Rattle.qs_report.specs.Report.{no_state, state_line}
 use Rattle.qs_report.specs.Texts.{count_line, texts_up_to}
@@ -59,12 +60,15 @@ listed_text p all =
     count_line (codes "outcomes") (length all.found) ++ texts_up_to (length all.found) (outcome_text_at p all.found)
     ++ count_line (codes "configurations") all.configurations
 
--- Of the complete orders that begin with a legal front: each comes from the order that it shows, the outcome of each such order is among
--- them, and no two are equal; and so many configurations there are.
+-- Of the complete orders that begin with a legal front: each comes from the order that it shows, the least of the reduced ones that come to
+-- it, and they stand in the order of these; the outcome of each such order is among them, and no two are equal; and so many configurations
+-- there are.
 pub record AreOutcomesAfter (p : ProgramShape) (front : List Ticket) (all : OutcomesShape) : Type 0 where
   pub legal : IsLegal p front
   pub sound : AllByRecursion (IsListedAfter p front) all.found
   pub complete : AreAllOutcomesAfter p front all.found
+  pub least : AllByRecursion (IsLeastAfter p front) all.found
+  pub sorted : AreSorted all.found
   pub once : AreApart all.found
   pub counted : HasConfigurationsAfter p front all.configurations
 
@@ -73,3 +77,8 @@ pub record AreOutcomesAfter (p : ProgramShape) (front : List Ticket) (all : Outc
 unfoldable pub IsOutcomesText : ProgramShape → (limit : ℕ) → (front : List ℕ) → List ℕ → Type 0
 IsOutcomesText p limit front text =
     (all : OutcomesShape) × AreOutcomesAfter p (order_of front) all × (all.configurations ≤ limit) × (text ≡ listed_text p all)
+
+-- a program has one such text
+abbrev pub OutcomesTextsAreUnique : Type 0
+OutcomesTextsAreUnique =
+    (p : ProgramShape) (limit bound : ℕ) (front one other : List ℕ) → IsOutcomesText p limit front one → IsOutcomesText p bound front other → one ≡ other

@@ -1,8 +1,9 @@
-//! Worked examples of the texts, and what holds of the texts of graphs.
+//! Worked examples of the texts, and what holds of the texts of graphs and of outcomes.
 
 ghost use Rattle.qs_report.specs.Examples.{Examples};
 ghost use Rattle.qs_report.specs.GraphText.{GraphTextsAreUnique};
 ghost use Rattle.qs_report.specs.GraphTextExamples.{GraphTextExamples};
+ghost use Rattle.qs_report.specs.OutcomesText.{OutcomesTextsAreUnique};
 ghost use Rattle.qs_report.specs.OutcomesTextExamples.{OutcomesTextExamples};
 
 /// The texts of a few runs, programs and faults, worked out by hand.
@@ -23,4 +24,9 @@ pub fn graph_texts_are_unique()
 /// The texts of two lists of outcomes, worked out by hand; it does nothing.
 pub fn outcomes_text_examples()
     ensures examples { OutcomesTextExamples }
+{}
+
+/// A program has one text of its outcomes after a front, also where the limit is another one; it does nothing.
+pub fn outcomes_texts_are_unique()
+    ensures unique { OutcomesTextsAreUnique }
 {}

@@ -20,5 +20,5 @@ pub use graphs::{graph_text, held_at, put_names, reserved_by};
 pub use names::{client_name, declared_name, variable_name};
 pub use outcomes::outcomes_text;
 pub use runs::{report, report_counts, report_run, report_run_counts};
-pub use tickets::op_word;
+pub use tickets::opening;
 pub use watching::{Watch, write_text};

@@ -13,25 +13,26 @@ use qs_played::Played;
 use qs_program::Program;
 use std::alloc::AllocError;
 
-/// The script's word of an operation.
-pub fn op_word(op: Op) -> &'static [u8]
-    ensures word { result.now ≡ op_text op }
+/// What stands between the object of a request and its arguments: the operation's word after a point, and a parenthesis. It is one text,
+/// since a long report has very many requests.
+pub fn opening(op: Op) -> &'static [u8]
+    ensures opening { result.now ≡ codes "." ++ op_text op ++ codes "(" }
 {
     match op {
-        Op::Deposit => b"deposit",
-        Op::Withdraw => b"withdraw",
-        Op::Balance => b"balance",
-        Op::Refused => b"refused",
-        Op::Put => b"put",
-        Op::DropFirst => b"drop",
-        Op::TakeFirst => b"take",
-        Op::First => b"front",
-        Op::Size => b"size",
-        Op::SetCell => b"set",
-        Op::AddCell => b"add",
-        Op::Fill => b"fill",
-        Op::GetCell => b"get",
-        Op::RowSum => b"row",
+        Op::Deposit => b".deposit(",
+        Op::Withdraw => b".withdraw(",
+        Op::Balance => b".balance(",
+        Op::Refused => b".refused(",
+        Op::Put => b".put(",
+        Op::DropFirst => b".drop(",
+        Op::TakeFirst => b".take(",
+        Op::First => b".front(",
+        Op::Size => b".size(",
+        Op::SetCell => b".set(",
+        Op::AddCell => b".add(",
+        Op::Fill => b".fill(",
+        Op::GetCell => b".get(",
+        Op::RowSum => b".row(",
     }
 }
 
@@ -60,25 +61,25 @@ pub(crate) fn put_args(out: &mut Vec<u8>, args: &[i64]) -> Result<(), AllocError
     }
 }
 
+// A request without its closing parenthesis.
 fn put_request(out: &mut Vec<u8>, program: &Program, request: &Request) -> Result<(), AllocError>
-    ensures ok { OnOk result (out.new.items ≡ out.old.items ++ request_text program.now request.now) }
+    ensures ok { OnOk result (out.new.items ++ codes ")" ≡ out.old.items ++ request_text program.now request.now) }
 {
-    let word = op_word(request.op);
     put(out, object_name(program, usize::from(request.object)))?;
-    put_all(out, &[b".", word, b"("])?;
-    put_args(out, request.args.as_slice())?;
-    put(out, b")")
+    put(out, opening(request.op))?;
+    put_args(out, request.args.as_slice())
 }
 
-// A query's reply.
-pub(crate) fn put_reply(out: &mut Vec<u8>, reply: Option<i64>) -> Result<(), AllocError>
-    ensures ok { OnOk result (out.new.items ≡ out.old.items ++ reply_text reply) }
+// A request's closing parenthesis, a query's reply, and the line's end.
+fn put_reply(out: &mut Vec<u8>, reply: Option<i64>) -> Result<(), AllocError>
+    ensures ok { OnOk result (out.new.items ≡ out.old.items ++ codes ")" ++ reply_text reply ++ codes "\n") }
 {
     match reply {
-        None => Ok(()),
+        None => put(out, b")\n"),
         Some(value) => {
-            put(out, b" = ")?;
-            put_number(out, value)
+            put(out, b") = ")?;
+            put_number(out, value)?;
+            put(out, b"\n")
         }
     }
 }
@@ -87,8 +88,7 @@ fn put_event(out: &mut Vec<u8>, program: &Program, event: &Event) -> Result<(), 
     ensures ok { OnOk result (out.new.items ≡ out.old.items ++ event_line program.now event.now) }
 {
     put_request(out, program, &event.request)?;
-    put_reply(out, event.reply)?;
-    put(out, b"\n")
+    put_reply(out, event.reply)
 }
 
 fn ended_word(ended: bool) -> &'static [u8]

@@ -14,7 +14,7 @@ use qs_core::{play_in_order, play_plain, play_plain_in_order};
 use qs_dot::dot_text;
 use qs_line::{Format, LineFault, Plan, Settings, read_line};
 use qs_lists::{ListFault, Part, actors_of, clients_of};
-use qs_outcomes::{AllOutcomes, outcomes_after};
+use qs_outcomes::{AllOutcomes, Watcher, outcomes_watched};
 use qs_played::{Outcome, Played};
 use qs_report::{
     Fault, check_text, graph_text, outcomes_text, report, report_counts, report_run,
@@ -263,8 +263,14 @@ fn due_of_all(alloc: Global, program: &Program, all: AllOutcomes) -> Due
     due_of_bytes(text)
 }
 
-// All outcomes after the blocks of the clients that a list names, found over so many configurations at most.
-fn due_of_outcomes(alloc: Global, program: &Program, limit: u32, front: &[Part]) -> Due
+// All outcomes after the blocks of the clients that a list names, found over so many configurations at most; a watcher is told of each.
+fn due_of_outcomes<P: Watcher>(
+    alloc: Global,
+    program: &Program,
+    limit: u32,
+    front: &[Part],
+    watcher: &mut P,
+) -> Due
     ensures not_input { ¬ IsRefusedBy fault.Input result }
     ensures due { IsOutOfMemory result ⊎ IsDueOfProgram (outcomes limit front.now) program.now result }
 {
@@ -272,7 +278,7 @@ fn due_of_outcomes(alloc: Global, program: &Program, limit: u32, front: &[Part])
         Ok(clients) => clients,
         Err(fault) => return due_of_list(fault),
     };
-    match outcomes_after(alloc, program, clients.as_slice(), limit) {
+    match outcomes_watched(alloc, program, clients.as_slice(), limit, watcher) {
         Ok(all) => due_of_all(alloc, program, all),
         Err(fault) => Due::Refused(Fault::Outcomes(fault)),
     }
@@ -280,11 +286,12 @@ fn due_of_outcomes(alloc: Global, program: &Program, limit: u32, front: &[Part])
 
 // What settings make of a program: a run by the plain rules, in the optimised machine or on threads, all outcomes, the counts, or the
 // graphs.
-fn due_of_program<T: Threads + Wait + Sync>(
+fn due_of_program<T: Threads + Wait + Sync, P: Watcher>(
     rt: &T,
     alloc: Global,
     settings: &Settings,
     program: &Program,
+    watcher: &mut P,
 ) -> Due
     ensures not_input { ¬ IsRefusedBy fault.Input result }
     ensures due { IsOutOfMemory result ⊎ IsDueOfProgram (request_of settings.now) program.now result }
@@ -303,7 +310,7 @@ fn due_of_program<T: Threads + Wait + Sync>(
             chunk,
         } => due_of_run(rt, alloc, program, *counts, *mode, *chunk, &mut FreeStart),
         Settings::Outcomes { limit, front } => {
-            due_of_outcomes(alloc, program, *limit, front.as_slice())
+            due_of_outcomes(alloc, program, *limit, front.as_slice(), watcher)
         }
         Settings::Check => due_of_bytes(check_text(alloc, program)),
         Settings::Graph { format } => due_of_graphs(alloc, program, *format),
@@ -311,11 +318,12 @@ fn due_of_program<T: Threads + Wait + Sync>(
 }
 
 // What settings make of a text.
-fn due_of_script<T: Threads + Wait + Sync>(
+fn due_of_script<T: Threads + Wait + Sync, P: Watcher>(
     rt: &T,
     alloc: Global,
     settings: &Settings,
     text: &[u8],
+    watcher: &mut P,
 ) -> Due
     ensures not_input { ¬ IsRefusedBy fault.Input result }
     ensures due { IsOutOfMemory result ⊎ IsDueOfText (request_of settings.now) text.now result }
@@ -328,19 +336,20 @@ fn due_of_script<T: Threads + Wait + Sync>(
         Ok(program) => program,
         Err(fault) => return Due::Refused(Fault::Check(fault)),
     };
-    due_of_program(rt, alloc, settings, &program)
+    due_of_program(rt, alloc, settings, &program, watcher)
 }
 
 // One byte more than a script may have shows that a text is longer.
 const LONGEST: usize = LONGEST_TEXT + 1;
 
 // What the input's text gives by settings. The text is kept, where it was read.
-fn due_of_input<T: Threads + Wait + Sync, R: Read>(
+fn due_of_input<T: Threads + Wait + Sync, R: Read, P: Watcher>(
     rt: &T,
     alloc: Global,
     settings: &Settings,
     input: &mut Counted<R>,
     kept: &mut Vec<u8>,
+    watcher: &mut P,
 ) -> Due
     requires fine { input.old.has_failed ≡ false }
     ensures due { IsDue (asks (request_of settings.now)) input.old.remaining input.new.has_failed result }
@@ -348,7 +357,7 @@ fn due_of_input<T: Threads + Wait + Sync, R: Read>(
 {
     match gather(alloc, input, LONGEST) {
         Ok(text) => {
-            let due = due_of_script(rt, alloc, settings, text.as_slice());
+            let due = due_of_script(rt, alloc, settings, text.as_slice(), watcher);
             drop(mem::replace(kept, text));
             due
         }
@@ -358,13 +367,15 @@ fn due_of_input<T: Threads + Wait + Sync, R: Read>(
 }
 
 /// What is due by a command line and an input. The line comes first: where it is refused nothing is read. Else the input is read up to
-/// its end or 65,537 bytes, by at most 65,537 reads, and a read that fails is the input's fault. The text that was read is kept.
-pub fn due_of<'a, T: Threads + Wait + Sync, R: Read>(
+/// its end or 65,537 bytes, by at most 65,537 reads, and a read that fails is the input's fault. The text that was read is kept. A watcher is
+/// told how far a search for outcomes is; nothing that it does changes what is due.
+pub fn due_of<'a, T: Threads + Wait + Sync, R: Read, P: Watcher>(
     rt: &T,
     alloc: Global,
     words: &'a [&'a str],
     input: &mut Counted<R>,
     kept: &mut Vec<u8>,
+    watcher: &mut P,
 ) -> Due
     requires fine { input.old.has_failed ≡ false }
     ensures due { IsDue (line_in (map (λ word. word.now) words.entry.now)) input.old.remaining input.new.has_failed result }
@@ -373,7 +384,7 @@ pub fn due_of<'a, T: Threads + Wait + Sync, R: Read>(
 {
     match read_line(alloc, words) {
         Ok(settings) => {
-            let due = due_of_input(rt, alloc, &settings, input, kept);
+            let due = due_of_input(rt, alloc, &settings, input, kept, watcher);
             drop(settings);
             due
         }

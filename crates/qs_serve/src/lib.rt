@@ -10,6 +10,7 @@ mod list_words;
 mod order_words;
 mod output;
 mod pick_words;
+mod progress;
 mod serving;
 mod telling;
 mod warning_words;

@@ -8,22 +8,25 @@ ghost use Rattle.qs_report.specs.Texts.{AppendsFront};
 ghost use Rattle.qs_serve.specs.Due.{IsDone, Serves, longest};
 
 use crate::beside::tell_beside;
-use crate::due::{Due, due_of};
+use crate::due::Due;
 use crate::input::Counted;
 use crate::output::finish;
+use crate::progress::due_shown;
 use crate::telling::{tell, tell_unread};
 use qs_report::{Fault, Watch};
 use std::alloc::Global;
 use std::io::{Read, Write};
 use std::sync::Wait;
 use std::thread::Threads;
+use std::time::Clock;
 
 /// The whole program, over a reader whose reads are counted and a writer whose failures are watched; its status is the answer. The words
 /// are all the process's arguments, the program's name first. The status is 4 exactly where a read, a write or the flush fails. The word `run`
 /// takes threads, and waits for them. What was refused is told on `err` in words; beside a result, how much of each limit is left where the
-/// line asks for it, and what is warned of in a script where `err` is a terminal or the line asks for it. That changes neither output nor
-/// status. Where the status is 0 and nothing of it is asked for, nothing is written to `err`.
-pub fn serve<'a, T: Threads + Wait + Sync, R: Read, W: Write, E: Write>(
+/// line asks for it, and what is warned of in a script where `err` is a terminal or the line asks for it. While outcomes are searched for, a
+/// terminal shows how far the search is. That changes neither output nor status. Where the status is 0, `err` is no terminal and nothing of
+/// it is asked for, nothing is written to `err`.
+pub fn serve<'a, T: Threads + Wait + Clock + Sync, R: Read, W: Write, E: Write>(
     rt: &T,
     alloc: Global,
     words: &'a [&'a str],
@@ -46,7 +49,7 @@ pub fn serve<'a, T: Threads + Wait + Sync, R: Read, W: Write, E: Write>(
         → is_verbose_in (map (λ word. word.now) words.entry.now) ≡ false → Keeps (E.contents err.old) (E.contents err.new) }
 {
     let mut text = Vec::new(alloc);
-    let due = due_of(rt, alloc, words, input, &mut text);
+    let due = due_shown(rt, alloc, words, input, &mut text, is_terminal, err);
     let status = finish(out, watch, &due);
     tell(alloc, words, text.as_slice(), &due, status != 4, err);
     tell_beside(alloc, words, text.as_slice(), &due, is_terminal, err);

@@ -9,7 +9,7 @@ use crate::line_words::put_line;
 use crate::list_words::put_names;
 use crate::order_words::put_order;
 use crate::pick_words::put_actor;
-use qs_causes::{tell_check, tell_excess, tell_read};
+use qs_causes::{tell_check, tell_read};
 use qs_check::CheckFault;
 use qs_orders::OrderFault;
 use qs_outcomes::OutcomesFault;
@@ -79,9 +79,6 @@ fn told<'a>(
     match fault {
         Fault::CommandLine => put_refused(alloc, &mut out, words, text)?,
         Fault::Read(_) => tell_read(alloc, &mut out, text)?,
-        Fault::Check(CheckFault::Load | CheckFault::Weight) => {
-            tell_excess(alloc, &mut out, text)?
-        }
         Fault::Check(_) => tell_check(alloc, &mut out, text)?,
         Fault::Play(_) => put_actor(alloc, &mut out, words, text)?,
         Fault::Order(_) => put_order(alloc, &mut out, words, text, "--order")?,

@@ -1,9 +1,9 @@
 use Rattle.std.proofs.Common.{◌≡◌, ◌<◌, ◌+◌, ◌∙◌, ◌∷◌, ℕ, List, ap, drop, get_or, length, subst, sym, add-one}
 use Rattle.std.proofs.Math.Seq.{drop-cons}
 use Rattle.qs_outcomes.specs.Standings.{HasNext, IsStanding}
-use Rattle.qs_outcomes.proofs.Endings.{nothing_left}
-use Rattle.qs_outcomes.proofs.Exploring.{in_program}
+use Rattle.qs_alone.proofs.Endings.{nothing_left}
 use Rattle.qs_outcomes.proofs.Fronts.{IsPlacedSoFar, named_left, placed_last, placed_on}
+use Rattle.qs_outcomes.proofs.Stands.{in_program}
 use Rattle.qs_outcomes.proofs.front.placed.Goals as goal
 use Rattle.qs_outcomes.proofs.front.placed.Goals.{In-loop-client}
 

@@ -3,7 +3,7 @@ use Rattle.qs_program.specs.Program.{BlockShape, block_at}
 use Rattle.qs_program.proofs.Bounds.{sound_block}
 use Rattle.qs_meaning.specs.Serial.{zeros}
 use Rattle.qs_meaning.specs.Solo.{BlockResult}
-use Rattle.qs_outcomes.specs.Alone.{AreCallsWithin}
+use Rattle.qs_alone.specs.Alone.{AreCallsWithin}
 use Rattle.qs_outcomes.specs.Standings.{StandingShape}
 use Rattle.qs_outcomes.proofs.Stands.{block_within, read_at, same_run}
 use Rattle.qs_outcomes.proofs.standing.Standing.run_next.Goals as goal

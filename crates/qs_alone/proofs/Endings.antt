@@ -16,7 +16,7 @@ use Rattle.qs_program.specs.Views.{statements_of, single}
 use Rattle.qs_meaning.specs.Serial.{no_state}
 use Rattle.qs_meaning.specs.Solo.{States, Ending, Runs, exec, put, then_run, turns_run, value_of}
 use Rattle.qs_meaning.proofs.TreeWalks.{put_here, put_there}
-use Rattle.qs_outcomes.specs.Alone.{AreCallsWithin, EndsWith, states_in}
+use Rattle.qs_alone.specs.Alone.{AreCallsWithin, EndsWith, states_in}
 
 -- the same but for the trace
 pub record SameEnding (o e : Ending) : Type 0 where

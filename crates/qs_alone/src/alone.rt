@@ -3,7 +3,7 @@
 ghost use Rattle.std.specs.Prelude.{◌≡◌, length, false, slice_set};
 ghost use Rattle.qs_meaning.specs.Solo.{exec, states_after, turns_run};
 ghost use Rattle.qs_objects.specs.Journals.{answer};
-ghost use Rattle.qs_outcomes.specs.Alone.{AreCallsWithin, EndsWith, IsCallWithin, states_in};
+ghost use Rattle.qs_alone.specs.Alone.{AreCallsWithin, EndsWith, IsCallWithin, states_in};
 ghost use Rattle.qs_program.specs.Values.{request_of};
 ghost use Rattle.qs_program.specs.Views.{single};
 
@@ -32,14 +32,10 @@ fn assign(locals: &mut Locals, variable: u8, value: i64)
     }
 }
 
-// Runs statements to their end or to a `leave`, which it tells. It takes no memory.
+/// Runs statements alone, each request at once, to their end or to a `leave`: whether a `leave` ended them. It takes no memory. The calls of
+/// the statements are on these objects, with at most three numbers each, as those of a sound program are.
 #[cycle(alone)]
-pub(crate) fn run_body(
-    alloc: Global,
-    body: &Body,
-    locals: &mut Locals,
-    objects: &mut [Object],
-) -> bool
+pub fn run_body(alloc: Global, body: &Body, locals: &mut Locals, objects: &mut [Object]) -> bool
     requires within { AreCallsWithin (length objects.old) body.now }
     ensures ends { EndsWith (exec body.now locals.old (states_in objects.old)) result locals.new objects.new }
 {

@@ -2,9 +2,9 @@ use Rattle.std.proofs.Common.{◌≡◌, ◌-◌, ◌+◌, drop, [], true, false
 use Rattle.qs_program.specs.Views.{single, size_of, statements_of}
 use Rattle.qs_program.proofs.StatementLists.{size_at}
 use Rattle.qs_meaning.specs.Solo.{exec, turns_run}
-use Rattle.qs_outcomes.specs.Alone.{AreCallsWithin, EndsWith, states_in}
-use Rattle.qs_outcomes.proofs.Endings.{SameEnding, calls_drop, ended, exec_drop, known, nothing_left, onward, then_left, then_on, turns_left, turns_on}
-use Rattle.qs_outcomes.proofs.alone.+alone.Goals as goal
+use Rattle.qs_alone.specs.Alone.{AreCallsWithin, EndsWith, states_in}
+use Rattle.qs_alone.proofs.Endings.{SameEnding, calls_drop, ended, exec_drop, known, nothing_left, onward, then_left, then_on, turns_left, turns_on}
+use Rattle.qs_alone.proofs.alone.+alone.Goals as goal
 
 pub run_body-run_stmt-requires : goal.run_body-run_stmt-requires
 run_body-run_stmt-requires t c =

@@ -1,9 +1,9 @@
 use Rattle.std.proofs.Common.{◌+◌, ◌-◌, ◌*◌, length, drop}
 use Rattle.qs_program.specs.Views.{single, size_of, statements_of}
 use Rattle.qs_meaning.specs.Solo.{exec, turns_run}
-use Rattle.qs_outcomes.specs.Alone.{AreCallsWithin, states_in}
-use Rattle.qs_outcomes.proofs.Endings.{SameEnding}
-use Rattle.qs_outcomes.proofs.alone.+alone.Given as goal
+use Rattle.qs_alone.specs.Alone.{AreCallsWithin, states_in}
+use Rattle.qs_alone.proofs.Endings.{SameEnding}
+use Rattle.qs_alone.proofs.alone.+alone.Given as goal
 
 abbrev pub decreases-run_body : goal.decreases-run_body
 decreases-run_body l = 3 * size_of l.body.now + 1

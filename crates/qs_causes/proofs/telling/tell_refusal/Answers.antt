@@ -1,13 +1,13 @@
 use Rattle.std.proofs.Common.{arith}
 use Rattle.std.proofs.lemmas.Result.{on_ok_weaker}
 use Rattle.qs_causes.specs.CheckTold.{IsSaidAt, span_at}
-use Rattle.qs_causes.proofs.Anchored.{anchor_there}
-use Rattle.qs_causes.proofs.telling.tell_first.Goals as goal
+use Rattle.qs_causes.proofs.Anchored.{refusal_there}
+use Rattle.qs_causes.proofs.telling.tell_refusal.Goals as goal
 
 pub unreachable-requires : goal.unreachable-requires
 unreachable-requires c =
     let given = c.requires.anchor in
-    omega (arith, anchor_there c.args.text.now c.args.tokens.now given.0 c.args.first c.requires.placed given.1 given.2, c.in-None.ensures.there)
+    omega (arith, refusal_there c.args.text.now c.args.tokens.now given.0 c.args.refusal.anchor c.requires.placed given.1 given.2, c.in-None.ensures.there)
 
 pub returns : goal.returns
 returns c =

@@ -1,0 +1,94 @@
+-- Orders compared by their clients' numbers: one that is before another stays so however the two go on, and none is before an order that it
+-- goes on from. A reduced order in two parts is reduced in both, and no order leads back to where it began. The least order that leads to a
+-- configuration is found by these. Each goes by induction on an order.
+use Rattle.std.proofs.Common.{◌≡◌, ◌<◌, ◌≤◌, ℕ, suc, false, ◌==◌, List, [], ◌∷◌, ◌++◌, refl, sym, ap, ◌∙◌, subst, arith, inl, inr, ⊎_elim, append_assoc}
+use Rattle.std.proofs.lemmas.List.{append_cancel_left}
+use Rattle.qs_objects.specs.declared.held.Ticket.{Ticket}
+use Rattle.qs_objects.proofs.Choices.{num_cases}
+use Rattle.qs_program.specs.Program.{ProgramShape}
+use Rattle.qs_meaning.specs.Configurations.{Configuration, configuration_after, configuration_from, first_configuration, one_block_on}
+use Rattle.qs_meaning.specs.Reduced.{IsReducedFrom}
+use Rattle.qs_meaning.specs.Solo.{put}
+use Rattle.qs_meaning.proofs.Orders.{configuration-append}
+use Rattle.qs_meaning.proofs.TreeWalks.{put_here, put_there}
+use Rattle.qs_outcomes.specs.LeastOrders.{IsBefore}
+use Rattle.qs_outcomes.specs.Standings.{IsReducedAfter}
+
+pub before_onward : (ts us rest : List Ticket) → IsBefore ts us → IsBefore (ts ++ rest) us
+before_onward [] us rest h = absurd h
+before_onward (t ∷ ts) [] rest h = absurd h
+before_onward (t ∷ ts) (u ∷ us) rest (inl less) = inl less
+before_onward (t ∷ ts) (u ∷ us) rest (inr h) = inr (h.0, before_onward ts us rest h.1)
+
+pub before_longer : (ts us rest : List Ticket) → IsBefore ts us → IsBefore ts (us ++ rest)
+before_longer [] us rest h = absurd h
+before_longer (t ∷ ts) [] rest h = absurd h
+before_longer (t ∷ ts) (u ∷ us) rest (inl less) = inl less
+before_longer (t ∷ ts) (u ∷ us) rest (inr h) = inr (h.0, before_longer ts us rest h.1)
+
+pub before_both : (ts us vs : List Ticket) → IsBefore ts us → IsBefore us vs → IsBefore ts vs
+before_both [] us vs h k = absurd h
+before_both (t ∷ ts) [] vs h k = absurd h
+before_both (t ∷ ts) (u ∷ us) [] h k = absurd k
+before_both (t ∷ ts) (u ∷ us) (v ∷ vs) (inl h) (inl k) = inl (omega (arith, h, k))
+before_both (t ∷ ts) (u ∷ us) (v ∷ vs) (inl h) (inr k) = inl (let e : u.client ≡ v.client = k.0 in omega (arith, h, e))
+before_both (t ∷ ts) (u ∷ us) (v ∷ vs) (inr h) (inl k) = inl (let e : t.client ≡ u.client = h.0 in omega (arith, e, k))
+before_both (t ∷ ts) (u ∷ us) (v ∷ vs) (inr h) (inr k) = inr (h.0 ∙ k.0, before_both ts us vs h.1 k.1)
+
+pub not_before : (ts rest : List Ticket) → IsBefore (ts ++ rest) ts → ⊥
+not_before [] [] h = h
+not_before [] (t ∷ rest) h = h
+not_before (t ∷ ts) rest (inl less) = omega (arith, less)
+not_before (t ∷ ts) rest (inr h) = not_before ts rest h.1
+
+-- orders that go on differently
+pub fork : (ts : List Ticket) (t u : Ticket) → t.client < u.client → IsBefore (ts ++ t ∷ []) (ts ++ u ∷ [])
+fork [] t u less = inl less
+fork (v ∷ ts) t u less = inr (refl, fork ts t u less)
+
+reduced-join : (p : ProgramShape) (g : Configuration) (ts us : List Ticket) → IsReducedFrom p g ts → IsReducedFrom p (configuration_from p g ts) us → IsReducedFrom p g (ts ++ us)
+reduced-join p g [] us h k = k
+reduced-join p g (t ∷ ts) us h k = (h.0, reduced-join p (one_block_on p t.client g) ts us h.1 k)
+
+reduced-rest : (p : ProgramShape) (g : Configuration) (ts us : List Ticket) → IsReducedFrom p g (ts ++ us) → IsReducedFrom p (configuration_from p g ts) us
+reduced-rest p g [] us h = h
+reduced-rest p g (t ∷ ts) us h = reduced-rest p (one_block_on p t.client g) ts us h.1
+
+-- where a reduced order leads, by its part after the front
+after_front : (p : ProgramShape) (front order : List Ticket) (r : IsReducedAfter p front order) → configuration_after p order ≡ configuration_from p (configuration_after p front) r.rest
+after_front p front order r = ap (configuration_after p) r.whole ∙ configuration-append p (first_configuration p) front r.rest
+
+pub reduced_onward : (p : ProgramShape) (front order rest : List Ticket) → IsReducedAfter p front order → IsReducedFrom p (configuration_after p order) rest → IsReducedAfter p front (order ++ rest)
+reduced_onward p front order rest r h = record {
+  rest = r.rest ++ rest;
+  whole = ap (λ ts. ts ++ rest) r.whole ∙ append_assoc front r.rest rest;
+  reduced = reduced-join p (configuration_after p front) r.rest rest r.reduced (subst (λ g. IsReducedFrom p g rest) (after_front p front order r) h);
+}
+
+pub reduced_back : (p : ProgramShape) (front order rest : List Ticket) → IsReducedAfter p front order → IsReducedAfter p front (order ++ rest) → IsReducedFrom p (configuration_after p order) rest
+reduced_back p front order rest r whole =
+    let same : r.rest ++ rest ≡ whole.rest =
+    append_cancel_left front (r.rest ++ rest) whole.rest (sym (append_assoc front r.rest rest) ∙ (ap (λ ts. ts ++ rest) (sym r.whole) ∙ whole.whole)) in
+    subst (λ g. IsReducedFrom p g rest) (sym (after_front p front order r))
+    (reduced-rest p (configuration_after p front) r.rest rest (subst (IsReducedFrom p (configuration_after p front)) (sym same) whole.reduced))
+
+-- no client's count falls
+grows : (p : ProgramShape) (g : Configuration) (ts : List Ticket) (c : ℕ) → g.begun c ≤ (configuration_from p g ts).begun c
+grows p g [] c = omega arith
+grows p g (t ∷ ts) c =
+    let later : (one_block_on p t.client g).begun c ≤ (configuration_from p (one_block_on p t.client g) ts).begun c = grows p (one_block_on p t.client g) ts c in
+    ⊎_elim
+    (λ (is : t.client ≡ c).
+    let on : put g.begun t.client (suc (g.begun t.client)) c ≡ suc (g.begun c) =
+    subst (λ n. put g.begun t.client (suc (g.begun t.client)) n ≡ suc (g.begun n)) is (put_here g.begun t.client (suc (g.begun t.client))) in
+    omega (arith, on, later))
+    (λ (differs : (t.client == c) ≡ false). let on = put_there g.begun t.client (suc (g.begun t.client)) c differs in omega (arith, on, later))
+    (num_cases t.client c)
+
+-- a block leads elsewhere, and never back
+pub never_back : (p : ProgramShape) (g : Configuration) (t : Ticket) (ts : List Ticket) → configuration_from p g (t ∷ ts) ≡ g → ⊥
+never_back p g t ts e =
+    let on : put g.begun t.client (suc (g.begun t.client)) t.client ≡ suc (g.begun t.client) = put_here g.begun t.client (suc (g.begun t.client)) in
+    let more : (one_block_on p t.client g).begun t.client ≤ (configuration_from p (one_block_on p t.client g) ts).begun t.client = grows p (one_block_on p t.client g) ts t.client in
+    let same : (configuration_from p (one_block_on p t.client g) ts).begun t.client ≡ g.begun t.client = ap (λ (g : Configuration). g.begun t.client) e in
+    omega (arith, on, more, same)
