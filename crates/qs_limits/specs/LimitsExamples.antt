@@ -4,7 +4,6 @@ use Rattle.qs_objects.specs.declared.Op.TheVariants.{Deposit, Balance}
 use Rattle.qs_objects.specs.declared.object.Kind.TheVariants.{Account}
 use Rattle.qs_script.specs.declared.tree.Relation.TheVariants.{Less}
 use Rattle.qs_program.specs.declared.code.Atom.TheVariants.{Variable, Number}
-use Rattle.qs_program.specs.declared.code.Call.{Call}
 use Rattle.qs_program.specs.declared.code.Test.{Test}
 use Rattle.qs_program.specs.declared.program.Declared.{Declared}
 use Rattle.qs_program.specs.Numbering.{Name}

@@ -1,8 +1,8 @@
 // Which client, or which block, uses the most of a limit.
 
 ghost use Rattle.std.specs.Prelude.{◌≡◌, ◌<◌, length};
-ghost use Rattle.qs_program.specs.Program.{block_at, blocks_of, client_at};
-ghost use Rattle.qs_limits.specs.Greatest.{client_use, block_use, greater, most_in_client, most_of_blocks as most_of_blocks_in, most_of_clients as most_of_clients_in, nobody, of_block, of_client};
+ghost use Rattle.qs_program.specs.Program.{block_at, blocks_of};
+ghost use Rattle.qs_limits.specs.Greatest.{client_use, greater, most_in_client, most_of_blocks as most_of_blocks_in, most_of_clients as most_of_clients_in, of_block};
 
 use crate::extents::{body_levels, body_turns};
 use qs_program::Program;
