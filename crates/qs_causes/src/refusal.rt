@@ -1,6 +1,6 @@
 // Why a script is refused, and where.
 
-ghost use Rattle.std.specs.Prelude.{◌≡◌, IfOk};
+ghost use Rattle.std.specs.Prelude.{IfOk};
 ghost use Rattle.qs_causes.specs.CheckTold.{IsExcessAt, IsRefusedAt, anchor_of};
 
 use crate::excess::say_excess;

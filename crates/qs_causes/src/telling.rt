@@ -1,6 +1,6 @@
 // The diagnosis of a text that is refused.
 
-ghost use Rattle.std.specs.Prelude.{◌≡◌, ◌≤◌, ◌<◌, OnOk, List, [], length, Ok, Some, ℕ};
+ghost use Rattle.std.specs.Prelude.{◌≡◌, ◌≤◌, ◌<◌, OnOk, List, [], length, Ok, Some};
 ghost use Rattle.qs_script.specs.Reads.{IsScriptText};
 ghost use Rattle.qs_script.specs.declared.tree.Item.{Item};
 ghost use Rattle.qs_causes.specs.Spans.{ArePlaced, Stand};

@@ -1,6 +1,6 @@
 // What a run has to write.
 
-ghost use Rattle.std.specs.Prelude.{◌≡◌, ◌+◌, ◌≤◌, ◌⊎◌, false, None, Some, map, IfOk, IfSome};
+ghost use Rattle.std.specs.Prelude.{◌≡◌, ◌+◌, ◌≤◌, ◌⊎◌, false, None, map};
 ghost use Rattle.qs_report.specs.declared.faults.Fault.TheVariants as fault;
 ghost use Rattle.qs_line.specs.Line.{asks, by_order, by_schedule, graph, line_in, outcomes, plan_of, play, request_by, request_of, rules, run};
 ghost use Rattle.qs_serve.specs.Due.{HasAsked, IsDue, IsDueOfList, IsDueOfProgram, IsDueOfText, IsRefusedBy, IsListOf, IsReportOf, IsTextOf, IsOutOfMemory, due_status, longest};
