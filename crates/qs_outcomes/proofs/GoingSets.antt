@@ -17,7 +17,7 @@ use Rattle.std.proofs.lemmas.List.{length-set}
 use Rattle.qs_program.proofs.Bounds.{sound_block}
 use Rattle.qs_meaning.proofs.Each.{each_map}
 use Rattle.qs_program.specs.Limits.{most_clients, most_objects}
-use Rattle.qs_outcomes.specs.Going.{AreLast, IsGrown, counts_in, in_byte}
+use Rattle.qs_outcomes.specs.Going.{AreComers, AreLast, IsGrown, counts_in, in_byte}
 use Rattle.qs_outcomes.proofs.RowSteps.{take_more}
 
 zero_or_one : (x : ℕ) → x < 2 → (x ≡ 0) ⊎ (x ≡ 1)
@@ -262,6 +262,44 @@ same_rounds p begun (suc n) a b some e = after_first p begun n a ∙ (ap (widene
 pub same_groups : (p : ProgramShape) (begun : Counts) (c d : ℕ) → c < length p.clients → wider p begun (λ k. c == k) ≡ wider p begun (λ k. d == k)
     → group_of p begun c ≡ group_of p begun d
 same_groups p begun c d within e = same_rounds p begun (length p.clients) (λ k. c == k) (λ k. d == k) (omega (arith, within)) e
+
+-- one number is below n, or not
+none_below : (c n : ℕ) (f : ℕ → Bool) → n ≤ c → some_below n (λ k. (c == k) && f k) ≡ false
+none_below c zero f past = refl
+none_below c (suc n) f past =
+    let before = none_below c n f (omega (arith, past)) in
+    let apart = eqb_apart c n (λ e. omega (arith, e, past)) in
+    rw (before, apart) refl
+
+one_below : (c n : ℕ) (f : ℕ → Bool) → c < n → some_below n (λ k. (c == k) && f k) ≡ f c
+one_below c zero f within = absurd (omega (arith, within))
+one_below c (suc n) f within = elim (cases_eq c n) [
+  | inl same ↦
+      subst (λ m. some_below (suc m) (λ k. (c == k) && f k) ≡ f c) same
+      (let before = none_below c c f (omega arith) in let self = eqb_self c in rw (before, self) refl)
+  | inr other ↦
+      let before = one_below c n f (omega (arith, within, other)) in
+      let apart = eqb_apart c n other in
+      rw (before, apart) (or_false (f c))
+]
+
+-- the set of one client after its first round: the client, and who comes in the way of its next block
+pub first_round : (p : ProgramShape) (begun : Counts) (c row : ℕ) → c < length p.clients → c < 8 → in_byte row ≡ comes_in p begun c
+    → wider p begun (λ k. c == k) ≡ in_byte (bit_or (1 * 2 ^ c % 256) row)
+first_round p begun c row within below here = λ i d. at d i
+  where
+    at : (d : ℕ) → wider p begun (λ k. c == k) d ≡ in_byte (bit_or (1 * 2 ^ c % 256) row) d
+    at d =
+        ap (λ b. (c == d) || b) (one_below c (length p.clients) (λ k. comes_in p begun k d) within)
+        ∙ sym (in_or (1 * 2 ^ c % 256) row d ∙ ap₂ (λ a b. a || b) (λ i. in_one c below i d) (λ i. here i d))
+
+-- as the code reads it
+pub first_of : (p : ProgramShape) (begun rows : List ℕ) (c place : ℕ) → IsSound p → c < length p.clients → AreComers p begun rows → place ≡ c
+    → wider p (counts_in begun) (λ k. c == k) ≡ in_byte (bit_or (1 * 2 ^ c % 256) (get_or rows place 0))
+first_of p begun rows c place sound within comers at =
+    let few = sound.clients in
+    first_round p (counts_in begun) c (get_or rows c 0) within (omega (arith, few, within)) (comers c within)
+    ∙ sym (ap (λ k. in_byte (bit_or (1 * 2 ^ c % 256) (get_or rows k 0))) at)
 
 -- no set is grown yet
 pub none_grown : (p : ProgramShape) (begun : List ℕ) → IsGrown p begun 0 0

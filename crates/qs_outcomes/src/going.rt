@@ -208,7 +208,7 @@ fn grown_from(
     ensures set { in_byte result.set ≡ group_of program.now (counts_in begun.now) client }
 {
     program.is_sound();
-    let first = wider(program, begun, rows, 1 << client);
+    let first = (1 << client) | rows[usize::from(client)];
     if first == last.first {
         return last;
     }
