@@ -16,7 +16,7 @@ use Rattle.qs_anchors.proofs.Tokens.{anchors_are_tokens}
 use Rattle.qs_anchors.proofs.Within.{first_is_an_anchor}
 use Rattle.qs_causes.specs.declared.spans.PlacedToken.{PlacedToken}
 use Rattle.qs_check.specs.declared.excess.Excess.{Excess}
-use Rattle.qs_causes.specs.CheckTold.{IsFirstOr, IsRefusedAt, block_anchor_of}
+use Rattle.qs_causes.specs.CheckTold.{IsRefusalAnchor, IsRefusedAt, block_anchor_of}
 use Rattle.qs_causes.specs.Spans.{ArePlaced, Stand, tokens_in}
 
 pub stands_within : (text : List ℕ) (ps : List PlacedToken) (later : Result (List Token) TokenFault) (i : ℕ) (d : PlacedToken) → Stand text ps later → i < length ps
@@ -56,7 +56,7 @@ pub refusal_there : (text : List ℕ) (ps : List PlacedToken) (items : List Item
     → number < length (anchors_in (tokens_in ps))
 refusal_there text ps items number placed reads refused = by_first (first_anchored items) refl refused
   where
-    by_first : (o : Option Anchored) → first_anchored items ≡ o → IsFirstOr items o (Some number) → number < length (anchors_in (tokens_in ps))
+    by_first : (o : Option Anchored) → first_anchored items ≡ o → IsRefusalAnchor items o (Some number) → number < length (anchors_in (tokens_in ps))
     by_first None found e = excess_there text ps items e.0 number placed reads e.2
     by_first (Some first) found same =
         let number_is : number ≡ first.anchor = ap (λ o. unwrap_or o 0) same in

@@ -57,13 +57,13 @@ abbrev pub IsExcessAt : List Item → Option ℕ → Type 0
 IsExcessAt items anchor = (found : Option Excess) × IsExcessOf items found × (anchor ≡ block_anchor_of items found)
 
 -- the anchor of the first fault of a script's text, if there is one, or else that of the block with which it passes a limit
-abbrev pub IsFirstOr : List Item → Option Anchored → Option ℕ → Type 0
-IsFirstOr items None anchor = IsExcessAt items anchor
-IsFirstOr items (Some first) anchor = anchor ≡ Some first.anchor
+abbrev pub IsRefusalAnchor : List Item → Option Anchored → Option ℕ → Type 0
+IsRefusalAnchor items None anchor = IsExcessAt items anchor
+IsRefusalAnchor items (Some first) anchor = anchor ≡ Some first.anchor
 
 -- the anchor at which a script is refused; none, where it is not
 abbrev pub IsRefusedAt : List Item → Option ℕ → Type 0
-IsRefusedAt items anchor = IsFirstOr items (first_anchored items) anchor
+IsRefusedAt items anchor = IsRefusalAnchor items (first_anchored items) anchor
 
 -- a diagnosis of this anchor was put at the end; nothing, where there is none
 abbrev pub IsRefusalTold : List ℕ → List Item → List ℕ → List ℕ → Type 0
