@@ -45,7 +45,9 @@ fn add_named(row: &mut Vec<i64>, values: &Locals, count: usize) -> Result<(), Al
     requires { count ≤ most_variables }
     ensures added { OnOk result (row.new.items ≡ row.old.items ++ take count values.now) }
 {
-    row.extend_from_slice(&values[..count])?;
+    if count > 0 {
+        row.extend_from_slice(&values[..count])?;
+    }
     Ok(())
 }
 
