@@ -1,0 +1,4 @@
+pub mod Told
+pub mod PlainSteps
+pub mod CoreSteps
+pub mod StepExamples
