@@ -11,7 +11,7 @@ pub returns : goal.returns
 unfolding digits plain_steps core_steps limit move
 returns c = record {
   examples = record {
-    by_rules = record { no_round = refl; one_round = refl; all = refl; picked = refl };
-    by_machine = record { one_round = refl; all = refl };
+    by_rules = record { no_round = refl; one_round = refl; all = refl; picked = refl; stepped = refl };
+    by_machine = record { one_round = refl; all = refl; picked = refl };
   };
 }
