@@ -1,11 +1,10 @@
 -- The actors that stepped, stepped again: where nobody stepped the state stays, so they come to the same state.
-use Rattle.std.proofs.Common.{◌≡◌, ◌<◌, ◌≤◌, ℕ, zero, suc, ◌+◌, Bool, true, nat_lt, List, [], ◌∷◌, ◌++◌, map, length, Option, Some, None, Ok, refl, ap, sym, ◌∙◌, subst, arith}
+use Rattle.std.proofs.Common.{◌≡◌, ◌≤◌, ℕ, zero, suc, ◌+◌, true, nat_lt, List, [], ◌∷◌, ◌++◌, map, length, Option, Some, None, refl, ap, sym, ◌∙◌, arith}
 use Rattle.std.specs.List.{range_with_len}
 use Rattle.std.proofs.lemmas.Bool.Decides.{nat_tests}
 use Rattle.qs_objects.proofs.Choices.{and_cases}
 use Rattle.qs_meaning.proofs.Groups.{both_true}
 use Rattle.qs_program.specs.Program.{ProgramShape}
-use Rattle.qs_played.specs.Played.{Played}
 use Rattle.qs_played.specs.Schedule.{actors_of, all_named, names_actor, or_stay, plays_by, rounds_of, schedule}
 use Rattle.qs_played.specs.declared.schedule.actor.Actor.{Actor}
 use Rattle.qs_played.specs.declared.schedule.actor.Actor.TheVariants as actor
@@ -13,8 +12,6 @@ use Rattle.qs_plain_laws.specs.Plain.{begin, step}
 use Rattle.qs_plain_laws.specs.PlainSchedule.{played_of, scheduled}
 use Rattle.qs_core_laws.specs.Core.{core_begin, core_step}
 use Rattle.qs_core_laws.specs.CoreSchedule.{core_played, core_scheduled}
-use Rattle.qs_steps.specs.PlainSteps.{plain_steppers}
-use Rattle.qs_steps.specs.CoreSteps.{core_steppers}
 use Rattle.qs_steps.specs.StepReplays.{CoreStepsReplay, PlainStepsReplay}
 use Rattle.qs_steps.specs.Told.{stepper, steppers_by}
 
