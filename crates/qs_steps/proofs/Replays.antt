@@ -52,7 +52,7 @@ module _ (p : ProgramShape) where
   turn_named : all_named p (actors_of p) ≡ true
   turn_named =
       named_both (map actor.Client (range_with_len 0 (length p.clients))) (map actor.Handler (range_with_len 0 (length p.objects)))
-        (clients_named 0 (length p.clients) (omega arith)) (handlers_named 0 (length p.objects) (omega arith))
+      (clients_named 0 (length p.clients) (omega arith)) (handlers_named 0 (length p.objects) (omega arith))
 
   rounds_named : (n : ℕ) → all_named p (rounds_of n (actors_of p)) ≡ true
   rounds_named zero = refl
@@ -83,6 +83,8 @@ plain_replay p picks rounds played is =
 
 pub core_replay : CoreStepsReplay
 unfolding core_scheduled
-core_replay p mode code are size picks rounds played shown is =
-    (omega arith, scheduled_named p (core_step code size) picks rounds (core_begin p) is.1,
-     (code, are, shown ∙ ap (core_played p) (sym (replayed p (core_step code size) (schedule p picks rounds) (core_begin p)))))
+core_replay p mode code are size picks rounds played shown is = (
+  omega arith,
+  scheduled_named p (core_step code size) picks rounds (core_begin p) is.1,
+  (code, are, shown ∙ ap (core_played p) (sym (replayed p (core_step code size) (schedule p picks rounds) (core_begin p)))),
+)
