@@ -1,16 +1,16 @@
 //! A handler's mind.
 
-ghost use Rattle.std.specs.Prelude.{◌≡◌, ℕ, [], IsTrue, false, Some, option_copied};
+ghost use Rattle.std.specs.Prelude.{◌≡◌, ℕ, [], IsTrue, false, true, Some, option_copied};
+ghost use Rattle.qs_objects.specs.Journals.{HeldState};
+ghost use Rattle.qs_chunk.specs.declared.parcel.Parcel.TheVariants as Parcel;
 ghost use Rattle.qs_chunk.specs.Batch.{batch};
 ghost use Rattle.qs_chunk.specs.Lanes.{may_stand};
 ghost use Rattle.qs_chunk.specs.Runs.{ran_all};
-ghost use Rattle.qs_handler.specs.Handler.{free, serves, away, closed, act_of, gave, accept_next, accept_parcel, is_away, held_of};
-ghost use Rattle.qs_handler.specs.Stages.{handler_of, IsTidy};
+ghost use Rattle.qs_handler.specs.Handler.{free, serves, spares, gives, away, closed, act_of, gave, accept_next, accept_parcel, is_away, held_of};
 
 use qs_chunk::{Chunk, Parcel};
 use qs_objects::{Held, Next, Request, Ticket};
 use std::marker::Model;
-use std::mem;
 
 /// What a handler does next: takes a ticket of its queue of queues, takes a parcel of that client's lane, gives the client the
 /// object or an empty chunk, or ends.
@@ -23,24 +23,32 @@ pub enum Act {
     Closed,
 }
 
-#[derive(Drop)]
+// Where a handler stands, beside its object and the chunk that it gives back.
+#[derive(Clone, Copy)]
 enum Stage {
-    Free(Held),
-    Serves(Ticket, Held),
-    Spares(Ticket, Held, Chunk<Request>),
-    Gives(Ticket, Held),
+    Free,
+    Serves(Ticket),
+    Spares(Ticket),
+    Gives(Ticket),
     Away(Ticket),
-    Closed(Held),
+    Closed,
 }
 
-/// A handler's decisions. No call takes memory or refuses.
+/// A handler's decisions. No call takes memory or refuses. The object and a chunk lie where they are from one act to the next, and move only
+/// as they change hands.
 pub struct Mind {
     stage: Stage,
+    held: Option<Held>,
+    spare: Option<Chunk<Request>>,
 }
 
 impl Drop for Mind {
     fn drop(self) {
-        let Mind { stage: _ } = self;
+        let Mind {
+            stage: _,
+            held: _,
+            spare: _,
+        } = self;
     }
 }
 
@@ -51,9 +59,9 @@ impl Model for Mind {
 
     ghost use Rattle.qs_handler.specs.Stages.{handler_of, IsTidy};
 
-    ghost view = { λ m. handler_of m.stage };
+    ghost view = { λ m. handler_of m.stage m.held m.spare };
 
-    ghost invariant = { λ m. IsTidy m.stage };
+    ghost invariant = { λ m. IsTidy m.stage m.held m.spare };
 }
 
 // Runs all requests of a chunk, the first first; the chunk is empty then.
@@ -66,94 +74,15 @@ fn run_all(ticket: Ticket, held: &mut Held, chunk: &mut Chunk<Request>)
     }
 }
 
-// A handler that serves a block, and has its object, takes a parcel.
-fn serve(ticket: Ticket, held: Held, parcel: Parcel) -> Stage
-    requires stands { IsTrue (may_stand false parcel) }
-    ensures stage { accept_parcel (serves ticket held) parcel ≡ Some (handler_of result) }
-    ensures tidy { IsTidy result }
-{
-    match parcel {
-        Parcel::Work(chunk) => {
-            let mut held = held;
-            let mut chunk = chunk;
-            run_all(ticket, &mut held, &mut chunk);
-            Stage::Spares(ticket, held, chunk)
-        }
-        Parcel::Sync => Stage::Gives(ticket, held),
-        Parcel::End => Stage::Free(held),
-        Parcel::Home(_) => unreachable!(),
-    }
-}
-
-impl Stage {
-    // The next act, and the stage without what the act carries.
-    fn act(self) -> (Act, Stage)
-        requires tidy { IsTidy self }
-        ensures act { result.0 ≡ act_of (handler_of self) }
-        ensures rest { handler_of result.1 ≡ gave (handler_of self) }
-        ensures still_tidy { IsTidy result.1 }
-    {
-        match self {
-            Stage::Free(held) => (Act::TakeTicket, Stage::Free(held)),
-            Stage::Serves(ticket, held) => {
-                (Act::TakeParcel(ticket.client), Stage::Serves(ticket, held))
-            }
-            Stage::Spares(ticket, held, chunk) => {
-                (
-                    Act::Spare(ticket.client, chunk),
-                    Stage::Serves(ticket, held),
-                )
-            }
-            Stage::Gives(ticket, held) => (Act::Give(ticket.client, held), Stage::Away(ticket)),
-            Stage::Away(ticket) => (Act::TakeParcel(ticket.client), Stage::Away(ticket)),
-            Stage::Closed(held) => (Act::Closed, Stage::Closed(held)),
-        }
-    }
-
-    fn with_ticket(self, next: Next) -> Stage
-        requires asked { act_of (handler_of self) ≡ Act.TakeTicket }
-        ensures stage { accept_next (handler_of self) next ≡ Some (handler_of result) }
-        ensures tidy { IsTidy result }
-    {
-        match self {
-            Stage::Free(held) => match next {
-                Next::Ticket(ticket) => Stage::Serves(ticket, held),
-                Next::Closed => Stage::Closed(held),
-            },
-            _ => unreachable!(),
-        }
-    }
-
-    fn with_parcel(self, parcel: Parcel) -> Stage
-        requires asked { (client : ℕ) × (act_of (handler_of self) ≡ Act.TakeParcel client) }
-        requires stands { IsTrue (may_stand (is_away (handler_of self)) parcel) }
-        ensures stage { accept_parcel (handler_of self) parcel ≡ Some (handler_of result) }
-        ensures tidy { IsTidy result }
-    {
-        match self {
-            Stage::Serves(ticket, held) => serve(ticket, held, parcel),
-            Stage::Away(ticket) => match parcel {
-                Parcel::Home(held) => Stage::Serves(ticket, held),
-                _ => unreachable!(),
-            },
-            _ => unreachable!(),
-        }
-    }
-}
-
-// Stands for a stage that was taken out.
-const NOBODY: Ticket = Ticket {
-    client: 0,
-    index: 0,
-};
-
 impl Mind {
     /// The mind of a handler that is free, with its object.
     pub fn new(held: Held) -> Mind
         ensures free { result ≡ free held }
     {
         Mind {
-            stage: Stage::Free(held),
+            stage: Stage::Free,
+            held: Some(held),
+            spare: None,
         }
     }
 
@@ -162,10 +91,40 @@ impl Mind {
         ensures act { result ≡ act_of self.old }
         ensures rest { self.new ≡ gave self.old }
     {
-        let stage = mem::replace(&mut self.stage, Stage::Away(NOBODY));
-        let (act, rest) = stage.act();
-        self.stage = rest;
-        act
+        match self.stage {
+            Stage::Free => Act::TakeTicket,
+            Stage::Serves(ticket) => Act::TakeParcel(ticket.client),
+            Stage::Spares(ticket) => self.spare(ticket),
+            Stage::Gives(ticket) => self.give(ticket),
+            Stage::Away(ticket) => Act::TakeParcel(ticket.client),
+            Stage::Closed => Act::Closed,
+        }
+    }
+
+    // The empty chunk goes out of the mind.
+    fn spare(&mut self, ticket: Ticket) -> Act
+        requires spares { (x : HeldState) × (n : ℕ) × (self.old ≡ spares ticket x n) }
+        ensures act { result ≡ act_of self.old }
+        ensures rest { self.new ≡ gave self.old }
+    {
+        self.stage = Stage::Serves(ticket);
+        match self.spare.take() {
+            Some(chunk) => Act::Spare(ticket.client, chunk),
+            None => unreachable!(),
+        }
+    }
+
+    // The object goes out of the mind.
+    fn give(&mut self, ticket: Ticket) -> Act
+        requires gives { (x : HeldState) × (self.old ≡ gives ticket x) }
+        ensures act { result ≡ act_of self.old }
+        ensures rest { self.new ≡ gave self.old }
+    {
+        self.stage = Stage::Away(ticket);
+        match self.held.take() {
+            Some(held) => Act::Give(ticket.client, held),
+            None => unreachable!(),
+        }
     }
 
     /// What the queue of queues had next.
@@ -173,8 +132,10 @@ impl Mind {
         requires asked { act_of self.old ≡ Act.TakeTicket }
         ensures taken { accept_next self.old next ≡ Some self.new }
     {
-        let stage = mem::replace(&mut self.stage, Stage::Away(NOBODY));
-        self.stage = stage.with_ticket(next);
+        self.stage = match next {
+            Next::Ticket(ticket) => Stage::Serves(ticket),
+            Next::Closed => Stage::Closed,
+        };
     }
 
     /// What the lane had next. All requests of a chunk run in this call.
@@ -183,22 +144,61 @@ impl Mind {
         requires stands { IsTrue (may_stand (is_away self.old) parcel) }
         ensures received { accept_parcel self.old parcel ≡ Some self.new }
     {
-        let stage = mem::replace(&mut self.stage, Stage::Away(NOBODY));
-        self.stage = stage.with_parcel(parcel);
+        match self.stage {
+            Stage::Serves(ticket) => self.serve(ticket, parcel),
+            Stage::Away(ticket) => self.take_home(ticket, parcel),
+            _ => unreachable!(),
+        }
+    }
+
+    // A handler that serves a block, and has its object, takes a parcel.
+    fn serve(&mut self, ticket: Ticket, parcel: Parcel)
+        requires serves { (x : HeldState) × (self.old ≡ serves ticket x) }
+        requires stands { IsTrue (may_stand false parcel) }
+        ensures received { accept_parcel self.old parcel ≡ Some self.new }
+    {
+        match parcel {
+            Parcel::Work(chunk) => self.run(ticket, chunk),
+            Parcel::Sync => self.stage = Stage::Gives(ticket),
+            Parcel::End => self.stage = Stage::Free,
+            Parcel::Home(_) => unreachable!(),
+        }
+    }
+
+    // The requests of a chunk run, and the chunk is to be given back.
+    fn run(&mut self, ticket: Ticket, chunk: Chunk<Request>)
+        requires serves { (x : HeldState) × (self.old ≡ serves ticket x) }
+        ensures received { accept_parcel self.old (Parcel.Work chunk) ≡ Some self.new }
+    {
+        let mut chunk = chunk;
+        match &mut self.held {
+            Some(held) => run_all(ticket, held, &mut chunk),
+            None => unreachable!(),
+        }
+        self.stage = Stage::Spares(ticket);
+        self.spare = Some(chunk);
+    }
+
+    // The object comes home.
+    fn take_home(&mut self, ticket: Ticket, parcel: Parcel)
+        requires away { self.old ≡ away ticket }
+        requires stands { IsTrue (may_stand true parcel) }
+        ensures received { accept_parcel self.old parcel ≡ Some self.new }
+    {
+        match parcel {
+            Parcel::Home(held) => {
+                self.stage = Stage::Serves(ticket);
+                self.held = Some(held);
+            }
+            _ => unreachable!(),
+        }
     }
 
     /// The object with its journal, where it is at home.
     pub fn held(&self) -> Option<&Held>
         ensures held { option_copied result ≡ held_of self.now }
     {
-        match &self.stage {
-            Stage::Free(held) => Some(held),
-            Stage::Serves(_, held) => Some(held),
-            Stage::Spares(_, held, _) => Some(held),
-            Stage::Gives(_, held) => Some(held),
-            Stage::Away(_) => None,
-            Stage::Closed(held) => Some(held),
-        }
+        self.held.as_ref()
     }
 
     /// The object with its journal, once the handler has ended.
@@ -206,10 +206,14 @@ impl Mind {
         requires ended { act_of self ≡ Act.Closed }
         ensures held { self ≡ closed result }
     {
-        let Mind { stage } = self;
-        match stage {
-            Stage::Closed(held) => held,
-            _ => unreachable!(),
+        let Mind {
+            stage: _,
+            held,
+            spare: _,
+        } = self;
+        match held {
+            Some(held) => held,
+            None => unreachable!(),
         }
     }
 }
