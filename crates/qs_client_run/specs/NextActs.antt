@@ -5,6 +5,7 @@ use Rattle.qs_objects.specs.declared.Request.{Request}
 use Rattle.qs_graph.specs.Walk.{Move, Calls, Syncs}
 use Rattle.qs_syncset.specs.Codes.{BlockCode}
 use Rattle.qs_chunk.specs.Batch.{Batch}
+use Rattle.qs_chunk.specs.declared.parcel.Parcel.{Parcel}
 use Rattle.qs_chunk.specs.declared.parcel.Parcel.TheVariants as parcels
 use Rattle.qs_client_run.specs.Client.{Settings, act_of}
 use Rattle.qs_client_run.specs.Holdings.{HoldingsState, held_at, chunk_at, with_held, with_chunk}
@@ -17,11 +18,19 @@ use Rattle.qs_client_run.specs.declared.stage.Stage.{Stage}
 use Rattle.qs_client_run.specs.declared.stage.Stage.TheVariants as stages
 use Rattle.qs_client_run.specs.declared.act.Act.TheVariants as acts
 
--- what goes to handler h first: a held object goes home; else an open chunk goes; else this act is next
+-- what goes to a handler first: a held object goes home; else an open chunk goes
+abbrev pub first_parcel : Option HeldState → Option (Batch Request) → Option Parcel
+first_parcel (Some x) c = Some (parcels.Home x)
+first_parcel None (Some b) = Some (parcels.Work b)
+first_parcel None None = None
+
+-- a parcel is sent to handler h, where there is one; else this act is next
+abbrev pub send_or : ℕ → Option Parcel → Act → Act
+send_or h (Some parcel) other = Send h parcel
+send_or h None other = other
+
 abbrev pub clear_by : ℕ → Option HeldState → Option (Batch Request) → Act → Act
-clear_by h (Some x) c other = Send h (parcels.Home x)
-clear_by h None (Some b) other = Send h (parcels.Work b)
-clear_by h None None other = other
+clear_by h x c other = send_or h (first_parcel x c) other
 
 abbrev pub clear : HoldingsState → ℕ → Act → Act
 clear s h other = clear_by h (held_at s h) (chunk_at s h) other

@@ -3,11 +3,12 @@
 ghost use Rattle.std.specs.Prelude.{◌≡◌, ◌<◌, [], ℕ, None, length};
 ghost use Rattle.qs_program.specs.Limits.{most_handlers};
 ghost use Rattle.qs_chunk.specs.Batch.{batch};
+ghost use Rattle.qs_chunk.specs.declared.parcel.Parcel.TheVariants as parcels;
 ghost use Rattle.qs_graph.specs.Walk.{move};
 ghost use Rattle.qs_syncset.specs.Codes.{code_at};
-ghost use Rattle.qs_client_run.specs.NextActs.{HasActed, IsInside, Wants, act_by, clear, send_full, holdings_by, with_holdings, without};
+ghost use Rattle.qs_client_run.specs.NextActs.{HasActed, IsInside, Wants, act_by, first_parcel, send_full, send_or, holdings_by, with_holdings, without};
 ghost use Rattle.qs_client_run.specs.Client.{Settings};
-ghost use Rattle.qs_client_run.specs.Holdings.{chunk_at, with_chunk};
+ghost use Rattle.qs_client_run.specs.Holdings.{chunk_at, held_at, with_chunk};
 ghost use Rattle.qs_client_run.specs.Running.{IsLoud};
 ghost use Rattle.qs_client_run.specs.BetweenActs.{HasGot, HasTaken, IsStanding, outgoing_of};
 
@@ -37,19 +38,52 @@ impl Act {
     }
 }
 
+// What goes to a handler first, or an empty chunk is wanted.
+fn or_chunk(handler: u8, first: Option<Parcel>) -> Act
+    ensures act { result ≡ send_or handler first (Act.NeedChunk handler) }
+{
+    match first {
+        Some(parcel) => Act::Send(handler, parcel),
+        None => Act::NeedChunk(handler),
+    }
+}
+
+// What goes to a handler first, or a Sync.
+fn or_sync(handler: u8, first: Option<Parcel>) -> Act
+    ensures act { result ≡ send_or handler first (Act.Send handler parcels.Sync) }
+{
+    match first {
+        Some(parcel) => Act::Send(handler, parcel),
+        None => Act::Send(handler, Parcel::Sync),
+    }
+}
+
+// What goes to a handler first, or the end of the block.
+fn or_end(handler: u8, first: Option<Parcel>) -> Act
+    ensures act { result ≡ send_or handler first (Act.Send handler parcels.End) }
+{
+    match first {
+        Some(parcel) => Act::Send(handler, parcel),
+        None => Act::Send(handler, Parcel::End),
+    }
+}
+
 impl Holdings {
-    // What goes to a handler first: a held object goes home; else an open chunk goes; else this act is next.
-    fn clear(&mut self, handler: u8, other: Act) -> Act
+    // What goes to a handler first: a held object goes home; else an open chunk goes.
+    fn clear(&mut self, handler: u8) -> Option<Parcel>
         requires handler { handler < most_handlers }
-        ensures act { result ≡ clear self.old handler other }
+        ensures parcel { result ≡ first_parcel (held_at self.old handler) (chunk_at self.old handler) }
         ensures rest { self.new ≡ without self.old handler }
     {
-        if let Some(held) = self.take_held(handler) {
-            return Act::Send(handler, Parcel::Home(held));
+        if self.holds(handler) {
+            return match self.take_held(handler) {
+                Some(held) => Some(Parcel::Home(held)),
+                None => unreachable!(),
+            };
         }
         match self.take_chunk(handler) {
-            Some(chunk) => Act::Send(handler, Parcel::Work(chunk)),
-            None => other,
+            Some(chunk) => Some(Parcel::Work(chunk)),
+            None => None,
         }
     }
 
@@ -78,12 +112,11 @@ impl Run {
         match graph.node(self.position.node()) {
             Node::Call(call) => {
                 let object = call.object;
-                self.holdings.clear(object, Act::NeedChunk(object))
+                or_chunk(object, self.holdings.clear(object))
             }
             Node::Sync(name) => {
                 let handler = *name;
-                let sync = Act::Send(handler, Parcel::Sync);
-                self.holdings.clear(handler, sync)
+                or_sync(handler, self.holdings.clear(handler))
             }
             _ => unreachable!(),
         }
@@ -116,8 +149,7 @@ impl Run {
             Stage::Awaits(handler) => Act::Await(handler),
             Stage::Leaves(place) => {
                 let handler = code.reserved(block)[place];
-                let end = Act::Send(handler, Parcel::End);
-                self.holdings.clear(handler, end)
+                or_end(handler, self.holdings.clear(handler))
             }
         }
     }

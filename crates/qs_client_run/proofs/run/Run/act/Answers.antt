@@ -1,10 +1,11 @@
-use Rattle.std.proofs.Common.{◌≡◌, ◌<◌, ℕ, sym, ap, ◌∙◌, subst, List, length, get_or}
+use Rattle.std.proofs.Common.{◌≡◌, ◌<◌, ℕ, sym, ap, ◌∙◌, subst, List, Option, length, get_or}
 use Rattle.qs_graph.specs.Walk.{move}
 use Rattle.qs_graph.specs.WellFormed.{IsGraph}
 use Rattle.qs_graph.specs.Nodes as places
 use Rattle.qs_syncset.specs.Codes.{BlockCode, code_at}
+use Rattle.qs_chunk.specs.declared.parcel.Parcel.{Parcel}
 use Rattle.qs_chunk.specs.declared.parcel.Parcel.TheVariants as parcels
-use Rattle.qs_client_run.specs.NextActs.{HasActed, IsInside, act_by, clear, holdings_by, with_holdings, without}
+use Rattle.qs_client_run.specs.NextActs.{HasActed, IsInside, act_by, clear, holdings_by, send_or, with_holdings, without}
 use Rattle.qs_client_run.specs.Holdings.{HoldingsState}
 use Rattle.qs_client_run.specs.BetweenActs.{IsStanding}
 use Rattle.qs_client_run.specs.declared.act.Act.{Act}
@@ -50,11 +51,12 @@ returns-in-Leaves c =
       acted = λ settings most standing.
           let now = subst (λ (x : RunState). IsStanding b settings.size k most x x.stage) (sym c.self.view_is) standing in
           let w = subst (IsStanding b settings.size k most s) c.in-Leaves.is now in
-          let given : c.clear.result ≡ clear s.holdings (get_or b.reserved i 0) (end b.reserved) =
-          c.clear.ensures.act ∙ ap (λ (hs : List ℕ). clear s.holdings (get_or hs i 0) (end hs)) list in
+          let handler = get_or c.reserved.result.now i 0 in
+          let given : c.or_end.result ≡ clear s.holdings (get_or b.reserved i 0) (end b.reserved) =
+          c.or_end.ensures.act ∙ ap (λ (p : Option Parcel). send_or handler p (Send handler parcels.End)) c.clear.ensures.parcel ∙ ap (λ (hs : List ℕ). clear s.holdings (get_or hs i 0) (end hs)) list in
           let new : c.clear.new.self ≡ without s.holdings (get_or b.reserved i 0) =
           c.clear.ensures.rest ∙ ap (λ (hs : List ℕ). without s.holdings (get_or hs i 0)) list in
-          subst (λ (x : RunState). HasActed b settings blocks k c.args.begun most c.clear.result x (with_holdings s c.clear.new.self)) c.self.view_is
+          subst (λ (x : RunState). HasActed b settings blocks k c.args.begun most c.or_end.result x (with_holdings s c.clear.new.self)) c.self.view_is
           (
           subst (λ (a : Act). HasActed b settings blocks k c.args.begun most a s (with_holdings s c.clear.new.self)) (sym given)
           (

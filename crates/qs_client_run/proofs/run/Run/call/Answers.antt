@@ -1,4 +1,4 @@
-use Rattle.std.proofs.Common.{◌≡◌, ◌==◌, ℕ, sym, ap, ◌∙◌, ◌∷◌, [], ◌++◌, set-set, Some, None, length, if◌then◌else◌, arith}
+use Rattle.std.proofs.Common.{◌≡◌, ◌==◌, sym, ap, ◌∙◌, ◌∷◌, [], ◌++◌, set-set, Some, None, length, if◌then◌else◌, arith}
 use Rattle.std.proofs.lemmas.Bool.{eq-eqb, ne_eqb}
 use Rattle.qs_objects.specs.declared.Request.{Request}
 use Rattle.qs_objects.specs.Parts.{command_event}
@@ -6,7 +6,6 @@ use Rattle.qs_program.specs.Values.{request_of}
 use Rattle.qs_graph.specs.Walk.{at_node}
 use Rattle.qs_chunk.specs.Batch.{batch}
 use Rattle.qs_client_run.specs.Holdings.{HoldingsState, with_chunk}
-use Rattle.qs_client_run.specs.Running.{call}
 use Rattle.qs_objects.specs.Traces.{noted_at}
 use Rattle.qs_client_run.specs.RunState.{RunState}
 use Rattle.qs_client_run.specs.contracts.run.Run.{the_view}

@@ -3,7 +3,7 @@ use Rattle.qs_program.specs.Values.{request_of}
 use Rattle.qs_graph.specs.Nodes.{place_at, second_target}
 use Rattle.qs_graph.specs.Walk.{at_node, with_value}
 use Rattle.qs_graph.specs.declared.node.Node.TheVariants as v
-use Rattle.qs_client_run.specs.Running.{call, sync}
+use Rattle.qs_client_run.specs.Running.{call}
 use Rattle.qs_client_run.specs.RunState.{RunState}
 use Rattle.qs_client_run.specs.contracts.run.Run.{the_view}
 use Rattle.qs_client_run.proofs.StepAtNode.{moves, step_at}
