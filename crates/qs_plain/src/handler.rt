@@ -4,6 +4,7 @@ ghost use Rattle.std.specs.Prelude.{◌≡◌, ◌-◌, ◌<◌, [], ◌∷◌, 
 ghost use Rattle.qs_objects.specs.Journals.{run_one};
 ghost use Rattle.qs_plain.specs.Served.{HandlerState as State, ServesFirst, after_put, IsLoggable};
 ghost use Rattle.qs_plain_client.specs.Queues.{queue_state};
+ghost use Rattle.qs_plain_laws.specs.declared.item.QueueItem.TheVariants as items;
 
 use qs_objects::{Held, Request, Ticket};
 use qs_plain_client::PrivateQueue;
@@ -80,15 +81,28 @@ impl HandlerState {
         }
     }
 
-    /// Logs an item in the ticket's private queue. Where no other reservation waits, the item itself goes there, and no copy of it.
-    pub(crate) fn log_own(&mut self, ticket: Ticket, item: QueueItem)
+    /// Logs a command in the ticket's private queue. Where no other reservation waits, the request itself goes there, and no copy of it.
+    pub(crate) fn log_command(&mut self, ticket: Ticket, request: Request)
         requires { IsLoggable ticket self.old.queues }
-        ensures logged { self.new ≡ record { queues = map (after_put ticket item) self.old.queues; room = self.old.room; held = self.old.held } }
+        ensures logged { self.new ≡ record { queues = map (after_put ticket (items.Command request)) self.old.queues; room = self.old.room; held = self.old.held } }
     {
         if self.queues.len() == 1 {
-            self.queues[0].put_own(ticket, item);
+            self.queues[0].put_command(ticket, request);
         } else {
-            self.log(ticket, &item);
+            self.log(ticket, &QueueItem::Command(request));
+        }
+    }
+
+    /// Logs a query in the ticket's private queue, as a command is logged. They are two functions, each called in one place, so that no
+    /// request is moved from one call to the next.
+    pub(crate) fn log_query(&mut self, ticket: Ticket, request: Request)
+        requires { IsLoggable ticket self.old.queues }
+        ensures logged { self.new ≡ record { queues = map (after_put ticket (items.Query request)) self.old.queues; room = self.old.room; held = self.old.held } }
+    {
+        if self.queues.len() == 1 {
+            self.queues[0].put_query(ticket, request);
+        } else {
+            self.log(ticket, &QueueItem::Query(request));
         }
     }
 

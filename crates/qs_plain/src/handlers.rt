@@ -6,9 +6,10 @@ ghost use Rattle.qs_played.specs.JournalRooms.{room_in, room_of};
 ghost use Rattle.qs_plain_laws.specs.Plain.{fresh_handler};
 ghost use Rattle.qs_plain.specs.Handlers.{CanEnterAll, CanLog, CanLogAll, entered_all, logged_all, logged_at};
 ghost use Rattle.qs_plain_client.specs.Queues.{QueueState};
+ghost use Rattle.qs_plain_laws.specs.declared.item.QueueItem.TheVariants as items;
 
 use crate::handler::HandlerState;
-use qs_objects::Ticket;
+use qs_objects::{Request, Ticket};
 use qs_plain_client::PrivateQueue;
 use qs_plain_laws::QueueItem;
 use qs_played::declared_held;
@@ -16,18 +17,32 @@ use qs_program::Program;
 use std::alloc::{AllocError, Global};
 use std::collections::VecDeque;
 
-/// Logs an item at one handler.
-pub(crate) fn log_once(
+/// Logs a command at one handler.
+pub(crate) fn log_command(
     handlers: &mut Vec<HandlerState>,
     object: u8,
     ticket: Ticket,
-    item: QueueItem,
+    request: Request,
 )
     requires { CanLog ticket handlers.old.items object }
-    ensures logged { handlers.new.items ≡ logged_at ticket item handlers.old.items object }
+    ensures logged { handlers.new.items ≡ logged_at ticket (items.Command request) handlers.old.items object }
 {
     let handler = &mut handlers[usize::from(object)];
-    handler.log_own(ticket, item);
+    handler.log_command(ticket, request);
+}
+
+/// Logs a query at one handler.
+pub(crate) fn log_query(
+    handlers: &mut Vec<HandlerState>,
+    object: u8,
+    ticket: Ticket,
+    request: Request,
+)
+    requires { CanLog ticket handlers.old.items object }
+    ensures logged { handlers.new.items ≡ logged_at ticket (items.Query request) handlers.old.items object }
+{
+    let handler = &mut handlers[usize::from(object)];
+    handler.log_query(ticket, request);
 }
 
 fn log_at(handlers: &mut Vec<HandlerState>, object: u8, ticket: Ticket, item: &QueueItem)

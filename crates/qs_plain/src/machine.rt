@@ -7,7 +7,7 @@ ghost use Rattle.qs_played.specs.declared.schedule.actor.Actor.TheVariants as ac
 ghost use Rattle.qs_plain_client.specs.declared.stage.Stage.TheVariants as stages;
 
 use crate::handler::{HandlerState, Served};
-use crate::handlers::{enter_all, fresh_handlers, log_all, log_once};
+use crate::handlers::{enter_all, fresh_handlers, log_all, log_command, log_query};
 use crate::showing;
 use qs_objects::Ticket;
 use qs_plain_client::{Asked, ClientState, Stage, answer, fresh_clients};
@@ -150,21 +150,11 @@ impl<'p> Machine<'p> {
         match client.ask(self.alloc) {
             Asked::Command(request) => {
                 let object = request.object;
-                log_once(
-                    &mut self.handlers,
-                    object,
-                    ticket,
-                    QueueItem::Command(request),
-                );
+                log_command(&mut self.handlers, object, ticket, request);
             }
             Asked::Query(request) => {
                 let object = request.object;
-                log_once(
-                    &mut self.handlers,
-                    object,
-                    ticket,
-                    QueueItem::Query(request),
-                );
+                log_query(&mut self.handlers, object, ticket, request);
             }
             Asked::End => {
                 let block = self.program.block(ticket.client, ticket.index);

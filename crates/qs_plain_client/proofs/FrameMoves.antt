@@ -1,16 +1,24 @@
 -- A quiet move on the frames of a block pushes a frame at the end or takes one off there. These lemmas say what that does to the
 -- tree of what comes next, to the work and the load that are left, and to the frames' soundness. The contracts of `begin`,
 -- `leave` and `advance` on frames stand on them. The moves are taken one by one: a repeat, one more turn, a branch, a leave.
-use Rattle.std.proofs.Common.{◌≡◌, ◌≤◌, ℕ, zero, suc, ◌+◌, ◌-◌, ◌≢◌, ◌⊎◌, ⊎_elim, Bool, subst, List, [], ◌∷◌, ◌++◌, refl, ap, sym, ◌∙◌, arith, sub-one}
+use Rattle.std.proofs.Common.{length-append, ◌≡◌, ◌<◌, ◌≤◌, ℕ, zero, suc, ◌+◌, ◌-◌, ◌≢◌, ◌⊎◌, ⊎_elim, Bool, true, false, subst, List, [], ◌∷◌, ◌++◌, refl, ap, sym, ◌∙◌, arith, sub-one, Option, Some, None, IfNone, slice_set}
 use Rattle.std.specs.List.{AllByRecursion}
 use Rattle.std.proofs.lemmas.List.Sums.{fold-append, sum_by_push}
-use Rattle.qs_program.specs.Statements.{Statements, again, leave, choose}
-use Rattle.qs_program.specs.Sound.{IsSoundBody}
+use Rattle.qs_program.specs.Statements.{Statements, end, command, query, assign, again, leave, choose}
+use Rattle.qs_program.specs.Sound.{IsSoundBody, IsSoundCall}
+use Rattle.qs_program.specs.Limits.{most_variables}
+use Rattle.qs_program.specs.declared.code.Call.{Call}
+use Rattle.qs_program.specs.declared.code.Expr.{Expr}
 use Rattle.qs_program.specs.declared.code.Test.{Test}
 use Rattle.qs_program.specs.declared.program.Declared.{Declared}
-use Rattle.qs_program.specs.Values.{Locals}
-use Rattle.qs_plain_client.specs.Asking.{AreSound, IsSoundFrame}
-use Rattle.qs_plain_client.specs.Frames.{Frame, rest, turning, Ahead, inside, ahead_of, next_of, work, frame_work, load_left, frame_load}
+use Rattle.qs_program.specs.Values.{Locals, expr_value}
+use Rattle.qs_program.specs.Loads.{load_of}
+use Rattle.qs_meaning.specs.Interaction.{meaning}
+use Rattle.qs_plain_client.specs.Asking.{AreSound, IsSoundFrame, Moves}
+use Rattle.qs_plain_client.specs.declared.frames.Ask.{Ask}
+use Rattle.qs_plain_client.specs.declared.frames.Ask.TheVariants as ask
+use Rattle.qs_plain_client.specs.Frames.{Frame, rest, turning, Ahead, inside, above, ahead_of, next_of, work, work_of, frame_work, load_left, frame_load}
+use Rattle.qs_plain_client.specs.Opening.{Assigns, IsAside, Opens}
 
 pub ahead_of-push : (fs : List Frame) (f : Frame) → ahead_of (fs ++ f ∷ []) ≡ inside (ahead_of fs) f
 ahead_of-push fs f = fold-append inside _ fs (f ∷ [])
@@ -34,10 +42,10 @@ pub popped_load : (fs gs : List Frame) (f : Frame) (h : ℕ) → fs ≡ gs ++ f 
 popped_load fs gs f h e = rw (e, load_left-push gs f h) (omega arith)
 
 -- a repeat begins
-pub repeats : (fs : List Frame) (n : ℕ) (body s : Statements) (l : Locals) → next_of (fs ++ rest (again n body s) ∷ []) l ≡ next_of ((fs ++ rest s ∷ []) ++ turning n body ∷ []) l
-repeats fs n body s l =
+pub repeats : (fs gs : List Frame) (n : ℕ) (body s : Statements) (l : Locals) → IsAside fs gs s → next_of (fs ++ rest (again n body s) ∷ []) l ≡ next_of (gs ++ turning n body ∷ []) l
+repeats fs gs n body s l aside =
     ap (λ (a : Ahead). a.next l) (ahead_of-push fs (rest (again n body s)))
-    ∙ sym (ap (λ (a : Ahead). a.next l) (ahead_of-push (fs ++ rest s ∷ []) (turning n body) ∙ ap (λ a. inside a (turning n body)) (ahead_of-push fs (rest s))))
+    ∙ sym (ap (λ (a : Ahead). a.next l) (ahead_of-push gs (turning n body) ∙ ap (λ a. inside a (turning n body)) aside.ahead))
 
 -- one more turn begins
 turns_once : (fs : List Frame) (n : ℕ) (body : Statements) (l : Locals) → next_of (fs ++ turning (suc n) body ∷ []) l ≡ next_of ((fs ++ turning n body ∷ []) ++ rest body ∷ []) l
@@ -64,23 +72,137 @@ module _ (objects : List Declared) (reserved : List ℕ) where
   popped_sound fs gs f g e same sound =
       AllByRecursion-popped (IsSoundFrame objects reserved) gs g (subst (λ x. AreSound objects reserved (gs ++ x ∷ [])) same (subst (AreSound objects reserved) e sound))
 
-  pub repeats_sound : (fs : List Frame) (n : ℕ) (body s : Statements) → AreSound objects reserved (fs ++ rest (again n body s) ∷ []) → AreSound objects reserved ((fs ++ rest s ∷ []) ++ turning n body ∷ [])
-  repeats_sound fs n body s sound =
+  pub repeats_sound : (fs gs : List Frame) (n : ℕ) (body s : Statements) → IsAside fs gs s → AreSound objects reserved (fs ++ rest (again n body s) ∷ []) → AreSound objects reserved (gs ++ turning n body ∷ [])
+  repeats_sound fs gs n body s aside sound =
       let (before, last) = AllByRecursion-popped (IsSoundFrame objects reserved) fs (rest (again n body s)) sound in
-      AllByRecursion-push (IsSoundFrame objects reserved) (fs ++ rest s ∷ []) (turning n body) (AllByRecursion-push (IsSoundFrame objects reserved) fs (rest s) before last.2) last.1
+      AllByRecursion-push (IsSoundFrame objects reserved) gs (turning n body) (aside.sound objects reserved (AllByRecursion-push (IsSoundFrame objects reserved) fs (rest s) before last.2)) last.1
 
-  pub leaves_sound : (fs : List Frame) (s : Statements) → AreSound objects reserved (fs ++ rest (leave s) ∷ []) → AreSound objects reserved (fs ++ rest s ∷ [])
-  leaves_sound fs s sound =
+  pub leaves_sound : (fs gs : List Frame) (s : Statements) → IsAside fs gs s → AreSound objects reserved (fs ++ rest (leave s) ∷ []) → AreSound objects reserved gs
+  leaves_sound fs gs s aside sound =
       let (before, last) = AllByRecursion-popped (IsSoundFrame objects reserved) fs (rest (leave s)) sound in
-      AllByRecursion-push (IsSoundFrame objects reserved) fs (rest s) before last
+      aside.sound objects reserved (AllByRecursion-push (IsSoundFrame objects reserved) fs (rest s) before last)
 
-  pub chooses_sound : (fs : List Frame) (t : Test) (b : Bool) (first other chosen s : Statements) → (chosen ≡ first) ⊎ (chosen ≡ other)
-      → AreSound objects reserved (fs ++ rest (choose t b first other s) ∷ []) → AreSound objects reserved ((fs ++ rest s ∷ []) ++ rest chosen ∷ [])
-  chooses_sound fs t b first other chosen s which sound =
+  pub commands_sound : (fs gs : List Frame) (c : Call) (s : Statements) → IsAside fs gs s → AreSound objects reserved (fs ++ rest (command c s) ∷ []) → AreSound objects reserved gs × IsSoundCall objects reserved false c
+  commands_sound fs gs c s aside sound =
+      let (before, last) = AllByRecursion-popped (IsSoundFrame objects reserved) fs (rest (command c s)) sound in
+      (aside.sound objects reserved (AllByRecursion-push (IsSoundFrame objects reserved) fs (rest s) before last.1), last.0)
+
+  pub queries_sound : (fs gs : List Frame) (x : ℕ) (c : Call) (s : Statements) → IsAside fs gs s
+      → AreSound objects reserved (fs ++ rest (query x c s) ∷ []) → AreSound objects reserved gs × ((x < most_variables) × IsSoundCall objects reserved true c)
+  queries_sound fs gs x c s aside sound =
+      let (before, last) = AllByRecursion-popped (IsSoundFrame objects reserved) fs (rest (query x c s)) sound in
+      (aside.sound objects reserved (AllByRecursion-push (IsSoundFrame objects reserved) fs (rest s) before last.2), (last.0, last.1))
+
+  pub assigns_sound : (fs gs : List Frame) (x : ℕ) (e : Expr) (s : Statements) → IsAside fs gs s → AreSound objects reserved (fs ++ rest (assign x e s) ∷ []) → AreSound objects reserved gs
+  assigns_sound fs gs x e s aside sound =
+      let (before, last) = AllByRecursion-popped (IsSoundFrame objects reserved) fs (rest (assign x e s)) sound in
+      aside.sound objects reserved (AllByRecursion-push (IsSoundFrame objects reserved) fs (rest s) before last.2)
+
+  pub chooses_sound : (fs gs : List Frame) (t : Test) (b : Bool) (first other chosen s : Statements) → (chosen ≡ first) ⊎ (chosen ≡ other) → IsAside fs gs s
+      → AreSound objects reserved (fs ++ rest (choose t b first other s) ∷ []) → AreSound objects reserved (gs ++ rest chosen ∷ [])
+  chooses_sound fs gs t b first other chosen s which aside sound =
       let (before, last) = AllByRecursion-popped (IsSoundFrame objects reserved) fs (rest (choose t b first other s)) sound in
       let chosen_sound : IsSoundBody objects reserved chosen = ⊎_elim (λ (w : chosen ≡ first). subst (IsSoundBody objects reserved) (sym w) last.1) (λ (w : chosen ≡ other). subst (IsSoundBody objects reserved) (sym w) last.2) which in
-      AllByRecursion-push (IsSoundFrame objects reserved) (fs ++ rest s ∷ []) (rest chosen) (AllByRecursion-push (IsSoundFrame objects reserved) fs (rest s) before last.3) chosen_sound
+      AllByRecursion-push (IsSoundFrame objects reserved) gs (rest chosen) (aside.sound objects reserved (AllByRecursion-push (IsSoundFrame objects reserved) fs (rest s) before last.3)) chosen_sound
 
   pub turns_sound : (fs : List Frame) (n m : ℕ) (body : Statements) → AreSound objects reserved fs → IsSoundFrame objects reserved (turning n body) → AreSound objects reserved ((fs ++ turning m body ∷ []) ++ rest body ∷ [])
   turns_sound fs n m body before last =
       AllByRecursion-push (IsSoundFrame objects reserved) (fs ++ turning m body ∷ []) (rest body) (AllByRecursion-push (IsSoundFrame objects reserved) fs (turning m body) before last) last
+
+-- a list that was put aside: a frame more, or none where nothing is left
+pub pushed_aside : (fs gs : List Frame) (s : Statements) → gs ≡ fs ++ rest s ∷ [] → IsAside fs gs s
+pushed_aside fs gs s e = record {
+  ahead = rw e (ahead_of-push fs (rest s));
+  many = rw (e, length-append fs (rest s ∷ [])) (omega arith);
+  work = rw (e, work-push fs (rest s)) (omega arith);
+  load = λ h. rw e (load_left-push fs (rest s) h);
+  sound = λ objects reserved sound. rw e sound;
+}
+
+pub nothing_aside : (fs gs : List Frame) → gs ≡ fs → IsAside fs gs end
+nothing_aside fs gs e = record {
+  ahead = rw e refl;
+  many = rw e (omega arith);
+  work = rw e (omega arith);
+  load = λ h. rw e (omega arith);
+  sound = λ objects reserved sound. rw e (AllByRecursion-popped (IsSoundFrame objects reserved) fs (rest end) sound).0;
+}
+
+-- a list that was taken off: the rest of one, no more turn, one more turn
+pub opened_rest : (fs gs : List Frame) (s : Statements) → fs ≡ gs ++ rest s ∷ [] → Opens fs gs s
+opened_rest fs gs s e = record {
+  next = λ l. rw e refl;
+  work = rw e (omega arith);
+  load = λ h. rw e (omega arith);
+  sound = λ objects reserved sound. rw e at sound;
+}
+
+pub opened_none : (fs gs : List Frame) (body : Statements) → fs ≡ gs ++ turning 0 body ∷ [] → Opens fs gs end
+opened_none fs gs body e = record {
+  next = λ l. rw e (ap (λ (a : Ahead). a.next l) (ahead_of-push gs (turning 0 body)) ∙ sym (ap (λ (a : Ahead). a.next l) (ahead_of-push gs (rest end))));
+  work = rw (e, work-push gs (turning 0 body), work-push gs (rest end)) (omega arith);
+  load = λ h. rw (e, load_left-push gs (turning 0 body) h, load_left-push gs (rest end) h) (omega arith);
+  sound = λ objects reserved sound. AllByRecursion-push (IsSoundFrame objects reserved) gs (rest end) (popped_sound objects reserved fs gs (turning 0 body) (turning 0 body) e refl sound).0 tt;
+}
+
+pub opened_turn : (fs gs hs : List Frame) (n : ℕ) (body : Statements) → n ≢ 0 → fs ≡ gs ++ turning n body ∷ [] → hs ≡ gs ++ turning (n - 1) body ∷ [] → Opens fs hs body
+opened_turn fs gs hs zero body some e f = absurd (some refl)
+opened_turn fs gs hs (suc n) body some e f = record {
+  next = λ l. rw (e, f) (turns_again gs (suc n) body l some);
+  work = rw (e, f, sub-one, work-push (gs ++ turning n body ∷ []) (rest body), work-push gs (turning n body), work-push gs (turning (suc n) body)) (omega arith);
+  load = λ h. rw (e, f, sub-one, load_left-push (gs ++ turning n body ∷ []) (rest body) h, load_left-push gs (turning n body) h, load_left-push gs (turning (suc n) body) h) (omega arith);
+  sound = λ objects reserved sound.
+      let (before, last) = popped_sound objects reserved fs gs (turning (suc n) body) (turning (suc n) body) e refl sound in
+      rw (f, sub-one) (turns_sound objects reserved gs (suc n) n body before last);
+}
+
+-- one assignment more
+pub assigned_none : (s : Statements) (l : Locals) → Assigns s l s l
+assigned_none s l = record {
+  next = λ next leaves. refl;
+  above = refl;
+  work = omega arith;
+  load = λ h. refl;
+  sound = λ objects reserved sound. sound;
+}
+
+pub assigned_one : (s t u : Statements) (l m k : Locals) (x : ℕ) (e : Expr) → Assigns s l t m → t ≡ assign x e u → k ≡ slice_set m x (expr_value m e) → Assigns s l u k
+assigned_one s t u l m k x e before is sets = record {
+  next = λ next leaves. before.next next leaves ∙ ap (λ r. meaning r next leaves m) is ∙ ap (λ v. meaning u next leaves v) (sym sets);
+  above = sym (ap above is) ∙ before.above;
+  work = omega (arith, before.work, ap work_of is);
+  load = λ h. sym (ap (λ r. load_of r h) is) ∙ before.load h;
+  sound = λ objects reserved sound. (subst (IsSoundBody objects reserved) is (before.sound objects reserved sound)).2;
+}
+
+-- a list that was taken off, after its first assignments
+pub opened_assigned : (fs gs : List Frame) (s t : Statements) (l m : Locals) → Opens fs gs s → Assigns s l t m → next_of fs l ≡ next_of (gs ++ rest t ∷ []) m
+opened_assigned fs gs s t l m opens assigns =
+    opens.next l ∙ ap (λ (a : Ahead). a.next l) (ahead_of-push gs (rest s)) ∙ assigns.next (ahead_of gs).next (ahead_of gs).leaves
+    ∙ sym (ap (λ (a : Ahead). a.next m) (ahead_of-push gs (rest t)))
+
+pub nothing_left : (gs : List Frame) (s : Statements) (m : Locals) → s ≡ end → next_of (gs ++ rest s ∷ []) m ≡ next_of gs m
+nothing_left gs s m e = ap (λ t. next_of (gs ++ rest t ∷ []) m) e ∙ ap (λ (a : Ahead). a.next m) (ahead_of-push gs (rest end))
+
+pub assigned_work : (fs gs : List Frame) (s t : Statements) (l m : Locals) → Opens fs gs s → Assigns s l t m → work (gs ++ rest t ∷ []) ≤ work fs
+assigned_work fs gs s t l m opens assigns = omega (arith, opens.work, assigns.work, work-push gs (rest s), work-push gs (rest t))
+
+pub assigned_load : (fs gs : List Frame) (s t : Statements) (l m : Locals) (h : ℕ) → Opens fs gs s → Assigns s l t m → load_left (gs ++ rest t ∷ []) h ≤ load_left fs h
+assigned_load fs gs s t l m h opens assigns = omega (arith, opens.load h, assigns.load h, load_left-push gs (rest s) h, load_left-push gs (rest t) h)
+
+pub assigned_sound : (objects : List Declared) (reserved : List ℕ) (fs gs : List Frame) (s t : Statements) (l m : Locals) → Opens fs gs s → Assigns s l t m → AreSound objects reserved fs
+    → AreSound objects reserved (gs ++ rest t ∷ [])
+assigned_sound objects reserved fs gs s t l m opens assigns sound =
+    let (before, last) = AllByRecursion-popped (IsSoundFrame objects reserved) gs (rest s) (opens.sound objects reserved sound) in
+    AllByRecursion-push (IsSoundFrame objects reserved) gs (rest t) before (assigns.sound objects reserved last)
+
+-- a move of what is left is one of the frames before
+pub moves_from : (a : Option Ask) (fs gs hs : List Frame) (l k m : Locals) → next_of fs l ≡ next_of gs k → Moves a gs k hs m → Moves a fs l hs m
+moves_from None fs gs hs l k m e moves = e ∙ moves
+moves_from (Some (ask.Command c)) fs gs hs l k m e moves = e ∙ moves
+moves_from (Some (ask.Query x c)) fs gs hs l k m e moves = e ∙ moves
+moves_from (Some ask.End) fs gs hs l k m e moves = (e ∙ moves.0, moves.1)
+
+pub fewer : (a : Option Ask) (x y z : ℕ) → IfNone a (x < y) → y ≤ z → IfNone a (x < z)
+fewer None x y z less most = omega (arith, less, most)
+fewer (Some a) x y z less most = tt

@@ -5,6 +5,7 @@ pub mod Clients
 pub mod FrameViews
 pub mod Frames
 pub mod Growing
+pub mod Opening
 pub mod ReplyDelivery
 pub mod TraceMoves
 pub mod Queues

@@ -246,7 +246,7 @@ impl<'p> ClientState<'p> {
             Ask::Command(call) => {
                 let request = call.request(alloc, &self.locals);
                 let event = Event {
-                    request: request.copied(),
+                    request: call.request(alloc, &self.locals),
                     reply: None,
                 };
                 self.traces.note(self.entries.len() - 1, event);

@@ -1,10 +1,11 @@
 //! What is left of a block on its way, and a client's quiet moves.
 
-ghost use Rattle.std.specs.Prelude.{◌≡◌, ◌<◌, ◌≤◌, ℕ, ◌+◌, [], ◌∷◌, ◌++◌, length, List, IfNone, OnOk, MatchOption, slice_set, vec_capacity};
+ghost use Rattle.std.specs.Prelude.{◌≡◌, ◌<◌, ◌≤◌, ℕ, ◌+◌, [], ◌∷◌, ◌++◌, length, List, IfNone, IfSome, OnOk, MatchOption, slice_set, vec_capacity};
 ghost use Rattle.qs_program.specs.Values.{expr_value};
 ghost use Rattle.qs_program.specs.Views.{single, statements_of};
 ghost use Rattle.qs_plain_client.specs.Frames.{rest as the_rest, above, ahead_of, next_of, places_of, work, load_left};
 ghost use Rattle.qs_plain_client.specs.Growing.{Grows};
+ghost use Rattle.qs_plain_client.specs.Opening.{Assigns, IsAside, Opens};
 ghost use Rattle.qs_plain_client.specs.Asking.{Asks, Moves, asked_by, asked_of, AreSound, IsSoundAsk, IsSoundMove};
 ghost use Rattle.qs_program.specs.declared.program.Declared.{Declared};
 
@@ -128,18 +129,41 @@ impl<'p> Frames<'p> {
         ensures load { (h : ℕ) → asked_by result h + load_left self.new.frames h ≤ load_left self.old.frames h }
         ensures sound { (objects : List Declared) (reserved : List ℕ) → AreSound objects reserved self.old.frames → AreSound objects reserved self.new.frames × IsSoundMove objects reserved result }
     {
-        match self.pop() {
+        match self.open() {
             None => Some(Ask::End),
-            Some(Frame::Turning(0, _)) => None,
-            Some(Frame::Turning(left, body)) => {
-                self.push(Frame::Turning(left - 1, body));
-                self.enter(body);
-                None
-            }
-            Some(Frame::Rest(stmts)) => match stmts.split_first() {
+            Some(stmts) => match assign_all(stmts, locals).split_first() {
                 None => None,
                 Some((stmt, rest)) => self.begin(stmt, rest, locals),
             },
+        }
+    }
+
+    #[tactic(auto, using(crate::proofs::FrameMoves::pushed))]
+    /// Takes off the list that goes on: what was left of one, or the body of a repeat for one more turn, and none of it after the last.
+    fn open(&mut self) -> Option<&'p [Stmt]>
+        ensures cases { MatchOption result ((self.old.frames ≡ []) × (self.new ≡ self.old)) (λ stmts. Opens self.old.frames self.new.frames (statements_of stmts.now)) }
+        ensures room { self.new.room ≡ self.old.room }
+        ensures fits { IfSome result (λ stmts. length self.new.frames + places_of (the_rest (statements_of stmts.now)) ≤ self.new.room) }
+    {
+        match self.pop() {
+            None => None,
+            Some(Frame::Turning(0, _)) => Some(&[]),
+            Some(Frame::Turning(left, body)) => {
+                self.push(Frame::Turning(left - 1, body));
+                Some(body.as_slice())
+            }
+            Some(Frame::Rest(stmts)) => Some(stmts),
+        }
+    }
+
+    /// What is left of a list becomes a frame, unless nothing is left.
+    fn set_aside(&mut self, rest: &'p [Stmt])
+        requires { length self.old.frames + places_of (the_rest (statements_of rest.now)) ≤ self.old.room }
+        ensures aside { IsAside self.old.frames self.new.frames (statements_of rest.now) }
+        ensures room { self.new.room ≡ self.old.room }
+    {
+        if !rest.is_empty() {
+            self.push(Frame::Rest(rest));
         }
     }
 
@@ -154,7 +178,7 @@ impl<'p> Frames<'p> {
         ensures sound { (objects : List Declared) (reserved : List ℕ) → AreSound objects reserved (self.old.frames ++ the_rest (statements_of (stmt.now ∷ rest.now)) ∷ [])
             → AreSound objects reserved self.new.frames × IsSoundMove objects reserved result }
     {
-        self.push(Frame::Rest(rest));
+        self.set_aside(rest);
         match stmt {
             Stmt::Command(call) => Some(Ask::Command(call)),
             Stmt::Query(variable, call) => Some(Ask::Query(*variable, call)),
@@ -192,6 +216,18 @@ fn assign(locals: &mut Locals, variable: u8, expr: &Expr)
     if place < locals.len() {
         locals[place] = value;
     }
+}
+
+/// Does the assignments at the head of a list, and answers what is left of it.
+fn assign_all<'p>(stmts: &'p [Stmt], locals: &mut Locals) -> &'p [Stmt]
+    ensures assigned { Assigns (statements_of stmts.now) locals.old (statements_of result.now) locals.new }
+{
+    let mut rest = stmts;
+    'assignments: while let Some((Stmt::Assign(variable, expr), later)) = rest.split_first() {
+        assign(locals, *variable, expr);
+        rest = later;
+    }
+    rest
 }
 
 /// Walks through the statements once with the stack at its tallest, which takes the memory.

@@ -5,8 +5,9 @@ ghost use Rattle.qs_objects.specs.Parts.{same as same_ticket};
 ghost use Rattle.qs_played.specs.Played.{ticket as the_ticket};
 ghost use Rattle.qs_plain_laws.specs.Plain.{Private, put_item};
 ghost use Rattle.qs_plain_client.specs.Queues.{queue_state};
+ghost use Rattle.qs_plain_laws.specs.declared.item.QueueItem.TheVariants as items;
 
-use qs_objects::Ticket;
+use qs_objects::{Request, Ticket};
 use qs_plain_laws::QueueItem;
 use std::alloc::{AllocError, Global};
 use std::collections::VecDeque;
@@ -80,14 +81,26 @@ impl PrivateQueue {
         }
     }
 
-    /// Logs an item if the queue is the ticket's; the item itself goes into the queue.
-    pub fn put_own(&mut self, ticket: Ticket, item: QueueItem)
+    /// Logs a command if the queue is the ticket's; the request itself goes into the queue.
+    pub fn put_command(&mut self, ticket: Ticket, request: Request)
         requires { same_ticket ticket self.old.queue.ticket ≡ true → 0 < self.old.room }
-        ensures queue { self.new.queue ≡ put_item ticket item self.old.queue }
+        ensures queue { self.new.queue ≡ put_item ticket (items.Command request) self.old.queue }
         ensures room { self.new.room ≡ self.old.room - (if same_ticket ticket self.old.queue.ticket then 1 else 0) }
     {
         if self.is_of(ticket) {
-            self.items.push_back_reserved(item);
+            self.items.push_back_reserved(QueueItem::Command(request));
+            self.room -= 1;
+        }
+    }
+
+    /// Logs a query if the queue is the ticket's; the request itself goes into the queue.
+    pub fn put_query(&mut self, ticket: Ticket, request: Request)
+        requires { same_ticket ticket self.old.queue.ticket ≡ true → 0 < self.old.room }
+        ensures queue { self.new.queue ≡ put_item ticket (items.Query request) self.old.queue }
+        ensures room { self.new.room ≡ self.old.room - (if same_ticket ticket self.old.queue.ticket then 1 else 0) }
+    {
+        if self.is_of(ticket) {
+            self.items.push_back_reserved(QueueItem::Query(request));
             self.room -= 1;
         }
     }

@@ -1,6 +1,6 @@
 // Texts and numbers, put at the end of bytes.
 
-ghost use Rattle.std.specs.Prelude.{◌≡◌, ◌++◌, OnOk, decimal, flat_map};
+ghost use Rattle.std.specs.Prelude.{◌≡◌, ◌≤◌, ◌+◌, ◌++◌, OnOk, decimal, flat_map, length, vec_len, vec_capacity};
 ghost use Rattle.std.specs.Fmt.{signed_decimal};
 ghost use Rattle.qs_report.specs.Texts.{count_line};
 
@@ -29,8 +29,42 @@ pub fn put_all(out: &mut Vec<u8>, texts: &[&[u8]]) -> Result<(), AllocError>
 pub fn put_number(out: &mut Vec<u8>, number: i64) -> Result<(), AllocError>
     ensures ok { OnOk result (out.new.items ≡ out.old.items ++ signed_decimal number) }
 {
+    if 0 <= number && number < 10 && out.len() < out.capacity() {
+        out.push_reserved(b'0' + number as u8);
+        Ok(())
+    } else {
+        put_digits(out, number)
+    }
+}
+
+// Puts a number at the end, mostly one of several digits.
+pub(crate) fn put_digits(out: &mut Vec<u8>, number: i64) -> Result<(), AllocError>
+    ensures ok { OnOk result (out.new.items ≡ out.old.items ++ signed_decimal number) }
+{
     let mut buffer = Buffer::new();
     put(out, buffer.format(number).as_bytes())
+}
+
+// Puts a text at the end, mostly one of a few bytes, for which a call that copies takes longer than to push them.
+pub(crate) fn put_short(out: &mut Vec<u8>, text: &[u8]) -> Result<(), AllocError>
+    ensures ok { OnOk result (out.new.items ≡ out.old.items ++ text.now) }
+{
+    if text.len() < 5 && out.capacity() - out.len() >= text.len() {
+        push_all(out, text);
+        Ok(())
+    } else {
+        put(out, text)
+    }
+}
+
+// Pushes bytes for which there is room.
+fn push_all(out: &mut Vec<u8>, text: &[u8])
+    requires { vec_len out.old + length text.now ≤ vec_capacity out.old }
+    ensures pushed { out.new.items ≡ out.old.items ++ text.now }
+{
+    for byte in text {
+        out.push_reserved(*byte);
+    }
 }
 
 // Puts a line at the end: a word, a space and a count.

@@ -7,7 +7,7 @@ ghost use Rattle.qs_objects.specs.Objects.{kind_of, values_of};
 ghost use Rattle.qs_report.specs.Report.{values_text, content_text, state_line, object_text, states_text};
 ghost use Rattle.qs_report.specs.Texts.{spaced_value};
 
-use crate::bytes::{put, put_number};
+use crate::bytes::{put, put_digits, put_number};
 use crate::names::object_name;
 use qs_objects::{Kind, Object};
 use qs_played::Played;
@@ -49,7 +49,7 @@ fn put_size(out: &mut Vec<u8>, word: &[u8], size: i64) -> Result<(), AllocError>
     ensures ok { OnOk result (out.new.items ≡ out.old.items ++ (word.now ++ signed_decimal size)) }
 {
     put(out, word)?;
-    put_number(out, size)
+    put_digits(out, size)
 }
 
 // The kind with its numbers, and the values where there are some.

@@ -5,7 +5,7 @@ ghost use Rattle.std.specs.Fmt.{signed_decimal};
 ghost use Rattle.qs_sync_counts.specs.SyncRows.{sync_count};
 ghost use Rattle.qs_report.specs.Report.{op_text, args_text, request_text, reply_text, event_line, ended_text, ticket_line, ticket_text, sync_line, sync_lines, shown_ticket, order_text};
 
-use crate::bytes::{put, put_all, put_count, put_number};
+use crate::bytes::{put, put_all, put_count, put_number, put_short};
 use crate::names::{client_name, object_name};
 use itoa::Buffer;
 use qs_objects::{Event, Op, Request, Ticket};
@@ -33,6 +33,28 @@ pub fn opening(op: Op) -> &'static [u8]
         Op::Fill => b".fill(",
         Op::GetCell => b".get(",
         Op::RowSum => b".row(",
+    }
+}
+
+// The same, put at the end: each text by itself, so that its length is known where it is copied.
+fn put_opening(out: &mut Vec<u8>, op: Op) -> Result<(), AllocError>
+    ensures ok { OnOk result (out.new.items ≡ out.old.items ++ codes "." ++ op_text op ++ codes "(") }
+{
+    match op {
+        Op::Deposit => put(out, b".deposit("),
+        Op::Withdraw => put(out, b".withdraw("),
+        Op::Balance => put(out, b".balance("),
+        Op::Refused => put(out, b".refused("),
+        Op::Put => put(out, b".put("),
+        Op::DropFirst => put(out, b".drop("),
+        Op::TakeFirst => put(out, b".take("),
+        Op::First => put(out, b".front("),
+        Op::Size => put(out, b".size("),
+        Op::SetCell => put(out, b".set("),
+        Op::AddCell => put(out, b".add("),
+        Op::Fill => put(out, b".fill("),
+        Op::GetCell => put(out, b".get("),
+        Op::RowSum => put(out, b".row("),
     }
 }
 
@@ -65,8 +87,8 @@ pub(crate) fn put_args(out: &mut Vec<u8>, args: &[i64]) -> Result<(), AllocError
 fn put_request(out: &mut Vec<u8>, program: &Program, request: &Request) -> Result<(), AllocError>
     ensures ok { OnOk result (out.new.items ++ codes ")" ≡ out.old.items ++ request_text program.now request.now) }
 {
-    put(out, object_name(program, usize::from(request.object)))?;
-    put(out, opening(request.op))?;
+    put_short(out, object_name(program, usize::from(request.object)))?;
+    put_opening(out, request.op)?;
     put_args(out, request.args.as_slice())
 }
 

@@ -47,9 +47,9 @@ known c =
       now = ap (λ n. ticket c.args.number (n - 1)) (c.begun.ensures.value ∙ ap (λ (d : ClientState). length d.entries) here);
     }
 
-pub log_once-requires : goal.log_once-requires
-log_once-requires c =
-    let k = known (goal.at.log_once-requires c).After-begun in
+pub log_command-requires : goal.log_command-requires
+log_command-requires c =
+    let k = known (goal.at.log_command-requires c).After-begun in
     let request = c.in-Command.request in
     let member = subst (λ d. is_in (current_block d).reserved request.object ≡ true) k.here c.in-Command.ensures.reserves in
     subst (λ t. CanLog t c.self.inside.handlers.items request.object) (sym k.now) (can_log _ k.kept k.sound c.args.number k.less k.isc k.stays request.object member)
@@ -63,15 +63,15 @@ invariant_of-self c =
     let goes = subst (λ d. AsksNext (asked.Command request) d new) k.here c.in-Command.ensures.goes in
     let member = subst (λ d. is_in (current_block d).reserved request.object ≡ true) k.here c.in-Command.ensures.reserves in
     let load = subst (λ (d : ClientState). (k : ℕ) → (if request.object == k then 1 else 0) + load_left new.frames k ≤ load_left d.frames k) k.here c.in-Command.ensures.load in
-    let same = c.log_once.ensures.logged ∙ ap (λ t. logged_at t (item.Command request) c.self.inside.handlers.items request.object) k.now in (
-      made_kept r c.self.inside.order.items c.args.number c.from.result new _ c.log_once.new.handlers.items c.from.ensures same
+    let same = c.log_command.ensures.logged ∙ ap (λ t. logged_at t (item.Command request) c.self.inside.handlers.items request.object) k.now in (
+      made_kept r c.self.inside.order.items c.args.number c.from.result new _ c.log_command.new.handlers.items c.from.ensures same
           (asked_kept r k.kept k.sound c.args.number k.less k.isc k.stays stage.Within new.locals new.frames _ _ new goes.1 request.object member (item.Command request) load),
       omega (arith, c.self.invariant.1, moved_to_come r k.kept k.sound c.args.number k.less k.isc k.stays stage.Within new.locals new.frames _ _ new goes.1, ap (λ n. to_come (set c.self.inside.clients.items n new)) c.from.ensures),
     )
 
-pub log_once-requires-in-Query : goal.log_once-requires-in-Query
-log_once-requires-in-Query c =
-    let k = known (goal.at.log_once-requires-in-Query c).After-begun in
+pub log_query-requires : goal.log_query-requires
+log_query-requires c =
+    let k = known (goal.at.log_query-requires c).After-begun in
     let request = c.in-Query.request in
     let member = subst (λ d. is_in (current_block d).reserved request.object ≡ true) k.here c.in-Query.ensures.reserves in
     subst (λ t. CanLog t c.self.inside.handlers.items request.object) (sym k.now) (can_log _ k.kept k.sound c.args.number k.less k.isc k.stays request.object member)
@@ -85,8 +85,8 @@ invariant_of-self-in-Query c =
     let goes = subst (λ d. AsksNext (asked.Query request) d new) k.here c.in-Query.ensures.goes in
     let member = subst (λ d. is_in (current_block d).reserved request.object ≡ true) k.here c.in-Query.ensures.reserves in
     let load = subst (λ (d : ClientState). (k : ℕ) → (if request.object == k then 1 else 0) + load_left new.frames k ≤ load_left d.frames k) k.here c.in-Query.ensures.load in
-    let same = c.log_once-in-Query.ensures.logged ∙ ap (λ t. logged_at t (item.Query request) c.self.inside.handlers.items request.object) k.now in (
-      made_kept r c.self.inside.order.items c.args.number c.from.result new _ c.log_once-in-Query.new.handlers.items c.from.ensures same
+    let same = c.log_query.ensures.logged ∙ ap (λ t. logged_at t (item.Query request) c.self.inside.handlers.items request.object) k.now in (
+      made_kept r c.self.inside.order.items c.args.number c.from.result new _ c.log_query.new.handlers.items c.from.ensures same
           (asked_kept r k.kept k.sound c.args.number k.less k.isc k.stays (stage.Waiting goes.0) new.locals new.frames _ _ new goes.2 request.object member (item.Query request) load),
       omega (arith, c.self.invariant.1, moved_to_come r k.kept k.sound c.args.number k.less k.isc k.stays (stage.Waiting goes.0) new.locals new.frames _ _ new goes.2, ap (λ n. to_come (set c.self.inside.clients.items n new)) c.from.ensures),
     )
@@ -116,10 +116,10 @@ returns-in-Command c =
     let request = c.in-Command.request in
     let new = c.ask.new.self in
     let goes = subst (λ d. AsksNext (asked.Command request) d new) k.here c.in-Command.ensures.goes in
-    let same = c.log_once.ensures.logged ∙ ap (λ t. logged_at t (item.Command request) c.self.inside.handlers.items request.object) k.now in
+    let same = c.log_command.ensures.logged ∙ ap (λ t. logged_at t (item.Command request) c.self.inside.handlers.items request.object) k.now in
     record {
       steps = (
-        made_steps r _ (actor.Client c.args.number) _ _ c.args.number c.from.result new _ c.log_once.new.handlers.items c.self.view_is c.from.ensures same refl (command_steps r k.kept k.sound c.args.number k.less k.isc k.stays request new.locals new.frames new goes.0 goes.1),
+        made_steps r _ (actor.Client c.args.number) _ _ c.args.number c.from.result new _ c.log_command.new.handlers.items c.self.view_is c.from.ensures same refl (command_steps r k.kept k.sound c.args.number k.less k.isc k.stays request new.locals new.frames new goes.0 goes.1),
         ap (λ (x : RulesState). x.program) c.self.view_is,
       );
     }
@@ -131,10 +131,10 @@ returns-in-Query c =
     let request = c.in-Query.request in
     let new = c.ask.new.self in
     let goes = subst (λ d. AsksNext (asked.Query request) d new) k.here c.in-Query.ensures.goes in
-    let same = c.log_once-in-Query.ensures.logged ∙ ap (λ t. logged_at t (item.Query request) c.self.inside.handlers.items request.object) k.now in
+    let same = c.log_query.ensures.logged ∙ ap (λ t. logged_at t (item.Query request) c.self.inside.handlers.items request.object) k.now in
     record {
       steps = (
-        made_steps r _ (actor.Client c.args.number) _ _ c.args.number c.from.result new _ c.log_once-in-Query.new.handlers.items c.self.view_is c.from.ensures same refl (query_steps r k.kept k.sound c.args.number k.less k.isc k.stays request goes.0 new.locals new.frames new goes.1 goes.2),
+        made_steps r _ (actor.Client c.args.number) _ _ c.args.number c.from.result new _ c.log_query.new.handlers.items c.self.view_is c.from.ensures same refl (query_steps r k.kept k.sound c.args.number k.less k.isc k.stays request goes.0 new.locals new.frames new goes.1 goes.2),
         ap (λ (x : RulesState). x.program) c.self.view_is,
       );
     }

@@ -56,7 +56,7 @@ invariant_of-self c =
     let some = within.some in
     let (sound, call) = c.in-Command.ensures.sound _ _ within.sound in
     let same : c.len.result ≡ n = c.len.ensures ∙ s.entries.ok.0 in
-    let e : Event = record { request = c.copied.result; reply = None } in
+    let e : Event = record { request = c.request.result; reply = None } in
     let noted : c.note.new.self ≡ noted_at s.traces (n - 1) e = c.note.ensures.noted ∙ ap (λ m. noted_at s.traces (m - 1) e) same in
     let room = can_note kept c.settle.new.self.frames c.in-Command.call.now.object stands call.reserves c.in-Command.ensures.load in
     let last : 0 < (trace_at s.traces (n - 1)).room = subst (λ (t : TraceState). 0 < t.room) (last_begun n s.traces some (omega (arith, all))) room in (
@@ -144,7 +144,7 @@ returns-in-Command-clause-goes c =
     let same : c.len.result ≡ n = c.len.ensures ∙ s.entries.ok.0 in
     let r = c.request-request.result in
     let e : Event = event r None in
-    let noted : c.note.new.self ≡ noted_at s.traces (n - 1) e = c.note.ensures.noted ∙ (λ i. noted_at s.traces (same i - 1) (event (c.copied.ensures.same i) None)) in
+    let noted : c.note.new.self ≡ noted_at s.traces (n - 1) e = c.note.ensures.noted ∙ (λ i. noted_at s.traces (same i - 1) (event ((c.request.ensures.value ∙ sym c.request-request.ensures.value) i) None)) in
     let old = client_from s.program.now s.number s.stage s.locals s.frames.frames s.frames.room s.entries.items s.traces s.counts.rows s.prepared.items in
     let new = client_from s.program.now s.number s.stage c.settle.new.locals c.settle.new.self.frames c.settle.new.self.room s.entries.items c.note.new.self s.counts.rows s.prepared.items in
     let moves = moved_noted s.program.now s.number s.stage s.locals s.frames.frames s.frames.room s.entries.items s.traces s.counts.rows s.prepared.items c.self.invariant.1 within.some s.stage
