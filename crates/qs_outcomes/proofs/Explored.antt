@@ -16,7 +16,7 @@ use Rattle.qs_outcomes.specs.Outcomes.{AreAllOutcomesAfter, AreApart, AreDiffere
 use Rattle.qs_outcomes.specs.LeastOrders.{IsLeastThere}
 use Rattle.qs_outcomes.specs.Lists.{HasOne, NoTwo}
 use Rattle.qs_outcomes.specs.Search.{IsExplored, IsFound, IsReached, IsSeen, NoneNext}
-use Rattle.qs_outcomes.specs.Standings.{GoesOn, IsFirst, IsNext, IsStanding, StandingShape, configuration_in, row_of}
+use Rattle.qs_outcomes.specs.Standings.{GoesOn, IsFirst, IsNext, IsStanding, RowShape, StandingShape, configuration_in, row_of}
 use Rattle.qs_outcomes.proofs.Lists.{has_map, has_some, none_of, same_list, two_snoc}
 use Rattle.qs_outcomes.proofs.RowTells.{pick, row_tells, same_configurations, same_row}
 
@@ -28,7 +28,7 @@ all_begun p front s is none c =
     let over : get_or s.begun c 0 < blocks_of p c → ⊥ = none c in
     omega (arith, same, within, over)
 
-listed : (p : ProgramShape) (front : List Ticket) (rows : List (List ℤ)) (s : StandingShape) → IsFound p front rows s → IsListedAfter p front s
+listed : (p : ProgramShape) (front : List Ticket) (rows : List RowShape) (s : StandingShape) → IsFound p front rows s → IsListedAfter p front s
 listed p front rows s found = record {
   complete = (complete_orders_leave_none p s.order found.standing.legal).1
       (λ c. sym (ap (λ (g : Configuration). g.begun c) found.standing.stands) ∙ all_begun p front s found.standing found.over c);
@@ -37,7 +37,7 @@ listed p front rows s found = record {
   places = record { locals = found.standing.locals; states = found.standing.states };
 }
 
-found_apart : (p : ProgramShape) (front : List Ticket) (rows : List (List ℤ)) (s t : StandingShape) → IsFound p front rows s → IsFound p front rows t → outcome_at s ≡ outcome_at t → row_of p s ≡ row_of p t
+found_apart : (p : ProgramShape) (front : List Ticket) (rows : List RowShape) (s t : StandingShape) → IsFound p front rows s → IsFound p front rows t → outcome_at s ≡ outcome_at t → row_of p s ≡ row_of p t
 found_apart p front rows s t a b e =
     same_row p s t
     (same_list 0 s.begun t.begun (a.standing.begun ∙ sym b.standing.begun) (λ i. all_begun p front s a.standing a.over i ∙ sym (all_begun p front t b.standing b.over i)))
@@ -53,11 +53,11 @@ two_map : {X : Type 0} {Q : X → Type 0} (R S : X → X → Type 0) → ((x y :
 two_map R S f [] each h = tt
 two_map R S f (x ∷ xs) each h = (all_but R S f x each.0 xs each.1 h.0, two_map R S f xs each.1 h.1)
 
-seen_one : (p : ProgramShape) (Q : StandingShape → Type 0) (rows : List (List ℤ)) → IsReached p Q rows [] → (n : StandingShape) × Q n × HasOne (λ r. row_of p n ≡ r) rows
+seen_one : (p : ProgramShape) (Q : StandingShape → Type 0) (rows : List RowShape) → IsReached p Q rows [] → (n : StandingShape) × Q n × HasOne (λ r. row_of p n ≡ r) rows
 seen_one p Q rows (inl h) = absurd h
 seen_one p Q rows (inr h) = pick p Q rows h
 
-module _ (p : ProgramShape) (front : List Ticket) (sound : IsSound p) (rows : List (List ℤ)) (found : List StandingShape) (explored : IsExplored p front rows [] found) where
+module _ (p : ProgramShape) (front : List Ticket) (sound : IsSound p) (rows : List RowShape) (found : List StandingShape) (explored : IsExplored p front rows [] found) where
   -- where the next block of one who goes on leads from a configuration that was seen
   next_seen : (s : StandingShape) (c : ℕ) → IsStanding p front s → HasOne (λ r. row_of p s ≡ r) rows → GoesOn p s c
       → (n : StandingShape) × (IsStanding p front n × (configuration_in n ≡ one_block_on p c (configuration_in s))) × HasOne (λ r. row_of p n ≡ r) rows
@@ -119,50 +119,50 @@ module _ (p : ProgramShape) (front : List Ticket) (sound : IsSound p) (rows : Li
   all_apart = two_map (λ x y. row_of p x ≡ row_of p y) (λ x y. outcome_at x ≡ outcome_at y) (found_apart p front rows) found explored.found explored.apart
 
 -- the configurations that were seen, one for each row
-module _ (p : ProgramShape) (front : List Ticket) (sound : IsSound p) (Kept : List ℤ → StandingShape → Type 0) (standing : (r : List ℤ) (s : StandingShape) → Kept r s → IsStanding p front s) (row : (r : List ℤ) (s : StandingShape) → Kept r s → row_of p s ≡ r) where
-  abbrev pub AllKept : List (List ℤ) → Type 0
+module _ (p : ProgramShape) (front : List Ticket) (sound : IsSound p) (Kept : RowShape → StandingShape → Type 0) (standing : (r : RowShape) (s : StandingShape) → Kept r s → IsStanding p front s) (row : (r : RowShape) (s : StandingShape) → Kept r s → row_of p s ≡ r) where
+  abbrev pub AllKept : List RowShape → Type 0
   AllKept rows = AllByRecursion (λ r. (s : StandingShape) × Kept r s) rows
 
-  pub picked : (rows : List (List ℤ)) → AllKept rows → List StandingShape
+  pub picked : (rows : List RowShape) → AllKept rows → List StandingShape
   picked [] h = []
   picked (r ∷ rows) h = h.0.0 ∷ picked rows h.1
 
-  picked_long : (rows : List (List ℤ)) (h : AllKept rows) → length (picked rows h) ≡ length rows
+  picked_long : (rows : List RowShape) (h : AllKept rows) → length (picked rows h) ≡ length rows
   unfolding picked
   picked_long [] h = refl
   picked_long (r ∷ rows) h = ap suc (picked_long rows h.1)
 
-  picked_standing : (rows : List (List ℤ)) (h : AllKept rows) → AllByRecursion (IsStanding p front) (picked rows h)
+  picked_standing : (rows : List RowShape) (h : AllKept rows) → AllByRecursion (IsStanding p front) (picked rows h)
   unfolding picked
   picked_standing [] h = tt
   picked_standing (r ∷ rows) h = (standing r h.0.0 h.0.1, picked_standing rows h.1)
 
-  picked_other : (s : StandingShape) → IsStanding p front s → (rows : List (List ℤ)) (h : AllKept rows) → AllByRecursion (λ r. row_of p s ≡ r → ⊥) rows
+  picked_other : (s : StandingShape) → IsStanding p front s → (rows : List RowShape) (h : AllKept rows) → AllByRecursion (λ r. row_of p s ≡ r → ⊥) rows
       → AllByRecursion (λ t. configuration_in s ≡ configuration_in t → ⊥) (picked rows h)
   unfolding picked
   picked_other s is [] h other = tt
   picked_other s is (r ∷ rows) h other =
       (λ same. other.0 (same_configurations p front s h.0.0 is (standing r h.0.0 h.0.1) same ∙ row r h.0.0 h.0.1), picked_other s is rows h.1 other.1)
 
-  picked_apart : (rows : List (List ℤ)) (h : AllKept rows) → NoTwo ◌≡◌ rows → NoTwo (λ s t. configuration_in s ≡ configuration_in t) (picked rows h)
+  picked_apart : (rows : List RowShape) (h : AllKept rows) → NoTwo ◌≡◌ rows → NoTwo (λ s t. configuration_in s ≡ configuration_in t) (picked rows h)
   unfolding picked
   picked_apart [] h once = tt
   picked_apart (r ∷ rows) h once =
       (picked_other h.0.0 (standing r h.0.0 h.0.1) rows h.1 (each_map {Q = λ q. row_of p h.0.0 ≡ q → ⊥} (λ q (other : r ≡ q → ⊥) e. other (sym (row r h.0.0 h.0.1) ∙ e)) rows once.0), picked_apart rows h.1 once.1)
 
-  picked_has : (w : StandingShape) → IsStanding p front w → (rows : List (List ℤ)) (h : AllKept rows) → HasOne (λ r. row_of p w ≡ r) rows → HasOne (λ s. configuration_in s ≡ configuration_in w) (picked rows h)
+  picked_has : (w : StandingShape) → IsStanding p front w → (rows : List RowShape) (h : AllKept rows) → HasOne (λ r. row_of p w ≡ r) rows → HasOne (λ s. configuration_in s ≡ configuration_in w) (picked rows h)
   unfolding picked
   picked_has w is [] h seen = absurd seen
   picked_has w is (r ∷ rows) h (inl e) = inl (row_tells p front sound h.0.0 w (standing r h.0.0 h.0.1) is (row r h.0.0 h.0.1 ∙ sym e))
   picked_has w is (r ∷ rows) h (inr later) = inr (picked_has w is rows h.1 later)
 
-  pub different : (rows : List (List ℤ)) (h : AllKept rows) → NoTwo ◌≡◌ rows → AreDifferent p front (picked rows h) (length rows)
+  pub different : (rows : List RowShape) (h : AllKept rows) → NoTwo ◌≡◌ rows → AreDifferent p front (picked rows h) (length rows)
   different rows h once = record { count = picked_long rows h; reached = picked_standing rows h; different = picked_apart rows h once }
 
   turned : (s : StandingShape) (ts : List StandingShape) → AllByRecursion (λ t. configuration_in s ≡ configuration_in t → ⊥) ts → AllByRecursion (λ t. configuration_in t ≡ configuration_in s → ⊥) ts
   turned s ts h = each_map {Q = λ t. configuration_in t ≡ configuration_in s → ⊥} (λ t (other : configuration_in s ≡ configuration_in t → ⊥) e. other (sym e)) ts h
 
-  pub one_more : (rows : List (List ℤ)) (h : AllKept rows) → NoTwo ◌≡◌ rows → (s : StandingShape) → IsStanding p front s → (HasOne (λ r. row_of p s ≡ r) rows → ⊥)
+  pub one_more : (rows : List RowShape) (h : AllKept rows) → NoTwo ◌≡◌ rows → (s : StandingShape) → IsStanding p front s → (HasOne (λ r. row_of p s ≡ r) rows → ⊥)
       → AreDifferent p front (picked rows h ++ s ∷ []) (suc (length rows))
   one_more rows h once s is new = record {
     count = (let long = picked_long rows h in omega (arith, long, length-append (picked rows h) (s ∷ [])));
@@ -171,7 +171,7 @@ module _ (p : ProgramShape) (front : List Ticket) (sound : IsSound p) (Kept : Li
         (turned s (picked rows h) (picked_other s is rows h (none_of (λ r. row_of p s ≡ r) rows new)));
   }
 
-pub has_configurations : (p : ProgramShape) (front : List Ticket) → IsSound p → (rows : List (List ℤ)) (found : List StandingShape) → IsExplored p front rows [] found → HasConfigurationsAfter p front (length rows)
+pub has_configurations : (p : ProgramShape) (front : List Ticket) → IsSound p → (rows : List RowShape) (found : List StandingShape) → IsExplored p front rows [] found → HasConfigurationsAfter p front (length rows)
 has_configurations p front sound rows found explored = (
   picked p front sound (IsSeen p front rows [] found) (λ r s w. w.standing) (λ r s w. w.row) rows explored.seen,
   different p front sound (IsSeen p front rows [] found) (λ r s w. w.standing) (λ r s w. w.row) rows explored.seen explored.once,
@@ -182,7 +182,7 @@ has_configurations p front sound rows found explored = (
       (picked_has p front sound (IsSeen p front rows [] found) (λ r s w. w.standing) (λ r s w. w.row) last.0 last.1.0 rows explored.seen last.2)),
 )
 
-pub has_more_than : (p : ProgramShape) (front : List Ticket) → IsSound p → (limit : ℕ) (rows : List (List ℤ)) (stack found : List StandingShape) (s : StandingShape) → IsExplored p front rows stack found
+pub has_more_than : (p : ProgramShape) (front : List Ticket) → IsSound p → (limit : ℕ) (rows : List RowShape) (stack found : List StandingShape) (s : StandingShape) → IsExplored p front rows stack found
     → IsStanding p front s → length rows ≡ limit → (HasOne (λ r. row_of p s ≡ r) rows → ⊥) → HasMoreThanAfter p front limit
 has_more_than p front sound limit rows stack found s explored is full new = (
   picked p front sound (IsSeen p front rows stack found) (λ r s w. w.standing) (λ r s w. w.row) rows explored.seen ++ s ∷ [],

@@ -10,7 +10,7 @@ use Rattle.qs_meaning.proofs.Each.{each_back, each_front, each_join, each_map, e
 use Rattle.qs_outcomes.specs.LeastOrders.{IsBefore, IsLeastFirst}
 use Rattle.qs_outcomes.specs.Lists.{HasOne, NoTwo}
 use Rattle.qs_outcomes.specs.Search.{AreNextFrom, IsExplored, IsFound, IsLonger, IsNoted, IsPushed, IsReached, IsSeen, NoneNext, WasSeen, work_left}
-use Rattle.qs_outcomes.specs.Standings.{GoesOn, HasNext, IsFirst, IsNext, IsStanding, StandingShape, configuration_in, row_of}
+use Rattle.qs_outcomes.specs.Standings.{GoesOn, HasNext, IsFirst, IsNext, IsStanding, RowShape, StandingShape, configuration_in, row_of}
 use Rattle.qs_outcomes.proofs.Before.{fork}
 use Rattle.qs_outcomes.proofs.LeastFirst.{first_ends, first_pushes, first_skips}
 use Rattle.qs_outcomes.proofs.Lists.{has_back, has_either, has_front, has_map, has_only, none_of, pairs_join, two_snoc}
@@ -24,8 +24,8 @@ here_or_above c d h =
     (below_or_past c d)
 
 -- whatever was reached stays so, where the last of the stack was seen
-reached_on : (p : ProgramShape) (Q : StandingShape → Type 0) (rows later : List (List ℤ)) (stack now : List StandingShape) (s : StandingShape)
-    → HasOne (λ r. row_of p s ≡ r) later → ((P : List ℤ → Type 0) → HasOne P rows → HasOne P later) → ((P : StandingShape → Type 0) → HasOne P stack → HasOne P now)
+reached_on : (p : ProgramShape) (Q : StandingShape → Type 0) (rows later : List RowShape) (stack now : List StandingShape) (s : StandingShape)
+    → HasOne (λ r. row_of p s ≡ r) later → ((P : RowShape → Type 0) → HasOne P rows → HasOne P later) → ((P : StandingShape → Type 0) → HasOne P stack → HasOne P now)
     → IsReached p Q rows (stack ++ s ∷ []) → IsReached p Q later now
 reached_on p Q rows later stack now s seen more on (inl h) =
     ⊎_elim
@@ -34,7 +34,7 @@ reached_on p Q rows later stack now s seen more on (inl h) =
     (has_either Q stack (s ∷ []) h)
 reached_on p Q rows later stack now s seen more on (inr h) = inr (more _ h)
 
-module _ (p : ProgramShape) (front : List Ticket) (sound : IsSound p) (rows : List (List ℤ)) (stack found : List StandingShape) (s : StandingShape) (explored : IsExplored p front rows (stack ++ s ∷ []) found) where
+module _ (p : ProgramShape) (front : List Ticket) (sound : IsSound p) (rows : List RowShape) (stack found : List StandingShape) (s : StandingShape) (explored : IsExplored p front rows (stack ++ s ∷ []) found) where
   pub taken : IsStanding p front s
   taken = (each_back (IsStanding p front) stack (s ∷ []) explored.stack).0
 
@@ -125,7 +125,7 @@ module _ (p : ProgramShape) (front : List Ticket) (sound : IsSound p) (rows : Li
       (first_ends p front sound rows stack found s taken explored.least new next)
 
 -- one more pushed: those of one more client
-pub pushed_on : (p : ProgramShape) (front : List Ticket) (rows : List (List ℤ)) (s : StandingShape) (c : ℕ) (before middle after : List StandingShape) → c < length p.clients
+pub pushed_on : (p : ProgramShape) (front : List Ticket) (rows : List RowShape) (s : StandingShape) (c : ℕ) (before middle after : List StandingShape) → c < length p.clients
     → IsLonger p front rows s (suc c) before middle → IsPushed p front rows s c middle after → IsLonger p front rows s c before after
 pushed_on p front rows s c before middle after client (added, is, next) (inl (n, on, now)) = (
   added ++ n ∷ [],
@@ -172,7 +172,7 @@ pushed_on p front rows s c before middle after client (added, is, next) (inr (wh
     seen_or_not (inl seen) goes = inr seen
     seen_or_not (inr not) goes = absurd (not goes)
 
-pub none_pushed : (p : ProgramShape) (front : List Ticket) (rows : List (List ℤ)) (s : StandingShape) (before : List StandingShape)
+pub none_pushed : (p : ProgramShape) (front : List Ticket) (rows : List RowShape) (s : StandingShape) (before : List StandingShape)
     → IsLonger p front rows s (length p.clients) before before
 none_pushed p front rows s before = (
   [],
@@ -186,7 +186,7 @@ none_pushed p front rows s before = (
 )
 
 -- where no block is left nobody goes on
-pub none_next : (p : ProgramShape) (front : List Ticket) (rows : List (List ℤ)) (s : StandingShape) → NoneNext p s → AreNextFrom p front rows s 0 []
+pub none_next : (p : ProgramShape) (front : List Ticket) (rows : List RowShape) (s : StandingShape) → NoneNext p s → AreNextFrom p front rows s 0 []
 none_next p front rows s none = record {
   next = tt;
   sorted = tt;
@@ -199,7 +199,7 @@ pub nobody_left : (p : ProgramShape) (s : StandingShape) (n : ℕ) → length p.
 nobody_left p s n all none c left = none c (let less = in_program p s c left in omega (arith, less, all)) left
 
 -- a standing that was taken up, by what was noted of it and what was added
-module _ (p : ProgramShape) (front : List Ticket) (sound : IsSound p) (limit : ℕ) (rows later : List (List ℤ)) (stack now found : List StandingShape) (s : StandingShape) (explored : IsExplored p front rows (stack ++ s ∷ []) found) (new : Bool)
+module _ (p : ProgramShape) (front : List Ticket) (sound : IsSound p) (limit : ℕ) (rows later : List RowShape) (stack now found : List StandingShape) (s : StandingShape) (explored : IsExplored p front rows (stack ++ s ∷ []) found) (new : Bool)
     (noted : IsNoted rows (row_of p s) limit new later) where
   pub skipped : new ≡ false → IsExplored p front later stack found
   skipped old =

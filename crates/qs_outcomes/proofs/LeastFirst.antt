@@ -15,7 +15,7 @@ use Rattle.qs_meaning.proofs.Orders.{configuration-append, legal-join, legal-res
 use Rattle.qs_outcomes.specs.LeastOrders.{IsAheadOf, IsBefore, IsLeastFirst, IsLeastThere, IsLongerBy, IsNotedAhead, IsSeenAfter}
 use Rattle.qs_outcomes.specs.Lists.{HasOne}
 use Rattle.qs_outcomes.specs.Search.{AreNextFrom}
-use Rattle.qs_outcomes.specs.Standings.{GoesOn, IsNext, IsReducedAfter, IsStanding, StandingShape, configuration_in, row_of}
+use Rattle.qs_outcomes.specs.Standings.{GoesOn, IsNext, IsReducedAfter, IsStanding, RowShape, StandingShape, configuration_in, row_of}
 use Rattle.qs_outcomes.proofs.Before.{before_both, before_longer, before_onward, never_back, not_before, reduced_back, reduced_onward}
 use Rattle.qs_outcomes.proofs.Lists.{has_back, has_either, has_front, has_map, has_only, has_some, pairs_front, pairs_join, pairs_last}
 use Rattle.qs_outcomes.proofs.RowTells.{pick, row_tells, same_configurations}
@@ -24,10 +24,10 @@ use Rattle.qs_outcomes.proofs.Stands.{configuration-snoc, goes_left, in_program}
 abbrev GoesThrough : List Ticket → StandingShape → Type 0
 GoesThrough order s = (rest : List Ticket) × IsLongerBy s.order rest order
 
-abbrev LeadsToSeen : ProgramShape → List Ticket → List (List ℤ) → List Ticket → Type 0
+abbrev LeadsToSeen : ProgramShape → List Ticket → List RowShape → List Ticket → Type 0
 LeadsToSeen p front rows order = (s : StandingShape) × IsSeenAfter p front rows order s
 
-module _ (p : ProgramShape) (front : List Ticket) (sound : IsSound p) (rows : List (List ℤ)) (stack found : List StandingShape) (s : StandingShape) (is : IsStanding p front s)
+module _ (p : ProgramShape) (front : List Ticket) (sound : IsSound p) (rows : List RowShape) (stack found : List StandingShape) (s : StandingShape) (is : IsStanding p front s)
     (first : IsLeastFirst p front rows (stack ++ s ∷ []) found) where
   below : AllByRecursion (λ u. IsBefore s.order u.order) stack
   below = pairs_last (λ t u. IsBefore u.order t.order) stack s first.stack_sorted

@@ -1,19 +1,19 @@
 -- The row of where a block leads, from the row of where it began: the count and the variables of its client are others, and the objects. So
 -- the search writes a row without another look at the other clients. A number that is put into the front part of a row leaves the back part
 -- as it is, and the other way round; the clients' variables stand one after another, each client's as many as its text names.
-use Rattle.std.proofs.Common.{◌≡◌, ◌<◌, ◌≤◌, ◌+◌, ℕ, zero, suc, List, [], ◌∷◌, ◌++◌, length, get_or, take, drop, map, flat_map, refl, sym, ap, ◌∙◌, subst, arith, append_assoc, length-append, add-one, ℤ, pos}
+use Rattle.std.proofs.Common.{◌≡◌, ◌<◌, ◌≤◌, ◌+◌, ℕ, zero, suc, List, [], ◌∷◌, ◌++◌, length, get_or, take, drop, flat_map, refl, sym, ap, ◌∙◌, subst, arith, append_assoc, length-append, add-one, ℤ, replicate}
 use Rattle.std.specs.Prelude.{slice_set}
 use Rattle.std.proofs.Math.Seq.{drop-cons, take-append_seam}
-use Rattle.std.proofs.lemmas.List.{length-map, length-set, length-take, map-set, set-append_left}
+use Rattle.std.proofs.lemmas.List.{length-set, length-take, set-append_left}
 use Rattle.qs_objects.specs.Act.{State}
 use Rattle.qs_objects.specs.declared.held.Ticket.{Ticket}
-use Rattle.qs_program.specs.Limits.{most_variables}
+use Rattle.qs_program.specs.Limits.{most_clients, most_variables}
 use Rattle.qs_program.specs.Program.{ProgramShape, client_at}
 use Rattle.qs_program.specs.Sound.{IsSound}
 use Rattle.qs_program.specs.Values.{Locals}
 use Rattle.qs_meaning.specs.Serial.{zeros}
 use Rattle.qs_outcomes.specs.Rows.{named_before, overwritten}
-use Rattle.qs_outcomes.specs.Standings.{IsStanding, StandingShape, named_from, row_of, state_row, with_block}
+use Rattle.qs_outcomes.specs.Standings.{IsStanding, StandingShape, named_from, padded, row_of, state_row, with_block}
 use Rattle.qs_alone.proofs.Endings.{nothing_left}
 use Rattle.qs_outcomes.proofs.RowSteps.{few_variables}
 use Rattle.qs_outcomes.proofs.RowTells.{named}
@@ -99,7 +99,7 @@ named_over p k (l ∷ ls) (suc c) j v long less is here =
 
 module _ (p : ProgramShape) (front : List Ticket) (sound : IsSound p) (s : StandingShape) (is : IsStanding p front s) where
   abbrev stem : ℕ
-  stem = length p.clients + named_before p 0 (length p.clients)
+  stem = named_before p 0 (length p.clients)
 
   long : AreLong p 0 s.locals
   long i less =
@@ -107,40 +107,33 @@ module _ (p : ProgramShape) (front : List Ticket) (sound : IsSound p) (s : Stand
       let all = (named p front sound s is i less).long in
       simp length-take (omega (arith, few, all))
 
-  begun_long : length (map pos s.begun) ≡ length p.clients
-  begun_long = length-map s.begun pos ∙ is.begun
-
   locals_long : length (named_from p 0 s.locals) ≡ named_before p 0 (length p.clients)
   locals_long = named_long p 0 s.locals long ∙ ap (named_before p 0) is.locals
 
-  -- a row is as long as its counts and variables, and longer by the objects
-  pub stem_within : stem ≤ length (row_of p s)
+  -- a row has as many numbers as variables, and more by the objects
+  pub stem_within : stem ≤ length (row_of p s).numbers
   stem_within =
-      let a = length-append (map pos s.begun) (named_from p 0 s.locals ++ flat_map state_row s.states) in
-      let b = length-append (named_from p 0 s.locals) (flat_map state_row s.states) in
-      let m = begun_long in let n = locals_long in omega (arith, a, b, m, n)
+      let a = length-append (named_from p 0 s.locals) (flat_map state_row s.states) in
+      let n = locals_long in omega (arith, a, n)
 
-  stem_is : take stem (row_of p s) ≡ map pos s.begun ++ named_from p 0 s.locals
+  stem_is : take stem (row_of p s).numbers ≡ named_from p 0 s.locals
   stem_is =
-      let both : length (map pos s.begun ++ named_from p 0 s.locals) ≡ stem =
-      length-append (map pos s.begun) (named_from p 0 s.locals) ∙ (λ i. begun_long i + locals_long i) in
-      (λ i. take (sym both i) (sym (append_assoc (map pos s.begun) (named_from p 0 s.locals) (flat_map state_row s.states)) i))
-      ∙ take-append_seam (map pos s.begun ++ named_from p 0 s.locals) (flat_map state_row s.states)
+      (λ i. take (sym locals_long i) (named_from p 0 s.locals ++ flat_map state_row s.states))
+      ∙ take-append_seam (named_from p 0 s.locals) (flat_map state_row s.states)
 
-  pub next_row : (c count : ℕ) (values : Locals) (states : List State) → c < length p.clients → length values ≡ most_variables → count ≡ suc (get_or s.begun c 0)
-      → overwritten (slice_set (take stem (row_of p s)) c (pos count)) (length p.clients + named_before p 0 c) (take (length (client_at p c).variables) values)
-      ++ flat_map state_row states ≡ row_of p (with_block s c values states)
-  next_row c count values states client all next =
+  -- one count is another
+  pub next_counts : (c count : ℕ) → c < length p.clients → slice_set (padded s.begun) c count ≡ padded (slice_set s.begun c count)
+  next_counts c count client =
+      set-append_left s.begun (drop (length s.begun) (replicate most_clients 0)) c count (let n = is.begun in omega (arith, client, n))
+      ∙ ap (λ n. slice_set s.begun c count ++ drop n (replicate most_clients 0)) (sym (length-set s.begun c count))
+
+  -- one client's variables are others, and the objects
+  pub next_numbers : (c : ℕ) (values : Locals) (states : List State) → c < length p.clients → length values ≡ most_variables
+      → overwritten (take stem (row_of p s).numbers) (named_before p 0 c) (take (length (client_at p c).variables) values) ++ flat_map state_row states
+      ≡ (row_of p (with_block s c values states)).numbers
+  next_numbers c values states client all =
       let few = few_variables p sound c client in
       let here : length (take (length (client_at p c).variables) values) ≡ length (client_at p c).variables = simp length-take (omega (arith, few, all)) in
-      let counts : List ℤ = map pos (slice_set s.begun c (suc (get_or s.begun c 0))) in
-      let counts_long : length p.clients ≡ length counts = sym (length-map (slice_set s.begun c (suc (get_or s.begun c 0))) pos ∙ (length-set s.begun c _ ∙ is.begun)) in
-      let counted : slice_set (take stem (row_of p s)) c (pos count) ≡ counts ++ named_from p 0 s.locals =
-      (λ i. slice_set (stem_is i) c (pos (next i)))
-      ∙ (set-append_left (map pos s.begun) (named_from p 0 s.locals) c (pos (suc (get_or s.begun c 0))) (let m = begun_long in omega (arith, client, m))
-      ∙ ap (λ xs. xs ++ named_from p 0 s.locals) (sym (map-set pos s.begun c (suc (get_or s.begun c 0))))) in
       ap (λ xs. xs ++ flat_map state_row states)
-      ((λ i. overwritten (counted i) (counts_long i + named_before p 0 c) (take (length (client_at p c).variables) values))
-      ∙ (over_behind counts (named_from p 0 s.locals) (named_before p 0 c) (take (length (client_at p c).variables) values)
-      ∙ ap (λ ys. counts ++ ys) (named_over p 0 s.locals c c values long (let n = is.locals in omega (arith, client, n)) (omega arith) here)))
-      ∙ append_assoc counts (named_from p 0 (slice_set s.locals c values)) (flat_map state_row states)
+      ((λ i. overwritten (stem_is i) (named_before p 0 c) (take (length (client_at p c).variables) values))
+      ∙ named_over p 0 s.locals c c values long (let n = is.locals in omega (arith, client, n)) (omega arith) here)

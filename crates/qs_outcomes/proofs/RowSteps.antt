@@ -33,12 +33,6 @@ flat_more f xs i x d start row new within is before now =
     now ∙ ap (λ r. r ++ f x) before ∙ append_assoc start (flat_map f (take i xs)) (f x)
     ∙ ap (λ r. start ++ r) (sym (ap (flat_map f) (take_more xs i d within ∙ ap (λ y. take i xs ++ y ∷ []) (sym is)) ∙ flat_map-one f (take i xs) x))
 
-pub map_more : {X Y : Type 0} (f : X → Y) (xs : List X) (i : ℕ) (x d : X) (start row new : List Y) → i < length xs → x ≡ get_or xs i d
-    → row ≡ start ++ map f (take i xs) → new ≡ row ++ f x ∷ [] → new ≡ start ++ map f (take (i + 1) xs)
-map_more f xs i x d start row new within is before now =
-    now ∙ ap (λ r. r ++ f x ∷ []) before ∙ append_assoc start (map f (take i xs)) (f x ∷ [])
-    ∙ ap (λ r. start ++ r) (sym (ap (map f) (take_more xs i d within ∙ ap (λ y. take i xs ++ y ∷ []) (sym is)) ∙ map-append f (take i xs) (x ∷ [])))
-
 pub got : {X : Type 0} (xs : List X) (i : ℕ) (x : X) → slice_get xs i ≡ Some x → (i < length xs) × (x ≡ get_or xs i x)
 got [] i x e = absurd (cc)
 got (y ∷ xs) zero x e = (omega arith, cc)

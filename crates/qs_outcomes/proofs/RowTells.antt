@@ -1,11 +1,12 @@
 -- A row tells the configuration: each part of it is as long in any row of the program or says how long it is, so two rows are equal only where
 -- all their parts are; and a variable that no text names is 0. By this what was seen under a row need not be looked at again. It goes part by
 -- part, with the rest of the rows in hand.
-use Rattle.std.proofs.Common.{◌≡◌, ℕ, List, [], ◌∷◌, ◌++◌, length, map, flat_map, refl, sym, ap, ap₂, ◌∙◌, ℤ, pos, append_assoc, arith, inl, inr}
+use Rattle.std.proofs.Common.{◌≡◌, ℕ, List, [], ◌∷◌, ◌++◌, length, flat_map, refl, sym, ap, ap₂, ◌∙◌, ℤ, pos, append_assoc, arith, inl, inr}
 use Rattle.qs_objects.specs.Act.{account, buffer, grid}
-use Rattle.std.proofs.Common.{◌<◌, ◌+◌, suc, get_or, take, drop, subst}
-use Rattle.std.proofs.lemmas.List.{length-map, length-take}
+use Rattle.std.proofs.Common.{◌<◌, ◌+◌, suc, get_or, take, drop, replicate, subst}
+use Rattle.std.proofs.lemmas.List.{length-take}
 use Rattle.qs_objects.specs.declared.held.Ticket.{Ticket}
+use Rattle.qs_program.specs.Limits.{most_clients}
 use Rattle.qs_program.specs.Program.{ProgramShape, client_at}
 use Rattle.qs_program.specs.Sound.{IsSound}
 use Rattle.qs_program.specs.Values.{Locals}
@@ -13,21 +14,21 @@ use Rattle.qs_meaning.specs.Configurations.{AreNamedAlone, Configuration}
 use Rattle.qs_meaning.specs.Serial.{no_state, zeros}
 use Rattle.qs_meaning.proofs.Unnamed.{unnamed_stay_zero}
 use Rattle.qs_outcomes.specs.Lists.{HasOne}
-use Rattle.qs_outcomes.specs.Standings.{IsStanding, StandingShape, configuration_in, content_row, counted, named_from, row_of, state_row}
+use Rattle.qs_outcomes.specs.Standings.{IsStanding, RowShape, StandingShape, configuration_in, content_row, counted, named_from, row_of, state_row}
 use Rattle.qs_outcomes.proofs.Lists.{same_list}
 
--- the first number, and the rest
-head : {x y : ℤ} {xs ys : List ℤ} → ◌≡◌ {A = List ℤ} (x ∷ xs) (y ∷ ys) → x ≡ y
+-- the first one, and the rest
+head : {X : Type 0} {x y : X} {xs ys : List X} → ◌≡◌ {A = List X} (x ∷ xs) (y ∷ ys) → x ≡ y
 head e = cc
 
-tail : {x y : ℤ} {xs ys : List ℤ} → ◌≡◌ {A = List ℤ} (x ∷ xs) (y ∷ ys) → xs ≡ ys
+tail : {X : Type 0} {x y : X} {xs ys : List X} → ◌≡◌ {A = List X} (x ∷ xs) (y ∷ ys) → xs ≡ ys
 tail e = cc
 
 -- an element and the rest of a row, from a row
 abbrev Tells : {X : Type 0} → (X → List ℤ) → Type 0
 Tells {X = X} f = (x y : X) (us vs : List ℤ) → f x ++ us ≡ f y ++ vs → (x ≡ y) × (us ≡ vs)
 
-equal_long : (xs ys us vs : List ℤ) → length xs ≡ length ys → xs ++ us ≡ ys ++ vs → (xs ≡ ys) × (us ≡ vs)
+equal_long : {X : Type 0} (xs ys us vs : List X) → length xs ≡ length ys → xs ++ us ≡ ys ++ vs → (xs ≡ ys) × (us ≡ vs)
 equal_long [] [] us vs long e = (refl, e)
 equal_long [] (y ∷ ys) us vs long e = absurd (let h : 0 ≡ length (y ∷ ys) = long in omega (arith, h))
 equal_long (x ∷ xs) [] us vs long e = absurd (let h : length (x ∷ xs) ≡ 0 = long in omega (arith, h))
@@ -70,12 +71,6 @@ flat_tells f tells (x ∷ xs) (y ∷ ys) us vs long e =
     let first = tells x y (flat_map f xs ++ us) (flat_map f ys ++ vs) (sym (append_assoc (f x) (flat_map f xs) us) ∙ (e ∙ append_assoc (f y) (flat_map f ys) vs)) in
     let rest = flat_tells f tells xs ys us vs (let h : length (x ∷ xs) ≡ length (y ∷ ys) = long in omega (arith, h)) first.1 in
     (ap₂ (λ z zs. z ∷ zs) first.0 rest.0, rest.1)
-
-map_pos : (xs ys : List ℕ) → map pos xs ≡ map pos ys → xs ≡ ys
-map_pos [] [] e = refl
-map_pos [] (y ∷ ys) e = absurd (cc)
-map_pos (x ∷ xs) [] e = absurd (cc)
-map_pos (x ∷ xs) (y ∷ ys) e = ap₂ (λ z zs. z ∷ zs) (pos_is (head e)) (map_pos xs ys (tail e))
 
 append_none : (xs : List ℤ) → xs ++ [] ≡ xs
 append_none [] = refl
@@ -121,10 +116,10 @@ module _ (p : ProgramShape) (front : List Ticket) (sound : IsSound p) where
 
   pub row_tells : (s t : StandingShape) → IsStanding p front s → IsStanding p front t → row_of p s ≡ row_of p t → configuration_in s ≡ configuration_in t
   row_tells s t a b e =
-      let first = equal_long (map pos s.begun) (map pos t.begun) (named_from p 0 s.locals ++ flat_map state_row s.states) (named_from p 0 t.locals ++ flat_map state_row t.states)
-      (length-map s.begun pos ∙ (a.begun ∙ sym (length-map t.begun pos ∙ b.begun))) e in
-      let begun : s.begun ≡ t.begun = map_pos s.begun t.begun first.0 in
-      let second = named_tell p 0 s.locals t.locals (flat_map state_row s.states) (flat_map state_row t.states) (a.locals ∙ sym b.locals) (named s a) (named t b) first.1 in
+      let begun : s.begun ≡ t.begun =
+      (equal_long s.begun t.begun (drop (length s.begun) (replicate most_clients 0)) (drop (length t.begun) (replicate most_clients 0)) (a.begun ∙ sym b.begun)
+      (ap (λ (r : RowShape). r.begun) e)).0 in
+      let second = named_tell p 0 s.locals t.locals (flat_map state_row s.states) (flat_map state_row t.states) (a.locals ∙ sym b.locals) (named s a) (named t b) (ap (λ (r : RowShape). r.numbers) e) in
       let third = flat_tells state_row state_tells s.states t.states [] [] (a.states ∙ sym b.states)
       (append_none (flat_map state_row s.states) ∙ (second.1 ∙ sym (append_none (flat_map state_row t.states)))) in
       λ i. configuration_in (record { order = s.order; begun = begun i; locals = second.0 i; states = third.0 i })
@@ -142,7 +137,7 @@ same_configurations p front s t a b e =
     (same_list no_state s.states t.states (a.states ∙ sym b.states) (λ i. ap (λ (g : Configuration). g.states i) e))
 
 -- whose row was seen
-pub pick : (p : ProgramShape) (Q : StandingShape → Type 0) (rows : List (List ℤ)) → HasOne (λ r. (n : StandingShape) × Q n × (row_of p n ≡ r)) rows → (n : StandingShape) × Q n × HasOne (λ r. row_of p n ≡ r) rows
+pub pick : (p : ProgramShape) (Q : StandingShape → Type 0) (rows : List RowShape) → HasOne (λ r. (n : StandingShape) × Q n × (row_of p n ≡ r)) rows → (n : StandingShape) × Q n × HasOne (λ r. row_of p n ≡ r) rows
 pick p Q [] h = absurd h
 pick p Q (r ∷ rows) (inl (n, q, e)) = (n, q, inl e)
 pick p Q (r ∷ rows) (inr h) = let later = pick p Q rows h in (later.0, later.1, inr later.2)

@@ -1,20 +1,25 @@
--- The rows of a table, whose keys are vectors; and how a row is written from another one.
-use Rattle.std.specs.Prelude.{◌≡◌, ◌≤◌, ◌+◌, ℕ, zero, suc, List, [], ◌∷◌, length, map, slice_index_or, slice_set, Vec, ℤ}
-use Rattle.std.specs.Global.{Global}
+-- The rows of a table; and how a row is written from another one.
+use Rattle.std.specs.Prelude.{◌≡◌, ◌≤◌, ℕ, ◌+◌, zero, suc, List, [], ◌∷◌, length, map, slice_index_or, slice_set, ℤ}
 use Rattle.qs_program.specs.Program.{ProgramShape, client_at}
+use Rattle.qs_outcomes.specs.declared.rows.Row.{Row}
+use Rattle.qs_outcomes.specs.Standings.{RowShape}
 
-abbrev pub rows_in : List (Vec ℤ Global) → List (List ℤ)
-rows_in keys = map (λ v. v.items) keys
+-- a row as it is kept
+abbrev pub shape_of : Row → RowShape
+shape_of r = record { begun = r.begun; numbers = r.numbers.items }
+
+abbrev pub rows_in : List Row → List RowShape
+rows_in keys = map shape_of keys
 
 -- how many variables the texts of so many clients name, from a client on
 abbrev pub named_before : ProgramShape → ℕ → ℕ → ℕ
 named_before p c zero = 0
 named_before p c (suc n) = length (client_at p c).variables + named_before p (suc c) n
 
--- for each client where its variables begin in a row, which is behind the clients' counts, and last where the objects begin
+-- for each client where its variables begin among the numbers of a row, and last where the objects begin
 pub record AreStarts (p : ProgramShape) (starts : List ℕ) : Type 0 where
   pub count : length starts ≡ suc (length p.clients)
-  pub each : (c : ℕ) → c ≤ length p.clients → slice_index_or starts c 0 ≡ length p.clients + named_before p 0 c
+  pub each : (c : ℕ) → c ≤ length p.clients → slice_index_or starts c 0 ≡ named_before p 0 c
 
 -- numbers in the place of those from a place on
 abbrev pub overwritten : List ℤ → ℕ → List ℤ → List ℤ

@@ -1,7 +1,8 @@
--- Configurations as they are kept: in lists, with an order that leads there, and as one flat row of numbers.
-use Rattle.std.specs.Prelude.{◌≡◌, ℕ, List, [], ◌∷◌, ◌++◌, true, length, map, slice_index_or, slice_set, ℤ, pos, flat_map, suc, take}
+-- Configurations as they are kept: in lists, with an order that leads there, and as one row of numbers.
+use Rattle.std.specs.Prelude.{◌≡◌, ℕ, List, [], ◌∷◌, ◌++◌, true, drop, length, replicate, slice_index_or, slice_set, ℤ, pos, flat_map, suc, take}
 use Rattle.qs_objects.specs.Act.{State, Content, account, buffer, grid}
 use Rattle.qs_objects.specs.declared.held.Ticket.{Ticket}
+use Rattle.qs_program.specs.Limits.{most_clients}
 use Rattle.qs_program.specs.Program.{ProgramShape, block_at, client_at}
 use Rattle.qs_program.specs.Values.{Locals}
 use Rattle.qs_meaning.specs.Configurations.{Configuration, HasBlockLeft, configuration_after, one_block_on}
@@ -100,7 +101,16 @@ abbrev pub named_from : ProgramShape → ℕ → List Locals → List ℤ
 named_from p c [] = []
 named_from p c (l ∷ ls) = take (length (client_at p c).variables) l ++ named_from p (suc c) ls
 
--- the numbers of a configuration, from which it can be read again: how many blocks each client has begun, the variables that the text names,
--- and the objects
-abbrev pub row_of : ProgramShape → StandingShape → List ℤ
-row_of p s = map pos s.begun ++ (named_from p 0 s.locals ++ flat_map state_row s.states)
+-- how many blocks each client has begun, and other numbers
+pub record RowShape : Type 0 where
+  pub begun : List ℕ
+  pub numbers : List ℤ
+
+-- a count for each client that there may be: 0 where there is none
+abbrev pub padded : List ℕ → List ℕ
+padded begun = begun ++ drop (length begun) (replicate most_clients 0)
+
+-- A configuration as a row, from which it can be read again: how many blocks each client has begun, and the variables that the text names with
+-- the objects.
+abbrev pub row_of : ProgramShape → StandingShape → RowShape
+row_of p s = record { begun = padded s.begun; numbers = named_from p 0 s.locals ++ flat_map state_row s.states }

@@ -1,29 +1,84 @@
 //! Configurations as rows of numbers.
 
-ghost use Rattle.std.specs.Prelude.{◌≡◌, ◌∷◌, ◌++◌, ◌<◌, ◌≤◌, ◌+◌, IfOk, OnOk, [], length, map, pos, flat_map, slice_set, take};
+ghost use Rattle.std.specs.Prelude.{◌≡◌, ◌∷◌, ◌++◌, ◌<◌, ◌≤◌, ◌+◌, IfOk, OnOk, [], length, flat_map, take};
 ghost use Rattle.qs_outcomes.specs.Rows.{AreStarts, named_before, overwritten};
-ghost use Rattle.qs_outcomes.specs.Standings.{counted, named_from, state_row};
-ghost use Rattle.qs_program.specs.Limits.{most_variables};
+ghost use Rattle.qs_outcomes.specs.Standings.{counted, named_from, padded, state_row};
+ghost use Rattle.qs_program.specs.Limits.{most_clients, most_variables};
 ghost use Rattle.qs_program.specs.Program.{client_at};
 ghost use Rattle.qs_objects.specs.Objects.{values_of};
 
 use qs_objects::{Kind, Object};
-use qs_program::{Locals, Program};
+use qs_program::{Locals, MOST_CLIENTS, Program};
+use smallvec::SmallVec;
 use std::alloc::{AllocError, Global};
+use std::hash::{Hash, Hasher};
 
-// Adds counts.
-pub(crate) fn add_begun(row: &mut Vec<i64>, begun: &[u8]) -> Result<(), AllocError>
-    ensures added { OnOk result (row.new.items ≡ row.old.items ++ map pos begun.now) }
-{
-    for count in begun {
-        row.push(i64::from(*count))?;
+// So many numbers of a row are kept in place: those of two accounts, say.
+const IN_PLACE: usize = 6;
+
+/// The numbers of a row.
+pub(crate) type Numbers = SmallVec<i64, IN_PLACE>;
+
+/// A configuration as a row: how many blocks each client has begun, a byte each, and other numbers. A short one takes no memory of its own, so
+/// that where it is compared in a table nothing else is looked at.
+#[derive(Drop, PartialEq, Eq)]
+pub(crate) struct Row {
+    pub(crate) begun: [u8; MOST_CLIENTS],
+    pub(crate) numbers: Numbers,
+}
+
+/// Equal rows have the same hash. The counts are fed at once.
+impl Hash for Row {
+    ghost use Rattle.std.specs.Hash as fed;
+    ghost use Rattle.std.specs.Prelude.{◌∷◌};
+    ghost use Rattle.std.proofs.Common.{rules};
+    ghost use Rattle.std.specs.Cmp.Rules.{hashing};
+
+    ghost hash_input = { λ r. r.begun ∷ fed.slice fed.i64 r.numbers.items };
+
+    ghost respects_eq = { Prim.search (hashing, rules) };
+
+    fn hash<H: Hasher>(&self, state: &mut H) {
+        state.write(&self.begun);
+        self.numbers.hash(state);
     }
-    Ok(())
+}
+
+impl Row {
+    ghost use Rattle.qs_outcomes.specs.Rows.{shape_of};
+
+    /// A row to write into, which takes no memory.
+    pub(crate) fn new(alloc: Global) -> Row {
+        Row {
+            begun: [0; MOST_CLIENTS],
+            numbers: SmallVec::new(alloc),
+        }
+    }
+
+    /// The same row once more. An error says that memory was refused.
+    pub(crate) fn copied(&self, alloc: Global) -> Result<Row, AllocError>
+        ensures same { IfOk result (λ copy. shape_of copy ≡ shape_of self.now) }
+    {
+        Ok(Row {
+            begun: self.begun,
+            numbers: SmallVec::from_slice(alloc, self.numbers.as_slice())?,
+        })
+    }
+}
+
+// A count for each client that there may be.
+pub(crate) fn padded(begun: &[u8]) -> [u8; MOST_CLIENTS]
+    requires few { length begun.now ≤ most_clients }
+    ensures padded { result ≡ padded begun.now }
+{
+    let mut all = [0; MOST_CLIENTS];
+    all[..begun.len()].copy_from_slice(begun);
+    all
 }
 
 // Adds the variables that the text names.
 pub(crate) fn add_locals(
-    row: &mut Vec<i64>,
+    row: &mut Numbers,
     program: &Program,
     locals: &[Locals],
 ) -> Result<(), AllocError>
@@ -41,7 +96,7 @@ pub(crate) fn add_locals(
     Ok(())
 }
 
-fn add_named(row: &mut Vec<i64>, values: &Locals, count: usize) -> Result<(), AllocError>
+fn add_named(row: &mut Numbers, values: &Locals, count: usize) -> Result<(), AllocError>
     requires { count ≤ most_variables }
     ensures added { OnOk result (row.new.items ≡ row.old.items ++ take count values.now) }
 {
@@ -51,20 +106,20 @@ fn add_named(row: &mut Vec<i64>, values: &Locals, count: usize) -> Result<(), Al
     Ok(())
 }
 
-// Where a client's variables begin in a row; past the last client, where the objects begin.
+// Where a client's variables begin among the numbers of a row; past the last client, where the objects begin.
 fn named_at(program: &Program, client: usize) -> usize
     requires { client ≤ length program.now.clients }
-    ensures place { result ≡ length program.now.clients + named_before program.now 0 client }
+    ensures place { result ≡ named_before program.now 0 client }
 {
     program.is_sound();
-    let mut place = program.clients();
+    let mut place = 0;
     for before in 0..client as u8 {
         place += program.variables(before).len();
     }
     place
 }
 
-// For each client where its variables begin in a row, and last where the objects begin.
+// For each client where its variables begin among the numbers of a row, and last where the objects begin.
 pub(crate) fn row_starts(alloc: Global, program: &Program) -> Result<Vec<usize>, AllocError>
     ensures starts { IfOk result (λ starts. AreStarts program.now starts.items) }
 {
@@ -77,38 +132,36 @@ pub(crate) fn row_starts(alloc: Global, program: &Program) -> Result<Vec<usize>,
 }
 
 // Puts numbers in the place of those from a place on.
-fn put_numbers(row: &mut Vec<i64>, first: usize, numbers: &[i64])
-    requires { first + length numbers.now ≤ length row.old.items }
-    ensures put { row.new.items ≡ overwritten row.old.items first numbers.now }
+fn put_numbers(row: &mut [i64], first: usize, numbers: &[i64])
+    requires { first + length numbers.now ≤ length row.old }
+    ensures put { row.new ≡ overwritten row.old first numbers.now }
+    ensures long { length row.new ≡ length row.old }
 {
     for place in 0..numbers.len() {
         row[first + place] = numbers[place];
     }
 }
 
-// Writes a row up to its objects from another row: the count and the variables of one client are others.
+// Writes the numbers of a row up to its objects from those of another row: the variables of one client are others.
 pub(crate) fn put_stem(
     program: &Program,
     starts: &[usize],
     base: &[i64],
     client: u8,
-    count: u8,
     values: &Locals,
-    row: &mut Vec<i64>,
+    row: &mut Numbers,
 ) -> Result<(), AllocError>
     requires client { client < length program.now.clients }
     requires starts { AreStarts program.now starts.now }
-    requires base { length program.now.clients + named_before program.now 0 (length program.now.clients) ≤ length base.now }
-    ensures put { OnOk result (row.new.items
-        ≡ overwritten (slice_set (take (length program.now.clients + named_before program.now 0 (length program.now.clients)) base.now) client (pos count))
-        (length program.now.clients + named_before program.now 0 client) (take (length (client_at program.now client).variables) values.now)) }
+    requires base { named_before program.now 0 (length program.now.clients) ≤ length base.now }
+    ensures put { OnOk result (row.new.items ≡ overwritten (take (named_before program.now 0 (length program.now.clients)) base.now)
+        (named_before program.now 0 client) (take (length (client_at program.now client).variables) values.now)) }
 {
     program.is_sound();
     row.clear();
     row.extend_from_slice(&base[..starts[program.clients()]])?;
-    row[usize::from(client)] = i64::from(count);
     put_numbers(
-        row,
+        row.as_mut_slice(),
         starts[usize::from(client)],
         &values[..program.variables(client).len()],
     );
@@ -116,7 +169,7 @@ pub(crate) fn put_stem(
 }
 
 // Adds objects.
-pub(crate) fn add_objects(row: &mut Vec<i64>, objects: &[Object]) -> Result<(), AllocError>
+pub(crate) fn add_objects(row: &mut Numbers, objects: &[Object]) -> Result<(), AllocError>
     ensures added { OnOk result (row.new.items ≡ row.old.items ++ flat_map state_row objects.now) }
 {
     for object in objects {
@@ -125,7 +178,7 @@ pub(crate) fn add_objects(row: &mut Vec<i64>, objects: &[Object]) -> Result<(), 
     Ok(())
 }
 
-fn add_object(row: &mut Vec<i64>, object: &Object) -> Result<(), AllocError>
+fn add_object(row: &mut Numbers, object: &Object) -> Result<(), AllocError>
     ensures added { OnOk result (row.new.items ≡ row.old.items ++ state_row object.now) }
 {
     row.push(object.refused())?;
@@ -149,14 +202,14 @@ fn add_object(row: &mut Vec<i64>, object: &Object) -> Result<(), AllocError>
     Ok(())
 }
 
-fn add_number(row: &mut Vec<i64>, number: i64) -> Result<(), AllocError>
+fn add_number(row: &mut Numbers, number: i64) -> Result<(), AllocError>
     ensures added { OnOk result (row.new.items ≡ row.old.items ++ number ∷ []) }
 {
     row.push(number)?;
     Ok(())
 }
 
-fn add_object_values(row: &mut Vec<i64>, object: &Object) -> Result<(), AllocError>
+fn add_object_values(row: &mut Numbers, object: &Object) -> Result<(), AllocError>
     ensures added { OnOk result (row.new.items ≡ row.old.items ++ counted (values_of object.now.content)) }
 {
     row.push(object.len() as i64)?;

@@ -7,7 +7,7 @@ ghost use Rattle.qs_meaning.specs.Serial.{IsLegal};
 ghost use Rattle.qs_outcomes.specs.Outcomes.{AreAllOutcomes, AreAllOutcomesAfter, AreApart, HasConfigurations, HasConfigurationsAfter, HasMoreThan, HasMoreThanAfter, IsLeast, IsLeastAfter, IsListed, IsListedAfter};
 ghost use Rattle.qs_outcomes.specs.LeastOrders.{AreSorted};
 ghost use Rattle.qs_outcomes.specs.Lists.{HasOne};
-ghost use Rattle.qs_outcomes.specs.Rows.{AreStarts, rows_in};
+ghost use Rattle.qs_outcomes.specs.Rows.{AreStarts, rows_in, shape_of};
 ghost use Rattle.qs_outcomes.specs.Search.{IsExplored, IsInserted, IsLonger, IsNoted, IsPushed, work_left};
 ghost use Rattle.qs_meaning.specs.Reduced.{goes_on};
 ghost use Rattle.qs_outcomes.specs.Going.{AreLast, in_byte};
@@ -17,7 +17,7 @@ use crate::copies::copied;
 use crate::fault::OutcomesFault;
 use crate::front::placed;
 use crate::going::{Last, last_blocks};
-use crate::rows::row_starts;
+use crate::rows::{Row, row_starts};
 use crate::standing::Standing;
 use crate::watcher::{Unwatched, Watcher};
 use indexmap::IndexSet;
@@ -70,9 +70,9 @@ impl AllOutcomes {
 // of where it leads; and standings that are done with.
 #[derive(Drop)]
 struct Scratch {
-    base: Vec<i64>,
+    base: Row,
     left: Vec<Object>,
-    row: Vec<i64>,
+    row: Row,
     spare: Vec<Standing>,
 }
 
@@ -91,8 +91,8 @@ fn put_by(spare: &mut Vec<Standing>, standing: Standing) -> Result<(), AllocErro
 }
 
 // Adds a row: whether it is new.
-fn insert(seen: &mut IndexSet<Vec<i64>>, row: Vec<i64>) -> Result<bool, AllocError>
-    ensures inserted { IfOk result (λ new. IsInserted (rows_in seen.old.keys) row.items new (rows_in seen.new.keys)) }
+fn insert(seen: &mut IndexSet<Row>, row: Row) -> Result<bool, AllocError>
+    ensures inserted { IfOk result (λ new. IsInserted (rows_in seen.old.keys) (shape_of row) new (rows_in seen.new.keys)) }
 {
     let Ok((_, new)) = seen.insert_full(row) else {
         return Err(AllocError);
@@ -108,7 +108,7 @@ fn note(
     limit: u32,
     standing: &Standing,
     scratch: &mut Scratch,
-    seen: &mut IndexSet<Vec<i64>>,
+    seen: &mut IndexSet<Row>,
 ) -> Result<bool, OutcomesFault>
     requires standing { IsStanding program.now front.now standing.now }
     requires small { length (rows_in seen.old.keys) ≤ limit }
@@ -116,10 +116,10 @@ fn note(
     ensures full { IsErrOf result OutcomesFault.Limit → (length (rows_in seen.old.keys) ≡ limit)
         × (HasOne (λ r. row_of program.now standing.now ≡ r) (rows_in seen.old.keys) → ⊥) }
     ensures order { ¬ IsErrOf result OutcomesFault.Order }
-    ensures base { OnOk result (scratch.new.base.items ≡ row_of program.now standing.now) }
+    ensures base { OnOk result (shape_of scratch.new.base ≡ row_of program.now standing.now) }
 {
     standing.write_row(program, front, &mut scratch.base)?;
-    let new = insert(seen, copied(alloc, scratch.base.as_slice())?)?;
+    let new = insert(seen, scratch.base.copied(alloc)?)?;
     if new && seen.len() > limit as usize {
         return Err(OutcomesFault::Limit);
     }
@@ -127,8 +127,8 @@ fn note(
 }
 
 // Whether a row was seen.
-fn was_seen(seen: &IndexSet<Vec<i64>>, row: &Vec<i64>) -> bool
-    ensures seen { result ≡ true → HasOne (λ r. row.now.items ≡ r) (rows_in seen.now.keys) }
+fn was_seen(seen: &IndexSet<Row>, row: &Row) -> bool
+    ensures seen { result ≡ true → HasOne (λ r. shape_of row.now ≡ r) (rows_in seen.now.keys) }
 {
     seen.contains(row)
 }
@@ -143,22 +143,21 @@ fn push_one(
     goes: u8,
     client: u8,
     scratch: &mut Scratch,
-    seen: &IndexSet<Vec<i64>>,
+    seen: &IndexSet<Row>,
     stack: &mut Vec<Standing>,
 ) -> Result<(), AllocError>
     requires client { client < length program.now.clients }
     requires starts { AreStarts program.now starts.now }
     requires standing { IsStanding program.now front.now standing.now }
     requires goes { in_byte goes ≡ goes_on program.now (configuration_in standing.now).begun }
-    requires base { scratch.old.base.items ≡ row_of program.now standing.now }
-    ensures base { scratch.new.base.items ≡ scratch.old.base.items }
+    requires base { shape_of scratch.old.base ≡ row_of program.now standing.now }
+    ensures base { scratch.new.base ≡ scratch.old.base }
     ensures pushed { OnOk result (IsPushed program.now front.now (rows_in seen.now.keys) standing.now client stack.old.items stack.new.items) }
 {
     program.is_sound();
     if (goes >> client) & 1 == 1 {
         let values = standing.run_next(alloc, program, front, client, &mut scratch.left)?;
         let left = scratch.left.as_slice();
-        let base = scratch.base.as_slice();
         standing.write_next_row(
             program,
             front,
@@ -166,7 +165,7 @@ fn push_one(
             &values,
             left,
             starts,
-            base,
+            &scratch.base,
             &mut scratch.row,
         )?;
         if was_seen(seen, &scratch.row) {
@@ -195,13 +194,13 @@ fn push_next(
     front: &[Ticket],
     standing: &Standing,
     scratch: &mut Scratch,
-    seen: &IndexSet<Vec<i64>>,
+    seen: &IndexSet<Row>,
     stack: &mut Vec<Standing>,
 ) -> Result<(), AllocError>
     requires last { AreLast program.now last.now }
     requires starts { AreStarts program.now starts.now }
     requires standing { IsStanding program.now front.now standing.now }
-    requires base { scratch.old.base.items ≡ row_of program.now standing.now }
+    requires base { shape_of scratch.old.base ≡ row_of program.now standing.now }
     ensures longer { OnOk result (IsLonger program.now front.now (rows_in seen.now.keys) standing.now 0 stack.old.items stack.new.items) }
 {
     program.is_sound();
@@ -243,7 +242,7 @@ fn visit<W: Watcher>(
     watcher: &mut W,
     standing: Standing,
     scratch: &mut Scratch,
-    seen: &mut IndexSet<Vec<i64>>,
+    seen: &mut IndexSet<Row>,
     stack: &mut Vec<Standing>,
     found: &mut Vec<Standing>,
 ) -> Result<(), OutcomesFault>
@@ -302,9 +301,9 @@ fn search_from<W: Watcher>(
     let mut found = Vec::new(alloc);
     let mut stack = Vec::new(alloc);
     let mut scratch = Scratch {
-        base: Vec::new(alloc),
+        base: Row::new(alloc),
         left: Vec::new(alloc),
-        row: Vec::new(alloc),
+        row: Row::new(alloc),
         spare: Vec::new(alloc),
     };
     add(&mut stack, first)?;

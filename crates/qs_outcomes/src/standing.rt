@@ -7,7 +7,7 @@ ghost use Rattle.qs_alone.specs.Alone.{AreCallsWithin, states_in};
 ghost use Rattle.qs_program.specs.Program.{blocks_of};
 
 use crate::going::{Last, goes_on};
-use crate::rows::{add_begun, add_locals, add_objects, put_stem};
+use crate::rows::{Row, add_locals, add_objects, padded, put_stem};
 use qs_alone::run_body;
 use qs_objects::{Object, ObjectFault, Ticket};
 use qs_program::{Block, Locals, MOST_VARIABLES, Program};
@@ -161,7 +161,7 @@ fn fresh_locals(alloc: Global, clients: usize) -> Result<Vec<Locals>, AllocError
 impl Standing {
     ghost use Rattle.qs_meaning.specs.Reduced.{goes_on};
     ghost use Rattle.qs_outcomes.specs.Going.{AreLast, in_byte};
-    ghost use Rattle.qs_outcomes.specs.Rows.{AreStarts};
+    ghost use Rattle.qs_outcomes.specs.Rows.{AreStarts, shape_of};
     ghost use Rattle.qs_outcomes.specs.Search.{NoneNext};
     ghost use Rattle.qs_outcomes.specs.Standings.{HasNext, HasRun, IsFirst, IsOneOn, IsStanding, configuration_in, row_of, with_block};
 
@@ -318,20 +318,21 @@ impl Standing {
         Ok(next)
     }
 
-    // Writes its numbers as one row. An error says that memory was refused.
+    // Writes itself as a row. An error says that memory was refused.
     pub(crate) fn write_row(
         &self,
         program: &Program,
         front: &[Ticket],
-        row: &mut Vec<i64>,
+        row: &mut Row,
     ) -> Result<(), AllocError>
         requires standing { IsStanding program.now front.now self.now }
-        ensures row { OnOk result (row.new.items ≡ row_of program.now self.now) }
+        ensures row { OnOk result (shape_of row.new ≡ row_of program.now self.now) }
     {
-        row.clear();
-        add_begun(row, self.begun.as_slice())?;
-        add_locals(row, program, self.locals.as_slice())?;
-        add_objects(row, self.objects.as_slice())
+        program.is_sound();
+        row.begun = padded(self.begun.as_slice());
+        row.numbers.clear();
+        add_locals(&mut row.numbers, program, self.locals.as_slice())?;
+        add_objects(&mut row.numbers, self.objects.as_slice())
     }
 
     // Writes the row of where the next block of a client leads, which left these variables and objects, from the row of the standing. An
@@ -344,20 +345,23 @@ impl Standing {
         values: &Locals,
         left: &[Object],
         starts: &[usize],
-        base: &[i64],
-        row: &mut Vec<i64>,
+        base: &Row,
+        row: &mut Row,
     ) -> Result<(), AllocError>
         requires client { client < length program.now.clients }
         requires standing { IsStanding program.now front.now self.now }
         requires left { HasNext program.now self.now client }
         requires starts { AreStarts program.now starts.now }
-        requires base { base.now ≡ row_of program.now self.now }
-        ensures row { OnOk result (row.new.items ≡ row_of program.now (with_block self.now client values.now left.now)) }
+        requires base { shape_of base.now ≡ row_of program.now self.now }
+        ensures row { OnOk result (shape_of row.new ≡ row_of program.now (with_block self.now client values.now left.now)) }
     {
         program.is_sound();
-        let index = self.begun[usize::from(client)];
-        put_stem(program, starts, base, client, index + 1, values, row)?;
-        add_objects(row, left)?;
+        let place = usize::from(client);
+        row.begun = base.begun;
+        row.begun[place] = self.begun[place] + 1;
+        let numbers = base.numbers.as_slice();
+        put_stem(program, starts, numbers, client, values, &mut row.numbers)?;
+        add_objects(&mut row.numbers, left)?;
         Ok(())
     }
 }

@@ -4,6 +4,6 @@ use Rattle.qs_outcomes.proofs.rows.named_at.Given as goal
 
 abbrev pub invariant-loop-before : goal.invariant-loop-before
 invariant-loop-before l = record {
-  place : l.place ≡ length l.program.clients + named_before l.program 0 l.before;
-  few : l.place ≤ 8 + 16 * l.before;
+  place : l.place ≡ named_before l.program 0 l.before;
+  few : l.place ≤ 16 * l.before;
 }

@@ -4,6 +4,6 @@ use Rattle.qs_outcomes.proofs.rows.put_numbers.Given as goal
 
 abbrev pub invariant-loop-place : goal.invariant-loop-place
 invariant-loop-place l = record {
-  long : length l.row.items ≡ length l.initial.row.items;
-  rest : overwritten l.row.items (l.first + l.place) (drop l.place l.numbers) ≡ overwritten l.initial.row.items l.first l.numbers;
+  long : length l.row ≡ length l.initial.row;
+  rest : overwritten l.row (l.first + l.place) (drop l.place l.numbers) ≡ overwritten l.initial.row l.first l.numbers;
 }

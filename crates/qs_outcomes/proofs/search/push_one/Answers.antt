@@ -1,5 +1,5 @@
 use Rattle.std.proofs.Common.{◌≡◌, ◌++◌, ◌∷◌, [], ap, inl, inr, sym, ◌∙◌, true≢false, refl}
-use Rattle.qs_outcomes.specs.Rows.{rows_in}
+use Rattle.qs_outcomes.specs.Rows.{rows_in, shape_of}
 use Rattle.qs_outcomes.specs.Standings.{GoesOn, HasNext, IsNext, row_of, with_block}
 use Rattle.qs_outcomes.proofs.GoingSets.{in_set, out_of_set}
 use Rattle.qs_outcomes.proofs.Lists.{has_map}
@@ -27,7 +27,7 @@ write_next_row-requires c = record {
   standing = c.requires.standing;
   left = left (goal.at.write_next_row-requires c).Then-goes-client-eq1;
   starts = c.requires.starts;
-  base = c.as_slice-base.ensures.value ∙ c.requires.base;
+  base = c.requires.base;
 }
 
 pub put_next-requires : goal.put_next-requires
@@ -40,7 +40,7 @@ returns-in_ok-push-clause-pushed c =
 pub returns-then-was_seen-clause-pushed : goal.returns-then-was_seen-clause-pushed
 returns-then-was_seen-clause-pushed c =
     inr (
-      inl (has_map (λ r (e : c.write_next_row.new.row.items ≡ r). (_, is_next (goal.at.returns-then-was_seen-clause-pushed c).In_ok-values, sym (c.in_ok-write_next_row.ensures.row ∙ ap (λ left. row_of c.args.program.now (with_block c.args.standing.now c.args.client c.in_ok-values.values left)) c.as_slice-left.ensures.value) ∙ e)) (rows_in c.args.seen.now.keys) (c.was_seen.ensures.seen c.if-was_seen.true)),
+      inl (has_map (λ r (e : shape_of c.write_next_row.new.row ≡ r). (_, is_next (goal.at.returns-then-was_seen-clause-pushed c).In_ok-values, sym (c.in_ok-write_next_row.ensures.row ∙ ap (λ left. row_of c.args.program.now (with_block c.args.standing.now c.args.client c.in_ok-values.values left)) c.as_slice-left.ensures.value) ∙ e)) (rows_in c.args.seen.now.keys) (c.was_seen.ensures.seen c.if-was_seen.true)),
       refl,
     )
 
