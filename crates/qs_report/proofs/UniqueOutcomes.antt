@@ -14,12 +14,12 @@ use Rattle.qs_meaning.proofs.Each.{each_both, each_map}
 use Rattle.qs_meaning.proofs.Orders.{complete_orders_leave_none, legal_on}
 use Rattle.qs_outcomes.specs.LeastOrders.{AreSorted, IsBefore}
 use Rattle.qs_outcomes.specs.Lists.{HasOne, NoTwo}
-use Rattle.qs_outcomes.specs.Outcomes.{AreAllOutcomesAfter, HasConfigurationsAfter, IsLeastAfter, IsListedAfter, outcome_at}
+use Rattle.qs_outcomes.specs.Outcomes.{OutcomesShape, AreAllOutcomesAfter, HasConfigurationsAfter, IsLeastAfter, IsListedAfter, outcome_at}
 use Rattle.qs_outcomes.specs.Standings.{IsStanding, StandingShape, configuration_in}
 use Rattle.qs_outcomes.proofs.Before.{before_both, not_before}
 use Rattle.qs_outcomes.proofs.Lists.{has_map, has_of, has_some}
 use Rattle.qs_outcomes.proofs.Stands.{below_or_past}
-use Rattle.qs_report.specs.OutcomesText.{IsOutcomesText, OutcomesTextsAreUnique, listed_text, no_standing, outcome_line, outcome_text, outcome_text_at, variables_text}
+use Rattle.qs_report.specs.OutcomesText.{AreOutcomesAfter, IsOutcomesText, OutcomesTextsAreUnique, listed_text, no_standing, outcome_line, outcome_text, outcome_text_at, variables_text}
 use Rattle.qs_report.specs.Report.{state_line}
 use Rattle.qs_report.specs.Texts.{count_line, texts_up_to}
 use Rattle.qs_report.proofs.UniqueTexts.{same_texts}
@@ -49,7 +49,7 @@ one_order p g (t ∷ ts) (u ∷ us) l m over end h k =
     λ i. ticket i ∷ rest i
 
 -- the same order and outcome
-abbrev IsSame : StandingShape → StandingShape → Type 0
+abbrev pub IsSame : StandingShape → StandingShape → Type 0
 IsSame s t = (s.order ≡ t.order) × (outcome_at s ≡ outcome_at t)
 
 not_itself : (ts : List Ticket) → IsBefore ts ts → ⊥
@@ -154,6 +154,17 @@ module _ (p : ProgramShape) (front : List Ticket) where
       let one = a.count in let other = b.count in
       omega (arith, less, one, other)
 
+-- two lists of all outcomes are the same, and so are their counts
+pub same_lists : (p : ProgramShape) (front : List Ticket) (all every : OutcomesShape) → AreOutcomesAfter p front all → AreOutcomesAfter p front every
+    → AllZip IsSame all.found every.found × (all.configurations ≡ every.configurations)
+same_lists p front all every are too =
+    let less = no_more p front all.configurations every.configurations are.counted too.counted in
+    let more = no_more p front every.configurations all.configurations too.counted are.counted in (
+      one_list p front all.found every.found (each_both (λ s a l. (a, l)) all.found are.sound are.least) (each_both (λ s a l. (a, l)) every.found too.sound too.least)
+          are.complete too.complete are.sorted too.sorted,
+      omega (arith, less, more),
+    )
+
 same_outcome_text : (p : ProgramShape) (n : ℕ) (s t : StandingShape) → IsSame s t → outcome_text p n s ≡ outcome_text p n t
 same_outcome_text p n s t (order, e) = λ i.
     outcome_line n (order i) ++ texts_up_to (length p.objects) (λ h. state_line (object_at p h).name ((e i).states h))
@@ -162,15 +173,11 @@ same_outcome_text p n s t (order, e) = λ i.
 pub one_outcomes_text : OutcomesTextsAreUnique
 unfolding IsOutcomesText
 one_outcomes_text p limit bound front text other (all, are, within, is) (every, too, below, one) =
-    let zip = one_list p (order_of front) all.found every.found (each_both (λ s a l. (a, l)) all.found are.sound are.least) (each_both (λ s a l. (a, l)) every.found too.sound too.least)
-    are.complete too.complete are.sorted too.sorted in
+    let (zip, counts) = same_lists p (order_of front) all every are too in
     let long : length all.found ≡ length every.found = length_all_zip IsSame all.found every.found zip in
     let found : texts_up_to (length all.found) (outcome_text_at p all.found) ≡ texts_up_to (length every.found) (outcome_text_at p every.found) =
     same_texts (outcome_text_at p all.found) (outcome_text_at p every.found) (length all.found)
     (λ k less. same_outcome_text p (k + 1) (get_or all.found k no_standing) (get_or every.found k no_standing) (AllZip-get_or IsSame all.found every.found k no_standing no_standing zip less))
     ∙ ap (λ n. texts_up_to n (outcome_text_at p every.found)) long in
-    let counts : all.configurations ≡ every.configurations =
-    (let less = no_more p (order_of front) all.configurations every.configurations are.counted too.counted in
-    let more = no_more p (order_of front) every.configurations all.configurations too.counted are.counted in omega (arith, less, more)) in
     let texts : listed_text p all ≡ listed_text p every = λ i. count_line (codes "outcomes") (long i) ++ found i ++ count_line (codes "configurations") (counts i) in
     is ∙ texts ∙ sym one

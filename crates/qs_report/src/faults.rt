@@ -123,7 +123,8 @@ fn words_of_outcomes(fault: OutcomesFault) -> &'static [u8]
     }
 }
 
-fn words_of(fault: &Fault) -> &'static [u8]
+/// The words of a fault, which stand in its line.
+pub fn words_of(fault: &Fault) -> &'static [u8]
     ensures words { result.now ≡ fault_words fault.now }
 {
     match fault {
@@ -139,7 +140,8 @@ fn words_of(fault: &Fault) -> &'static [u8]
     }
 }
 
-fn place_of(fault: &Fault) -> Option<u32>
+/// The line of the script that a fault is of, where it has one.
+pub fn place_of(fault: &Fault) -> Option<u32>
     ensures place { result ≡ fault_place fault.now }
 {
     match fault {

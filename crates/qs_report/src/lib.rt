@@ -15,7 +15,7 @@ mod watching;
 
 pub use bytes::{put, put_all, put_number};
 pub use counts::check_text;
-pub use faults::{Fault, fault_line, fault_line_watched, status};
+pub use faults::{Fault, fault_line, fault_line_watched, place_of, status, words_of};
 pub use graphs::{graph_text, held_at, put_names, reserved_by};
 pub use names::{client_name, declared_name, variable_name};
 pub use outcomes::outcomes_text;

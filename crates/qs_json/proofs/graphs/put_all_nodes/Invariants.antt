@@ -1,0 +1,8 @@
+-- The nodes before this number are there.
+use Rattle.qs_report.specs.Texts.{texts_up_to}
+use Rattle.qs_json.specs.Pieces.{Puts, element}
+use Rattle.qs_json.specs.GraphJson.{node_json}
+use Rattle.qs_json.proofs.graphs.put_all_nodes.Given as goal
+
+abbrev pub invariant-loop-n : goal.invariant-loop-n
+invariant-loop-n l = Puts (texts_up_to l.n (element (node_json l.program l.client l.reserved l.graph.nodes l.sets))) l.initial.out.items l.out.items

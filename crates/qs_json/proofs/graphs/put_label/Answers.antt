@@ -1,0 +1,14 @@
+use Rattle.std.proofs.Common.{◌∙◌, Bool, ap, codes, sym}
+use Rattle.std.proofs.lemmas.Result.{on_ok_weaker}
+use Rattle.qs_graph.specs.declared.node.Node.{Node}
+use Rattle.qs_syncset.specs.Table.{has}
+use Rattle.qs_json.specs.Pieces.{field, truth}
+use Rattle.qs_json.specs.GraphJson.{label_json}
+use Rattle.qs_json.proofs.Parts.{named, then}
+use Rattle.qs_json.proofs.graphs.put_label.Goals as goal
+
+pub returns-in_ok-put_name-in-Sync : goal.returns-in_ok-put_name-in-Sync
+returns-in_ok-put_name-in-Sync c =
+    let node = ap (λ (v : Node). label_json c.args.program.now c.args.client (has c.args.sets.now c.args.n) v) (sym c.in-Sync.is ∙ c.node.ensures.value) in
+    let removed = ap (λ (b : Bool). field (codes "removed") (truth b)) c.holds.ensures.value in
+    record { ok = on_ok_weaker c.put_truth.result (λ e. named node (then c.in_ok-put_name-in-Sync.ensures.ok (named removed e))) c.put_truth.ensures.ok }

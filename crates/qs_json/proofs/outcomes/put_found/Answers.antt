@@ -1,0 +1,13 @@
+use Rattle.std.proofs.Common.{◌+◌, ap}
+use Rattle.qs_outcomes.specs.Standings.{StandingShape}
+use Rattle.qs_json.specs.OutcomesJson.{outcome_json, outcome_json_at}
+use Rattle.qs_json.proofs.Elements.{one_text_more}
+use Rattle.qs_json.proofs.Parts.{named}
+use Rattle.qs_json.proofs.outcomes.put_found.Goals as goal
+
+pub loop-place-preserved : goal.loop-place-preserved
+loop-place-preserved c =
+    let p = c.args.program.now in
+    let place = c.loop-place.place in
+    one_text_more (outcome_json_at p c.args.found.now) place c.loop-place.invariant
+    (named (ap (λ (s : StandingShape). outcome_json p (place + 1) s) c.outcome_at.ensures.standing) c.in_ok-put_outcome.ensures.ok)

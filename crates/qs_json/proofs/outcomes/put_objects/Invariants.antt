@@ -1,0 +1,8 @@
+-- The objects before this number are there.
+use Rattle.qs_report.specs.Texts.{texts_up_to}
+use Rattle.qs_json.specs.Pieces.{Puts, element}
+use Rattle.qs_json.specs.OutcomesJson.{object_json}
+use Rattle.qs_json.proofs.outcomes.put_objects.Given as goal
+
+abbrev pub invariant-loop-object : goal.invariant-loop-object
+invariant-loop-object l = Puts (texts_up_to l.object (element (object_json l.program l.standing))) l.initial.out.items l.out.items

@@ -1,0 +1,8 @@
+-- The variables before this number are there.
+use Rattle.qs_report.specs.Texts.{texts_up_to}
+use Rattle.qs_json.specs.Pieces.{Puts, element}
+use Rattle.qs_json.specs.OutcomesJson.{variable_json}
+use Rattle.qs_json.proofs.outcomes.put_values.Given as goal
+
+abbrev pub invariant-loop-number : goal.invariant-loop-number
+invariant-loop-number l = Puts (texts_up_to l.number (element (variable_json l.variables l.locals))) l.initial.out.items l.out.items

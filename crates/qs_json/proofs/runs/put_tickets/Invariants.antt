@@ -1,0 +1,8 @@
+-- The tickets before this place are there.
+use Rattle.qs_report.specs.Texts.{texts_up_to}
+use Rattle.qs_json.specs.Pieces.{Puts, element}
+use Rattle.qs_json.specs.RunJson.{ticket_json}
+use Rattle.qs_json.proofs.runs.put_tickets.Given as goal
+
+abbrev pub invariant-loop-place : goal.invariant-loop-place
+invariant-loop-place l = Puts (texts_up_to l.place (element (ticket_json l.counts l.program l.played))) l.initial.out.items l.out.items

@@ -1,0 +1,88 @@
+-- A run, and the counts of a program, as one object on one line.
+use Rattle.std.specs.Prelude.{ℕ, ℤ, List, [], ◌++◌, codes, decimal, length, Option, Some, None, slice_index_or, sum_by, Bool, false, if◌then◌else◌}
+use Rattle.std.specs.Fmt.{signed_decimal}
+use Rattle.qs_objects.specs.Act.{State}
+use Rattle.qs_objects.specs.Objects.{kind_of, values_of}
+use Rattle.qs_objects.specs.declared.held.Ticket.{Ticket}
+use Rattle.qs_objects.specs.declared.held.Event.{Event}
+use Rattle.qs_objects.specs.declared.object.Kind.{Kind}
+use Rattle.qs_objects.specs.declared.object.Kind.TheVariants as kinds
+use Rattle.qs_program.specs.Program.{ProgramShape, object_at, client_at, whole_load, whole_weight}
+use Rattle.qs_played.specs.Played.{Played}
+use Rattle.qs_sync_counts.specs.declared.sync_counts.SyncCount.{SyncCount}
+use Rattle.qs_report.specs.Report.{first_ticket, no_state, op_text}
+use Rattle.qs_json.specs.Pieces.{array, array_up_to, field, first_field, quoted, truth}
+
+-- a query's reply; a command has none
+abbrev pub reply_json : Option ℤ → List ℕ
+reply_json None = codes "null"
+reply_json (Some reply) = signed_decimal reply
+
+-- a request on an object of the program; a number past its objects has no name
+abbrev pub event_json : ProgramShape → Event → List ℕ
+event_json p e =
+    first_field (codes "object") (quoted (object_at p e.request.object).name)
+    ++ field (codes "operation") (quoted (op_text e.request.op))
+    ++ field (codes "arguments") (array signed_decimal e.request.args)
+    ++ field (codes "reply") (reply_json e.reply) ++ codes "}"
+
+-- how many synchronisations a block has sent for an object
+abbrev pub sync_json : ProgramShape → SyncCount → List ℕ
+sync_json p s = first_field (codes "object") (quoted (object_at p s.object).name) ++ field (codes "count") (decimal s.count) ++ codes "}"
+
+-- those of the ticket at a place, one for each object of its block's list, where they are asked for
+abbrev pub syncs_json : (counts : Bool) → ProgramShape → Played → ℕ → List ℕ
+syncs_json counts p run i = if counts then field (codes "sync_counts") (array (sync_json p) (slice_index_or run.sync_counts i [])) else []
+
+-- the first fields of a ticket: whose it is, and whether its block has ended
+abbrev pub block_json : ProgramShape → Ticket → Bool → List ℕ
+block_json p t ended =
+    first_field (codes "client") (quoted (client_at p t.client).name) ++ field (codes "block") (decimal t.index) ++ field (codes "done") (truth ended)
+
+-- the ticket at a place of the order, with its trace
+abbrev pub ticket_json : (counts : Bool) → ProgramShape → Played → ℕ → List ℕ
+ticket_json counts p run i =
+    block_json p (slice_index_or run.order i first_ticket) (slice_index_or run.ended i false)
+    ++ field (codes "trace") (array (event_json p) (slice_index_or run.traces i []))
+    ++ syncs_json counts p run i ++ codes "}"
+
+abbrev pub kind_json : List ℕ → List ℕ
+kind_json word = field (codes "kind") (quoted word)
+
+abbrev pub values_json : List ℤ → List ℕ
+values_json values = field (codes "values") (array signed_decimal values)
+
+-- a kind with its numbers, and the values of an object that has some
+abbrev pub content_json : Kind → List ℤ → List ℕ
+content_json (kinds.Account balance) values = kind_json (codes "account") ++ field (codes "balance") (signed_decimal balance)
+content_json (kinds.Buffer capacity) values = kind_json (codes "buffer") ++ field (codes "capacity") (signed_decimal capacity) ++ values_json values
+content_json (kinds.Grid rows columns) values =
+    kind_json (codes "grid") ++ field (codes "rows") (signed_decimal rows) ++ field (codes "columns") (signed_decimal columns) ++ values_json values
+
+-- an object with its name
+abbrev pub state_json : List ℕ → State → List ℕ
+state_json name s =
+    first_field (codes "object") (quoted name) ++ content_json (kind_of s.content) (values_of s.content)
+    ++ field (codes "refused") (signed_decimal s.refused) ++ codes "}"
+
+-- the object of a number
+abbrev pub object_json : ProgramShape → Played → ℕ → List ℕ
+object_json p run h = state_json (object_at p h).name (slice_index_or run.states h no_state)
+
+-- the tickets in their order, each with its trace, and with its counts where they are asked for; the objects' states, the number of syncs,
+-- and whether the run is finished
+abbrev pub run_json : (counts : Bool) → ProgramShape → Played → List ℕ
+run_json counts p run =
+    first_field (codes "order") (array_up_to (length run.order) (ticket_json counts p run))
+    ++ field (codes "states") (array_up_to (length run.states) (object_json p run))
+    ++ field (codes "syncs") (decimal run.syncs)
+    ++ field (codes "finished") (truth run.finished) ++ codes "}\n"
+
+-- the five counts of a program
+abbrev pub counts_json : ProgramShape → List ℕ
+counts_json p =
+    first_field (codes "objects") (decimal (length p.objects))
+    ++ field (codes "clients") (decimal (length p.clients))
+    ++ field (codes "blocks") (decimal (sum_by (λ c. length c.blocks) p.clients))
+    ++ field (codes "load") (decimal (whole_load p))
+    ++ field (codes "weight") (decimal (whole_weight p)) ++ codes "}\n"

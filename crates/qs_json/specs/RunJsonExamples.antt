@@ -1,0 +1,37 @@
+-- Runs, counts and refusals with their texts, worked out by hand.
+use Rattle.std.specs.Prelude.{◌≡◌, codes, true, false}
+use Rattle.qs_script.specs.declared.fault.ReadFault.TheVariants as read
+use Rattle.qs_places.specs.declared.fault.CheckFault.TheVariants as check
+use Rattle.qs_orders.specs.declared.fault.OrderFault.TheVariants as order_fault
+use Rattle.qs_outcomes.specs.declared.fault.OutcomesFault.TheVariants as outcomes
+use Rattle.qs_report.specs.Examples.{after_deposit, before, counted_syncs, deposited_once, deposits, three, two_clients_played}
+use Rattle.qs_report.specs.declared.faults.Fault.TheVariants.{CommandLine, Read, Check, Order, Outcomes, Memory}
+use Rattle.qs_json.specs.FaultJson.{fault_json}
+use Rattle.qs_json.specs.RunJson.{counts_json, run_json}
+
+pub record RunJsonExamples : Type 0 where
+  pub deposit :
+      run_json false deposits after_deposit
+      ≡ codes "{\"order\":[{\"client\":\"ann\",\"block\":0,\"done\":true,\"trace\":[{\"object\":\"a\",\"operation\":\"deposit\",\"arguments\":[5],\"reply\":null},{\"object\":\"a\",\"operation\":\"balance\",\"arguments\":[],\"reply\":105}]}],\"states\":[{\"object\":\"a\",\"kind\":\"account\",\"balance\":105,\"refused\":0}],\"syncs\":1,\"finished\":true}\n"
+  pub no_step :
+      run_json true deposits before
+      ≡ codes "{\"order\":[],\"states\":[{\"object\":\"a\",\"kind\":\"account\",\"balance\":100,\"refused\":0}],\"syncs\":0,\"finished\":false}\n"
+  pub several :
+      run_json false three two_clients_played
+      ≡ codes "{\"order\":[{\"client\":\"bob\",\"block\":0,\"done\":true,\"trace\":[{\"object\":\"g\",\"operation\":\"set\",\"arguments\":[2,0,9],\"reply\":null},{\"object\":\"g\",\"operation\":\"get\",\"arguments\":[5,-1],\"reply\":0}]},{\"client\":\"ann\",\"block\":0,\"done\":true,\"trace\":[{\"object\":\"b\",\"operation\":\"put\",\"arguments\":[-7],\"reply\":null},{\"object\":\"b\",\"operation\":\"drop\",\"arguments\":[],\"reply\":null},{\"object\":\"b\",\"operation\":\"take\",\"arguments\":[],\"reply\":-7},{\"object\":\"b\",\"operation\":\"front\",\"arguments\":[],\"reply\":0}]},{\"client\":\"bob\",\"block\":1,\"done\":false,\"trace\":[]}],\"states\":[{\"object\":\"b\",\"kind\":\"buffer\",\"capacity\":1,\"values\":[],\"refused\":2},{\"object\":\"g\",\"kind\":\"grid\",\"rows\":2,\"columns\":3,\"values\":[999999999999999999,999999999999999999,0,0,0,0],\"refused\":1},{\"object\":\"z_9\",\"kind\":\"account\",\"balance\":1000000000000000,\"refused\":0}],\"syncs\":3,\"finished\":false}\n"
+  pub counted_deposit :
+      run_json true deposits deposited_once
+      ≡ codes "{\"order\":[{\"client\":\"ann\",\"block\":0,\"done\":true,\"trace\":[{\"object\":\"a\",\"operation\":\"deposit\",\"arguments\":[5],\"reply\":null},{\"object\":\"a\",\"operation\":\"balance\",\"arguments\":[],\"reply\":105}],\"sync_counts\":[{\"object\":\"a\",\"count\":1}]}],\"states\":[{\"object\":\"a\",\"kind\":\"account\",\"balance\":105,\"refused\":0}],\"syncs\":1,\"finished\":true}\n"
+  pub counted :
+      run_json true three counted_syncs
+      ≡ codes "{\"order\":[{\"client\":\"bob\",\"block\":0,\"done\":true,\"trace\":[],\"sync_counts\":[]},{\"client\":\"ann\",\"block\":0,\"done\":true,\"trace\":[{\"object\":\"b\",\"operation\":\"front\",\"arguments\":[],\"reply\":0}],\"sync_counts\":[{\"object\":\"b\",\"count\":0}]},{\"client\":\"bob\",\"block\":1,\"done\":false,\"trace\":[],\"sync_counts\":[{\"object\":\"z_9\",\"count\":12},{\"object\":\"b\",\"count\":4294967295}]}],\"states\":[],\"syncs\":3,\"finished\":false}\n"
+  pub counts : counts_json three ≡ codes "{\"objects\":3,\"clients\":2,\"blocks\":3,\"load\":0,\"weight\":0}\n"
+
+pub record FaultJsonExamples : Type 0 where
+  pub command_line : fault_json CommandLine ≡ codes "{\"refused\":{\"fault\":\"command line\"}}\n"
+  pub read_byte : fault_json (Read (read.Byte 7)) ≡ codes "{\"refused\":{\"fault\":\"read 2 Byte\",\"line\":7}}\n"
+  pub read_size : fault_json (Read read.Size) ≡ codes "{\"refused\":{\"fault\":\"read 1 Size\"}}\n"
+  pub check_unknown_template : fault_json (Check check.UnknownTemplate) ≡ codes "{\"refused\":{\"fault\":\"check 13 UnknownTemplate\"}}\n"
+  pub order : fault_json (Order order_fault.Order) ≡ codes "{\"refused\":{\"fault\":\"play 4 Order\"}}\n"
+  pub outcomes_limit : fault_json (Outcomes outcomes.Limit) ≡ codes "{\"refused\":{\"fault\":\"outcomes 2 Limit\"}}\n"
+  pub memory : fault_json Memory ≡ codes "{\"refused\":{\"fault\":\"memory\"}}\n"

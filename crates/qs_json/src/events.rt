@@ -1,0 +1,107 @@
+// The trace of a ticket.
+
+ghost use Rattle.std.specs.Prelude.{◌≡◌, ◌<◌, ◌++◌, OnOk, codes, length, pos, slice_index_or};
+ghost use Rattle.std.specs.Fmt.{signed_decimal};
+ghost use Rattle.std.specs.List.{join_by};
+ghost use Rattle.qs_report.specs.Report.{op_text};
+ghost use Rattle.qs_json.specs.Pieces.{Puts, array, field, quoted};
+ghost use Rattle.qs_json.specs.RunJson.{event_json, reply_json};
+
+use crate::pieces::{put_comma, put_integer, put_object_name, put_string, put_word};
+use qs_objects::{Event, Op};
+use qs_program::Program;
+use std::alloc::AllocError;
+
+fn op_word(op: Op) -> &'static [u8]
+    ensures word { result.now ≡ op_text op }
+{
+    match op {
+        Op::Deposit => b"deposit",
+        Op::Withdraw => b"withdraw",
+        Op::Balance => b"balance",
+        Op::Refused => b"refused",
+        Op::Put => b"put",
+        Op::DropFirst => b"drop",
+        Op::TakeFirst => b"take",
+        Op::First => b"front",
+        Op::Size => b"size",
+        Op::SetCell => b"set",
+        Op::AddCell => b"add",
+        Op::Fill => b"fill",
+        Op::GetCell => b"get",
+        Op::RowSum => b"row",
+    }
+}
+
+// The operation of a request, as a field.
+fn put_operation(out: &mut Vec<u8>, op: Op) -> Result<(), AllocError>
+    ensures ok { OnOk result (Puts (field (codes "operation") (quoted (op_text op))) out.old.items out.new.items) }
+{
+    put_string(out, b",\"operation\":", op_word(op))
+}
+
+// The arguments of a request, with a comma between each two.
+fn put_joined(out: &mut Vec<u8>, args: &[i64]) -> Result<(), AllocError>
+    ensures ok { OnOk result (Puts (join_by signed_decimal (codes ",") args.now) out.old.items out.new.items) }
+{
+    for place in 0..args.len() {
+        put_comma(out, place)?;
+        put_integer(out, b"", args[place])?;
+    }
+    Ok(())
+}
+
+// The arguments of a request, as a field.
+fn put_arguments(out: &mut Vec<u8>, args: &[i64]) -> Result<(), AllocError>
+    ensures ok { OnOk result (Puts (codes ",\"arguments\":" ++ array signed_decimal args.now) out.old.items out.new.items) }
+{
+    put_word(out, b",\"arguments\":[")?;
+    put_joined(out, args)?;
+    put_word(out, b"]")
+}
+
+// A query's reply; a command has none.
+fn put_reply(out: &mut Vec<u8>, reply: Option<i64>) -> Result<(), AllocError>
+    ensures ok { OnOk result (Puts (reply_json reply) out.old.items out.new.items) }
+{
+    match reply {
+        None => put_word(out, b"null"),
+        Some(value) => put_integer(out, b"", value),
+    }
+}
+
+fn put_event(out: &mut Vec<u8>, program: &Program, event: &Event) -> Result<(), AllocError>
+    ensures ok { OnOk result (Puts (event_json program.now event.now) out.old.items out.new.items) }
+{
+    let request = &event.request;
+    put_object_name(out, program, request.object)?;
+    put_operation(out, request.op)?;
+    put_arguments(out, request.args.as_slice())?;
+    put_word(out, b",\"reply\":")?;
+    put_reply(out, event.reply)?;
+    put_word(out, b"}")
+}
+
+// The events of a trace, with a comma between each two.
+fn put_events(out: &mut Vec<u8>, program: &Program, trace: &[Event]) -> Result<(), AllocError>
+    ensures ok { OnOk result (Puts (join_by (event_json program.now) (codes ",") trace.now) out.old.items out.new.items) }
+{
+    for place in 0..trace.len() {
+        put_comma(out, place)?;
+        put_event(out, program, &trace[place])?;
+    }
+    Ok(())
+}
+
+/// Puts a trace at the end, as a field.
+pub(crate) fn put_trace(
+    out: &mut Vec<u8>,
+    program: &Program,
+    trace: &[Event],
+) -> Result<(), AllocError>
+    ensures ok { OnOk result (Puts (codes ",\"trace\":" ++ array (event_json program.now) trace.now) out.old.items out.new.items) }
+{
+    put_word(out, b",\"trace\":[")?;
+    put_events(out, program, trace)?;
+    put_word(out, b"]")
+}

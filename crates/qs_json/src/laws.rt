@@ -1,0 +1,33 @@
+//! Worked examples of texts for machines, and what holds of them.
+
+ghost use Rattle.qs_json.specs.GraphJson.{GraphJsonIsUnique};
+ghost use Rattle.qs_json.specs.GraphJsonExamples.{GraphJsonExamples};
+ghost use Rattle.qs_json.specs.OutcomesJson.{OutcomesJsonIsUnique};
+ghost use Rattle.qs_json.specs.OutcomesJsonExamples.{OutcomesJsonExamples};
+ghost use Rattle.qs_json.specs.RunJsonExamples.{FaultJsonExamples, RunJsonExamples};
+
+/// The texts of a few runs, counts and refusals, worked out by hand; it does nothing.
+pub fn run_json_examples()
+    ensures runs { RunJsonExamples }
+    ensures faults { FaultJsonExamples }
+{}
+
+/// The texts of two lists of outcomes, worked out by hand; it does nothing.
+pub fn outcomes_json_examples()
+    ensures examples { OutcomesJsonExamples }
+{}
+
+/// A program has one text of its outcomes after a front, also where the limit is another one; it does nothing.
+pub fn outcomes_json_is_unique()
+    ensures unique { OutcomesJsonIsUnique }
+{}
+
+/// The texts of the graphs of a few programs, worked out by hand; it does nothing.
+pub fn graph_json_examples()
+    ensures examples { GraphJsonExamples }
+{}
+
+/// A sound program has one text of its graphs; it does nothing.
+pub fn graph_json_is_unique()
+    ensures unique { GraphJsonIsUnique }
+{}

@@ -1,0 +1,18 @@
+//! The texts of results and refusals for machines: objects of named fields, one on a line.
+#![tactic(auto)]
+
+mod counts;
+mod events;
+mod faults;
+mod graphs;
+pub mod laws;
+mod outcomes;
+mod pieces;
+mod runs;
+mod states;
+
+pub use counts::counts_json;
+pub use faults::fault_json;
+pub use graphs::graph_json;
+pub use outcomes::outcomes_json;
+pub use runs::run_json;
