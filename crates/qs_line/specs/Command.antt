@@ -24,18 +24,20 @@ limit_rule = record (defaulted_rule (codes "limit") (codes "1000000")) { parser 
 abbrev pub counts_rule : Rule
 counts_rule = record (new_rule (codes "counts")) { long = Some (codes "counts"); action = Some SetTrue }
 
--- `.. [--warn]`, as on each word
-abbrev pub warned_app : App → App
-warned_app app = with_rule app (record (new_rule (codes "warn")) { long = Some (codes "warn"); action = Some SetTrue })
+-- `.. [--format F] [--warn]`, as on each word
+abbrev pub shared_app : App → App
+shared_app app =
+    with_rule (with_rule app (defaulted_rule (codes "format") (codes "text")))
+    (record (new_rule (codes "warn")) { long = Some (codes "warn"); action = Some SetTrue })
 
--- `check [--verbose] [--warn]`
+-- `check [--verbose] [--format F] [--warn]`
 abbrev pub check_app : App
 check_app =
-    warned_app (with_rule (new_app (codes "check")) (record (new_rule (codes "verbose")) { long = Some (codes "verbose"); action = Some SetTrue }))
+    shared_app (with_rule (new_app (codes "check")) (record (new_rule (codes "verbose")) { long = Some (codes "verbose"); action = Some SetTrue }))
 
 -- `graph [--format F] [--warn]`
 abbrev pub graph_app : App
-graph_app = warned_app (with_rule (new_app (codes "graph")) (defaulted_rule (codes "format") (codes "text")))
+graph_app = shared_app (new_app (codes "graph"))
 
 -- `.. [--rounds N] [--pick LIST] [--order LIST] [--counts]`
 abbrev pub planned_app : App → App
@@ -43,31 +45,31 @@ planned_app app =
     with_rule (with_rule (with_rule (with_rule app (option_rule (codes "rounds"))) (option_rule (codes "pick"))) (option_rule (codes "order")))
     counts_rule
 
--- `rules [--rounds N] [--pick LIST] [--order LIST] [--counts] [--warn]`
+-- `rules [--rounds N] [--pick LIST] [--order LIST] [--counts] [--format F] [--warn]`
 abbrev pub rules_app : App
-rules_app = warned_app (planned_app (new_app (codes "rules")))
+rules_app = shared_app (planned_app (new_app (codes "rules")))
 
 -- `WORD [--mode M] [--chunk N]`
 abbrev pub machine_app : Text → App
 machine_app word = with_rule (with_rule (new_app word) (defaulted_rule (codes "mode") (codes "both"))) chunk_rule
 
--- `play [--mode M] [--chunk N] [--rounds N] [--pick LIST] [--order LIST] [--counts] [--warn]`
+-- `play [--mode M] [--chunk N] [--rounds N] [--pick LIST] [--order LIST] [--counts] [--format F] [--warn]`
 abbrev pub play_app : App
-play_app = warned_app (planned_app (machine_app (codes "play")))
+play_app = shared_app (planned_app (machine_app (codes "play")))
 
--- `run [--mode M] [--chunk N] [--counts] [--warn]`
+-- `run [--mode M] [--chunk N] [--counts] [--format F] [--warn]`
 abbrev pub run_app : App
-run_app = warned_app (with_rule (machine_app (codes "run")) counts_rule)
+run_app = shared_app (with_rule (machine_app (codes "run")) counts_rule)
 
--- `outcomes [--limit N] [--after LIST] [--warn]`
+-- `outcomes [--limit N] [--after LIST] [--format F] [--warn]`
 abbrev pub outcomes_app : App
-outcomes_app = warned_app (with_rule (with_rule (new_app (codes "outcomes")) limit_rule) (option_rule (codes "after")))
+outcomes_app = shared_app (with_rule (with_rule (new_app (codes "outcomes")) limit_rule) (option_rule (codes "after")))
 
 -- the program's name and its version, with no word `help`
 abbrev pub named_app : App
 named_app = record (new_app (codes "qs")) { top = record (new_app (codes "qs")).top { disable_help_subcommand = true; has_version = true } }
 
--- `check [--verbose] [--warn]` and `graph [--format F] [--warn]`
+-- `check [--verbose] [--format F] [--warn]` and `graph [--format F] [--warn]`
 abbrev pub texts_app : App
 texts_app = with_subcommand (with_subcommand named_app check_app.top) graph_app.top
 

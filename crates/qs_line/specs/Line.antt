@@ -17,8 +17,11 @@ use Rattle.qs_lists.specs.declared.parts.Part.{Part}
 use Rattle.qs_line.specs.Command.{qs_app}
 use Rattle.qs_line.specs.declared.line.Format.{Format}
 use Rattle.qs_line.specs.declared.line.Format.TheVariants as format
+use Rattle.qs_line.specs.declared.line.GraphFormat.{GraphFormat}
+use Rattle.qs_line.specs.declared.line.GraphFormat.TheVariants as graph_format
 use Rattle.qs_line.specs.declared.line.LineFault.{LineFault}
 use Rattle.qs_line.specs.declared.line.LineFault.TheVariants as fault
+use Rattle.qs_line.specs.declared.line.ReportStyle.{ReportStyle}
 use Rattle.qs_line.specs.declared.line.Settings.{Settings}
 use Rattle.qs_line.specs.declared.line.Settings.TheVariants as word
 use Rattle.qs_line.specs.declared.plan.Plan.{Plan}
@@ -30,33 +33,54 @@ pub data PlanShape : Type 0 where
   by_schedule : (rounds : ℕ) → (picks : List Part) → PlanShape
   by_order : (clients : List Part) → PlanShape
 
--- what is asked for: the counts; the graphs, in a format; a run by the plain rules; one in the optimised machine, in a mode and by chunks of a size;
--- one on threads; or all outcomes after the blocks of some clients, with so many configurations at most. Of a run the counts of
--- synchronisations may be asked for as well.
+-- what is asked for: the counts; the graphs; a run by the plain rules; one in the optimised machine, in a mode and by chunks of a size;
+-- one on threads; or all outcomes after the blocks of some clients, with so many configurations at most. Each is asked for in a format, and
+-- of a run the counts of synchronisations may be asked for as well.
 pub data Request : Type 0 where
-  check : Request
-  graph : Format → Request
-  rules : (counts : Bool) → PlanShape → Request
-  play : (counts : Bool) → Mode → (chunk : ℕ) → PlanShape → Request
-  run : (counts : Bool) → Mode → ℕ → Request
-  outcomes : (limit : ℕ) → (front : List Part) → Request
+  check : Format → Request
+  graph : GraphFormat → Request
+  rules : ReportStyle → PlanShape → Request
+  play : ReportStyle → Mode → (chunk : ℕ) → PlanShape → Request
+  run : ReportStyle → Mode → ℕ → Request
+  outcomes : Format → (limit : ℕ) → (front : List Part) → Request
+
+-- the format of a refusal where graphs are asked for: beside a drawing it is text
+abbrev pub format_beside : GraphFormat → Format
+format_beside graph_format.Text = format.Text
+format_beside graph_format.Json = format.Json
+format_beside graph_format.Dot = format.Text
+
+-- the format in which a result is asked for, and its refusal
+abbrev pub format_of_request : Request → Format
+format_of_request (check how) = how
+format_of_request (graph how) = format_beside how
+format_of_request (rules style plan) = style.format
+format_of_request (play style mode chunk plan) = style.format
+format_of_request (run style mode chunk) = style.format
+format_of_request (outcomes how limit front) = how
 
 abbrev pub plan_of : Plan → PlanShape
 plan_of (plan.Schedule rounds picks) = by_schedule rounds picks.items
 plan_of (plan.Order clients) = by_order clients.items
 
 abbrev pub request_of : Settings → Request
-request_of word.Check = check
+request_of (word.Check how) = check how
 request_of (word.Graph how) = graph how
-request_of (word.Rules counts plan) = rules counts (plan_of plan)
-request_of (word.Play counts mode chunk plan) = play counts mode chunk (plan_of plan)
-request_of (word.Run counts mode chunk) = run counts mode chunk
-request_of (word.Outcomes limit front) = outcomes limit front.items
+request_of (word.Rules style plan) = rules style (plan_of plan)
+request_of (word.Play style mode chunk plan) = play style mode chunk (plan_of plan)
+request_of (word.Run style mode chunk) = run style mode chunk
+request_of (word.Outcomes how limit front) = outcomes how limit front.items
 
 abbrev pub format_in : Text → Option Format
 format_in text =
     if bytes_eq text (codes "text") then Some format.Text
-    else if bytes_eq text (codes "dot") then Some format.Dot else None
+    else if bytes_eq text (codes "json") then Some format.Json else None
+
+abbrev pub graph_format_in : Text → Option GraphFormat
+graph_format_in text =
+    if bytes_eq text (codes "text") then Some graph_format.Text
+    else if bytes_eq text (codes "json") then Some graph_format.Json
+    else if bytes_eq text (codes "dot") then Some graph_format.Dot else None
 
 abbrev pub mode_in : Text → Option Mode
 mode_in text =
@@ -89,6 +113,12 @@ is_verbose_met (Some entry) = flag_at (codes "verbose") entry.1
 
 abbrev pub format_at : List Row → Option Format
 format_at rows = option_and_then format_in (first_of (codes "format") rows)
+
+abbrev pub graph_format_at : List Row → Option GraphFormat
+graph_format_at rows = option_and_then graph_format_in (first_of (codes "format") rows)
+
+abbrev pub style_at : List Row → Option ReportStyle
+style_at rows = option_map (λ how. record { counts = counts_at rows; format = how }) (format_at rows)
 
 abbrev pub mode_at : List Row → Option Mode
 mode_at rows = option_and_then mode_in (first_of (codes "mode") rows)
@@ -126,26 +156,31 @@ order_at text rows = if has_schedule rows then None else option_map by_order (cl
 abbrev pub plan_at : List Row → Option PlanShape
 plan_at rows = option_map_or (λ text. order_at text rows) (first_of (codes "order") rows) (schedule_at rows)
 
+abbrev pub check_at : List Row → Option Request
+check_at rows = option_map check (format_at rows)
+
 abbrev pub graph_at : List Row → Option Request
-graph_at rows = option_map graph (format_at rows)
+graph_at rows = option_map graph (graph_format_at rows)
 
 abbrev pub rules_at : List Row → Option Request
-rules_at rows = option_map (rules (counts_at rows)) (plan_at rows)
+rules_at rows = option_and_then (λ style. option_map (rules style) (plan_at rows)) (style_at rows)
 
 abbrev pub play_at : List Row → Option Request
 play_at rows =
-    option_and_then (λ mode. option_and_then (λ chunk. option_map (play (counts_at rows) mode chunk) (plan_at rows)) (chunk_at rows)) (mode_at rows)
+    option_and_then (λ style. option_and_then (λ mode. option_and_then (λ chunk. option_map (play style mode chunk) (plan_at rows)) (chunk_at rows))
+    (mode_at rows)) (style_at rows)
 
 abbrev pub run_at : List Row → Option Request
-run_at rows = option_and_then (λ mode. option_map (run (counts_at rows) mode) (chunk_at rows)) (mode_at rows)
+run_at rows = option_and_then (λ style. option_and_then (λ mode. option_map (run style mode) (chunk_at rows)) (mode_at rows)) (style_at rows)
 
 abbrev pub outcomes_at : List Row → Option Request
-outcomes_at rows = option_and_then (λ limit. option_map (outcomes limit) (front_at rows)) (limit_at rows)
+outcomes_at rows =
+    option_and_then (λ how. option_and_then (λ limit. option_map (outcomes how limit) (front_at rows)) (limit_at rows)) (format_at rows)
 
 -- what a word asks for, with the entries that clap finds after it
 abbrev pub request_at : Text → List Row → Option Request
 request_at name rows =
-    if bytes_eq name (codes "check") then Some check
+    if bytes_eq name (codes "check") then check_at rows
     else if bytes_eq name (codes "graph") then graph_at rows
     else if bytes_eq name (codes "rules") then rules_at rows
     else if bytes_eq name (codes "play") then play_at rows
@@ -170,6 +205,13 @@ request_by (asks request) = Some request
 request_by help = None
 request_by version = None
 request_by refused = None
+
+-- the format of what a line comes to: what no request asks for is text
+abbrev pub format_by : Line → Format
+format_by (asks request) = format_of_request request
+format_by help = format.Text
+format_by version = format.Text
+format_by refused = format.Text
 
 abbrev pub line_met : Option Request → Line
 line_met (Some request) = asks request

@@ -8,36 +8,48 @@ use Rattle.qs_lists.specs.Numbers.{once}
 use Rattle.qs_lists.specs.Parts.{times}
 use Rattle.qs_syncset.specs.declared.mode.Mode.TheVariants.{Dynamic, Static, Both}
 use Rattle.qs_line.specs.declared.line.Format.TheVariants as format
+use Rattle.qs_line.specs.declared.line.GraphFormat.TheVariants as graph_format
+use Rattle.qs_line.specs.declared.line.ReportStyle.{ReportStyle}
 use Rattle.qs_line.specs.Line.{Line, asks, by_order, by_schedule, check, graph, help, is_verbose_in, line_in, outcomes, play, refused, rules, run, version, warns_in}
 
 -- the line of the words after the program's name
 abbrev pub line : List Text → Line
 line words = line_in (codes "qs" ∷ words)
 
+-- a report as text, without the counts and with them, and one as JSON
+abbrev pub plain : ReportStyle
+plain = record { counts = false; format = format.Text }
+
+abbrev pub counted : ReportStyle
+counted = record { counts = true; format = format.Text }
+
+abbrev pub as_json : ReportStyle
+as_json = record { counts = false; format = format.Json }
+
 -- a part that is a name alone
 abbrev pub named : Text → Part
 named name = times 1 (Name name)
 
 pub record DefaultLines : Type 0 where
-  pub checks : line (codes "check" ∷ []) ≡ asks check
-  pub graphs : line (codes "graph" ∷ []) ≡ asks (graph format.Text)
-  pub rules_alone : line (codes "rules" ∷ []) ≡ asks (rules false (by_schedule 1000000 []))
-  pub play_alone : line (codes "play" ∷ []) ≡ asks (play false Both 8 (by_schedule 1000000 []))
-  pub run_alone : line (codes "run" ∷ []) ≡ asks (run false Both 8)
-  pub outcomes_alone : line (codes "outcomes" ∷ []) ≡ asks (outcomes 1000000 [])
+  pub checks : line (codes "check" ∷ []) ≡ asks (check format.Text)
+  pub graphs : line (codes "graph" ∷ []) ≡ asks (graph graph_format.Text)
+  pub rules_alone : line (codes "rules" ∷ []) ≡ asks (rules plain (by_schedule 1000000 []))
+  pub play_alone : line (codes "play" ∷ []) ≡ asks (play plain Both 8 (by_schedule 1000000 []))
+  pub run_alone : line (codes "run" ∷ []) ≡ asks (run plain Both 8)
+  pub outcomes_alone : line (codes "outcomes" ∷ []) ≡ asks (outcomes format.Text 1000000 [])
 
 pub record SetLines : Type 0 where
-  pub mode : line (codes "play" ∷ codes "--mode" ∷ codes "static" ∷ []) ≡ asks (play false Static 8 (by_schedule 1000000 []))
-  pub chunk : line (codes "play" ∷ codes "--chunk=32" ∷ []) ≡ asks (play false Both 32 (by_schedule 1000000 []))
-  pub most_rounds : line (codes "rules" ∷ codes "--rounds" ∷ codes "4294967295" ∷ []) ≡ asks (rules false (by_schedule 4294967295 []))
-  pub picks : line (codes "rules" ∷ codes "--pick" ∷ codes "c0,h9,c0" ∷ []) ≡ asks (rules false (by_schedule 1000000 (once (Client 0) ∷ once (Handler 9) ∷ once (Client 0) ∷ [])))
+  pub mode : line (codes "play" ∷ codes "--mode" ∷ codes "static" ∷ []) ≡ asks (play plain Static 8 (by_schedule 1000000 []))
+  pub chunk : line (codes "play" ∷ codes "--chunk=32" ∷ []) ≡ asks (play plain Both 32 (by_schedule 1000000 []))
+  pub most_rounds : line (codes "rules" ∷ codes "--rounds" ∷ codes "4294967295" ∷ []) ≡ asks (rules plain (by_schedule 4294967295 []))
+  pub picks : line (codes "rules" ∷ codes "--pick" ∷ codes "c0,h9,c0" ∷ []) ≡ asks (rules plain (by_schedule 1000000 (once (Client 0) ∷ once (Handler 9) ∷ once (Client 0) ∷ [])))
   pub all : line (codes "play" ∷ codes "--rounds" ∷ codes "0" ∷ codes "--pick=h1" ∷ codes "--chunk" ∷ codes "1" ∷ codes "--mode=dynamic" ∷ [])
-      ≡ asks (play false Dynamic 1 (by_schedule 0 (once (Handler 1) ∷ [])))
-  pub runs : line (codes "run" ∷ codes "--chunk" ∷ codes "4" ∷ codes "--mode=static" ∷ []) ≡ asks (run false Static 4)
+      ≡ asks (play plain Dynamic 1 (by_schedule 0 (once (Handler 1) ∷ [])))
+  pub runs : line (codes "run" ∷ codes "--chunk" ∷ codes "4" ∷ codes "--mode=static" ∷ []) ≡ asks (run plain Static 4)
 
 pub record LimitLines : Type 0 where
-  pub least : line (codes "outcomes" ∷ codes "--limit" ∷ codes "1" ∷ []) ≡ asks (outcomes 1 [])
-  pub most : line (codes "outcomes" ∷ codes "--limit=4294967295" ∷ []) ≡ asks (outcomes 4294967295 [])
+  pub least : line (codes "outcomes" ∷ codes "--limit" ∷ codes "1" ∷ []) ≡ asks (outcomes format.Text 1 [])
+  pub most : line (codes "outcomes" ∷ codes "--limit=4294967295" ∷ []) ≡ asks (outcomes format.Text 4294967295 [])
   pub none : line (codes "outcomes" ∷ codes "--limit" ∷ codes "0" ∷ []) ≡ refused
   pub one_more : line (codes "outcomes" ∷ codes "--limit" ∷ codes "4294967296" ∷ []) ≡ refused
   pub negative : line (codes "outcomes" ∷ codes "--limit=-1" ∷ []) ≡ refused
@@ -48,54 +60,65 @@ pub record LimitLines : Type 0 where
   pub counted : line (codes "outcomes" ∷ codes "--counts" ∷ []) ≡ refused
 
 pub record FrontLines : Type 0 where
-  pub one : line (codes "outcomes" ∷ codes "--after" ∷ codes "c1" ∷ []) ≡ asks (outcomes 1000000 (once (Client 1) ∷ []))
-  pub more : line (codes "outcomes" ∷ codes "--after=c0,c9,c0" ∷ codes "--limit=7" ∷ []) ≡ asks (outcomes 7 (once (Client 0) ∷ once (Client 9) ∷ once (Client 0) ∷ []))
+  pub one : line (codes "outcomes" ∷ codes "--after" ∷ codes "c1" ∷ []) ≡ asks (outcomes format.Text 1000000 (once (Client 1) ∷ []))
+  pub more : line (codes "outcomes" ∷ codes "--after=c0,c9,c0" ∷ codes "--limit=7" ∷ []) ≡ asks (outcomes format.Text 7 (once (Client 0) ∷ once (Client 9) ∷ once (Client 0) ∷ []))
   pub a_handler : line (codes "outcomes" ∷ codes "--after" ∷ codes "c0,h0" ∷ []) ≡ refused
   pub nobody : line (codes "outcomes" ∷ codes "--after" ∷ [] ∷ []) ≡ refused
-  pub two_digits : line (codes "outcomes" ∷ codes "--after" ∷ codes "c10" ∷ []) ≡ asks (outcomes 1000000 (named (codes "c10") ∷ []))
-  pub repeated : line (codes "outcomes" ∷ codes "--after=ann*2,c1" ∷ []) ≡ asks (outcomes 1000000 (times 2 (Name (codes "ann")) ∷ once (Client 1) ∷ []))
+  pub two_digits : line (codes "outcomes" ∷ codes "--after" ∷ codes "c10" ∷ []) ≡ asks (outcomes format.Text 1000000 (named (codes "c10") ∷ []))
+  pub repeated : line (codes "outcomes" ∷ codes "--after=ann*2,c1" ∷ []) ≡ asks (outcomes format.Text 1000000 (times 2 (Name (codes "ann")) ∷ once (Client 1) ∷ []))
   pub twice : line (codes "outcomes" ∷ codes "--after=c0" ∷ codes "--after=c0" ∷ []) ≡ refused
   pub of_play : line (codes "play" ∷ codes "--after" ∷ codes "c0" ∷ []) ≡ refused
 
 pub record OrderLines : Type 0 where
-  pub by_rules : line (codes "rules" ∷ codes "--order" ∷ codes "c1" ∷ []) ≡ asks (rules false (by_order (once (Client 1) ∷ [])))
+  pub by_rules : line (codes "rules" ∷ codes "--order" ∷ codes "c1" ∷ []) ≡ asks (rules plain (by_order (once (Client 1) ∷ [])))
   pub by_play : line (codes "play" ∷ codes "--order=c0,c9,c0" ∷ [])
-      ≡ asks (play false Both 8 (by_order (once (Client 0) ∷ once (Client 9) ∷ once (Client 0) ∷ [])))
+      ≡ asks (play plain Both 8 (by_order (once (Client 0) ∷ once (Client 9) ∷ once (Client 0) ∷ [])))
   pub beside_others : line (codes "play" ∷ codes "--counts" ∷ codes "--order=c1" ∷ codes "--chunk=1" ∷ codes "--mode=static" ∷ [])
-      ≡ asks (play true Static 1 (by_order (once (Client 1) ∷ [])))
+      ≡ asks (play counted Static 1 (by_order (once (Client 1) ∷ [])))
   pub beside_picks : line (codes "rules" ∷ codes "--order=c0" ∷ codes "--pick=c0" ∷ []) ≡ refused
   pub after_picks : line (codes "play" ∷ codes "--pick=c0" ∷ codes "--order=c0" ∷ []) ≡ refused
   pub beside_rounds : line (codes "play" ∷ codes "--order=c0" ∷ codes "--rounds=1000000" ∷ []) ≡ refused
   pub after_rounds : line (codes "rules" ∷ codes "--rounds" ∷ codes "7" ∷ codes "--order=c0" ∷ []) ≡ refused
   pub a_handler : line (codes "rules" ∷ codes "--order" ∷ codes "c0,h0" ∷ []) ≡ refused
   pub nobody : line (codes "rules" ∷ codes "--order" ∷ [] ∷ []) ≡ refused
-  pub two_digits : line (codes "rules" ∷ codes "--order" ∷ codes "c10" ∷ []) ≡ asks (rules false (by_order (named (codes "c10") ∷ [])))
+  pub two_digits : line (codes "rules" ∷ codes "--order" ∷ codes "c10" ∷ []) ≡ asks (rules plain (by_order (named (codes "c10") ∷ [])))
   pub repeated : line (codes "rules" ∷ codes "--order=bob,ann*2" ∷ [])
-      ≡ asks (rules false (by_order (named (codes "bob") ∷ times 2 (Name (codes "ann")) ∷ [])))
+      ≡ asks (rules plain (by_order (named (codes "bob") ∷ times 2 (Name (codes "ann")) ∷ [])))
   pub twice : line (codes "play" ∷ codes "--order=c0" ∷ codes "--order=c0" ∷ []) ≡ refused
   pub of_run : line (codes "run" ∷ codes "--order=c0" ∷ []) ≡ refused
 
 pub record FormatLines : Type 0 where
-  pub text : line (codes "graph" ∷ codes "--format" ∷ codes "text" ∷ []) ≡ asks (graph format.Text)
-  pub dot : line (codes "graph" ∷ codes "--format" ∷ codes "dot" ∷ []) ≡ asks (graph format.Dot)
-  pub warned : line (codes "graph" ∷ codes "--warn" ∷ codes "--format=dot" ∷ []) ≡ asks (graph format.Dot)
+  pub text : line (codes "graph" ∷ codes "--format" ∷ codes "text" ∷ []) ≡ asks (graph graph_format.Text)
+  pub dot : line (codes "graph" ∷ codes "--format" ∷ codes "dot" ∷ []) ≡ asks (graph graph_format.Dot)
+  pub warned : line (codes "graph" ∷ codes "--warn" ∷ codes "--format=dot" ∷ []) ≡ asks (graph graph_format.Dot)
   pub unknown : line (codes "graph" ∷ codes "--format=svg" ∷ []) ≡ refused
   pub capital : line (codes "graph" ∷ codes "--format" ∷ codes "Dot" ∷ []) ≡ refused
   pub empty : line (codes "graph" ∷ codes "--format" ∷ [] ∷ []) ≡ refused
   pub without_value : line (codes "graph" ∷ codes "--format" ∷ []) ≡ refused
   pub twice : line (codes "graph" ∷ codes "--format=dot" ∷ codes "--format=dot" ∷ []) ≡ refused
+  pub json : line (codes "graph" ∷ codes "--format=json" ∷ []) ≡ asks (graph graph_format.Json)
+  pub checks : line (codes "check" ∷ codes "--format=json" ∷ codes "--verbose" ∷ []) ≡ asks (check format.Json)
+  pub rules_as_json : line (codes "rules" ∷ codes "--format" ∷ codes "json" ∷ []) ≡ asks (rules as_json (by_schedule 1000000 []))
+  pub plays : line (codes "play" ∷ codes "--counts" ∷ codes "--format=json" ∷ []) ≡ asks (play (record as_json { counts = true }) Both 8 (by_schedule 1000000 []))
+  pub runs : line (codes "run" ∷ codes "--format=json" ∷ []) ≡ asks (run as_json Both 8)
+  pub lists : line (codes "outcomes" ∷ codes "--format=json" ∷ codes "--limit=7" ∷ []) ≡ asks (outcomes format.Json 7 [])
+  pub play_as_text : line (codes "play" ∷ codes "--format=text" ∷ []) ≡ asks (play plain Both 8 (by_schedule 1000000 []))
   pub of_check : line (codes "check" ∷ codes "--format=dot" ∷ []) ≡ refused
+  pub of_rules : line (codes "rules" ∷ codes "--format=dot" ∷ []) ≡ refused
+  pub of_play : line (codes "play" ∷ codes "--format=dot" ∷ []) ≡ refused
+  pub of_run : line (codes "run" ∷ codes "--format" ∷ codes "xml" ∷ []) ≡ refused
+  pub of_outcomes : line (codes "outcomes" ∷ codes "--format=dot" ∷ []) ≡ refused
   pub before_word : line (codes "--format=dot" ∷ codes "graph" ∷ []) ≡ refused
 
 pub record CountedLines : Type 0 where
-  pub rules_alone : line (codes "rules" ∷ codes "--counts" ∷ []) ≡ asks (rules true (by_schedule 1000000 []))
-  pub play_alone : line (codes "play" ∷ codes "--counts" ∷ []) ≡ asks (play true Both 8 (by_schedule 1000000 []))
-  pub run_alone : line (codes "run" ∷ codes "--counts" ∷ []) ≡ asks (run true Both 8)
+  pub rules_alone : line (codes "rules" ∷ codes "--counts" ∷ []) ≡ asks (rules counted (by_schedule 1000000 []))
+  pub play_alone : line (codes "play" ∷ codes "--counts" ∷ []) ≡ asks (play counted Both 8 (by_schedule 1000000 []))
+  pub run_alone : line (codes "run" ∷ codes "--counts" ∷ []) ≡ asks (run counted Both 8)
   pub before_others : line (codes "rules" ∷ codes "--counts" ∷ codes "--pick" ∷ codes "c0" ∷ codes "--rounds=4" ∷ [])
-      ≡ asks (rules true (by_schedule 4 (once (Client 0) ∷ [])))
+      ≡ asks (rules counted (by_schedule 4 (once (Client 0) ∷ [])))
   pub between_others : line (codes "play" ∷ codes "--mode=static" ∷ codes "--counts" ∷ codes "--rounds" ∷ codes "4" ∷ [])
-      ≡ asks (play true Static 8 (by_schedule 4 []))
-  pub after_others : line (codes "run" ∷ codes "--chunk" ∷ codes "4" ∷ codes "--mode=static" ∷ codes "--counts" ∷ []) ≡ asks (run true Static 4)
+      ≡ asks (play counted Static 8 (by_schedule 4 []))
+  pub after_others : line (codes "run" ∷ codes "--chunk" ∷ codes "4" ∷ codes "--mode=static" ∷ codes "--counts" ∷ []) ≡ asks (run counted Static 4)
 
 pub record UncountedLines : Type 0 where
   pub twice : line (codes "rules" ∷ codes "--counts" ∷ codes "--counts" ∷ []) ≡ refused
@@ -109,9 +132,9 @@ pub record UncountedLines : Type 0 where
 -- a part is an actor by its number or a name, and after a `*` how often
 pub record ListLines : Type 0 where
   pub names : line (codes "rules" ∷ codes "--pick=ann*3,a,h0*2" ∷ [])
-      ≡ asks (rules false (by_schedule 1000000 (times 3 (Name (codes "ann")) ∷ named (codes "a") ∷ times 2 (Number (Handler 0)) ∷ [])))
-  pub two_digits : line (codes "play" ∷ codes "--pick" ∷ codes "c10" ∷ []) ≡ asks (play false Both 8 (by_schedule 1000000 (named (codes "c10") ∷ [])))
-  pub most : line (codes "rules" ∷ codes "--pick=c0*1000000" ∷ []) ≡ asks (rules false (by_schedule 1000000 (times 1000000 (Number (Client 0)) ∷ [])))
+      ≡ asks (rules plain (by_schedule 1000000 (times 3 (Name (codes "ann")) ∷ named (codes "a") ∷ times 2 (Number (Handler 0)) ∷ [])))
+  pub two_digits : line (codes "play" ∷ codes "--pick" ∷ codes "c10" ∷ []) ≡ asks (play plain Both 8 (by_schedule 1000000 (named (codes "c10") ∷ [])))
+  pub most : line (codes "rules" ∷ codes "--pick=c0*1000000" ∷ []) ≡ asks (rules plain (by_schedule 1000000 (times 1000000 (Number (Client 0)) ∷ [])))
   pub one_more : line (codes "rules" ∷ codes "--pick=c0*1000001" ∷ []) ≡ refused
   pub more_in_all : line (codes "rules" ∷ codes "--pick=c0*1000000,h0" ∷ []) ≡ refused
   pub no_times : line (codes "rules" ∷ codes "--pick=c0*0" ∷ []) ≡ refused
@@ -119,15 +142,15 @@ pub record ListLines : Type 0 where
   pub two_numbers : line (codes "rules" ∷ codes "--pick=c0*2*2" ∷ []) ≡ refused
   pub a_capital : line (codes "rules" ∷ codes "--pick=Ann" ∷ []) ≡ refused
   pub a_space : line (codes "rules" ∷ codes "--pick=ann, bob" ∷ []) ≡ refused
-  pub longest_name : line (codes "rules" ∷ codes "--order=abcdefghijklmnop" ∷ []) ≡ asks (rules false (by_order (named (codes "abcdefghijklmnop") ∷ [])))
+  pub longest_name : line (codes "rules" ∷ codes "--order=abcdefghijklmnop" ∷ []) ≡ asks (rules plain (by_order (named (codes "abcdefghijklmnop") ∷ [])))
   pub longer_name : line (codes "rules" ∷ codes "--order=abcdefghijklmnopq" ∷ []) ≡ refused
   pub handlers_in_an_order : line (codes "rules" ∷ codes "--order=ann,h0*2" ∷ []) ≡ refused
 
 -- `--warn` changes nothing of what is asked for
 pub record WarnedLines : Type 0 where
-  pub checks : line (codes "check" ∷ codes "--warn" ∷ []) ≡ asks check
-  pub runs : line (codes "run" ∷ codes "--warn" ∷ codes "--counts" ∷ []) ≡ asks (run true Both 8)
-  pub lists : line (codes "outcomes" ∷ codes "--limit" ∷ codes "7" ∷ codes "--warn" ∷ []) ≡ asks (outcomes 7 [])
+  pub checks : line (codes "check" ∷ codes "--warn" ∷ []) ≡ asks (check format.Text)
+  pub runs : line (codes "run" ∷ codes "--warn" ∷ codes "--counts" ∷ []) ≡ asks (run counted Both 8)
+  pub lists : line (codes "outcomes" ∷ codes "--limit" ∷ codes "7" ∷ codes "--warn" ∷ []) ≡ asks (outcomes format.Text 7 [])
   pub asked : warns_in (codes "qs" ∷ codes "graph" ∷ codes "--warn" ∷ []) ≡ true
   pub unasked : warns_in (codes "qs" ∷ codes "graph" ∷ []) ≡ false
   pub twice : line (codes "check" ∷ codes "--warn" ∷ codes "--warn" ∷ []) ≡ refused
@@ -135,8 +158,8 @@ pub record WarnedLines : Type 0 where
 
 -- `--verbose` stands after `check` alone, and changes nothing of what is asked for
 pub record VerboseLines : Type 0 where
-  pub checks : line (codes "check" ∷ codes "--verbose" ∷ []) ≡ asks check
-  pub warned : line (codes "check" ∷ codes "--warn" ∷ codes "--verbose" ∷ []) ≡ asks check
+  pub checks : line (codes "check" ∷ codes "--verbose" ∷ []) ≡ asks (check format.Text)
+  pub warned : line (codes "check" ∷ codes "--warn" ∷ codes "--verbose" ∷ []) ≡ asks (check format.Text)
   pub asked : is_verbose_in (codes "qs" ∷ codes "check" ∷ codes "--verbose" ∷ []) ≡ true
   pub unasked : is_verbose_in (codes "qs" ∷ codes "check" ∷ codes "--warn" ∷ []) ≡ false
   pub unwarned : warns_in (codes "qs" ∷ codes "check" ∷ codes "--verbose" ∷ []) ≡ false

@@ -3,7 +3,7 @@
 ghost use Rattle.std.specs.Prelude.{◌≡◌, IfOk, codes, false};
 ghost use Rattle.clap.specs.Words.{app_of, new_app, rule_of, with_subcommand};
 ghost use Rattle.clap.specs.declared.Command.TheViews.{out-Command as fields_of};
-ghost use Rattle.qs_line.specs.Command.{check_app, chunk_rule, counts_rule, defaulted_rule, graph_app, limit_rule, machine_app, named_app, option_rule, outcomes_app, planned_app, play_app, qs_app, rules_app, run_app, texts_app, warned_app};
+ghost use Rattle.qs_line.specs.Command.{check_app, chunk_rule, counts_rule, defaulted_rule, graph_app, limit_rule, machine_app, named_app, option_rule, outcomes_app, planned_app, play_app, qs_app, rules_app, run_app, shared_app, texts_app};
 
 use crate::help;
 use clap::{Arg, ArgAction, Command, value_parser};
@@ -57,13 +57,18 @@ fn counts_flag<'a>(alloc: Global) -> Arg<'a>
         .action(ArgAction::SetTrue)
 }
 
-// With the flag that every word has.
-fn warned<'a>(alloc: Global, command: Command<'a>) -> Result<Command<'a>, AllocError>
+// With the settings that every word has: the format of what is written, and whether warnings are asked for.
+fn shared<'a>(
+    alloc: Global,
+    command: Command<'a>,
+    formats: &'a str,
+) -> Result<Command<'a>, AllocError>
     requires local { (fields_of command).has_globals ≡ false }
-    ensures app { IfOk result (λ whole. app_of whole ≡ warned_app (app_of command.entry)) }
+    ensures app { IfOk result (λ whole. app_of whole ≡ shared_app (app_of command.entry)) }
     ensures local { IfOk result (λ whole. (fields_of whole).has_globals ≡ false) }
 {
-    command.arg(
+    let format = option(alloc, "format", "F", formats).default_value("text");
+    command.arg(format)?.arg(
         Arg::new(alloc, "warn")
             .long("warn")
             .help(help::WARN)
@@ -102,20 +107,15 @@ fn check_command<'a>(alloc: Global) -> Result<Command<'a>, AllocError>
             .help(help::VERBOSE)
             .action(ArgAction::SetTrue),
     )?;
-    warned(alloc, check)
+    shared(alloc, check, help::FORMAT)
 }
 
 fn graph_command<'a>(alloc: Global) -> Result<Command<'a>, AllocError>
     ensures app { IfOk result (λ command. app_of command ≡ graph_app) }
     ensures local { IfOk result (λ command. (fields_of command).has_globals ≡ false) }
 {
-    let graph = word(alloc, "graph", help::GRAPH, help::GRAPH_EXAMPLE).arg(option(
-        alloc,
-        "format",
-        "F",
-        help::FORMAT,
-    ).default_value("text"))?;
-    warned(alloc, graph)
+    let graph = word(alloc, "graph", help::GRAPH, help::GRAPH_EXAMPLE);
+    shared(alloc, graph, help::GRAPH_FORMAT)
 }
 
 fn rules_command<'a>(alloc: Global) -> Result<Command<'a>, AllocError>
@@ -126,7 +126,7 @@ fn rules_command<'a>(alloc: Global) -> Result<Command<'a>, AllocError>
         alloc,
         word(alloc, "rules", help::RULES, help::RULES_EXAMPLE),
     )?;
-    warned(alloc, rules)
+    shared(alloc, rules, help::FORMAT)
 }
 
 fn machine_command<'a>(
@@ -151,7 +151,7 @@ fn play_command<'a>(alloc: Global) -> Result<Command<'a>, AllocError>
         alloc,
         machine_command(alloc, "play", help::PLAY, help::PLAY_EXAMPLE)?,
     )?;
-    warned(alloc, play)
+    shared(alloc, play, help::FORMAT)
 }
 
 fn run_command<'a>(alloc: Global) -> Result<Command<'a>, AllocError>
@@ -159,7 +159,7 @@ fn run_command<'a>(alloc: Global) -> Result<Command<'a>, AllocError>
     ensures local { IfOk result (λ command. (fields_of command).has_globals ≡ false) }
 {
     let run = machine_command(alloc, "run", help::RUN, help::RUN_EXAMPLE)?.arg(counts_flag(alloc))?;
-    warned(alloc, run)
+    shared(alloc, run, help::FORMAT)
 }
 
 fn outcomes_command<'a>(alloc: Global) -> Result<Command<'a>, AllocError>
@@ -169,7 +169,7 @@ fn outcomes_command<'a>(alloc: Global) -> Result<Command<'a>, AllocError>
     let outcomes = word(alloc, "outcomes", help::OUTCOMES, help::OUTCOMES_EXAMPLE)
         .arg(limit_option(alloc))?
         .arg(option(alloc, "after", "LIST", help::AFTER))?;
-    warned(alloc, outcomes)
+    shared(alloc, outcomes, help::FORMAT)
 }
 
 // The program, before its words.

@@ -110,7 +110,10 @@ client with its variables. Configurations, which the last line counts, are where
 );
 
 pub const FORMAT: &str =
-    "How the graphs are written: as text, or as a drawing that graphviz draws: text or dot";
+    "How the result is written: as text for people, or as JSON for programs: text or json";
+
+pub const GRAPH_FORMAT: &str =
+    "How the graphs are written: as text, as JSON for programs, or as a drawing that graphviz draws: text, json or dot";
 
 pub const MODE: &str =
     "Which synchronisations are left out: by none, dynamic or static coalescing, or by both";

@@ -9,6 +9,8 @@ mod line;
 mod plan;
 mod told;
 
-pub use line::{Asked, Format, LineFault, Settings, asked_for, read_line};
+pub use line::{
+    Asked, Format, GraphFormat, LineFault, ReportStyle, Settings, asked_for, read_line,
+};
 pub use plan::Plan;
 pub use told::{refusal, value_after};

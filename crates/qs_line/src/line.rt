@@ -4,7 +4,7 @@ ghost use Rattle.std.specs.Prelude.{◌≡◌, [], IfOk, IfErr, map, option_map}
 ghost use Rattle.clap.specs.Words.{found_of, kind_of, rows_of, subcommand_of, subcommand_rows_of};
 ghost use Rattle.clap.specs.Faults.{fault_of};
 ghost use Rattle.qs_line.specs.Command.{qs_app};
-ghost use Rattle.qs_line.specs.Line.{IsAnswer, IsFault, IsFaultAmong, chunk_at, counts_at, flag_at, format_at, front_at, graph_at, is_verbose_in, is_verbose_met, limit_at, line_in, mode_at, outcomes_at, play_at, request_at, request_met, request_of, rules_at, run_at, warns_in, warns_met};
+ghost use Rattle.qs_line.specs.Line.{IsAnswer, IsFault, IsFaultAmong, check_at, chunk_at, counts_at, flag_at, format_at, front_at, graph_at, graph_format_at, is_verbose_in, is_verbose_met, limit_at, line_in, mode_at, outcomes_at, play_at, request_at, request_met, request_of, rules_at, run_at, style_at, warns_in, warns_met};
 
 use crate::command::command;
 use crate::found::text_at;
@@ -16,36 +16,59 @@ use qs_lists::{Part, clients_in};
 use qs_syncset::Mode;
 use std::alloc::{AllocError, Global};
 
-/// How graphs are written.
+/// How a result is written.
 #[derive(Clone, Copy, Debug)]
 pub enum Format {
     /// As lines of words.
     Text,
+    /// As JSON, for programs.
+    Json,
+}
+
+/// How graphs are written.
+#[derive(Clone, Copy, Debug)]
+pub enum GraphFormat {
+    /// As lines of words.
+    Text,
+    /// As JSON, for programs.
+    Json,
     /// As a drawing in the DOT language, which graphviz draws.
     Dot,
+}
+
+/// How the report of a run is written.
+#[derive(Clone, Copy, Debug)]
+pub struct ReportStyle {
+    /// Whether each block's synchronisations are shown.
+    pub counts: bool,
+    /// As text or as JSON.
+    pub format: Format,
 }
 
 /// What an accepted line asks for.
 #[derive(Drop)]
 pub enum Settings {
     /// Check the script, and count.
-    Check,
+    Check {
+        /// How the counts are written.
+        format: Format,
+    },
     /// Check it, and show the graphs of its blocks.
     Graph {
         /// How they are written.
-        format: Format,
+        format: GraphFormat,
     },
     /// Check it, and play it by the plain rules.
     Rules {
-        /// Whether each block's synchronisations are shown.
-        counts: bool,
+        /// How the report is written.
+        style: ReportStyle,
         /// Who goes when.
         plan: Plan,
     },
     /// Check it, and play it in the optimised machine.
     Play {
-        /// Whether each block's synchronisations are shown.
-        counts: bool,
+        /// How the report is written.
+        style: ReportStyle,
         /// Which synchronisations are left out.
         mode: Mode,
         /// How many commands a chunk takes.
@@ -55,8 +78,8 @@ pub enum Settings {
     },
     /// Check it, and run it on threads.
     Run {
-        /// Whether each block's synchronisations are shown.
-        counts: bool,
+        /// How the report is written.
+        style: ReportStyle,
         /// Which synchronisations are left out.
         mode: Mode,
         /// How many commands a chunk takes.
@@ -64,11 +87,34 @@ pub enum Settings {
     },
     /// Check it, and list all outcomes.
     Outcomes {
+        /// How they are written.
+        format: Format,
         /// How many configurations are looked at, at most.
         limit: u32,
         /// Whose blocks were run before.
         front: Vec<Part>,
     },
+}
+
+impl Settings {
+    ghost use Rattle.qs_line.specs.Line.{format_of_request, request_of};
+
+    /// In which format the result is asked for, and its refusal: beside a drawing that is text.
+    pub fn format(&self) -> Format
+        ensures format { result ≡ format_of_request (request_of self.now) }
+    {
+        match self {
+            Settings::Check { format } => *format,
+            Settings::Graph { format } => match format {
+                GraphFormat::Json => Format::Json,
+                GraphFormat::Text | GraphFormat::Dot => Format::Text,
+            },
+            Settings::Rules { style, .. } => style.format,
+            Settings::Play { style, .. } => style.format,
+            Settings::Run { style, .. } => style.format,
+            Settings::Outcomes { format, .. } => *format,
+        }
+    }
 }
 
 /// Why a line gives no settings.
@@ -105,9 +151,30 @@ fn format_of(found: &ArgMatches<'_>) -> Option<Format>
 {
     match text_at(found, "format")? {
         "text" => Some(Format::Text),
-        "dot" => Some(Format::Dot),
+        "json" => Some(Format::Json),
         _ => None,
     }
+}
+
+fn graph_format_of(found: &ArgMatches<'_>) -> Option<GraphFormat>
+    ensures format { result ≡ graph_format_at (rows_of (found_of found.now)) }
+{
+    match text_at(found, "format")? {
+        "text" => Some(GraphFormat::Text),
+        "json" => Some(GraphFormat::Json),
+        "dot" => Some(GraphFormat::Dot),
+        _ => None,
+    }
+}
+
+fn style_of(found: &ArgMatches<'_>) -> Option<ReportStyle>
+    ensures style { result ≡ style_at (rows_of (found_of found.now)) }
+{
+    let format = format_of(found)?;
+    Some(ReportStyle {
+        counts: counts_of(found),
+        format,
+    })
 }
 
 fn mode_of(found: &ArgMatches<'_>) -> Option<Mode>
@@ -145,34 +212,39 @@ fn given_front(alloc: Global, found: &ArgMatches<'_>) -> Result<Option<Vec<Part>
     }
 }
 
+fn check_settings(found: &ArgMatches<'_>) -> Option<Settings>
+    ensures settings { option_map request_of result ≡ check_at (rows_of (found_of found.now)) }
+{
+    let format = format_of(found)?;
+    Some(Settings::Check { format })
+}
+
 fn graph_settings(found: &ArgMatches<'_>) -> Option<Settings>
     ensures settings { option_map request_of result ≡ graph_at (rows_of (found_of found.now)) }
 {
-    let format = format_of(found)?;
+    let format = graph_format_of(found)?;
     Some(Settings::Graph { format })
 }
 
 fn rules_settings(alloc: Global, found: &ArgMatches<'_>) -> Result<Option<Settings>, AllocError>
     ensures settings { IfOk result (λ settings. option_map request_of settings ≡ rules_at (rows_of (found_of found.now))) }
 {
-    match given_plan(alloc, found)? {
-        Some(plan) => Ok(Some(Settings::Rules {
-            counts: counts_of(found),
-            plan,
-        })),
-        None => Ok(None),
-    }
+    let (Some(style), Some(plan)) = (style_of(found), given_plan(alloc, found)?) else {
+        return Ok(None);
+    };
+    Ok(Some(Settings::Rules { style, plan }))
 }
 
 fn play_settings(alloc: Global, found: &ArgMatches<'_>) -> Result<Option<Settings>, AllocError>
     ensures settings { IfOk result (λ settings. option_map request_of settings ≡ play_at (rows_of (found_of found.now))) }
 {
-    let (Some(mode), Some(chunk)) = (mode_of(found), chunk_of(found)) else {
+    let (Some(style), Some(mode), Some(chunk)) = (style_of(found), mode_of(found), chunk_of(found))
+    else {
         return Ok(None);
     };
     match given_plan(alloc, found)? {
         Some(plan) => Ok(Some(Settings::Play {
-            counts: counts_of(found),
+            style,
             mode,
             chunk,
             plan,
@@ -184,22 +256,27 @@ fn play_settings(alloc: Global, found: &ArgMatches<'_>) -> Result<Option<Setting
 fn run_settings(found: &ArgMatches<'_>) -> Option<Settings>
     ensures settings { option_map request_of result ≡ run_at (rows_of (found_of found.now)) }
 {
+    let style = style_of(found)?;
     let mode = mode_of(found)?;
     let chunk = chunk_of(found)?;
-    Some(Settings::Run {
-        counts: counts_of(found),
-        mode,
-        chunk,
-    })
+    Some(Settings::Run { style, mode, chunk })
 }
 
 fn outcomes_settings(alloc: Global, found: &ArgMatches<'_>) -> Result<Option<Settings>, AllocError>
     ensures settings { IfOk result (λ settings. option_map request_of settings ≡ outcomes_at (rows_of (found_of found.now))) }
 {
-    let (Some(limit), Some(front)) = (limit_of(found), given_front(alloc, found)?) else {
+    let (Some(format), Some(limit), Some(front)) = (
+        format_of(found),
+        limit_of(found),
+        given_front(alloc, found)?,
+    ) else {
         return Ok(None);
     };
-    Ok(Some(Settings::Outcomes { limit, front }))
+    Ok(Some(Settings::Outcomes {
+        format,
+        limit,
+        front,
+    }))
 }
 
 // What a word asks for, with what clap found after it.
@@ -211,7 +288,7 @@ fn settings_of(
     ensures settings { IfOk result (λ settings. option_map request_of settings ≡ request_at name.now (rows_of (found_of found.now))) }
 {
     match name {
-        "check" => Ok(Some(Settings::Check)),
+        "check" => Ok(check_settings(found)),
         "graph" => Ok(graph_settings(found)),
         "rules" => rules_settings(alloc, found),
         "play" => play_settings(alloc, found),

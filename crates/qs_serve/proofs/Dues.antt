@@ -17,10 +17,14 @@ use Rattle.qs_orders.specs.declared.fault.OrderFault.TheVariants as order_fault
 use Rattle.qs_outcomes.specs.Outcomes.{OutcomesShape}
 use Rattle.qs_outcomes.specs.declared.fault.OutcomesFault.TheVariants as outcomes_fault
 use Rattle.qs_report.specs.OutcomesText.{AreOutcomesAfter, IsOutcomesText}
+use Rattle.qs_json.specs.OutcomesJson.{IsOutcomesJson}
 use Rattle.qs_lists.specs.Named.{clients_of}
 use Rattle.qs_lists.specs.declared.parts.Part.{Part}
+use Rattle.qs_line.specs.declared.line.Format.{Format}
+use Rattle.qs_line.specs.declared.line.Format.TheVariants as format
+use Rattle.qs_line.specs.declared.line.ReportStyle.{ReportStyle}
 use Rattle.qs_line.specs.Line.{Line, asks, help, outcomes, refused, run, version}
-use Rattle.qs_serve.specs.Due.{IsDue, IsDueOfProgram, IsListOf, IsOutOfMemory, IsRefusedBy, IsReportOf, IsSomeText, due_status}
+use Rattle.qs_serve.specs.Due.{IsDue, IsDueOfProgram, IsListOf, IsOutOfMemory, IsRefusedBy, IsReportOf, IsSomeText, IsTextOfOutcomes, due_status, listed_in}
 use Rattle.qs_serve.specs.declared.due.Due.{Due}
 use Rattle.qs_serve.specs.declared.due.Due.TheVariants.{Text, Refused}
 
@@ -90,21 +94,27 @@ pub of_named : {A E : Type 0} (P : A → Type 0) (r : Result A E) (x : A) → r 
 of_named P r x e holds = subst (λ s. IsOkAnd s P) (sym e) holds
 
 -- a report of a run on threads that is due by what was asked for
-pub due_by_run : (counts : Bool) (p : ProgramShape) (mode : Mode) (size : ℕ) (outcome : Played) (due : Due)
-    → IsOutcome p mode size outcome → IsReportOf counts p outcome due → IsOutOfMemory due ⊎ IsDueOfProgram (run counts mode size) p due
-due_by_run counts p mode size outcome (Text bytes) shows is = inr (outcome, shows, is)
-due_by_run counts p mode size outcome (Refused f) shows is = inl (subst (λ g. IsOutOfMemory (Refused g)) (sym is) tt)
+pub due_by_run : (style : ReportStyle) (p : ProgramShape) (mode : Mode) (size : ℕ) (outcome : Played) (due : Due)
+    → IsOutcome p mode size outcome → IsReportOf style p outcome due → IsOutOfMemory due ⊎ IsDueOfProgram (run style mode size) p due
+due_by_run style p mode size outcome (Text bytes) shows is = inr (outcome, shows, is)
+due_by_run style p mode size outcome (Refused f) shows is = inl (subst (λ g. IsOutOfMemory (Refused g)) (sym is) tt)
 
-pub report_is_no_input : (counts : Bool) (p : ProgramShape) (played : Played) (due : Due) → IsReportOf counts p played due
+pub report_is_no_input : (style : ReportStyle) (p : ProgramShape) (played : Played) (due : Due) → IsReportOf style p played due
     → ¬ IsRefusedBy fault.Input due
-report_is_no_input counts p played (Text bytes) is = λ none. none
-report_is_no_input counts p played (Refused f) is = λ e. absurd (cc (is, e))
+report_is_no_input style p played (Text bytes) is = λ none. none
+report_is_no_input style p played (Refused f) is = λ e. absurd (cc (is, e))
 
--- a list that is due by what was asked for
-pub due_by_outcomes : (p : ProgramShape) (limit : ℕ) (front : List Part) (clients : List ℕ) (all : OutcomesShape) (due : Due)
-    → clients_of p front ≡ Ok clients → AreOutcomesAfter p (order_of clients) all → all.configurations ≤ limit → IsListOf p all due
-    → IsOutOfMemory due ⊎ IsDueOfProgram (outcomes limit front) p due
-unfolding IsOutcomesText
-due_by_outcomes p limit front clients all (Text bytes) named are within is =
-    inr (of_named (λ xs. IsOutcomesText p limit xs bytes.items) (clients_of p front) clients named (all, are, within, is))
-due_by_outcomes p limit front clients all (Refused f) named are within is = inl (subst (λ g. IsOutOfMemory (Refused g)) (sym is) tt)
+-- a list of outcomes that is due by what was asked for, in either format
+due_by_list : (how : Format) (p : ProgramShape) (limit : ℕ) (clients : List ℕ) (all : OutcomesShape) (text : List ℕ)
+    → AreOutcomesAfter p (order_of clients) all → all.configurations ≤ limit → text ≡ listed_in how p all → IsTextOfOutcomes how p limit clients text
+unfolding IsOutcomesText IsOutcomesJson
+due_by_list format.Text p limit clients all text are within is = (all, are, within, is)
+due_by_list format.Json p limit clients all text are within is = (all, are, within, is)
+
+pub due_by_outcomes : (how : Format) (p : ProgramShape) (limit : ℕ) (front : List Part) (clients : List ℕ) (all : OutcomesShape) (due : Due)
+    → clients_of p front ≡ Ok clients → AreOutcomesAfter p (order_of clients) all → all.configurations ≤ limit → IsListOf how p all due
+    → IsOutOfMemory due ⊎ IsDueOfProgram (outcomes how limit front) p due
+due_by_outcomes how p limit front clients all (Text bytes) named are within is =
+    inr (of_named (λ xs. IsTextOfOutcomes how p limit xs bytes.items) (clients_of p front) clients named
+    (due_by_list how p limit clients all bytes.items are within is))
+due_by_outcomes how p limit front clients all (Refused f) named are within is = inl (subst (λ g. IsOutOfMemory (Refused g)) (sym is) tt)

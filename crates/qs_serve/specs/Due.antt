@@ -18,6 +18,10 @@ use Rattle.qs_report.specs.Faults.{fault_text, fault_status}
 use Rattle.qs_report.specs.Report.{run_text, counts_text}
 use Rattle.qs_report.specs.GraphText.{IsGraphText}
 use Rattle.qs_dot.specs.DotText.{IsDotText}
+use Rattle.qs_json.specs.FaultJson.{fault_json}
+use Rattle.qs_json.specs.GraphJson.{IsGraphJson}
+use Rattle.qs_json.specs.OutcomesJson.{IsOutcomesJson, listed_json}
+use Rattle.qs_json.specs.RunJson.{counts_json, run_json}
 use Rattle.qs_report.specs.OutcomesText.{IsOutcomesText, listed_text}
 use Rattle.qs_report.specs.Texts.{AppendsFront}
 use Rattle.qs_script.specs.Reads.{IsRefused, IsScriptText}
@@ -39,13 +43,21 @@ use Rattle.qs_lists.specs.declared.fault.ListFault.{ListFault}
 use Rattle.qs_lists.specs.declared.fault.ListFault.TheVariants as list_fault
 use Rattle.qs_line.specs.declared.line.Format.{Format}
 use Rattle.qs_line.specs.declared.line.Format.TheVariants as format
-use Rattle.qs_line.specs.Line.{Line, PlanShape, Request, asks, by_order, by_schedule, check, graph, help, line_in, outcomes, play, refused, rules, run, version}
+use Rattle.qs_line.specs.declared.line.GraphFormat.{GraphFormat}
+use Rattle.qs_line.specs.declared.line.GraphFormat.TheVariants as graph_format
+use Rattle.qs_line.specs.declared.line.ReportStyle.{ReportStyle}
+use Rattle.qs_line.specs.Line.{Line, PlanShape, Request, asks, by_order, by_schedule, check, format_by, graph, help, line_in, outcomes, play, refused, rules, run, version}
 use Rattle.qs_serve.specs.declared.due.Due.{Due}
 use Rattle.qs_serve.specs.declared.due.Due.TheVariants.{Text, Refused}
 
-abbrev pub due_text : Due → List ℕ
-due_text (Text bytes) = bytes.items
-due_text (Refused f) = fault_text f
+-- a refusal, as text or as JSON
+abbrev pub refusal_in : Format → Fault → List ℕ
+refusal_in format.Text f = fault_text f
+refusal_in format.Json f = fault_json f
+
+abbrev pub due_text : Format → Due → List ℕ
+due_text how (Text bytes) = bytes.items
+due_text how (Refused f) = refusal_in how f
 
 abbrev pub due_status : Due → ℕ
 due_status (Text bytes) = 0
@@ -71,15 +83,33 @@ abbrev pub IsTextOf : {E : Type 0} → Result (Vec ℕ Global) E → Due → Typ
 IsTextOf (Ok bytes) due = due ≡ Text bytes
 IsTextOf (Err e) due = due ≡ Refused fault.Memory
 
--- the report of what was played, with the counts of synchronisations where they are asked for; or that an allocation failed
-abbrev pub IsReportOf : (counts : Bool) → ProgramShape → Played → Due → Type 0
-IsReportOf counts p played (Text bytes) = bytes.items ≡ run_text counts p played
-IsReportOf counts p played (Refused f) = f ≡ fault.Memory
+-- a program's counts, as text or as JSON
+abbrev pub counts_in : Format → ProgramShape → List ℕ
+counts_in format.Text p = counts_text p
+counts_in format.Json p = counts_json p
 
--- the text of a list of outcomes; or that an allocation failed
-abbrev pub IsListOf : ProgramShape → OutcomesShape → Due → Type 0
-IsListOf p all (Text bytes) = bytes.items ≡ listed_text p all
-IsListOf p all (Refused f) = f ≡ fault.Memory
+-- the report of what was played, as text or as JSON, with the counts of synchronisations where they are asked for
+abbrev pub report_in : Format → (counts : Bool) → ProgramShape → Played → List ℕ
+report_in format.Text counts p played = run_text counts p played
+report_in format.Json counts p played = run_json counts p played
+
+abbrev pub report_by : ReportStyle → ProgramShape → Played → List ℕ
+report_by style p played = report_in style.format style.counts p played
+
+-- this report; or that an allocation failed
+abbrev pub IsReportOf : ReportStyle → ProgramShape → Played → Due → Type 0
+IsReportOf style p played (Text bytes) = bytes.items ≡ report_by style p played
+IsReportOf style p played (Refused f) = f ≡ fault.Memory
+
+-- a list of outcomes, as text or as JSON
+abbrev pub listed_in : Format → ProgramShape → OutcomesShape → List ℕ
+listed_in format.Text p all = listed_text p all
+listed_in format.Json p all = listed_json p all
+
+-- this list; or that an allocation failed
+abbrev pub IsListOf : Format → ProgramShape → OutcomesShape → Due → Type 0
+IsListOf how p all (Text bytes) = bytes.items ≡ listed_in how p all
+IsListOf how p all (Refused f) = f ≡ fault.Memory
 
 -- what is shown under the plain rules: the state after the picks of the actors that a list names in the program, and the rounds of a
 -- schedule; or the blocks that the clients of an order name, in this order, each of them ended
@@ -95,21 +125,27 @@ IsShownByPlay mode size (by_schedule rounds picks) p played =
 IsShownByPlay mode size (by_order list) p played =
     IsOkAnd (clients_of p list) (λ clients. IsLegal p (order_of clients) × IsPlayedInOrderOn p mode size (order_of clients) played)
 
--- the graphs of a program, as lines of words or as a drawing
-abbrev pub IsTextOfGraphs : Format → ProgramShape → List ℕ → Type 0
-IsTextOfGraphs format.Text p text = IsGraphText p text
-IsTextOfGraphs format.Dot p text = IsDotText p text
+-- the graphs of a program, as lines of words, as JSON or as a drawing
+abbrev pub IsTextOfGraphs : GraphFormat → ProgramShape → List ℕ → Type 0
+IsTextOfGraphs graph_format.Text p text = IsGraphText p text
+IsTextOfGraphs graph_format.Json p text = IsGraphJson p text
+IsTextOfGraphs graph_format.Dot p text = IsDotText p text
+
+-- all outcomes of a program after the blocks of some clients, as text or as JSON
+abbrev pub IsTextOfOutcomes : Format → ProgramShape → (limit : ℕ) → (clients : List ℕ) → List ℕ → Type 0
+IsTextOfOutcomes format.Text p limit clients text = IsOutcomesText p limit clients text
+IsTextOfOutcomes format.Json p limit clients text = IsOutcomesJson p limit clients text
 
 -- what a request makes of a program: its counts; its graphs; the report of its run by the plain rules or in the optimised machine;
 -- that of an outcome which its run on threads may have; or all its outcomes after the blocks of some clients, of so many configurations
--- at most. A report has the counts of synchronisations where they are asked for.
+-- at most. Each is written in the format that is asked for, and a report with the counts of synchronisations where they are asked for.
 abbrev pub IsTextBy : Request → ProgramShape → List ℕ → Type 0
-IsTextBy check p text = text ≡ counts_text p
+IsTextBy (check how) p text = text ≡ counts_in how p
 IsTextBy (graph how) p text = IsTextOfGraphs how p text
-IsTextBy (rules counts plan) p text = (played : Played) × IsShownByRules plan p played × (text ≡ run_text counts p played)
-IsTextBy (play counts mode size plan) p text = (played : Played) × IsShownByPlay mode size plan p played × (text ≡ run_text counts p played)
-IsTextBy (run counts mode size) p text = (outcome : Played) × IsOutcome p mode size outcome × (text ≡ run_text counts p outcome)
-IsTextBy (outcomes limit front) p text = IsOkAnd (clients_of p front) (λ clients. IsOutcomesText p limit clients text)
+IsTextBy (rules style plan) p text = (played : Played) × IsShownByRules plan p played × (text ≡ report_by style p played)
+IsTextBy (play style mode size plan) p text = (played : Played) × IsShownByPlay mode size plan p played × (text ≡ report_by style p played)
+IsTextBy (run style mode size) p text = (outcome : Played) × IsOutcome p mode size outcome × (text ≡ report_by style p outcome)
+IsTextBy (outcomes how limit front) p text = IsOkAnd (clients_of p front) (λ clients. IsTextOfOutcomes how p limit clients text)
 
 -- a list of a plan names nobody in the program: a part of it is at fault
 abbrev pub IsUnnamed : PlanShape → ProgramShape → Type 0
@@ -118,9 +154,9 @@ IsUnnamed (by_order list) p = IsErr (clients_of p list)
 
 -- so does the list that a request asks by
 abbrev pub IsUnnamedBy : Request → ProgramShape → Type 0
-IsUnnamedBy (rules counts plan) p = IsUnnamed plan p
-IsUnnamedBy (play counts mode size plan) p = IsUnnamed plan p
-IsUnnamedBy (outcomes limit front) p = IsErr (clients_of p front)
+IsUnnamedBy (rules style plan) p = IsUnnamed plan p
+IsUnnamedBy (play style mode size plan) p = IsUnnamed plan p
+IsUnnamedBy (outcomes how limit front) p = IsErr (clients_of p front)
 IsUnnamedBy _ p = ⊥
 
 -- what is due by the fault of a list: a part at fault is one of the command line
@@ -130,8 +166,8 @@ IsDueOfList (list_fault.Part place why) due = IsRefusedBy fault.CommandLine due
 
 -- why a schedule that a request asks for is not played
 abbrev pub IsUnplayedBy : Request → ProgramShape → PlayFault → Type 0
-IsUnplayedBy (rules counts (by_schedule rounds picks)) p f = IsOkAnd (actors_of p picks) (λ actors. IsPlayed p actors rounds (Err f))
-IsUnplayedBy (play counts mode size (by_schedule rounds picks)) p f =
+IsUnplayedBy (rules style (by_schedule rounds picks)) p f = IsOkAnd (actors_of p picks) (λ actors. IsPlayed p actors rounds (Err f))
+IsUnplayedBy (play style mode size (by_schedule rounds picks)) p f =
     IsOkAnd (actors_of p picks) (λ actors. IsPlayedIn p mode size actors rounds (Err f))
 IsUnplayedBy _ p f = ⊥
 
@@ -142,13 +178,13 @@ IsUnordered p clients order_fault.Memory = IsLegal p (order_of clients)
 
 -- why an order that a request asks for is not played
 abbrev pub IsUnorderedBy : Request → ProgramShape → OrderFault → Type 0
-IsUnorderedBy (rules counts (by_order list)) p f = IsOkAnd (clients_of p list) (λ clients. IsUnordered p clients f)
-IsUnorderedBy (play counts mode size (by_order list)) p f = IsOkAnd (clients_of p list) (λ clients. IsUnordered p clients f)
+IsUnorderedBy (rules style (by_order list)) p f = IsOkAnd (clients_of p list) (λ clients. IsUnordered p clients f)
+IsUnorderedBy (play style mode size (by_order list)) p f = IsOkAnd (clients_of p list) (λ clients. IsUnordered p clients f)
 IsUnorderedBy _ p f = ⊥
 
 -- a run on threads is asked for; it may want memory or threads on any program
 abbrev pub IsRun : Request → Type 0
-IsRun (run counts mode size) = Unit {0}
+IsRun (run style mode size) = Unit {0}
 IsRun _ = ⊥
 
 -- why outcomes after the blocks of some clients are not listed: there are more configurations than the limit, the clients name no legal
@@ -160,7 +196,7 @@ IsUnlisted p limit clients outcomes_fault.Memory = Unit {0}
 
 -- why outcomes that a request asks for are not listed
 abbrev pub IsUnlistedBy : Request → ProgramShape → OutcomesFault → Type 0
-IsUnlistedBy (outcomes limit front) p f = IsOkAnd (clients_of p front) (λ clients. IsUnlisted p limit clients f)
+IsUnlistedBy (outcomes how limit front) p f = IsOkAnd (clients_of p front) (λ clients. IsUnlisted p limit clients f)
 IsUnlistedBy _ p f = ⊥
 
 abbrev pub IsDueOfProgram : Request → ProgramShape → Due → Type 0
@@ -216,12 +252,21 @@ IsDue (asks request) known false due =
     (¬ IsRefusedBy fault.Input due)
     × (IsOutOfMemory due ⊎ IfSome known (λ bytes. IsDueOfText request (take longest bytes) due))
 
+-- that memory ran out, as text
+abbrev pub IsTextOfMemory : Due → Format → Type 0
+IsTextOfMemory due format.Text = IsRefusedBy fault.Memory due
+IsTextOfMemory due format.Json = ⊥
+
+-- what is due is written in the format that the line asks for; that memory ran out may be said as text before the line was read
+abbrev pub IsFormat : Line → Due → Format → Type 0
+IsFormat line due how = (how ≡ format_by line) ⊎ IsTextOfMemory due how
+
 -- all of the due text was written, with its status
-abbrev pub IsDone : Option (List ℕ) → Option (List ℕ) → Due → ℕ → Type 0
-IsDone old new due status = Appends old new (due_text due) × (status ≡ due_status due)
+abbrev pub IsDone : Format → Option (List ℕ) → Option (List ℕ) → Due → ℕ → Type 0
+IsDone how old new due status = Appends old new (due_text how due) × (status ≡ due_status due)
 
 -- a front of the due text was written; all of it, with its status, exactly where no write and no flush has failed
 abbrev pub Serves : List (List ℕ) → Option (List ℕ) → Bool → Option (List ℕ) → Option (List ℕ) → Bool → ℕ → Type 0
 Serves words known read_failed old new write_failed status =
-    (due : Due) × IsDue (line_in words) known read_failed due
-    × AppendsFront old new (due_text due) × MatchBool write_failed (status ≡ 4) (IsDone old new due status)
+    (due : Due) × (how : Format) × IsDue (line_in words) known read_failed due × IsFormat (line_in words) due how
+    × AppendsFront old new (due_text how due) × MatchBool write_failed (status ≡ 4) (IsDone how old new due status)

@@ -3,11 +3,12 @@
 ghost use Rattle.std.specs.Prelude.{◌≡◌, ◌+◌, ◌≤◌, false, None, map};
 ghost use Rattle.std.specs.Io.KnownBytes.{Keeps};
 ghost use Rattle.qs_line.specs.Line.{line_in, request_by};
-ghost use Rattle.qs_serve.specs.Due.{IsDue, longest};
+ghost use Rattle.qs_serve.specs.Due.{IsDue, IsFormat, longest};
 
 use crate::due::{Due, due_of};
 use crate::input::Counted;
 use itoa::Buffer;
+use qs_line::Format;
 use qs_outcomes::Watcher;
 use qs_report::{Watch, write_text};
 use std::alloc::Global;
@@ -97,7 +98,7 @@ impl Watcher for Unshown {
     fn noted(&mut self, _configurations: usize) {}
 }
 
-/// What is due by a command line and an input, as `due_of` says it. While outcomes are searched for, `err` shows how far the search is, where
+/// What is due by a command line and an input, and in which format, as `due_of` says it. While outcomes are searched for, `err` shows how far the search is, where
 /// it is a terminal; the line is blank again in the end. Where it is none, nothing is written to it.
 pub(crate) fn due_shown<'a, T: Threads + Wait + Clock + Sync, R: Read, W: Write>(
     rt: &T,
@@ -107,9 +108,10 @@ pub(crate) fn due_shown<'a, T: Threads + Wait + Clock + Sync, R: Read, W: Write>
     kept: &mut Vec<u8>,
     is_terminal: bool,
     err: &mut W,
-) -> Due
+) -> (Due, Format)
     requires fine { input.old.has_failed ≡ false }
-    ensures due { IsDue (line_in (map (λ word. word.now) words.entry.now)) input.old.remaining input.new.has_failed result }
+    ensures due { IsDue (line_in (map (λ word. word.now) words.entry.now)) input.old.remaining input.new.has_failed result.0 }
+    ensures format { IsFormat (line_in (map (λ word. word.now) words.entry.now)) result.0 result.1 }
     ensures unread { request_by (line_in (map (λ word. word.now) words.entry.now)) ≡ None → input.new ≡ input.old }
     ensures reads { input.new.reads ≤ input.old.reads + longest }
     ensures silent { is_terminal ≡ false → Keeps (W.contents err.old) (W.contents err.new) }
@@ -118,7 +120,7 @@ pub(crate) fn due_shown<'a, T: Threads + Wait + Clock + Sync, R: Read, W: Write>
         return due_of(rt, alloc, words, input, kept, &mut Unshown);
     }
     let mut progress = Progress::new(rt, err);
-    let due = due_of(rt, alloc, words, input, kept, &mut progress);
+    let shown = due_of(rt, alloc, words, input, kept, &mut progress);
     progress.clear();
-    due
+    shown
 }

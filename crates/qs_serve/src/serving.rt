@@ -3,6 +3,7 @@
 ghost use Rattle.std.specs.Prelude.{◌≡◌, ◌+◌, ◌≤◌, ◌⊎◌, false, None, map, IsTrue, MatchBool};
 ghost use Rattle.std.specs.Io.KnownBytes.{Keeps};
 ghost use Rattle.qs_line.specs.Line.{is_verbose_in, line_in, request_by, warns_in};
+ghost use Rattle.qs_line.specs.declared.line.Format.TheVariants as format;
 ghost use Rattle.qs_report.specs.Faults.{fault_text};
 ghost use Rattle.qs_report.specs.Texts.{AppendsFront};
 ghost use Rattle.qs_serve.specs.Due.{IsDone, Serves, longest};
@@ -13,6 +14,7 @@ use crate::input::Counted;
 use crate::output::finish;
 use crate::progress::due_shown;
 use crate::telling::{tell, tell_unread};
+use qs_line::Format;
 use qs_report::{Fault, Watch};
 use std::alloc::Global;
 use std::io::{Read, Write};
@@ -49,8 +51,8 @@ pub fn serve<'a, T: Threads + Wait + Clock + Sync, R: Read, W: Write, E: Write>(
         → is_verbose_in (map (λ word. word.now) words.entry.now) ≡ false → Keeps (E.contents err.old) (E.contents err.new) }
 {
     let mut text = Vec::new(alloc);
-    let due = due_shown(rt, alloc, words, input, &mut text, is_terminal, err);
-    let status = finish(out, watch, &due);
+    let (due, format) = due_shown(rt, alloc, words, input, &mut text, is_terminal, err);
+    let status = finish(out, watch, format, &due);
     tell(alloc, words, text.as_slice(), &due, status != 4, err);
     tell_beside(alloc, words, text.as_slice(), &due, is_terminal, err);
     status
@@ -66,10 +68,10 @@ pub fn refuse<W: Write, E: Write>(
 ) -> u8
     requires fine { watch.old.has_failed ≡ false }
     ensures front { AppendsFront (W.contents out.old) (W.contents out.new) (fault_text fault) }
-    ensures status { MatchBool watch.new.has_failed (result ≡ 4) (IsDone (W.contents out.old) (W.contents out.new) (Due.Refused fault) result) }
+    ensures status { MatchBool watch.new.has_failed (result ≡ 4) (IsDone format.Text (W.contents out.old) (W.contents out.new) (Due.Refused fault) result) }
 {
     let due = Due::Refused(fault);
-    let status = finish(out, watch, &due);
+    let status = finish(out, watch, Format::Text, &due);
     tell_unread(&due, err);
     status
 }

@@ -45,7 +45,18 @@ returns c = record {
       empty = refl;
       without_value = refl;
       twice = refl;
+      json = refl;
+      checks = refl;
+      rules_as_json = refl;
+      plays = refl;
+      runs = refl;
+      lists = refl;
+      play_as_text = refl;
       of_check = refl;
+      of_rules = refl;
+      of_play = refl;
+      of_run = refl;
+      of_outcomes = refl;
       before_word = refl;
     };
     counted = record { rules_alone = refl; play_alone = refl; run_alone = refl; before_others = refl; between_others = refl; after_others = refl };

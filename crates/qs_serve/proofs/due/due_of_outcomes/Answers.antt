@@ -20,4 +20,4 @@ returns-in-Ok-outcomes_watched-clause-due g c =
       once = c.in-Ok-outcomes_watched.ensures.once;
       counted = c.in-Ok-outcomes_watched.ensures.counted;
     } in
-    due_by_outcomes p c.args.limit c.args.front.now clients all _ named are c.in-Ok-outcomes_watched.ensures.within c.due_of_all.ensures.due
+    due_by_outcomes c.args.format p c.args.limit c.args.front.now clients all _ named are c.in-Ok-outcomes_watched.ensures.within c.due_of_all.ensures.due

@@ -3,7 +3,7 @@ use Rattle.qs_serve.proofs.due.due_of_run.Goals as goal
 
 pub returns-in-Ok-clause-due : goal.returns-in-Ok-clause-due
 returns-in-Ok-clause-due g c =
-    due_by_run c.args.counts _ c.args.mode c.args.chunk c.in-Ok.outcome _ c.in-Ok.ensures.outcome c.due_of_outcome.ensures.due
+    due_by_run c.args.style _ c.args.mode c.args.chunk c.in-Ok.outcome _ c.in-Ok.ensures.outcome c.due_of_outcome.ensures.due
 
 pub returns-in-Ok-clause-not_input : goal.returns-in-Ok-clause-not_input
-returns-in-Ok-clause-not_input g c = report_is_no_input c.args.counts _ c.in-Ok.outcome _ c.due_of_outcome.ensures.due
+returns-in-Ok-clause-not_input g c = report_is_no_input c.args.style _ c.in-Ok.outcome _ c.due_of_outcome.ensures.due

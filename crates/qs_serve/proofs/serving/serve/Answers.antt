@@ -12,7 +12,7 @@ by_watch P false status due is e = inl (sym is.1 ∙ e)
 
 pub returns-clause-gives_up : goal.returns-clause-gives_up
 returns-clause-gives_up g c = λ e. elim (by_watch _ c.finish-status.new.watch.has_failed c.finish-status.result _ c.finish-status.ensures.status e) [
-  | inl four ↦ inl (four_is_due _ _ c.due_shown-due.new.input.has_failed c.due_shown-due.result c.due_shown-due.ensures.due four)
+  | inl four ↦ inl (four_is_due _ _ c.due_shown-due.new.input.has_failed c.due_shown-due.result.0 c.due_shown-due.ensures.due four)
   | inr failed ↦ inr failed
 ]
 
@@ -26,5 +26,5 @@ returns-clause-silent g c = λ zero no_terminal no_warnings no_limits.
     let due = due_by_zero _ c.finish-status.new.watch.has_failed c.finish-status.result _ c.finish-status.ensures.status zero in
     Keeps-trans _ _ _ (c.due_shown-due.ensures.silent no_terminal)
     (Keeps-trans _ _ _
-    (c.tell.ensures.silent (zero_is_text c.due_shown-due.result due) (rw zero refl))
+    (c.tell.ensures.silent (zero_is_text c.due_shown-due.result.0 due) (rw zero refl))
     (c.tell_beside.ensures.unasked no_terminal no_warnings no_limits))
