@@ -1,7 +1,7 @@
 -- A quiet move on the frames of a block pushes a frame at the end or takes one off there. These lemmas say what that does to the
 -- tree of what comes next, to the work and the load that are left, and to the frames' soundness. The contracts of `begin`,
 -- `leave` and `advance` on frames stand on them. The moves are taken one by one: a repeat, one more turn, a branch, a leave.
-use Rattle.std.proofs.Common.{length-append, ◌≡◌, ◌<◌, ◌≤◌, ℕ, zero, suc, ◌+◌, ◌-◌, ◌≢◌, ◌⊎◌, ⊎_elim, Bool, true, false, subst, List, [], ◌∷◌, ◌++◌, refl, ap, sym, ◌∙◌, arith, sub-one, Option, Some, None, IfNone, slice_set}
+use Rattle.std.proofs.Common.{length-append, ◌≡◌, ◌<◌, ◌≤◌, ℕ, zero, suc, ◌+◌, ◌-◌, ◌≢◌, ◌⊎◌, ⊎_elim, Bool, true, false, subst, List, [], ◌∷◌, ◌++◌, refl, ap, sym, ◌∙◌, arith, sub-one, slice_set}
 use Rattle.std.specs.List.{AllByRecursion}
 use Rattle.std.proofs.lemmas.List.Sums.{fold-append, sum_by_push}
 use Rattle.qs_program.specs.Statements.{Statements, end, command, query, assign, again, leave, choose}
@@ -14,9 +14,7 @@ use Rattle.qs_program.specs.declared.program.Declared.{Declared}
 use Rattle.qs_program.specs.Values.{Locals, expr_value}
 use Rattle.qs_program.specs.Loads.{load_of}
 use Rattle.qs_meaning.specs.Interaction.{meaning}
-use Rattle.qs_plain_client.specs.Asking.{AreSound, IsSoundFrame, Moves}
-use Rattle.qs_plain_client.specs.declared.frames.Ask.{Ask}
-use Rattle.qs_plain_client.specs.declared.frames.Ask.TheVariants as ask
+use Rattle.qs_plain_client.specs.Asking.{AreSound, IsSoundFrame}
 use Rattle.qs_plain_client.specs.Frames.{Frame, rest, turning, Ahead, inside, above, ahead_of, next_of, work, work_of, frame_work, load_left, frame_load}
 use Rattle.qs_plain_client.specs.Opening.{Assigns, IsAside, Opens}
 
@@ -93,10 +91,10 @@ module _ (objects : List Declared) (reserved : List ℕ) where
       let (before, last) = AllByRecursion-popped (IsSoundFrame objects reserved) fs (rest (query x c s)) sound in
       (aside.sound objects reserved (AllByRecursion-push (IsSoundFrame objects reserved) fs (rest s) before last.2), (last.0, last.1))
 
-  pub assigns_sound : (fs gs : List Frame) (x : ℕ) (e : Expr) (s : Statements) → IsAside fs gs s → AreSound objects reserved (fs ++ rest (assign x e s) ∷ []) → AreSound objects reserved gs
-  assigns_sound fs gs x e s aside sound =
+  pub assigns_all_sound : (fs gs : List Frame) (x : ℕ) (e : Expr) (s t : Statements) (l m : Locals) → IsAside fs gs t → Assigns s l t m → AreSound objects reserved (fs ++ rest (assign x e s) ∷ []) → AreSound objects reserved gs
+  assigns_all_sound fs gs x e s t l m aside assigns sound =
       let (before, last) = AllByRecursion-popped (IsSoundFrame objects reserved) fs (rest (assign x e s)) sound in
-      aside.sound objects reserved (AllByRecursion-push (IsSoundFrame objects reserved) fs (rest s) before last.2)
+      aside.sound objects reserved (AllByRecursion-push (IsSoundFrame objects reserved) fs (rest t) before (assigns.sound objects reserved last.2))
 
   pub chooses_sound : (fs gs : List Frame) (t : Test) (b : Bool) (first other chosen s : Statements) → (chosen ≡ first) ⊎ (chosen ≡ other) → IsAside fs gs s
       → AreSound objects reserved (fs ++ rest (choose t b first other s) ∷ []) → AreSound objects reserved (gs ++ rest chosen ∷ [])
@@ -175,34 +173,5 @@ assigned_one s t u l m k x e before is sets = record {
   sound = λ objects reserved sound. (subst (IsSoundBody objects reserved) is (before.sound objects reserved sound)).2;
 }
 
--- a list that was taken off, after its first assignments
-pub opened_assigned : (fs gs : List Frame) (s t : Statements) (l m : Locals) → Opens fs gs s → Assigns s l t m → next_of fs l ≡ next_of (gs ++ rest t ∷ []) m
-opened_assigned fs gs s t l m opens assigns =
-    opens.next l ∙ ap (λ (a : Ahead). a.next l) (ahead_of-push gs (rest s)) ∙ assigns.next (ahead_of gs).next (ahead_of gs).leaves
-    ∙ sym (ap (λ (a : Ahead). a.next m) (ahead_of-push gs (rest t)))
-
 pub nothing_left : (gs : List Frame) (s : Statements) (m : Locals) → s ≡ end → next_of (gs ++ rest s ∷ []) m ≡ next_of gs m
 nothing_left gs s m e = ap (λ t. next_of (gs ++ rest t ∷ []) m) e ∙ ap (λ (a : Ahead). a.next m) (ahead_of-push gs (rest end))
-
-pub assigned_work : (fs gs : List Frame) (s t : Statements) (l m : Locals) → Opens fs gs s → Assigns s l t m → work (gs ++ rest t ∷ []) ≤ work fs
-assigned_work fs gs s t l m opens assigns = omega (arith, opens.work, assigns.work, work-push gs (rest s), work-push gs (rest t))
-
-pub assigned_load : (fs gs : List Frame) (s t : Statements) (l m : Locals) (h : ℕ) → Opens fs gs s → Assigns s l t m → load_left (gs ++ rest t ∷ []) h ≤ load_left fs h
-assigned_load fs gs s t l m h opens assigns = omega (arith, opens.load h, assigns.load h, load_left-push gs (rest s) h, load_left-push gs (rest t) h)
-
-pub assigned_sound : (objects : List Declared) (reserved : List ℕ) (fs gs : List Frame) (s t : Statements) (l m : Locals) → Opens fs gs s → Assigns s l t m → AreSound objects reserved fs
-    → AreSound objects reserved (gs ++ rest t ∷ [])
-assigned_sound objects reserved fs gs s t l m opens assigns sound =
-    let (before, last) = AllByRecursion-popped (IsSoundFrame objects reserved) gs (rest s) (opens.sound objects reserved sound) in
-    AllByRecursion-push (IsSoundFrame objects reserved) gs (rest t) before (assigns.sound objects reserved last)
-
--- a move of what is left is one of the frames before
-pub moves_from : (a : Option Ask) (fs gs hs : List Frame) (l k m : Locals) → next_of fs l ≡ next_of gs k → Moves a gs k hs m → Moves a fs l hs m
-moves_from None fs gs hs l k m e moves = e ∙ moves
-moves_from (Some (ask.Command c)) fs gs hs l k m e moves = e ∙ moves
-moves_from (Some (ask.Query x c)) fs gs hs l k m e moves = e ∙ moves
-moves_from (Some ask.End) fs gs hs l k m e moves = (e ∙ moves.0, moves.1)
-
-pub fewer : (a : Option Ask) (x y z : ℕ) → IfNone a (x < y) → y ≤ z → IfNone a (x < z)
-fewer None x y z less most = omega (arith, less, most)
-fewer (Some a) x y z less most = tt

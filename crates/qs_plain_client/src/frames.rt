@@ -131,7 +131,7 @@ impl<'p> Frames<'p> {
     {
         match self.open() {
             None => Some(Ask::End),
-            Some(stmts) => match assign_all(stmts, locals).split_first() {
+            Some(stmts) => match stmts.split_first() {
                 None => None,
                 Some((stmt, rest)) => self.begin(stmt, rest, locals),
             },
@@ -178,12 +178,18 @@ impl<'p> Frames<'p> {
         ensures sound { (objects : List Declared) (reserved : List ℕ) → AreSound objects reserved (self.old.frames ++ the_rest (statements_of (stmt.now ∷ rest.now)) ∷ [])
             → AreSound objects reserved self.new.frames × IsSoundMove objects reserved result }
     {
-        self.set_aside(rest);
         match stmt {
-            Stmt::Command(call) => Some(Ask::Command(call)),
-            Stmt::Query(variable, call) => Some(Ask::Query(*variable, call)),
+            Stmt::Command(call) => {
+                self.set_aside(rest);
+                Some(Ask::Command(call))
+            }
+            Stmt::Query(variable, call) => {
+                self.set_aside(rest);
+                Some(Ask::Query(*variable, call))
+            }
             Stmt::Assign(variable, expr) => {
                 assign(locals, *variable, expr);
+                self.set_aside(assign_all(rest, locals));
                 None
             }
             Stmt::If {
@@ -192,14 +198,17 @@ impl<'p> Frames<'p> {
                 other,
                 ..
             } => {
+                self.set_aside(rest);
                 self.enter(if test.is_met(locals) { first } else { other });
                 None
             }
             Stmt::Repeat(count, body) => {
+                self.set_aside(rest);
                 self.push(Frame::Turning(*count, body));
                 None
             }
             Stmt::Leave => {
+                self.set_aside(rest);
                 self.leave();
                 None
             }
