@@ -1,6 +1,7 @@
 -- A table of rows takes a row that is not among its keys to the end, and tells whether it did. By this the search looks at each configuration
 -- once. It goes by induction on the keys, with the test for equal rows.
-use Rattle.std.proofs.Common.{◌≡◌, Bool, true, false, not, ◌||◌, ◌&&◌, ◌==◌, ℤ, int_eq, if◌then◌else◌, List, [], ◌∷◌, ◌++◌, refl, sym, ap, ◌∙◌, subst, inl, inr, true≢false}
+use Rattle.std.proofs.Common.{◌≡◌, ℕ, zero, suc, Bool, true, false, not, ◌||◌, ◌&&◌, ◌==◌, ℤ, int_eq, if◌then◌else◌, List, [], ◌∷◌, ◌++◌, refl, sym, ap, ◌∙◌, subst, inl, inr, true≢false}
+use Rattle.std.specs.Prelude.{Some, slice_get}
 use Rattle.std.specs.List.{list_any}
 use Rattle.std.specs.Cmp.Lexicographic.{bytes_decides, pointwise, pointwise_decides}
 use Rattle.std.proofs.lemmas.Bool.Decides.{Decides-int_eq}
@@ -60,3 +61,9 @@ inserted v keys after new is now = by_case (list_any (equal v) keys) refl is now
     by_case false e new_one longer =
         subst (λ n. IsInserted (rows_in keys) (shape_of v) n (rows_in after)) (sym new_one)
         (ap rows_in longer ∙ map-append shape_of keys (v ∷ []), not_among v keys e)
+
+-- a row is among the keys if it is equal to the one at a place
+pub among_at : (v : Row) (keys : List Row) (i : ℕ) (k : Row) → slice_get keys i ≡ Some k → equal v k ≡ true → HasOne (λ r. shape_of v ≡ r) (rows_in keys)
+among_at v [] i k at e = absurd (cc)
+among_at v (w ∷ keys) zero k at e = inl (tells v w ((λ j. equal v (let same : w ≡ k = cc in same j)) ∙ e))
+among_at v (w ∷ keys) (suc i) k at e = inr (among_at v keys i k at e)

@@ -17,6 +17,7 @@ use crate::copies::copied;
 use crate::fault::OutcomesFault;
 use crate::front::placed;
 use crate::going::{Last, last_blocks};
+use crate::hints::Hints;
 use crate::rows::{Row, row_starts};
 use crate::standing::Standing;
 use crate::watcher::{Unwatched, Watcher};
@@ -74,6 +75,7 @@ struct Scratch {
     left: Vec<Object>,
     row: Row,
     spare: Vec<Standing>,
+    hints: Hints,
 }
 
 // A standing to write into, one that is done with where there is any.
@@ -123,14 +125,30 @@ fn note(
     if new && seen.len() > limit as usize {
         return Err(OutcomesFault::Limit);
     }
+    if new {
+        scratch.hints.note(alloc, seen.as_slice())?;
+    }
     Ok(new)
 }
 
-// Whether a row was seen.
-fn was_seen(seen: &IndexSet<Row>, row: &Row) -> bool
+// Whether a row stands at a place of the table.
+fn stands_at(seen: &IndexSet<Row>, place: usize, row: &Row) -> bool
     ensures seen { result ≡ true → HasOne (λ r. shape_of row.now ≡ r) (rows_in seen.now.keys) }
 {
-    seen.contains(row)
+    match seen.get_index(place) {
+        Some(known) => row == known,
+        None => false,
+    }
+}
+
+// Whether a row is found in the table. Where there is no guess it is not looked for: it can hardly be there.
+fn was_seen(seen: &IndexSet<Row>, hints: &Hints, row: &Row) -> bool
+    ensures seen { result ≡ true → HasOne (λ r. shape_of row.now ≡ r) (rows_in seen.now.keys) }
+{
+    match hints.at(row) {
+        None => false,
+        Some(place) => stands_at(seen, place, row) || seen.contains(row),
+    }
 }
 
 // Adds where a client's next block leads, if the client is one of those who go on and this was not seen.
@@ -168,7 +186,7 @@ fn push_one(
             &scratch.base,
             &mut scratch.row,
         )?;
-        if was_seen(seen, &scratch.row) {
+        if was_seen(seen, &scratch.hints, &scratch.row) {
             return Ok(());
         }
         let mut next = spare_standing(alloc, &mut scratch.spare);
@@ -305,6 +323,7 @@ fn search_from<W: Watcher>(
         left: Vec::new(alloc),
         row: Row::new(alloc),
         spare: Vec::new(alloc),
+        hints: Hints::new(alloc, program)?,
     };
     add(&mut stack, first)?;
     while let Some(standing) = stack.pop() {
