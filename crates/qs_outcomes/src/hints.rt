@@ -39,10 +39,10 @@ impl Hints {
     }
 
     // Which guess a row has.
-    fn slot(&self, row: &Row) -> usize {
+    fn slot(&self, begun: &[u8; MOST_CLIENTS]) -> usize {
         let mut number: u64 = 0;
         for client in 0..MOST_CLIENTS {
-            number = number.wrapping_add(u64::from(row.begun[client]).wrapping_mul(
+            number = number.wrapping_add(u64::from(begun[client]).wrapping_mul(
                 self.weights[client],
             ));
         }
@@ -50,8 +50,8 @@ impl Hints {
     }
 
     /// Where a row may stand. None where no row of so many begun blocks was noted.
-    pub(crate) fn at(&self, row: &Row) -> Option<usize> {
-        match self.places.get(self.slot(row)) {
+    pub(crate) fn at(&self, begun: &[u8; MOST_CLIENTS]) -> Option<usize> {
+        match self.places.get(self.slot(begun)) {
             Some(place) if *place > 0 => Some(*place as usize - 1),
             _ => None,
         }
@@ -59,7 +59,7 @@ impl Hints {
 
     // Guesses that a row stands at a place, counted from 1.
     fn put(&mut self, row: &Row, place: usize) {
-        let slot = self.slot(row);
+        let slot = self.slot(&row.begun);
         let Ok(place) = u32::try_from(place) else {
             return;
         };
