@@ -181,6 +181,18 @@ fn put_numbers(row: &mut [i64], first: usize, numbers: &[i64])
     }
 }
 
+// Puts the first numbers of a row in the place of those that are there.
+fn put_front(base: &[i64], count: usize, row: &mut Vec<i64>) -> Result<(), AllocError>
+    requires { count ≤ length base.now }
+    ensures put { OnOk result (row.new.items ≡ take count base.now) }
+{
+    row.clear();
+    if count > 0 {
+        row.extend_from_slice(&base[..count])?;
+    }
+    Ok(())
+}
+
 // Writes the numbers of a row up to its objects from those of another row: the variables of one client are others.
 pub(crate) fn put_stem(
     program: &Program,
@@ -197,8 +209,7 @@ pub(crate) fn put_stem(
         (named_before program.now 0 client) (take (length (client_at program.now client).variables) values.now)) }
 {
     program.is_sound();
-    row.clear();
-    row.extend_from_slice(&base[..starts[program.clients()]])?;
+    put_front(base, starts[program.clients()], row)?;
     put_numbers(
         row.as_mut_slice(),
         starts[usize::from(client)],
