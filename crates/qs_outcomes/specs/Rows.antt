@@ -1,6 +1,9 @@
 -- The rows of a table; and how a row is written from another one.
-use Rattle.std.specs.Prelude.{◌≡◌, ◌≤◌, ℕ, ◌+◌, zero, suc, List, [], ◌∷◌, length, map, slice_index_or, slice_set, ℤ}
+use Rattle.std.specs.Prelude.{◌≡◌, ◌≤◌, ℕ, ◌+◌, zero, suc, Bool, ◌&&◌, ◌==◌, List, [], ◌∷◌, length, map, slice_index_or, slice_set, ℤ}
+use Rattle.std.specs.Ordering.{int_eq}
+use Rattle.std.specs.Cmp.Lexicographic.{pointwise}
 use Rattle.qs_program.specs.Program.{ProgramShape, client_at}
+use Rattle.qs_outcomes.specs.declared.rows.Draft.{Draft}
 use Rattle.qs_outcomes.specs.declared.rows.Row.{Row}
 use Rattle.qs_outcomes.specs.Standings.{RowShape}
 
@@ -15,6 +18,14 @@ rows_in keys = map shape_of keys
 abbrev pub named_before : ProgramShape → ℕ → ℕ → ℕ
 named_before p c zero = 0
 named_before p c (suc n) = length (client_at p c).variables + named_before p (suc c) n
+
+-- a row as it is written to be looked up
+abbrev pub drafted : Draft → RowShape
+drafted d = record { begun = d.begun; numbers = d.numbers.items }
+
+-- the test for equal rows
+abbrev pub equal : RowShape → RowShape → Bool
+equal a b = pointwise ◌==◌ a.begun b.begun && pointwise int_eq a.numbers b.numbers
 
 -- for each client where its variables begin among the numbers of a row, and last where the objects begin
 pub record AreStarts (p : ProgramShape) (starts : List ℕ) : Type 0 where

@@ -5,6 +5,7 @@ mod copies;
 mod fault;
 mod front;
 mod going;
+mod hints;
 mod rows;
 mod search;
 mod standing;

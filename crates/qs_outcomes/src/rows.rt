@@ -7,6 +7,7 @@ ghost use Rattle.qs_program.specs.Limits.{most_clients, most_variables};
 ghost use Rattle.qs_program.specs.Program.{client_at};
 ghost use Rattle.qs_objects.specs.Objects.{values_of};
 
+use indexmap::Equivalent;
 use qs_objects::{Kind, Object};
 use qs_program::{Locals, MOST_CLIENTS, Program};
 use smallvec::SmallVec;
@@ -16,15 +17,19 @@ use std::hash::{Hash, Hasher};
 // So many numbers of a row are kept in place: those of two accounts, say.
 const IN_PLACE: usize = 6;
 
-/// The numbers of a row.
-pub(crate) type Numbers = SmallVec<i64, IN_PLACE>;
-
-/// A configuration as a row: how many blocks each client has begun, a byte each, and other numbers. A short one takes no memory of its own, so
-/// that where it is compared in a table nothing else is looked at.
+/// A configuration as a row of a table: how many blocks each client has begun, a byte each, and other numbers. A short one takes no memory of
+/// its own, so that where it is compared in a table nothing else is looked at.
 #[derive(Drop, PartialEq, Eq)]
 pub(crate) struct Row {
     pub(crate) begun: [u8; MOST_CLIENTS],
-    pub(crate) numbers: Numbers,
+    numbers: SmallVec<i64, IN_PLACE>,
+}
+
+/// A row that is written again and again, to be looked up in a table.
+#[derive(Drop, PartialEq, Eq)]
+pub(crate) struct Draft {
+    pub(crate) begun: [u8; MOST_CLIENTS],
+    pub(crate) numbers: Vec<i64>,
 }
 
 /// Equal rows have the same hash. The counts are fed at once.
@@ -44,20 +49,54 @@ impl Hash for Row {
     }
 }
 
-impl Row {
-    ghost use Rattle.qs_outcomes.specs.Rows.{shape_of};
+/// A draft has the hash of the row that it is written for.
+impl Hash for Draft {
+    ghost use Rattle.std.specs.Hash as fed;
+    ghost use Rattle.std.specs.Prelude.{◌∷◌};
+    ghost use Rattle.std.proofs.Common.{rules};
+    ghost use Rattle.std.specs.Cmp.Rules.{hashing};
 
-    /// A row to write into, which takes no memory.
-    pub(crate) fn new(alloc: Global) -> Row {
-        Row {
+    ghost hash_input = { λ r. r.begun ∷ fed.slice fed.i64 r.numbers.items };
+
+    ghost respects_eq = { Prim.search (hashing, rules) };
+
+    fn hash<H: Hasher>(&self, state: &mut H) {
+        state.write(&self.begun);
+        self.numbers.as_slice().hash(state);
+    }
+}
+
+/// A draft is equivalent to the row that it is written for, and to no other.
+impl Equivalent<Row> for &Draft {
+    ghost use Rattle.qs_outcomes.specs.Rows.{drafted, equal, shape_of};
+    ghost use Rattle.std.proofs.Common.{rules};
+    ghost use Rattle.std.specs.Cmp.Rules.{hashing};
+
+    ghost equivalent = { λ q r. equal (drafted q.now) (shape_of r) };
+
+    ghost respects_hash = { Prim.search (hashing, rules) };
+
+    ghost respects_eq = { Prim.search (hashing, rules) };
+
+    fn equivalent(&self, row: &Row) -> bool {
+        self.begun == row.begun && self.numbers.as_slice() == row.numbers.as_slice()
+    }
+}
+
+impl Draft {
+    ghost use Rattle.qs_outcomes.specs.Rows.{drafted, shape_of};
+
+    /// A draft to write into, which takes no memory.
+    pub(crate) fn new(alloc: Global) -> Draft {
+        Draft {
             begun: [0; MOST_CLIENTS],
-            numbers: SmallVec::new(alloc),
+            numbers: Vec::new(alloc),
         }
     }
 
-    /// The same row once more. An error says that memory was refused.
-    pub(crate) fn copied(&self, alloc: Global) -> Result<Row, AllocError>
-        ensures same { IfOk result (λ copy. shape_of copy ≡ shape_of self.now) }
+    /// The row itself. An error says that memory was refused.
+    pub(crate) fn row(&self, alloc: Global) -> Result<Row, AllocError>
+        ensures same { IfOk result (λ row. shape_of row ≡ drafted self.now) }
     {
         Ok(Row {
             begun: self.begun,
@@ -78,7 +117,7 @@ pub(crate) fn padded(begun: &[u8]) -> [u8; MOST_CLIENTS]
 
 // Adds the variables that the text names.
 pub(crate) fn add_locals(
-    row: &mut Numbers,
+    row: &mut Vec<i64>,
     program: &Program,
     locals: &[Locals],
 ) -> Result<(), AllocError>
@@ -96,7 +135,7 @@ pub(crate) fn add_locals(
     Ok(())
 }
 
-fn add_named(row: &mut Numbers, values: &Locals, count: usize) -> Result<(), AllocError>
+fn add_named(row: &mut Vec<i64>, values: &Locals, count: usize) -> Result<(), AllocError>
     requires { count ≤ most_variables }
     ensures added { OnOk result (row.new.items ≡ row.old.items ++ take count values.now) }
 {
@@ -142,6 +181,18 @@ fn put_numbers(row: &mut [i64], first: usize, numbers: &[i64])
     }
 }
 
+// Puts the first numbers of a row in the place of those that are there.
+fn put_front(base: &[i64], count: usize, row: &mut Vec<i64>) -> Result<(), AllocError>
+    requires { count ≤ length base.now }
+    ensures put { OnOk result (row.new.items ≡ take count base.now) }
+{
+    row.clear();
+    if count > 0 {
+        row.extend_from_slice(&base[..count])?;
+    }
+    Ok(())
+}
+
 // Writes the numbers of a row up to its objects from those of another row: the variables of one client are others.
 pub(crate) fn put_stem(
     program: &Program,
@@ -149,7 +200,7 @@ pub(crate) fn put_stem(
     base: &[i64],
     client: u8,
     values: &Locals,
-    row: &mut Numbers,
+    row: &mut Vec<i64>,
 ) -> Result<(), AllocError>
     requires client { client < length program.now.clients }
     requires starts { AreStarts program.now starts.now }
@@ -158,8 +209,7 @@ pub(crate) fn put_stem(
         (named_before program.now 0 client) (take (length (client_at program.now client).variables) values.now)) }
 {
     program.is_sound();
-    row.clear();
-    row.extend_from_slice(&base[..starts[program.clients()]])?;
+    put_front(base, starts[program.clients()], row)?;
     put_numbers(
         row.as_mut_slice(),
         starts[usize::from(client)],
@@ -169,7 +219,7 @@ pub(crate) fn put_stem(
 }
 
 // Adds objects.
-pub(crate) fn add_objects(row: &mut Numbers, objects: &[Object]) -> Result<(), AllocError>
+pub(crate) fn add_objects(row: &mut Vec<i64>, objects: &[Object]) -> Result<(), AllocError>
     ensures added { OnOk result (row.new.items ≡ row.old.items ++ flat_map state_row objects.now) }
 {
     for object in objects {
@@ -178,7 +228,7 @@ pub(crate) fn add_objects(row: &mut Numbers, objects: &[Object]) -> Result<(), A
     Ok(())
 }
 
-fn add_object(row: &mut Numbers, object: &Object) -> Result<(), AllocError>
+fn add_object(row: &mut Vec<i64>, object: &Object) -> Result<(), AllocError>
     ensures added { OnOk result (row.new.items ≡ row.old.items ++ state_row object.now) }
 {
     row.push(object.refused())?;
@@ -202,14 +252,14 @@ fn add_object(row: &mut Numbers, object: &Object) -> Result<(), AllocError>
     Ok(())
 }
 
-fn add_number(row: &mut Numbers, number: i64) -> Result<(), AllocError>
+fn add_number(row: &mut Vec<i64>, number: i64) -> Result<(), AllocError>
     ensures added { OnOk result (row.new.items ≡ row.old.items ++ number ∷ []) }
 {
     row.push(number)?;
     Ok(())
 }
 
-fn add_object_values(row: &mut Numbers, object: &Object) -> Result<(), AllocError>
+fn add_object_values(row: &mut Vec<i64>, object: &Object) -> Result<(), AllocError>
     ensures added { OnOk result (row.new.items ≡ row.old.items ++ counted (values_of object.now.content)) }
 {
     row.push(object.len() as i64)?;

@@ -7,7 +7,7 @@ ghost use Rattle.qs_meaning.specs.Serial.{IsLegal};
 ghost use Rattle.qs_outcomes.specs.Outcomes.{AreAllOutcomes, AreAllOutcomesAfter, AreApart, HasConfigurations, HasConfigurationsAfter, HasMoreThan, HasMoreThanAfter, IsLeast, IsLeastAfter, IsListed, IsListedAfter};
 ghost use Rattle.qs_outcomes.specs.LeastOrders.{AreSorted};
 ghost use Rattle.qs_outcomes.specs.Lists.{HasOne};
-ghost use Rattle.qs_outcomes.specs.Rows.{AreStarts, rows_in, shape_of};
+ghost use Rattle.qs_outcomes.specs.Rows.{AreStarts, drafted, rows_in, shape_of};
 ghost use Rattle.qs_outcomes.specs.Search.{IsExplored, IsInserted, IsLonger, IsNoted, IsPushed, work_left};
 ghost use Rattle.qs_meaning.specs.Reduced.{goes_on};
 ghost use Rattle.qs_outcomes.specs.Going.{AreLast, in_byte};
@@ -17,13 +17,14 @@ use crate::copies::copied;
 use crate::fault::OutcomesFault;
 use crate::front::placed;
 use crate::going::{Last, last_blocks};
-use crate::rows::{Row, row_starts};
+use crate::hints::Hints;
+use crate::rows::{Draft, Row, row_starts};
 use crate::standing::Standing;
 use crate::watcher::{Unwatched, Watcher};
-use indexmap::IndexSet;
+use indexmap::{Equivalent, IndexSet};
 use qs_objects::{Object, Ticket};
 use qs_orders::names_order;
-use qs_program::Program;
+use qs_program::{Locals, MOST_VARIABLES, Program};
 use std::alloc::{AllocError, Global};
 use std::marker::Model;
 
@@ -66,14 +67,16 @@ impl AllOutcomes {
     }
 }
 
-// What the search writes into again and again: the row of the standing that was taken up, what a next block leaves of the objects, the row
-// of where it leads; and standings that are done with.
+// What the search writes into again and again: the row of the standing that was taken up, what a next block leaves of the client's variables
+// and of the objects, and the row of where it leads; standings that are done with; and guesses where rows stand.
 #[derive(Drop)]
 struct Scratch {
-    base: Row,
+    base: Draft,
+    values: Locals,
     left: Vec<Object>,
-    row: Row,
+    row: Draft,
     spare: Vec<Standing>,
+    hints: Hints,
 }
 
 // A standing to write into, one that is done with where there is any.
@@ -116,21 +119,37 @@ fn note(
     ensures full { IsErrOf result OutcomesFault.Limit → (length (rows_in seen.old.keys) ≡ limit)
         × (HasOne (λ r. row_of program.now standing.now ≡ r) (rows_in seen.old.keys) → ⊥) }
     ensures order { ¬ IsErrOf result OutcomesFault.Order }
-    ensures base { OnOk result (shape_of scratch.new.base ≡ row_of program.now standing.now) }
+    ensures base { OnOk result (drafted scratch.new.base ≡ row_of program.now standing.now) }
 {
     standing.write_row(program, front, &mut scratch.base)?;
-    let new = insert(seen, scratch.base.copied(alloc)?)?;
+    let new = insert(seen, scratch.base.row(alloc)?)?;
     if new && seen.len() > limit as usize {
         return Err(OutcomesFault::Limit);
+    }
+    if new {
+        scratch.hints.note(alloc, seen.as_slice())?;
     }
     Ok(new)
 }
 
-// Whether a row was seen.
-fn was_seen(seen: &IndexSet<Row>, row: &Row) -> bool
-    ensures seen { result ≡ true → HasOne (λ r. shape_of row.now ≡ r) (rows_in seen.now.keys) }
+// Whether a row stands at a place of the table.
+fn stands_at(seen: &IndexSet<Row>, place: usize, row: &Draft) -> bool
+    ensures seen { result ≡ true → HasOne (λ r. drafted row.now ≡ r) (rows_in seen.now.keys) }
 {
-    seen.contains(row)
+    match seen.get_index(place) {
+        Some(known) => row.equivalent(known),
+        None => false,
+    }
+}
+
+// Whether a row is found in the table. Where there is no guess it is not looked for: it can hardly be there.
+fn was_seen(seen: &IndexSet<Row>, hints: &Hints, row: &Draft) -> bool
+    ensures seen { result ≡ true → HasOne (λ r. drafted row.now ≡ r) (rows_in seen.now.keys) }
+{
+    match hints.at(&row.begun) {
+        None => false,
+        Some(place) => stands_at(seen, place, row) || seen.contains(row),
+    }
 }
 
 // Adds where a client's next block leads, if the client is one of those who go on and this was not seen.
@@ -150,25 +169,32 @@ fn push_one(
     requires starts { AreStarts program.now starts.now }
     requires standing { IsStanding program.now front.now standing.now }
     requires goes { in_byte goes ≡ goes_on program.now (configuration_in standing.now).begun }
-    requires base { shape_of scratch.old.base ≡ row_of program.now standing.now }
+    requires base { drafted scratch.old.base ≡ row_of program.now standing.now }
     ensures base { scratch.new.base ≡ scratch.old.base }
     ensures pushed { OnOk result (IsPushed program.now front.now (rows_in seen.now.keys) standing.now client stack.old.items stack.new.items) }
 {
     program.is_sound();
     if (goes >> client) & 1 == 1 {
-        let values = standing.run_next(alloc, program, front, client, &mut scratch.left)?;
+        standing.run_next(
+            alloc,
+            program,
+            front,
+            client,
+            &mut scratch.values,
+            &mut scratch.left,
+        )?;
         let left = scratch.left.as_slice();
         standing.write_next_row(
             program,
             front,
             client,
-            &values,
+            &scratch.values,
             left,
             starts,
             &scratch.base,
             &mut scratch.row,
         )?;
-        if was_seen(seen, &scratch.row) {
+        if was_seen(seen, &scratch.hints, &scratch.row) {
             return Ok(());
         }
         let mut next = spare_standing(alloc, &mut scratch.spare);
@@ -176,7 +202,7 @@ fn push_one(
             program,
             front,
             client,
-            &values,
+            &scratch.values,
             &mut scratch.left,
             &mut next,
         )?;
@@ -200,7 +226,7 @@ fn push_next(
     requires last { AreLast program.now last.now }
     requires starts { AreStarts program.now starts.now }
     requires standing { IsStanding program.now front.now standing.now }
-    requires base { shape_of scratch.old.base ≡ row_of program.now standing.now }
+    requires base { drafted scratch.old.base ≡ row_of program.now standing.now }
     ensures longer { OnOk result (IsLonger program.now front.now (rows_in seen.now.keys) standing.now 0 stack.old.items stack.new.items) }
 {
     program.is_sound();
@@ -301,10 +327,12 @@ fn search_from<W: Watcher>(
     let mut found = Vec::new(alloc);
     let mut stack = Vec::new(alloc);
     let mut scratch = Scratch {
-        base: Row::new(alloc),
+        base: Draft::new(alloc),
+        values: [0; MOST_VARIABLES],
         left: Vec::new(alloc),
-        row: Row::new(alloc),
+        row: Draft::new(alloc),
         spare: Vec::new(alloc),
+        hints: Hints::new(alloc, program)?,
     };
     add(&mut stack, first)?;
     while let Some(standing) = stack.pop() {

@@ -7,7 +7,7 @@ ghost use Rattle.qs_alone.specs.Alone.{AreCallsWithin, states_in};
 ghost use Rattle.qs_program.specs.Program.{blocks_of};
 
 use crate::going::{Last, goes_on};
-use crate::rows::{Row, add_locals, add_objects, padded, put_stem};
+use crate::rows::{Draft, add_locals, add_objects, padded, put_stem};
 use qs_alone::run_body;
 use qs_objects::{Object, ObjectFault, Ticket};
 use qs_program::{Block, Locals, MOST_VARIABLES, Program};
@@ -161,7 +161,7 @@ fn fresh_locals(alloc: Global, clients: usize) -> Result<Vec<Locals>, AllocError
 impl Standing {
     ghost use Rattle.qs_meaning.specs.Reduced.{goes_on};
     ghost use Rattle.qs_outcomes.specs.Going.{AreLast, in_byte};
-    ghost use Rattle.qs_outcomes.specs.Rows.{AreStarts, shape_of};
+    ghost use Rattle.qs_outcomes.specs.Rows.{AreStarts, drafted};
     ghost use Rattle.qs_outcomes.specs.Search.{NoneNext};
     ghost use Rattle.qs_outcomes.specs.Standings.{HasNext, HasRun, IsFirst, IsOneOn, IsStanding, configuration_in, row_of, with_block};
 
@@ -245,27 +245,27 @@ impl Standing {
         }
     }
 
-    // Runs the next block of a client alone, on copies of the objects, and answers what it leaves of the client's variables. An error says that
-    // memory was refused.
+    // Runs the next block of a client alone, on copies of its variables and of the objects. An error says that memory was refused.
     pub(crate) fn run_next(
         &self,
         alloc: Global,
         program: &Program,
         front: &[Ticket],
         client: u8,
+        values: &mut Locals,
         left: &mut Vec<Object>,
-    ) -> Result<Locals, AllocError>
+    ) -> Result<(), AllocError>
         requires client { client < length program.now.clients }
         requires standing { IsStanding program.now front.now self.now }
         requires left { HasNext program.now self.now client }
-        ensures ran { IfOk result (λ values. HasRun program.now self.now client values left.new.items) }
+        ensures ran { OnOk result (HasRun program.now self.now client values.new left.new.items) }
     {
         program.is_sound();
         let place = usize::from(client);
-        let mut values = self.locals[place];
+        *values = self.locals[place];
         let block = program.block(client, self.begun[place]);
-        run_block(alloc, block, &mut values, self.objects.as_slice(), left)?;
-        Ok(values)
+        run_block(alloc, block, values, self.objects.as_slice(), left)?;
+        Ok(())
     }
 
     // Writes where the program stands after the next block of a client, which left these variables and objects, into a standing, whose
@@ -312,7 +312,8 @@ impl Standing {
         ensures on { IfOk result (IsOneOn program.now self.now client) }
     {
         let mut left = Vec::new(alloc);
-        let values = self.run_next(alloc, program, front, client, &mut left)?;
+        let mut values = [0; MOST_VARIABLES];
+        self.run_next(alloc, program, front, client, &mut values, &mut left)?;
         let mut next = Standing::empty(alloc);
         self.put_next(program, front, client, &values, &mut left, &mut next)?;
         Ok(next)
@@ -323,10 +324,10 @@ impl Standing {
         &self,
         program: &Program,
         front: &[Ticket],
-        row: &mut Row,
+        row: &mut Draft,
     ) -> Result<(), AllocError>
         requires standing { IsStanding program.now front.now self.now }
-        ensures row { OnOk result (shape_of row.new ≡ row_of program.now self.now) }
+        ensures row { OnOk result (drafted row.new ≡ row_of program.now self.now) }
     {
         program.is_sound();
         row.begun = padded(self.begun.as_slice());
@@ -345,15 +346,15 @@ impl Standing {
         values: &Locals,
         left: &[Object],
         starts: &[usize],
-        base: &Row,
-        row: &mut Row,
+        base: &Draft,
+        row: &mut Draft,
     ) -> Result<(), AllocError>
         requires client { client < length program.now.clients }
         requires standing { IsStanding program.now front.now self.now }
         requires left { HasNext program.now self.now client }
         requires starts { AreStarts program.now starts.now }
-        requires base { shape_of base.now ≡ row_of program.now self.now }
-        ensures row { OnOk result (shape_of row.new ≡ row_of program.now (with_block self.now client values.now left.now)) }
+        requires base { drafted base.now ≡ row_of program.now self.now }
+        ensures row { OnOk result (drafted row.new ≡ row_of program.now (with_block self.now client values.now left.now)) }
     {
         program.is_sound();
         let place = usize::from(client);

@@ -1,5 +1,5 @@
 use Rattle.std.proofs.Common.{◌-◌, ◌+◌, ◌∙◌, ap, arith, subst}
-use Rattle.qs_outcomes.specs.Rows.{rows_in, shape_of}
+use Rattle.qs_outcomes.specs.Rows.{drafted, rows_in}
 use Rattle.qs_outcomes.specs.Search.{IsLonger, IsPushed}
 use Rattle.qs_outcomes.proofs.Exploring.{none_pushed, pushed_on}
 use Rattle.qs_outcomes.proofs.search.push_next.Goals as goal
@@ -19,5 +19,5 @@ loop-back-preserved c =
           (omega (arith, e))
           (subst (λ n. IsLonger c.args.program.now c.args.front.now (rows_in c.args.seen.now.keys) c.args.standing.now n c.args.stack.now.items c.loop-back.stack.items) (omega (arith, e)) c.loop-back.invariant.longer)
           (subst (λ n. IsPushed c.args.program.now c.args.front.now (rows_in c.args.seen.now.keys) c.args.standing.now n c.loop-back.stack.items c.push_one.new.stack.items) (omega (arith, e)) c.in_ok-push_one.ensures.pushed);
-      base = ap shape_of c.in_ok-push_one.ensures.base ∙ c.loop-back.invariant.base;
+      base = ap drafted c.in_ok-push_one.ensures.base ∙ c.loop-back.invariant.base;
     }

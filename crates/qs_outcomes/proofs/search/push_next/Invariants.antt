@@ -1,5 +1,5 @@
 use Rattle.std.proofs.Common.{◌≡◌, ◌-◌}
-use Rattle.qs_outcomes.specs.Rows.{rows_in, shape_of}
+use Rattle.qs_outcomes.specs.Rows.{drafted, rows_in}
 use Rattle.qs_outcomes.specs.Search.{IsLonger}
 use Rattle.qs_outcomes.specs.Standings.{row_of}
 use Rattle.qs_outcomes.proofs.search.push_next.Given as goal
@@ -7,5 +7,5 @@ use Rattle.qs_outcomes.proofs.search.push_next.Given as goal
 abbrev pub invariant-loop-back : goal.invariant-loop-back
 invariant-loop-back l = record {
   longer : IsLonger l.program l.front (rows_in l.seen.keys) l.standing (l.clients - l.back) l.initial.stack.items l.stack.items;
-  base : shape_of l.scratch.base ≡ row_of l.program l.standing;
+  base : drafted l.scratch.base ≡ row_of l.program l.standing;
 }

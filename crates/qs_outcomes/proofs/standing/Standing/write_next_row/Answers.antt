@@ -10,7 +10,7 @@ pub put_stem-requires : goal.put_stem-requires
 put_stem-requires c = record {
   client = c.requires.client;
   starts = c.requires.starts;
-  base = (let e = ap (λ (r : RowShape). length r.numbers) c.requires.base in let v = ap length c.as_slice-numbers.ensures in let within = stem_within c.args.program.now c.args.front.now c.is_sound.ensures.sound c.args.self.now c.requires.standing in omega (arith, e, v, within));
+  base = (let e = ap (λ (r : RowShape). length r.numbers) c.requires.base in let v = ap length c.as_slice-numbers.ensures.value in let within = stem_within c.args.program.now c.args.front.now c.is_sound.ensures.sound c.args.self.now c.requires.standing in omega (arith, e, v, within));
 }
 
 pub returns : goal.returns
@@ -23,7 +23,7 @@ returns c =
     let counts =
     same_set (ap (λ (r : RowShape). r.begun) c.requires.base) c.from-place.ensures (add-one c.index.result.now ∙ ap suc begun)
     ∙ next_counts p c.args.front.now c.is_sound.ensures.sound s c.requires.standing c.args.client (suc (get_or s.begun c.args.client 0)) c.requires.client in
-    let base = c.as_slice-numbers.ensures ∙ ap (λ (r : RowShape). r.numbers) c.requires.base in
+    let base = c.as_slice-numbers.ensures.value ∙ ap (λ (r : RowShape). r.numbers) c.requires.base in
     let numbers =
     c.in_ok-add_objects.ensures.added
     ∙ (ap (λ r. r ++ flat_map state_row c.args.left.now) (c.in_ok-put_stem.ensures.put
