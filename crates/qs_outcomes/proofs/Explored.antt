@@ -1,7 +1,7 @@
 -- What an explored program tells, once nothing is left on the stack: along any legal order the configuration was seen, at the end of a complete
 -- one it was found, and each that was found is the end of its own complete order, the least that comes to the same. Two that were found differ in what they come to, as equal
 -- numbers make equal rows. The rows that were seen count the configurations.
-use Rattle.std.proofs.Common.{◌≡◌, ◌<◌, ◌≤◌, ℕ, suc, true, List, [], ◌∷◌, ◌++◌, length, get_or, refl, sym, ap, ◌∙◌, subst, arith, inl, inr, length-append, ℤ}
+use Rattle.std.proofs.Common.{◌≡◌, ◌<◌, ◌≤◌, ℕ, suc, true, List, [], ◌∷◌, ◌++◌, length, get_or, refl, sym, ap, ◌∙◌, subst, arith, inl, inr, length-append}
 use Rattle.std.specs.List.{AllByRecursion}
 use Rattle.qs_objects.specs.declared.held.Ticket.{Ticket}
 use Rattle.qs_program.specs.Program.{ProgramShape, blocks_of}

@@ -1,7 +1,7 @@
 -- What the search keeps true: each standing that was taken off the stack is seen, what its next blocks lead to is seen or on the stack, and it
 -- is found where no block is left. So once the stack is empty, what was seen is closed, and by induction along any legal order its configuration
 -- was seen; where the order is complete, it was found. Rows of equal numbers stand for one configuration.
-use Rattle.std.proofs.Common.{◌≡◌, ◌<◌, ◌≤◌, ◌+◌, ℕ, suc, Bool, true, false, List, [], ◌∷◌, ◌++◌, length, refl, sym, ap, ◌∙◌, subst, arith, ◌⊎◌, inl, inr, ⊎_elim, append_assoc, append-nil, length-append, ℤ}
+use Rattle.std.proofs.Common.{◌≡◌, ◌<◌, ◌≤◌, ℕ, suc, Bool, true, false, List, [], ◌∷◌, ◌++◌, length, refl, sym, ap, ◌∙◌, subst, arith, ◌⊎◌, inl, inr, ⊎_elim, append_assoc, append-nil, length-append}
 use Rattle.std.specs.List.{AllByRecursion}
 use Rattle.qs_objects.specs.declared.held.Ticket.{Ticket}
 use Rattle.qs_program.specs.Program.{ProgramShape}
@@ -9,8 +9,8 @@ use Rattle.qs_program.specs.Sound.{IsSound}
 use Rattle.qs_meaning.proofs.Each.{each_back, each_front, each_join, each_map, each_snoc}
 use Rattle.qs_outcomes.specs.LeastOrders.{IsBefore, IsLeastFirst}
 use Rattle.qs_outcomes.specs.Lists.{HasOne, NoTwo}
-use Rattle.qs_outcomes.specs.Search.{AreNextFrom, IsExplored, IsFound, IsLonger, IsNoted, IsPushed, IsReached, IsSeen, NoneNext, WasSeen, work_left}
-use Rattle.qs_outcomes.specs.Standings.{GoesOn, HasNext, IsFirst, IsNext, IsStanding, RowShape, StandingShape, configuration_in, row_of}
+use Rattle.qs_outcomes.specs.Search.{AreNextFrom, IsExplored, IsFound, IsLonger, IsNoted, IsPushed, IsReached, IsSeen, NoneNext, WasSeen}
+use Rattle.qs_outcomes.specs.Standings.{GoesOn, IsFirst, IsNext, IsStanding, RowShape, StandingShape, configuration_in, row_of}
 use Rattle.qs_outcomes.proofs.Before.{fork}
 use Rattle.qs_outcomes.proofs.LeastFirst.{first_ends, first_pushes, first_skips}
 use Rattle.qs_outcomes.proofs.Lists.{has_back, has_either, has_front, has_map, has_only, none_of, pairs_join, two_snoc}
@@ -194,10 +194,6 @@ none_next p front rows s none = record {
   few = omega arith;
 }
 
--- a client that is not there has none left
-pub nobody_left : (p : ProgramShape) (s : StandingShape) (n : ℕ) → length p.clients ≤ n → ((c : ℕ) → c < n → HasNext p s c → ⊥) → NoneNext p s
-nobody_left p s n all none c left = none c (let less = in_program p s c left in omega (arith, less, all)) left
-
 -- a standing that was taken up, by what was noted of it and what was added
 module _ (p : ProgramShape) (front : List Ticket) (sound : IsSound p) (limit : ℕ) (rows later : List RowShape) (stack now found : List StandingShape) (s : StandingShape) (explored : IsExplored p front rows (stack ++ s ∷ []) found) (new : Bool)
     (noted : IsNoted rows (row_of p s) limit new later) where
@@ -223,10 +219,3 @@ module _ (p : ProgramShape) (front : List Ticket) (sound : IsSound p) (limit : �
       (subst (λ ts. IsExplored p front (rows ++ row_of p s ∷ []) ts results) (append-nil stack)
       (subst (λ xs. IsExplored p front (rows ++ row_of p s ∷ []) (stack ++ []) xs) (sym last)
       (sees_end p front sound rows stack found s explored n.0.1 (none_next p front (rows ++ row_of p s ∷ []) s none) none)))
-
-  pub less_left : new ≡ true → IsLonger p front later s 0 stack now → length p.clients ≤ 8 → work_left limit later now < work_left limit rows stack + 1
-  less_left is (added, e, next) clients =
-      let n = fresh is in let few = next.few in let within = n.1 in
-      let one : length later ≡ length rows + 1 = ap length n.0.0 ∙ length-append rows (row_of p s ∷ []) in
-      let long : length now ≡ length stack + length added = ap length e ∙ length-append stack added in
-      omega (arith, few, within, one, long, clients)

@@ -14,13 +14,6 @@ pub record IsPlacedSoFar (p : ProgramShape) (clients rest : List ℕ) (s : Stand
   pub standing : IsStanding p s.order s
   pub whole : order_of clients ≡ s.order ++ order_from (configuration_in s).begun rest
 
-pub placed_first : (p : ProgramShape) (clients : List ℕ) (s : StandingShape) → IsFirst p [] s → IsPlacedSoFar p clients clients s
-placed_first p clients s first = record {
-  standing = subst (λ front. IsStanding p front s) (sym first.order) first.standing;
-  whole = sym (ap (λ ts. ts ++ order_from (configuration_in s).begun clients) first.order
-      ∙ ap (λ (g : Configuration). order_from g.begun clients) first.first);
-}
-
 pub placed_on : (p : ProgramShape) (clients : List ℕ) (c : ℕ) (rest : List ℕ) (s n : StandingShape) → IsPlacedSoFar p clients (c ∷ rest) s → IsOneOn p s c n
     → IsPlacedSoFar p clients rest n
 placed_on p clients c rest s n now on = record {

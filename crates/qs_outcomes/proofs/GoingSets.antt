@@ -9,13 +9,10 @@ use Rattle.std.proofs.lemmas.Bool.Decides.{nat_tests}
 use Rattle.std.proofs.lemmas.List.{get_or_past}
 use Rattle.std.proofs.lemmas.Nat.Bits.{bit_at_or, bit_at-lt, bit_at-zero, bit_at_set_same, bit_at_set_other, shr_and_one}
 use Rattle.qs_objects.proofs.Choices.{eqb_apart, eqb_self}
-use Rattle.qs_program.specs.Program.{BlockShape, ProgramShape, block_at, client_at, blocks_of, no_block, no_client}
+use Rattle.qs_program.specs.Program.{BlockShape, ProgramShape, client_at, blocks_of, no_block, no_client}
 use Rattle.qs_program.specs.Sound.{IsSound}
 use Rattle.qs_meaning.specs.Reduced.{Clients, Counts, block_reserves, comes_in, group_of, many_below, size_of_set, smaller, some_below, still_reserves, widened, wider}
-use Rattle.std.specs.List.{AllByRecursion}
 use Rattle.std.proofs.lemmas.List.{length-set}
-use Rattle.qs_program.proofs.Bounds.{sound_block}
-use Rattle.qs_meaning.proofs.Each.{each_map}
 use Rattle.qs_program.specs.Limits.{most_clients, most_objects}
 use Rattle.qs_outcomes.specs.Going.{AreComers, AreLast, IsGrown, counts_in, in_byte}
 use Rattle.qs_outcomes.proofs.RowSteps.{take_more}
@@ -237,16 +234,6 @@ row_left p begun rows i up none = record {
       (ap in_byte (up.rest i (omega arith)) ∙ none_comes p (counts_in begun) i none) up.done;
   rest = λ c past. up.rest c (omega (arith, past));
 }
-
--- the objects of a sound block are few
-pub few_objects : (p : ProgramShape) → IsSound p → (c k : ℕ) → c < length p.clients → k < blocks_of p c → AllByRecursion (λ h. h < most_objects) (block_at p c k).reserved
-few_objects p sound c k client block =
-    each_map {Q = λ h. h < most_objects} (λ h (less : h < length p.objects). (let few = sound.objects in omega (arith, less, few))) (block_at p c k).reserved
-    (sound_block p c k sound client block).reserved
-
--- and they are the program's
-pub known_objects : (p : ProgramShape) → IsSound p → (c k : ℕ) → c < length p.clients → k < blocks_of p c → AllByRecursion (λ h. h < length p.objects) (block_at p c k).reserved
-known_objects p sound c k client block = (sound_block p c k sound client block).reserved
 
 -- ---- sets that were grown before
 

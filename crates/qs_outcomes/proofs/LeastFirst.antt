@@ -2,7 +2,7 @@
 -- stack, and the top of the stack is before all below it: so an order before the top leads to what was seen. Where the top was not seen, no
 -- order before its own leads there. Where it was seen, or its next block leads to what was seen, that was noted by an order before it, and an
 -- order that goes on from there instead is before the top, too: so nothing is lost where it is passed over.
-use Rattle.std.proofs.Common.{◌≡◌, ◌≤◌, ℕ, true, List, [], ◌∷◌, ◌++◌, refl, sym, ap, ◌∙◌, subst, arith, ◌⊎◌, inl, inr, append_assoc, append-nil, ℤ}
+use Rattle.std.proofs.Common.{◌≡◌, ◌≤◌, ℕ, true, List, [], ◌∷◌, ◌++◌, refl, sym, ap, ◌∙◌, subst, arith, ◌⊎◌, inl, inr, append_assoc, append-nil}
 use Rattle.std.specs.List.{AllByRecursion}
 use Rattle.qs_objects.specs.declared.held.Ticket.{Ticket}
 use Rattle.qs_program.specs.Program.{ProgramShape}

@@ -1,7 +1,7 @@
 -- The row of where a block leads, from the row of where it began: the count and the variables of its client are others, and the objects. So
 -- the search writes a row without another look at the other clients. A number that is put into the front part of a row leaves the back part
 -- as it is, and the other way round; the clients' variables stand one after another, each client's as many as its text names.
-use Rattle.std.proofs.Common.{◌≡◌, ◌<◌, ◌≤◌, ◌+◌, ℕ, zero, suc, List, [], ◌∷◌, ◌++◌, length, get_or, take, drop, flat_map, refl, sym, ap, ◌∙◌, subst, arith, append_assoc, length-append, add-one, ℤ, replicate}
+use Rattle.std.proofs.Common.{◌≡◌, ◌<◌, ◌≤◌, ◌+◌, ℕ, zero, suc, List, [], ◌∷◌, ◌++◌, length, get_or, take, drop, flat_map, refl, sym, ap, ◌∙◌, subst, arith, length-append, add-one, ℤ, replicate}
 use Rattle.std.specs.Prelude.{slice_set}
 use Rattle.std.proofs.Math.Seq.{drop-cons, take-append_seam}
 use Rattle.std.proofs.lemmas.List.{length-set, length-take, set-append_left}

@@ -1,9 +1,9 @@
 -- A list that is written place by place: the part that was written and one more element. The loops that write rows and copy objects stand
 -- on it.
-use Rattle.std.proofs.Common.{◌≡◌, ◌<◌, ◌≤◌, ◌+◌, ℕ, zero, suc, List, [], ◌∷◌, ◌++◌, length, get_or, take, map, flat_map, refl, sym, ap, ◌∙◌, arith, append_assoc, append-nil, add-one}
+use Rattle.std.proofs.Common.{◌≡◌, ◌<◌, ◌≤◌, ◌+◌, ℕ, zero, suc, List, [], ◌∷◌, ◌++◌, length, get_or, take, flat_map, refl, sym, ap, ◌∙◌, arith, append_assoc, append-nil, add-one}
 use Rattle.std.specs.Prelude.{Some, slice_get}
 use Rattle.std.proofs.Common.{ℤ}
-use Rattle.std.proofs.lemmas.List.{length-take, map-append}
+use Rattle.std.proofs.lemmas.List.{length-take}
 use Rattle.qs_objects.proofs.Elements.{AllByRecursion-get_or}
 use Rattle.qs_program.specs.Limits.{most_variables}
 use Rattle.qs_program.specs.Program.{ProgramShape, client_at, no_client}
@@ -16,22 +16,9 @@ take_more [] i d within = absurd (omega (arith, within))
 take_more (x ∷ xs) zero d within = refl
 take_more (x ∷ xs) (suc i) d within = rw add-one (ap (λ ys. x ∷ ys) (rw add-one at (take_more xs i d (omega (arith, within)))))
 
-pub take_whole : {X : Type 0} (xs : List X) (i : ℕ) → length xs ≤ i → take i xs ≡ xs
-take_whole [] zero past = refl
-take_whole [] (suc i) past = refl
-take_whole (x ∷ xs) zero past = absurd (omega (arith, past))
-take_whole (x ∷ xs) (suc i) past = ap (λ ys. x ∷ ys) (take_whole xs i (omega (arith, past)))
-
 flat_map-one : {X Y : Type 0} (f : X → List Y) (xs : List X) (x : X) → flat_map f (xs ++ x ∷ []) ≡ flat_map f xs ++ f x
 flat_map-one f [] x = append-nil (f x)
 flat_map-one f (y ∷ xs) x = ap (λ ys. f y ++ ys) (flat_map-one f xs x) ∙ sym (append_assoc (f y) (flat_map f xs) (f x))
-
--- one more element, by what is written of each
-pub flat_more : {X Y : Type 0} (f : X → List Y) (xs : List X) (i : ℕ) (x d : X) (start row new : List Y) → i < length xs → x ≡ get_or xs i d
-    → row ≡ start ++ flat_map f (take i xs) → new ≡ row ++ f x → new ≡ start ++ flat_map f (take (i + 1) xs)
-flat_more f xs i x d start row new within is before now =
-    now ∙ ap (λ r. r ++ f x) before ∙ append_assoc start (flat_map f (take i xs)) (f x)
-    ∙ ap (λ r. start ++ r) (sym (ap (flat_map f) (take_more xs i d within ∙ ap (λ y. take i xs ++ y ∷ []) (sym is)) ∙ flat_map-one f (take i xs) x))
 
 pub got : {X : Type 0} (xs : List X) (i : ℕ) (x : X) → slice_get xs i ≡ Some x → (i < length xs) × (x ≡ get_or xs i x)
 got [] i x e = absurd (cc)

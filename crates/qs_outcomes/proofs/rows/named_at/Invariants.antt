@@ -1,4 +1,4 @@
-use Rattle.std.proofs.Common.{◌≡◌, ◌≤◌, ◌+◌, ◌*◌, length}
+use Rattle.std.proofs.Common.{◌≡◌, ◌≤◌, ◌*◌}
 use Rattle.qs_outcomes.specs.Rows.{named_before}
 use Rattle.qs_outcomes.proofs.rows.named_at.Given as goal
 

@@ -1,4 +1,4 @@
-use Rattle.std.proofs.Common.{◌≡◌, [], subst, sym, length, List, ◌∙◌, ◌∷◌, refl, arith, ℤ}
+use Rattle.std.proofs.Common.{◌≡◌, [], subst, sym, length, List, ◌∙◌, ◌∷◌, refl, arith}
 use Rattle.std.proofs.lemmas.List.{length-map}
 use Rattle.qs_objects.specs.declared.held.Ticket.{Ticket}
 use Rattle.qs_program.specs.Program.{ProgramShape}
