@@ -43,8 +43,8 @@ use Rattle.qs_core_state.specs.CoreState.{CoreKeeps, CoreState, CoreSteps, IsCor
 use Rattle.qs_core_state.proofs.CoreEntering.{can_enter, handlers_entered, length_entered, order_few, rooms_entered, tickets_entered}
 use Rattle.qs_core_state.proofs.CoreFields.{each, field_kept}
 use Rattle.qs_core_state.proofs.CoreLists.{all_set, handler_put, map_here, side_put, tickets_put_at}
-use Rattle.qs_core.proofs.CoreMoves.{all_put}
-use Rattle.qs_core.proofs.HandlerFields as handlers
+use Rattle.qs_core_state.proofs.CoreMoves.{all_put}
+use Rattle.qs_core_state.proofs.HandlerFields as handlers
 use Rattle.qs_core.proofs.CoreReserving as reserving
 
 -- what holds of each member holds of all

@@ -40,10 +40,10 @@ turned_at n (acts.Spare d b) parcel object chunk c e = let is : d ≡ c = grind 
 turned_at n acts.Closed parcel object chunk c e = cc
 
 module _ (s : CoreState) (h : ℕ) (inside : h < length s.handlers) where
-  handler_is : handler_at s.program s.handlers h ≡ handler_of (core_handler_at s.handlers h)
+  pub handler_is : handler_at s.program s.handlers h ≡ handler_of (core_handler_at s.handlers h)
   handler_is = map_here handler_of s.handlers h no_core_handler (free (fresh_held s.program h)) inside
 
-  tickets_are : tickets_at s.handlers h ≡ (core_handler_at s.handlers h).tickets
+  pub tickets_are : tickets_at s.handlers h ≡ (core_handler_at s.handlers h).tickets
   tickets_are = map_here (λ (x : CoreHandlerState). x.tickets) s.handlers h no_core_handler [] inside
 
   found_same : (x : Handler) → found_by (core_of s) h x ≡ found_by (core_in s.clients s.handlers) h x
@@ -70,10 +70,10 @@ begun_in s is keeps i d inside =
     let begun = AllByRecursion-get_or (IsBegun s.program (core_of s)) s.order i d keeps.tickets.order inside in
     (subst (λ n. (get_or s.order i d).client < n) (sym is.clients) begun.0, begun.1)
 
-lanes_in : (s : CoreState) → IsCoreState s → HaveLanes s.clients s.handlers
+pub lanes_in : (s : CoreState) → IsCoreState s → HaveLanes s.clients s.handlers
 lanes_in s is h inside c here = let lanes = (is.sides c here).lanes in omega (arith, lanes, is.handlers, inside)
 
-turns_in : (s : CoreState) → IsCoreState s → CoreKeeps s → TurnTo s.clients s.handlers
+pub turns_in : (s : CoreState) → IsCoreState s → CoreKeeps s → TurnTo s.clients s.handlers
 unfolding core_of ReachedCore
 turns_in s is keeps h inside c turned =
     subst (λ n. c < n) (sym is.clients)

@@ -18,7 +18,7 @@ use Rattle.qs_played.specs.declared.schedule.actor.Actor.TheVariants as actor
 use Rattle.qs_core_laws.specs.Core.{core_step, may, reserves_from}
 use Rattle.qs_core_parts.specs.LaneStates.{LaneState}
 use Rattle.qs_core_state.specs.CoreState.{Side, core_from}
-use Rattle.qs_core.proofs.ClientFields.{counts_in, entries_in, traces_in}
+use Rattle.qs_core_state.proofs.ClientFields.{counts_in, entries_in, traces_in}
 use Rattle.qs_core_state.proofs.CoreFields.{field_put, field_kept, lanes_stay, tickets_kept, tickets_put}
 
 -- a list with one more at its end

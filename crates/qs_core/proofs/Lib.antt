@@ -1,9 +1,6 @@
 pub mod CoreBooking
-pub mod ClientFields
 pub mod CoreCounted
 pub mod CoreFresh
-pub mod HandlerFields
-pub mod CoreMoves
 pub mod CorePlaying
 pub mod CoreReadings
 pub mod CoreReserving
@@ -12,3 +9,4 @@ pub mod CoreShowing
 pub mod CoreFieldLemmas
 pub mod CoreRows
 pub mod CoreBlocks
+pub mod CoreDeeds

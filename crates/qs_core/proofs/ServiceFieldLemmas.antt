@@ -22,7 +22,7 @@ use Rattle.qs_core_parts.specs.LaneStates.{lane_at}
 use Rattle.qs_core_state.specs.CoreState.{CoreKeeps, CoreState, CoreSteps, IsCoreState, Side, all_blocks, codes_of, core_of, handler_at, side_at, side_of, tickets_at}
 use Rattle.qs_core.proofs.CoreBooking.{ticket_kept, ticket_rests, ticket_steps}
 use Rattle.qs_core_state.proofs.CoreLists.{map_here}
-use Rattle.qs_core.proofs.CoreMoves.{handler_kept, handler_rests, handler_steps, with_handlers}
+use Rattle.qs_core_state.proofs.CoreMoves.{handler_kept, handler_rests, handler_steps, with_handlers}
 use Rattle.qs_core.proofs.CoreFieldLemmas.{client_here}
 
 module _ (r s : CoreState) (view : r ≡ s) (kept : IsCoreState r) (keeps : CoreKeeps s) (h n : ℕ) (number : n ≡ h) (less : h < length s.handlers)

@@ -1,2 +1,3 @@
 pub mod CoreShown
 pub mod CoreOrders
+pub mod CoreDeeds

@@ -9,20 +9,23 @@ ghost use Rattle.qs_core_state.specs.CoreState.{AreFreshClients, AreFreshHandler
 ghost use Rattle.qs_core_parts.specs.CoreClients.{CoreClientState};
 ghost use Rattle.qs_core_parts.specs.CoreHandlers.{CanEnterAll, CoreHandlerState, with_ticket_at_all, with_ticket_at, core_handler_at, turns_to};
 ghost use Rattle.qs_client_run.specs.declared.act.Act.TheVariants as wants;
+ghost use Rattle.qs_core.specs.CoreDeeds.{core_deed, core_requests};
 ghost use Rattle.qs_played.specs.declared.schedule.actor.Actor.TheVariants as actors;
 
+use crate::core_deed::CoreDeed;
+use crate::core_deeds::{client_deed, client_requests, handler_deed, handler_requests};
 use crate::core_showing;
 use qs_chunk::ChunkSize;
 use qs_core_parts::{CoreClient, CoreHandler};
-use qs_objects::Ticket;
+use qs_objects::{Request, Ticket};
 use qs_played::{Actor, Played, declared_held};
 use qs_program::Program;
 use qs_syncset::{Mode, compile};
 use std::alloc::{AllocError, Global};
 use std::marker::Model;
 
-/// A program on its way in the optimised machine: clients with their lanes, and handlers with their queues of tickets. It takes memory in
-/// `new` alone.
+/// A program on its way in the optimised machine: clients with their lanes, and handlers with their queues of tickets. Its steps take
+/// no memory.
 #[derive(Drop)]
 pub(crate) struct CoreMachine<'p> {
     program: &'p Program,
@@ -278,6 +281,59 @@ impl<'p> CoreMachine<'p> {
         handler.has_next_act();
         let client = &mut self.clients[usize::from(client)];
         client.serve_lane(number, handler)
+    }
+
+    /// What an actor does next, if it steps; none for an actor that is not there.
+    pub(crate) fn next_deed(&self, actor: Actor) -> Option<CoreDeed>
+        requires keeps { CoreKeeps self.now }
+        ensures value { result ≡ core_deed (codes_of self.now) self.now.size (core_of self.now) actor }
+    {
+        self.is_machine();
+        match actor {
+            Actor::Client(client) => {
+                if usize::from(client) < self.clients.len() {
+                    client_deed(&self.clients, client)
+                } else {
+                    None
+                }
+            }
+            Actor::Handler(handler) => {
+                if usize::from(handler) < self.handlers.len() {
+                    handler_deed(&self.clients, &self.handlers, handler)
+                } else {
+                    None
+                }
+            }
+        }
+    }
+
+    /// The requests of the chunk that an actor sends or runs next, if it does; nothing changes. An error says that their memory was refused.
+    pub(crate) fn requests(
+        &mut self,
+        alloc: Global,
+        actor: Actor,
+    ) -> Result<Vec<Request>, AllocError>
+        requires keeps { CoreKeeps self.old }
+        ensures value { IfOk result (λ requests. requests.items ≡ core_requests (codes_of self.old) self.old.size (core_of self.old) actor) }
+        ensures same { self.new ≡ self.old }
+    {
+        self.is_machine();
+        match actor {
+            Actor::Client(client) => {
+                if usize::from(client) < self.clients.len() {
+                    client_requests(alloc, &mut self.clients, client)
+                } else {
+                    Ok(Vec::new(alloc))
+                }
+            }
+            Actor::Handler(handler) => {
+                if usize::from(handler) < self.handlers.len() {
+                    handler_requests(alloc, &mut self.clients, &self.handlers, handler)
+                } else {
+                    Ok(Vec::new(alloc))
+                }
+            }
+        }
     }
 
     /// What the run has shown.

@@ -16,8 +16,8 @@ use qs_objects::{Held, Journal, Object, Ticket};
 use qs_played::{ClientRows, Endings, Played, Row};
 use std::alloc::{AllocError, Global};
 
-// A client by its number.
-fn client_at(clients: &[CoreClient], number: usize) -> &CoreClient
+/// A client by its number.
+pub(crate) fn client_at(clients: &[CoreClient], number: usize) -> &CoreClient
     requires number { number < length clients.now }
     ensures mind { whole_of result.now ≡ (side_at clients.now number).mind }
     ensures lanes { result.now.lanes ≡ (side_at clients.now number).lanes }
@@ -125,8 +125,8 @@ fn are_finished(clients: &[CoreClient], handlers: &[CoreHandler]) -> bool
     are_done(clients) && are_idle(clients, handlers)
 }
 
-// A handler by its number.
-fn handler_at(handlers: &[CoreHandler], number: u8) -> &CoreHandler
+/// A handler by its number.
+pub(crate) fn handler_at(handlers: &[CoreHandler], number: u8) -> &CoreHandler
     requires number { number < length handlers.now }
     ensures seat { result.now ≡ core_handler_at handlers.now number }
     ensures kept { IsCoreHandler result.now }

@@ -1,6 +1,8 @@
 //! The optimised machine, and what is played on it; with it all that the plain rules, the laws of both, and comparisons offer.
 #![tactic(auto)]
 
+mod core_deed;
+mod core_deeds;
 mod core_machine;
 mod core_orders;
 mod core_schedules;
@@ -8,11 +10,12 @@ mod core_showing;
 pub mod laws;
 mod optimised;
 
+pub use core_deed::CoreDeed;
 pub use core_orders::play_in_order;
 pub use core_schedules::play;
 pub use optimised::Core;
 pub use qs_objects::Traces;
-pub use qs_plain::{Rules, play_plain, play_plain_in_order};
+pub use qs_plain::{Deed, Rules, play_plain, play_plain_in_order};
 pub use qs_plain_laws::QueueItem;
 pub use qs_played::{Actor, PlayFault, Played, Row};
 pub use qs_twin::{Twin, twin};

@@ -8,14 +8,17 @@ ghost use Rattle.qs_played.specs.Schedule.{actors_of, rounds_of};
 ghost use Rattle.qs_played.specs.declared.schedule.actor.Actor.{Actor as ActorShape};
 ghost use Rattle.std.specs.Bool.{OnTrue};
 ghost use Rattle.qs_core_laws.specs.Core.{core_step};
+ghost use Rattle.qs_core.specs.CoreDeeds.{core_deed, core_requests};
 ghost use Rattle.qs_program.specs.Program.{blocks_of};
 ghost use Rattle.qs_core_orders.specs.CoreQuiet.{turn_of};
 ghost use Rattle.qs_core.specs.CoreOrders.{CoreGoes, IsOneBlockOn, IsQuietNow, blocks_begun};
 ghost use Rattle.qs_core_state.specs.CoreState.{CoreIsCounted};
 ghost use Rattle.qs_core_state.specs.CoreState.{CoreIsIsolated, CoreSteps, IsFreshCore, IsPlayedOn, codes_of, core_of};
 
+use crate::core_deed::CoreDeed;
 use crate::core_machine::CoreMachine;
 use qs_chunk::ChunkSize;
+use qs_objects::Request;
 use qs_played::{Actor, Played};
 use qs_program::Program;
 use qs_syncset::Mode;
@@ -23,7 +26,7 @@ use std::alloc::{AllocError, Global};
 use std::marker::Model;
 
 /// A program on its way in the optimised machine, from its beginning on: each client sends chunks of commands to the handlers, and
-/// runs its queries itself on the objects that come to it. It takes memory in `new` alone.
+/// runs its queries itself on the objects that come to it. Its steps take no memory.
 pub struct Core<'p> {
     machine: CoreMachine<'p>,
 }
@@ -73,6 +76,25 @@ impl<'p> Core<'p> {
         self.machine.program().is_sound();
         self.machine.is_machine();
         self.machine.step(actor)
+    }
+
+    /// What an actor does next, if it steps; none for an actor that is not there.
+    pub fn next_deed(&self, actor: Actor) -> Option<CoreDeed>
+        ensures value { result ≡ core_deed (codes_of self.now) self.now.size (core_of self.now) actor }
+    {
+        self.machine.program().is_sound();
+        self.machine.is_machine();
+        self.machine.next_deed(actor)
+    }
+
+    /// The requests of the chunk that an actor sends or runs next, if it does; nothing changes. An error says that their memory was refused.
+    pub fn requests(&mut self, alloc: Global, actor: Actor) -> Result<Vec<Request>, AllocError>
+        ensures value { IfOk result (λ requests. requests.items ≡ core_requests (codes_of self.old) self.old.size (core_of self.old) actor) }
+        ensures same { self.new ≡ self.old }
+    {
+        self.machine.program().is_sound();
+        self.machine.is_machine();
+        self.machine.requests(alloc, actor)
     }
 
     /// At every moment each reservation has done what its block does alone, as far as it has come; it does nothing.
@@ -155,8 +177,8 @@ impl<'p> Core<'p> {
         }
     }
 
-    /// What the run has shown.
-    pub(crate) fn into_played(self, alloc: Global) -> Result<Played, AllocError>
+    /// What the run has shown. It is isolated, and its Syncs are counted. An error says that an allocation failed.
+    pub fn into_played(self, alloc: Global) -> Result<Played, AllocError>
         ensures shown { IfOk result (λ played. played ≡ core_played self.entry.program (core_of self.entry)) }
         ensures isolated { CoreIsIsolated self.entry }
         ensures counted { CoreIsCounted self.entry }

@@ -5,7 +5,8 @@ use Rattle.std.proofs.Common.{◌≡◌, ℕ, refl, ap, ◌∙◌, subst, ◌∷
 use Rattle.std.specs.Prelude.{IsTrue}
 use Rattle.qs_chunk.specs.Lanes.{may_stand}
 use Rattle.qs_chunk.specs.declared.parcel.Parcel.{Parcel}
-use Rattle.qs_handler.specs.Handler.{Handler, free, serves, spares, gives, away, closed, is_away, with_act}
+use Rattle.qs_handler.specs.Handler.{Handler, free, serves, spares, gives, away, closed, is_away, serving, with_act}
+use Rattle.qs_handler.specs.declared.mind.Act.{Act}
 use Rattle.qs_handler.specs.declared.mind.Act.TheVariants as acts
 use Rattle.qs_core_parts.specs.CoreHandlers.{CoreHandlerState, MayCome}
 use Rattle.qs_core_parts.specs.LaneStates.{LaneState}
@@ -23,3 +24,20 @@ pub first_may_stand : (s : CoreHandlerState) (l : LaneState) (c : ℕ) (p : Parc
     → MayCome s l → s.act ≡ acts.TakeParcel c → l.down ≡ p ∷ ps → IsTrue (may_stand (is_away s.mind) p)
 first_may_stand s l c p ps comes asked is =
     subst (λ h. IsTrue (may_stand (is_away h) p)) (ap (with_act s.mind) asked ∙ carries_no_parcel s.mind c) (comes c p ps asked is)
+
+-- the block that a handler serves is that of its mind, whatever its act carries
+pub serving_behind : (h : Handler) (a : Act) → serving (with_act h a) ≡ serving h
+serving_behind (free x) a = refl
+serving_behind (serves t x) acts.TakeTicket = refl
+serving_behind (serves t x) (acts.TakeParcel c) = refl
+serving_behind (serves t x) (acts.Give c y) = refl
+serving_behind (serves t x) (acts.Spare c chunk) = refl
+serving_behind (serves t x) acts.Closed = refl
+serving_behind (spares t x n) a = refl
+serving_behind (gives t x) a = refl
+serving_behind (away t) acts.TakeTicket = refl
+serving_behind (away t) (acts.TakeParcel c) = refl
+serving_behind (away t) (acts.Give c y) = refl
+serving_behind (away t) (acts.Spare c chunk) = refl
+serving_behind (away t) acts.Closed = refl
+serving_behind (closed x) a = refl

@@ -2,3 +2,4 @@ pub mod ClientModels
 pub mod CoreMinds
 pub mod HandlerFronts
 pub mod LaneStock
+pub mod TurnedChunks

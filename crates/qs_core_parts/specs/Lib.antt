@@ -1,3 +1,4 @@
 pub mod CoreClients
 pub mod CoreHandlers
 pub mod LaneStates
+pub mod CarriedRequests

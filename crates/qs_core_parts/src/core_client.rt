@@ -12,19 +12,21 @@ ghost use Rattle.qs_core_parts.specs.CoreClients.{Meets, AreStocked, HasLane, Is
 ghost use Rattle.qs_chunk.specs.LaneParts.{away_at, home_of};
 ghost use Rattle.qs_client.specs.ClientModel.{has_ended};
 ghost use Rattle.qs_core_parts.specs.LaneStates.{fresh_lane, lane_at};
+ghost use Rattle.qs_core_parts.specs.CarriedRequests.{first_requests, sent_requests};
 
 use crate::core_handler::CoreHandler;
 use crate::lane::Lane;
+use crate::requests::carried;
 use qs_chunk::{ChunkSize, Parcel};
 use qs_client::{Act, Mind};
-use qs_objects::{Held, Ticket};
+use qs_objects::{Held, Request, Ticket};
 use qs_played::ClientRows;
 use qs_syncset::Code;
 use std::alloc::{AllocError, Global};
 use std::marker::Model;
 use std::mem;
 
-/// A client's mind with the act that it handed out last, and the client's lanes, one to each handler. It takes memory in `new` alone.
+/// A client's mind with the act that it handed out last, and the client's lanes, one to each handler. Its steps take no memory.
 pub struct CoreClient {
     mind: Mind,
     act: Act,
@@ -77,6 +79,37 @@ impl CoreClient {
         ensures mind { IsMind (mind_of self.now.mind) }
     {
         self.mind.is_mind();
+    }
+
+    /// The act that its mind handed out last.
+    pub fn act(&self) -> &Act
+        ensures value { result.now ≡ self.now.act }
+    {
+        &self.act
+    }
+
+    /// The requests of the chunk that it sends next, if it sends one; nothing changes. An error says that their memory was refused.
+    pub fn sent_requests(&mut self, alloc: Global) -> Result<Vec<Request>, AllocError>
+        ensures value { IfOk result (λ requests. requests.items ≡ sent_requests self.old.act) }
+        ensures same { self.new ≡ self.old }
+    {
+        match &mut self.act {
+            Act::Send(_, parcel) => carried(alloc, parcel),
+            Act::Reserve => Ok(Vec::new(alloc)),
+            Act::Await(_) => Ok(Vec::new(alloc)),
+            Act::NeedChunk(_) => Ok(Vec::new(alloc)),
+            Act::Finished => Ok(Vec::new(alloc)),
+        }
+    }
+
+    /// The requests of the first parcel in the lane to a handler; nothing changes. An error says that their memory was refused.
+    pub fn lane_requests(&mut self, alloc: Global, handler: u8) -> Result<Vec<Request>, AllocError>
+        requires { handler < length self.old.lanes }
+        ensures value { IfOk result (λ requests. requests.items ≡ first_requests (lane_at self.old.lanes handler).down) }
+        ensures same { self.new ≡ self.old }
+    {
+        let lane = &mut self.lanes[usize::from(handler)];
+        lane.first_requests(alloc)
     }
 
     /// Whether it wants to reserve its next block.

@@ -1,11 +1,12 @@
 //! A handler of the optimised machine.
 
-ghost use Rattle.std.specs.Prelude.{◌≡◌, ◌<◌, [], ℕ, None, false, length, IfOk, option_copied};
+ghost use Rattle.std.specs.Prelude.{◌≡◌, ◌<◌, [], ◌∷◌, List, ℕ, None, false, length, IfOk, MatchOption, option_copied};
+ghost use Rattle.qs_objects.specs.declared.held.Ticket.{Ticket as TicketShape};
 ghost use Rattle.qs_objects.specs.Journals.{HeldState};
 ghost use Rattle.qs_objects.specs.declared.Request.{Request};
 ghost use Rattle.qs_chunk.specs.Batch.{Batch};
 ghost use Rattle.std.specs.Bool.{OnTrue};
-ghost use Rattle.qs_handler.specs.Handler.{free, held_of};
+ghost use Rattle.qs_handler.specs.Handler.{free, held_of, serving};
 ghost use Rattle.qs_handler.specs.declared.mind.Act.TheVariants as acts;
 ghost use Rattle.qs_core_parts.specs.CoreHandlers.{is_waiting, takes_ticket};
 ghost use Rattle.qs_core_parts.specs.CoreHandlers.{IsCoreHandler, LaneSteps, MayCome, TakesTicket, with_ticket, handler_of, handler_with, lane_step, turns_to};
@@ -79,6 +80,28 @@ impl CoreHandler {
         ensures seat { IsCoreHandler self.now }
     {
         let _ = &self.mind;
+    }
+
+    /// The act that its mind handed out last.
+    pub fn act(&self) -> &Act
+        ensures value { result.now ≡ self.now.act }
+    {
+        &self.act
+    }
+
+    /// The block that it serves, if there is one.
+    #[tactic(auto, using(crate::proofs::HandlerFronts::serving_behind))]
+    pub fn serving(&self) -> Option<Ticket>
+        ensures value { MatchOption result (serving (handler_of self.now) ≡ []) (λ ticket. serving (handler_of self.now) ≡ ticket ∷ []) }
+    {
+        self.mind.serving()
+    }
+
+    /// The first ticket of its queue.
+    pub fn first_ticket(&self) -> Option<Ticket>
+        ensures value { MatchOption result (self.now.tickets ≡ []) (λ ticket. (rest : List TicketShape) × (self.now.tickets ≡ ticket ∷ rest)) }
+    {
+        self.tickets.front().copied()
     }
 
     /// The client whose lane it turns to.

@@ -3,8 +3,10 @@
 ghost use Rattle.std.specs.Prelude.{◌≡◌, ◌<◌, ◌∷◌, ◌++◌, [], IfOk, MatchOption, None, Some, length, not, nat_lt, nat_eq, option_copied, List};
 ghost use Rattle.qs_chunk.specs.declared.parcel.Parcel.{Parcel as ParcelShape};
 ghost use Rattle.qs_chunk.specs.Limits.{lane_room, spare_room};
+ghost use Rattle.qs_core_parts.specs.CarriedRequests.{first_requests};
 ghost use Rattle.qs_core_parts.specs.LaneStates.{fresh_lane, with_down, with_spare, with_up};
 
+use crate::requests::carried;
 use qs_chunk::{Chunk, ChunkSize, LANE_ROOM, Parcel, SPARE_ROOM};
 use qs_objects::{Held, Request};
 use std::alloc::{AllocError, Global};
@@ -14,7 +16,7 @@ use std::mem;
 
 // How many parcels a lane takes, and how many empty chunks.
 
-/// The lane from a client to a handler: parcels on their way, the object on its way up, and empty chunks. It takes memory in `new` alone.
+/// The lane from a client to a handler: parcels on their way, the object on its way up, and empty chunks. Only `new` and copies of requests take memory.
 pub struct Lane {
     down: VecDeque<Parcel>,
     up: Option<Held>,
@@ -80,6 +82,18 @@ impl Lane {
         ensures value { MatchOption result (self.now.down ≡ []) (λ parcel. (rest : List ParcelShape) × (self.now.down ≡ parcel.now ∷ rest)) }
     {
         self.down.front()
+    }
+
+    /// The requests of the parcel that comes next; the lane stays the same. An error says that their memory was refused.
+    pub fn first_requests(&mut self, alloc: Global) -> Result<Vec<Request>, AllocError>
+        ensures value { IfOk result (λ requests. requests.items ≡ first_requests self.old.down) }
+        ensures same { self.new ≡ self.old }
+    {
+        if self.down.is_empty() {
+            return Ok(Vec::new(alloc));
+        }
+        let parcel = &mut self.down[0];
+        carried(alloc, parcel)
     }
 
     /// A parcel, at the end.

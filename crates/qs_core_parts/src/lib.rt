@@ -4,6 +4,7 @@
 mod core_client;
 mod core_handler;
 mod lane;
+mod requests;
 
 pub use core_client::CoreClient;
 pub use core_handler::CoreHandler;

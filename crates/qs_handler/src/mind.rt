@@ -1,12 +1,12 @@
 //! A handler's mind.
 
-ghost use Rattle.std.specs.Prelude.{◌≡◌, ℕ, [], IsTrue, false, true, Some, option_copied};
+ghost use Rattle.std.specs.Prelude.{◌≡◌, ◌∷◌, ℕ, [], IsTrue, MatchOption, false, true, Some, option_copied};
 ghost use Rattle.qs_objects.specs.Journals.{HeldState};
 ghost use Rattle.qs_chunk.specs.declared.parcel.Parcel.TheVariants as Parcel;
 ghost use Rattle.qs_chunk.specs.Batch.{batch};
 ghost use Rattle.qs_chunk.specs.Lanes.{may_stand};
 ghost use Rattle.qs_chunk.specs.Runs.{ran_all};
-ghost use Rattle.qs_handler.specs.Handler.{free, serves, spares, gives, away, closed, act_of, gave, accept_next, accept_parcel, is_away, held_of};
+ghost use Rattle.qs_handler.specs.Handler.{free, serves, spares, gives, away, closed, act_of, gave, accept_next, accept_parcel, is_away, held_of, serving};
 
 use qs_chunk::{Chunk, Parcel};
 use qs_objects::{Held, Next, Request, Ticket};
@@ -199,6 +199,20 @@ impl Mind {
         ensures held { option_copied result ≡ held_of self.now }
     {
         self.held.as_ref()
+    }
+
+    /// The block that the handler serves, if there is one.
+    pub fn serving(&self) -> Option<Ticket>
+        ensures value { MatchOption result (serving self.now ≡ []) (λ ticket. serving self.now ≡ ticket ∷ []) }
+    {
+        match self.stage {
+            Stage::Free => None,
+            Stage::Serves(ticket) => Some(ticket),
+            Stage::Spares(ticket) => Some(ticket),
+            Stage::Gives(ticket) => Some(ticket),
+            Stage::Away(ticket) => Some(ticket),
+            Stage::Closed => None,
+        }
     }
 
     /// The object with its journal, once the handler has ended.

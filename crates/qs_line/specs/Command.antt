@@ -20,32 +20,31 @@ chunk_rule = record (defaulted_rule (codes "chunk") (codes "8")) { parser = Some
 abbrev pub limit_rule : Rule
 limit_rule = record (defaulted_rule (codes "limit") (codes "1000000")) { parser = Some (parser.Signed (pos 1) (pos 4294967295)) }
 
--- `--counts`, without a value
-abbrev pub counts_rule : Rule
-counts_rule = record (new_rule (codes "counts")) { long = Some (codes "counts"); action = Some SetTrue }
+-- `--NAME`, without a value
+abbrev pub flag_rule : Text → Rule
+flag_rule name = record (new_rule name) { long = Some name; action = Some SetTrue }
 
 -- `.. [--format F] [--warn]`, as on each word
 abbrev pub shared_app : App → App
-shared_app app =
-    with_rule (with_rule app (defaulted_rule (codes "format") (codes "text")))
-    (record (new_rule (codes "warn")) { long = Some (codes "warn"); action = Some SetTrue })
+shared_app app = with_rule (with_rule app (defaulted_rule (codes "format") (codes "text"))) (flag_rule (codes "warn"))
 
 -- `check [--verbose] [--format F] [--warn]`
 abbrev pub check_app : App
-check_app =
-    shared_app (with_rule (new_app (codes "check")) (record (new_rule (codes "verbose")) { long = Some (codes "verbose"); action = Some SetTrue }))
+check_app = shared_app (with_rule (new_app (codes "check")) (flag_rule (codes "verbose")))
 
 -- `graph [--format F] [--warn]`
 abbrev pub graph_app : App
 graph_app = shared_app (new_app (codes "graph"))
 
--- `.. [--rounds N] [--pick LIST] [--order LIST] [--counts]`
-abbrev pub planned_app : App → App
-planned_app app =
-    with_rule (with_rule (with_rule (with_rule app (option_rule (codes "rounds"))) (option_rule (codes "pick"))) (option_rule (codes "order")))
-    counts_rule
+-- `.. [--rounds N] [--pick LIST] [--order LIST]`
+abbrev pub scheduled_app : App → App
+scheduled_app app = with_rule (with_rule (with_rule app (option_rule (codes "rounds"))) (option_rule (codes "pick"))) (option_rule (codes "order"))
 
--- `rules [--rounds N] [--pick LIST] [--order LIST] [--counts] [--format F] [--warn]`
+-- `.. [--rounds N] [--pick LIST] [--order LIST] [--counts] [--steps]`
+abbrev pub planned_app : App → App
+planned_app app = with_rule (with_rule (scheduled_app app) (flag_rule (codes "counts"))) (flag_rule (codes "steps"))
+
+-- `rules [--rounds N] [--pick LIST] [--order LIST] [--counts] [--steps] [--format F] [--warn]`
 abbrev pub rules_app : App
 rules_app = shared_app (planned_app (new_app (codes "rules")))
 
@@ -53,13 +52,13 @@ rules_app = shared_app (planned_app (new_app (codes "rules")))
 abbrev pub machine_app : Text → App
 machine_app word = with_rule (with_rule (new_app word) (defaulted_rule (codes "mode") (codes "both"))) chunk_rule
 
--- `play [--mode M] [--chunk N] [--rounds N] [--pick LIST] [--order LIST] [--counts] [--format F] [--warn]`
+-- `play [--mode M] [--chunk N] [--rounds N] [--pick LIST] [--order LIST] [--counts] [--steps] [--format F] [--warn]`
 abbrev pub play_app : App
 play_app = shared_app (planned_app (machine_app (codes "play")))
 
 -- `run [--mode M] [--chunk N] [--counts] [--format F] [--warn]`
 abbrev pub run_app : App
-run_app = shared_app (with_rule (machine_app (codes "run")) counts_rule)
+run_app = shared_app (with_rule (machine_app (codes "run")) (flag_rule (codes "counts")))
 
 -- `outcomes [--limit N] [--after LIST] [--format F] [--warn]`
 abbrev pub outcomes_app : App

@@ -1,5 +1,5 @@
 -- What a line asks for.
-use Rattle.std.specs.Prelude.{◌≡◌, ◌≢◌, ℕ, List, [], ◌∷◌, codes, Option, Some, None, Result, Ok, Err, ⊤, Bool, false, if◌then◌else◌, ◌||◌, is_some, option_map, option_and_then, unwrap_or}
+use Rattle.std.specs.Prelude.{◌≡◌, ◌≢◌, ℕ, List, [], ◌∷◌, codes, Option, Some, None, Result, Ok, Err, ⊤, Bool, true, false, if◌then◌else◌, ◌||◌, ◌&&◌, not, is_some, option_map, option_and_then, unwrap_or}
 use Rattle.std.specs.Option.{option_map_or}
 use Rattle.std.specs.Str.{bytes_eq}
 use Rattle.std.specs.Str.Parse.{digits_value, without_leading_plus}
@@ -21,6 +21,8 @@ use Rattle.qs_line.specs.declared.line.GraphFormat.{GraphFormat}
 use Rattle.qs_line.specs.declared.line.GraphFormat.TheVariants as graph_format
 use Rattle.qs_line.specs.declared.line.LineFault.{LineFault}
 use Rattle.qs_line.specs.declared.line.LineFault.TheVariants as fault
+use Rattle.qs_line.specs.declared.line.ReportFormat.{ReportFormat}
+use Rattle.qs_line.specs.declared.line.ReportFormat.TheVariants as report_format
 use Rattle.qs_line.specs.declared.line.ReportStyle.{ReportStyle}
 use Rattle.qs_line.specs.declared.line.Settings.{Settings}
 use Rattle.qs_line.specs.declared.line.Settings.TheVariants as word
@@ -35,29 +37,35 @@ pub data PlanShape : Type 0 where
 
 -- what is asked for: the counts; the graphs; a run by the plain rules; one in the optimised machine, in a mode and by chunks of a size;
 -- one on threads; or all outcomes after the blocks of some clients, with so many configurations at most. Each is asked for in a format, and
--- of a run the counts of synchronisations may be asked for as well.
+-- of a run the counts of synchronisations may be asked for as well, and of a schedule a line for each step.
 pub data Request : Type 0 where
   check : Format → Request
   graph : GraphFormat → Request
   rules : ReportStyle → PlanShape → Request
   play : ReportStyle → Mode → (chunk : ℕ) → PlanShape → Request
   run : ReportStyle → Mode → ℕ → Request
-  outcomes : Format → (limit : ℕ) → (front : List Part) → Request
+  outcomes : GraphFormat → (limit : ℕ) → (front : List Part) → Request
 
--- the format of a refusal where graphs are asked for: beside a drawing it is text
+-- the format of a refusal where graphs or outcomes are asked for: beside a drawing it is text
 abbrev pub format_beside : GraphFormat → Format
 format_beside graph_format.Text = format.Text
 format_beside graph_format.Json = format.Json
 format_beside graph_format.Dot = format.Text
 
+-- and where a report is asked for: beside a picture it is text
+abbrev pub format_beside_report : ReportFormat → Format
+format_beside_report report_format.Text = format.Text
+format_beside_report report_format.Json = format.Json
+format_beside_report report_format.Svg = format.Text
+
 -- the format in which a result is asked for, and its refusal
 abbrev pub format_of_request : Request → Format
 format_of_request (check how) = how
 format_of_request (graph how) = format_beside how
-format_of_request (rules style plan) = style.format
-format_of_request (play style mode chunk plan) = style.format
-format_of_request (run style mode chunk) = style.format
-format_of_request (outcomes how limit front) = how
+format_of_request (rules style plan) = format_beside_report style.format
+format_of_request (play style mode chunk plan) = format_beside_report style.format
+format_of_request (run style mode chunk) = format_beside_report style.format
+format_of_request (outcomes how limit front) = format_beside how
 
 abbrev pub plan_of : Plan → PlanShape
 plan_of (plan.Schedule rounds picks) = by_schedule rounds picks.items
@@ -82,6 +90,12 @@ graph_format_in text =
     else if bytes_eq text (codes "json") then Some graph_format.Json
     else if bytes_eq text (codes "dot") then Some graph_format.Dot else None
 
+abbrev pub report_format_in : Text → Option ReportFormat
+report_format_in text =
+    if bytes_eq text (codes "text") then Some report_format.Text
+    else if bytes_eq text (codes "json") then Some report_format.Json
+    else if bytes_eq text (codes "svg") then Some report_format.Svg else None
+
 abbrev pub mode_in : Text → Option Mode
 mode_in text =
     if bytes_eq text (codes "none") then Some Plain
@@ -97,9 +111,6 @@ number_in low high text =
 -- clap says `true` of a flag that stands on the line, and `false` of another
 abbrev pub flag_at : Text → List Row → Bool
 flag_at name rows = option_map_or (λ text. bytes_eq text (codes "true")) (first_of name rows) false
-
-abbrev pub counts_at : List Row → Bool
-counts_at = flag_at (codes "counts")
 
 -- whether warnings are asked for after the word that clap meets
 abbrev pub warns_met : Option (Text × List Row) → Bool
@@ -117,8 +128,13 @@ format_at rows = option_and_then format_in (first_of (codes "format") rows)
 abbrev pub graph_format_at : List Row → Option GraphFormat
 graph_format_at rows = option_and_then graph_format_in (first_of (codes "format") rows)
 
+abbrev pub report_format_at : List Row → Option ReportFormat
+report_format_at rows = option_and_then report_format_in (first_of (codes "format") rows)
+
 abbrev pub style_at : List Row → Option ReportStyle
-style_at rows = option_map (λ how. record { counts = counts_at rows; format = how }) (format_at rows)
+style_at rows =
+    option_map (λ how. record { counts = flag_at (codes "counts") rows; format = how; steps = flag_at (codes "steps") rows })
+    (report_format_at rows)
 
 abbrev pub mode_at : List Row → Option Mode
 mode_at rows = option_and_then mode_in (first_of (codes "mode") rows)
@@ -156,6 +172,20 @@ order_at text rows = if has_schedule rows then None else option_map by_order (cl
 abbrev pub plan_at : List Row → Option PlanShape
 plan_at rows = option_map_or (λ text. order_at text rows) (first_of (codes "order") rows) (schedule_at rows)
 
+-- the steps of a plan can be told before a report: those of a schedule, before a report as text
+abbrev pub can_tell : ReportFormat → PlanShape → Bool
+can_tell report_format.Text (by_schedule rounds picks) = true
+can_tell report_format.Text (by_order clients) = false
+can_tell report_format.Json plan = false
+can_tell report_format.Svg plan = false
+
+-- a plan of a report in a style; none where its steps are asked for and can't be told
+abbrev pub styled_plan : ReportStyle → PlanShape → Option PlanShape
+styled_plan style plan = if style.steps && not (can_tell style.format plan) then None else Some plan
+
+abbrev pub styled_plan_at : ReportStyle → List Row → Option PlanShape
+styled_plan_at style rows = option_and_then (styled_plan style) (plan_at rows)
+
 abbrev pub check_at : List Row → Option Request
 check_at rows = option_map check (format_at rows)
 
@@ -163,19 +193,19 @@ abbrev pub graph_at : List Row → Option Request
 graph_at rows = option_map graph (graph_format_at rows)
 
 abbrev pub rules_at : List Row → Option Request
-rules_at rows = option_and_then (λ style. option_map (rules style) (plan_at rows)) (style_at rows)
+rules_at rows = option_and_then (λ style. option_map (rules style) (styled_plan_at style rows)) (style_at rows)
 
 abbrev pub play_at : List Row → Option Request
 play_at rows =
-    option_and_then (λ style. option_and_then (λ mode. option_and_then (λ chunk. option_map (play style mode chunk) (plan_at rows)) (chunk_at rows))
-    (mode_at rows)) (style_at rows)
+    option_and_then (λ style. option_and_then (λ mode. option_and_then (λ chunk. option_map (play style mode chunk) (styled_plan_at style rows))
+    (chunk_at rows)) (mode_at rows)) (style_at rows)
 
 abbrev pub run_at : List Row → Option Request
 run_at rows = option_and_then (λ style. option_and_then (λ mode. option_map (run style mode) (chunk_at rows)) (mode_at rows)) (style_at rows)
 
 abbrev pub outcomes_at : List Row → Option Request
 outcomes_at rows =
-    option_and_then (λ how. option_and_then (λ limit. option_map (outcomes how limit) (front_at rows)) (limit_at rows)) (format_at rows)
+    option_and_then (λ how. option_and_then (λ limit. option_map (outcomes how limit) (front_at rows)) (limit_at rows)) (graph_format_at rows)
 
 -- what a word asks for, with the entries that clap finds after it
 abbrev pub request_at : Text → List Row → Option Request

@@ -6,9 +6,10 @@ use Rattle.qs_lists.specs.declared.parts.Part.{Part}
 use Rattle.qs_lists.specs.declared.parts.Who.TheVariants.{Name, Number}
 use Rattle.qs_lists.specs.Numbers.{once}
 use Rattle.qs_lists.specs.Parts.{times}
-use Rattle.qs_syncset.specs.declared.mode.Mode.TheVariants.{Dynamic, Static, Both}
+use Rattle.qs_syncset.specs.declared.mode.Mode.TheVariants.{Plain, Dynamic, Static, Both}
 use Rattle.qs_line.specs.declared.line.Format.TheVariants as format
 use Rattle.qs_line.specs.declared.line.GraphFormat.TheVariants as graph_format
+use Rattle.qs_line.specs.declared.line.ReportFormat.TheVariants as report_format
 use Rattle.qs_line.specs.declared.line.ReportStyle.{ReportStyle}
 use Rattle.qs_line.specs.Line.{Line, asks, by_order, by_schedule, check, graph, help, is_verbose_in, line_in, outcomes, play, refused, rules, run, version, warns_in}
 
@@ -16,15 +17,21 @@ use Rattle.qs_line.specs.Line.{Line, asks, by_order, by_schedule, check, graph, 
 abbrev pub line : List Text → Line
 line words = line_in (codes "qs" ∷ words)
 
--- a report as text, without the counts and with them, and one as JSON
+-- a report as text, without the counts and with them, and after the lines of its steps; and one as JSON and as a picture
 abbrev pub plain : ReportStyle
-plain = record { counts = false; format = format.Text }
+plain = record { counts = false; format = report_format.Text; steps = false }
 
 abbrev pub counted : ReportStyle
-counted = record { counts = true; format = format.Text }
+counted = record plain { counts = true }
+
+abbrev pub stepped : ReportStyle
+stepped = record plain { steps = true }
 
 abbrev pub as_json : ReportStyle
-as_json = record { counts = false; format = format.Json }
+as_json = record plain { format = report_format.Json }
+
+abbrev pub as_picture : ReportStyle
+as_picture = record plain { format = report_format.Svg }
 
 -- a part that is a name alone
 abbrev pub named : Text → Part
@@ -36,7 +43,7 @@ pub record DefaultLines : Type 0 where
   pub rules_alone : line (codes "rules" ∷ []) ≡ asks (rules plain (by_schedule 1000000 []))
   pub play_alone : line (codes "play" ∷ []) ≡ asks (play plain Both 8 (by_schedule 1000000 []))
   pub run_alone : line (codes "run" ∷ []) ≡ asks (run plain Both 8)
-  pub outcomes_alone : line (codes "outcomes" ∷ []) ≡ asks (outcomes format.Text 1000000 [])
+  pub outcomes_alone : line (codes "outcomes" ∷ []) ≡ asks (outcomes graph_format.Text 1000000 [])
 
 pub record SetLines : Type 0 where
   pub mode : line (codes "play" ∷ codes "--mode" ∷ codes "static" ∷ []) ≡ asks (play plain Static 8 (by_schedule 1000000 []))
@@ -48,8 +55,8 @@ pub record SetLines : Type 0 where
   pub runs : line (codes "run" ∷ codes "--chunk" ∷ codes "4" ∷ codes "--mode=static" ∷ []) ≡ asks (run plain Static 4)
 
 pub record LimitLines : Type 0 where
-  pub least : line (codes "outcomes" ∷ codes "--limit" ∷ codes "1" ∷ []) ≡ asks (outcomes format.Text 1 [])
-  pub most : line (codes "outcomes" ∷ codes "--limit=4294967295" ∷ []) ≡ asks (outcomes format.Text 4294967295 [])
+  pub least : line (codes "outcomes" ∷ codes "--limit" ∷ codes "1" ∷ []) ≡ asks (outcomes graph_format.Text 1 [])
+  pub most : line (codes "outcomes" ∷ codes "--limit=4294967295" ∷ []) ≡ asks (outcomes graph_format.Text 4294967295 [])
   pub none : line (codes "outcomes" ∷ codes "--limit" ∷ codes "0" ∷ []) ≡ refused
   pub one_more : line (codes "outcomes" ∷ codes "--limit" ∷ codes "4294967296" ∷ []) ≡ refused
   pub negative : line (codes "outcomes" ∷ codes "--limit=-1" ∷ []) ≡ refused
@@ -60,12 +67,12 @@ pub record LimitLines : Type 0 where
   pub counted : line (codes "outcomes" ∷ codes "--counts" ∷ []) ≡ refused
 
 pub record FrontLines : Type 0 where
-  pub one : line (codes "outcomes" ∷ codes "--after" ∷ codes "c1" ∷ []) ≡ asks (outcomes format.Text 1000000 (once (Client 1) ∷ []))
-  pub more : line (codes "outcomes" ∷ codes "--after=c0,c9,c0" ∷ codes "--limit=7" ∷ []) ≡ asks (outcomes format.Text 7 (once (Client 0) ∷ once (Client 9) ∷ once (Client 0) ∷ []))
+  pub one : line (codes "outcomes" ∷ codes "--after" ∷ codes "c1" ∷ []) ≡ asks (outcomes graph_format.Text 1000000 (once (Client 1) ∷ []))
+  pub more : line (codes "outcomes" ∷ codes "--after=c0,c9,c0" ∷ codes "--limit=7" ∷ []) ≡ asks (outcomes graph_format.Text 7 (once (Client 0) ∷ once (Client 9) ∷ once (Client 0) ∷ []))
   pub a_handler : line (codes "outcomes" ∷ codes "--after" ∷ codes "c0,h0" ∷ []) ≡ refused
   pub nobody : line (codes "outcomes" ∷ codes "--after" ∷ [] ∷ []) ≡ refused
-  pub two_digits : line (codes "outcomes" ∷ codes "--after" ∷ codes "c10" ∷ []) ≡ asks (outcomes format.Text 1000000 (named (codes "c10") ∷ []))
-  pub repeated : line (codes "outcomes" ∷ codes "--after=ann*2,c1" ∷ []) ≡ asks (outcomes format.Text 1000000 (times 2 (Name (codes "ann")) ∷ once (Client 1) ∷ []))
+  pub two_digits : line (codes "outcomes" ∷ codes "--after" ∷ codes "c10" ∷ []) ≡ asks (outcomes graph_format.Text 1000000 (named (codes "c10") ∷ []))
+  pub repeated : line (codes "outcomes" ∷ codes "--after=ann*2,c1" ∷ []) ≡ asks (outcomes graph_format.Text 1000000 (times 2 (Name (codes "ann")) ∷ once (Client 1) ∷ []))
   pub twice : line (codes "outcomes" ∷ codes "--after=c0" ∷ codes "--after=c0" ∷ []) ≡ refused
   pub of_play : line (codes "play" ∷ codes "--after" ∷ codes "c0" ∷ []) ≡ refused
 
@@ -101,14 +108,35 @@ pub record FormatLines : Type 0 where
   pub rules_as_json : line (codes "rules" ∷ codes "--format" ∷ codes "json" ∷ []) ≡ asks (rules as_json (by_schedule 1000000 []))
   pub plays : line (codes "play" ∷ codes "--counts" ∷ codes "--format=json" ∷ []) ≡ asks (play (record as_json { counts = true }) Both 8 (by_schedule 1000000 []))
   pub runs : line (codes "run" ∷ codes "--format=json" ∷ []) ≡ asks (run as_json Both 8)
-  pub lists : line (codes "outcomes" ∷ codes "--format=json" ∷ codes "--limit=7" ∷ []) ≡ asks (outcomes format.Json 7 [])
+  pub lists : line (codes "outcomes" ∷ codes "--format=json" ∷ codes "--limit=7" ∷ []) ≡ asks (outcomes graph_format.Json 7 [])
   pub play_as_text : line (codes "play" ∷ codes "--format=text" ∷ []) ≡ asks (play plain Both 8 (by_schedule 1000000 []))
+  pub rules_as_picture : line (codes "rules" ∷ codes "--format=svg" ∷ codes "--order=c0" ∷ []) ≡ asks (rules as_picture (by_order (once (Client 0) ∷ [])))
+  pub a_counted_picture : line (codes "play" ∷ codes "--format" ∷ codes "svg" ∷ codes "--counts" ∷ []) ≡ asks (play (record as_picture { counts = true }) Both 8 (by_schedule 1000000 []))
+  pub run_as_picture : line (codes "run" ∷ codes "--format=svg" ∷ []) ≡ asks (run as_picture Both 8)
+  pub picture_of_check : line (codes "check" ∷ codes "--format=svg" ∷ []) ≡ refused
+  pub picture_of_outcomes : line (codes "outcomes" ∷ codes "--format=svg" ∷ []) ≡ refused
   pub of_check : line (codes "check" ∷ codes "--format=dot" ∷ []) ≡ refused
   pub of_rules : line (codes "rules" ∷ codes "--format=dot" ∷ []) ≡ refused
   pub of_play : line (codes "play" ∷ codes "--format=dot" ∷ []) ≡ refused
   pub of_run : line (codes "run" ∷ codes "--format" ∷ codes "xml" ∷ []) ≡ refused
-  pub of_outcomes : line (codes "outcomes" ∷ codes "--format=dot" ∷ []) ≡ refused
+  pub outcomes_as_drawing : line (codes "outcomes" ∷ codes "--format=dot" ∷ codes "--after=c1" ∷ []) ≡ asks (outcomes graph_format.Dot 1000000 (once (Client 1) ∷ []))
   pub before_word : line (codes "--format=dot" ∷ codes "graph" ∷ []) ≡ refused
+
+-- the steps of a schedule are told before a report as text alone
+pub record StepLines : Type 0 where
+  pub by_rules : line (codes "rules" ∷ codes "--steps" ∷ []) ≡ asks (rules stepped (by_schedule 1000000 []))
+  pub by_play : line (codes "play" ∷ codes "--rounds=2" ∷ codes "--steps" ∷ codes "--counts" ∷ codes "--mode=none" ∷ [])
+      ≡ asks (play (record stepped { counts = true }) Plain 8 (by_schedule 2 []))
+  pub as_text : line (codes "rules" ∷ codes "--format=text" ∷ codes "--steps" ∷ []) ≡ asks (rules stepped (by_schedule 1000000 []))
+  pub as_json : line (codes "rules" ∷ codes "--format=json" ∷ codes "--steps" ∷ []) ≡ refused
+  pub as_picture : line (codes "play" ∷ codes "--steps" ∷ codes "--format=svg" ∷ []) ≡ refused
+  pub of_an_order : line (codes "rules" ∷ codes "--steps" ∷ codes "--order=c0" ∷ []) ≡ refused
+  pub of_an_order_in_play : line (codes "play" ∷ codes "--order=c0" ∷ codes "--steps" ∷ []) ≡ refused
+  pub twice : line (codes "play" ∷ codes "--steps" ∷ codes "--steps" ∷ []) ≡ refused
+  pub by_value : line (codes "play" ∷ codes "--steps=1" ∷ []) ≡ refused
+  pub of_run : line (codes "run" ∷ codes "--steps" ∷ []) ≡ refused
+  pub of_check : line (codes "check" ∷ codes "--steps" ∷ []) ≡ refused
+  pub of_outcomes : line (codes "outcomes" ∷ codes "--steps" ∷ []) ≡ refused
 
 pub record CountedLines : Type 0 where
   pub rules_alone : line (codes "rules" ∷ codes "--counts" ∷ []) ≡ asks (rules counted (by_schedule 1000000 []))
@@ -150,7 +178,7 @@ pub record ListLines : Type 0 where
 pub record WarnedLines : Type 0 where
   pub checks : line (codes "check" ∷ codes "--warn" ∷ []) ≡ asks (check format.Text)
   pub runs : line (codes "run" ∷ codes "--warn" ∷ codes "--counts" ∷ []) ≡ asks (run counted Both 8)
-  pub lists : line (codes "outcomes" ∷ codes "--limit" ∷ codes "7" ∷ codes "--warn" ∷ []) ≡ asks (outcomes format.Text 7 [])
+  pub lists : line (codes "outcomes" ∷ codes "--limit" ∷ codes "7" ∷ codes "--warn" ∷ []) ≡ asks (outcomes graph_format.Text 7 [])
   pub asked : warns_in (codes "qs" ∷ codes "graph" ∷ codes "--warn" ∷ []) ≡ true
   pub unasked : warns_in (codes "qs" ∷ codes "graph" ∷ []) ≡ false
   pub twice : line (codes "check" ∷ codes "--warn" ∷ codes "--warn" ∷ []) ≡ refused
@@ -192,6 +220,7 @@ pub record LineExamples : Type 0 where
   pub fronts : FrontLines
   pub orders : OrderLines
   pub formats : FormatLines
+  pub steps : StepLines
   pub counted : CountedLines
   pub uncounted : UncountedLines
   pub lists : ListLines

@@ -3,7 +3,7 @@
 ghost use Rattle.std.specs.Prelude.{◌≡◌, IfOk, codes, false};
 ghost use Rattle.clap.specs.Words.{app_of, new_app, rule_of, with_subcommand};
 ghost use Rattle.clap.specs.declared.Command.TheViews.{out-Command as fields_of};
-ghost use Rattle.qs_line.specs.Command.{check_app, chunk_rule, counts_rule, defaulted_rule, graph_app, limit_rule, machine_app, named_app, option_rule, outcomes_app, planned_app, play_app, qs_app, rules_app, run_app, shared_app, texts_app};
+ghost use Rattle.qs_line.specs.Command.{check_app, chunk_rule, defaulted_rule, flag_rule, graph_app, limit_rule, machine_app, named_app, option_rule, outcomes_app, planned_app, play_app, qs_app, rules_app, run_app, scheduled_app, shared_app, texts_app};
 
 use crate::help;
 use clap::{Arg, ArgAction, Command, value_parser};
@@ -47,13 +47,13 @@ fn limit_option<'a>(alloc: Global) -> Arg<'a>
         .value_parser(value_parser!(u32).range(1..=4294967295))
 }
 
-fn counts_flag<'a>(alloc: Global) -> Arg<'a>
-    ensures rule { rule_of result ≡ counts_rule }
+fn flag<'a>(alloc: Global, name: &'a str, said: &'a str) -> Arg<'a>
+    ensures rule { rule_of result ≡ flag_rule name.entry.now }
     ensures local { result.global ≡ false }
 {
-    Arg::new(alloc, "counts")
-        .long("counts")
-        .help(help::COUNTS)
+    Arg::new(alloc, name)
+        .long(name)
+        .help(said)
         .action(ArgAction::SetTrue)
 }
 
@@ -68,12 +68,7 @@ fn shared<'a>(
     ensures local { IfOk result (λ whole. (fields_of whole).has_globals ≡ false) }
 {
     let format = option(alloc, "format", "F", formats).default_value("text");
-    command.arg(format)?.arg(
-        Arg::new(alloc, "warn")
-            .long("warn")
-            .help(help::WARN)
-            .action(ArgAction::SetTrue),
-    )
+    command.arg(format)?.arg(flag(alloc, "warn", help::WARN))
 }
 
 // A word, with what the help says of it at its head and at its end.
@@ -84,29 +79,38 @@ fn word<'a>(alloc: Global, name: &'a str, about: &'a str, example: &'a str) -> C
     Command::new(alloc, name).about(about).after_help(example)
 }
 
-// With the settings that say who goes when, and whether the counts are shown.
-fn planned<'a>(alloc: Global, command: Command<'a>) -> Result<Command<'a>, AllocError>
+// With the settings that say who goes when.
+fn scheduled<'a>(alloc: Global, command: Command<'a>) -> Result<Command<'a>, AllocError>
     requires local { (fields_of command).has_globals ≡ false }
-    ensures app { IfOk result (λ whole. app_of whole ≡ planned_app (app_of command.entry)) }
+    ensures app { IfOk result (λ whole. app_of whole ≡ scheduled_app (app_of command.entry)) }
     ensures local { IfOk result (λ whole. (fields_of whole).has_globals ≡ false) }
 {
     command
         .arg(option(alloc, "rounds", "N", help::ROUNDS))?
         .arg(option(alloc, "pick", "LIST", help::PICK))?
-        .arg(option(alloc, "order", "LIST", help::ORDER))?
-        .arg(counts_flag(alloc))
+        .arg(option(alloc, "order", "LIST", help::ORDER))
+}
+
+// With the settings of a run that is played: who goes when, and whether the counts and the steps are shown.
+fn planned<'a>(alloc: Global, command: Command<'a>) -> Result<Command<'a>, AllocError>
+    requires local { (fields_of command).has_globals ≡ false }
+    ensures app { IfOk result (λ whole. app_of whole ≡ planned_app (app_of command.entry)) }
+    ensures local { IfOk result (λ whole. (fields_of whole).has_globals ≡ false) }
+{
+    scheduled(alloc, command)?
+        .arg(flag(alloc, "counts", help::COUNTS))?
+        .arg(flag(alloc, "steps", help::STEPS))
 }
 
 fn check_command<'a>(alloc: Global) -> Result<Command<'a>, AllocError>
     ensures app { IfOk result (λ command. app_of command ≡ check_app) }
     ensures local { IfOk result (λ command. (fields_of command).has_globals ≡ false) }
 {
-    let check = word(alloc, "check", help::CHECK, help::CHECK_EXAMPLE).arg(
-        Arg::new(alloc, "verbose")
-            .long("verbose")
-            .help(help::VERBOSE)
-            .action(ArgAction::SetTrue),
-    )?;
+    let check = word(alloc, "check", help::CHECK, help::CHECK_EXAMPLE).arg(flag(
+        alloc,
+        "verbose",
+        help::VERBOSE,
+    ))?;
     shared(alloc, check, help::FORMAT)
 }
 
@@ -126,7 +130,7 @@ fn rules_command<'a>(alloc: Global) -> Result<Command<'a>, AllocError>
         alloc,
         word(alloc, "rules", help::RULES, help::RULES_EXAMPLE),
     )?;
-    shared(alloc, rules, help::FORMAT)
+    shared(alloc, rules, help::REPORT_FORMAT)
 }
 
 fn machine_command<'a>(
@@ -151,15 +155,19 @@ fn play_command<'a>(alloc: Global) -> Result<Command<'a>, AllocError>
         alloc,
         machine_command(alloc, "play", help::PLAY, help::PLAY_EXAMPLE)?,
     )?;
-    shared(alloc, play, help::FORMAT)
+    shared(alloc, play, help::REPORT_FORMAT)
 }
 
 fn run_command<'a>(alloc: Global) -> Result<Command<'a>, AllocError>
     ensures app { IfOk result (λ command. app_of command ≡ run_app) }
     ensures local { IfOk result (λ command. (fields_of command).has_globals ≡ false) }
 {
-    let run = machine_command(alloc, "run", help::RUN, help::RUN_EXAMPLE)?.arg(counts_flag(alloc))?;
-    shared(alloc, run, help::FORMAT)
+    let run = machine_command(alloc, "run", help::RUN, help::RUN_EXAMPLE)?.arg(flag(
+        alloc,
+        "counts",
+        help::COUNTS,
+    ))?;
+    shared(alloc, run, help::REPORT_FORMAT)
 }
 
 fn outcomes_command<'a>(alloc: Global) -> Result<Command<'a>, AllocError>
@@ -169,7 +177,7 @@ fn outcomes_command<'a>(alloc: Global) -> Result<Command<'a>, AllocError>
     let outcomes = word(alloc, "outcomes", help::OUTCOMES, help::OUTCOMES_EXAMPLE)
         .arg(limit_option(alloc))?
         .arg(option(alloc, "after", "LIST", help::AFTER))?;
-    shared(alloc, outcomes, help::FORMAT)
+    shared(alloc, outcomes, help::OUTCOMES_FORMAT)
 }
 
 // The program, before its words.

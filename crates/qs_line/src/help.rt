@@ -103,8 +103,9 @@ pub const OUTCOMES_EXAMPLE: &str = with_limits!(
 Example:
   qs outcomes --limit 5000 < my.script
   qs outcomes --after bob,ann < my.script
+  qs outcomes --format dot < my.script | dot -Tsvg > my.svg
 
-The second lists only what comes after a block of bob and then one of ann. A line `outcome 2 c1,c0` begins the second
+The third draws how blocks lead from one configuration to the next, with a second outline for each outcome. The second lists only what comes after a block of bob and then one of ann. A line `outcome 2 c1,c0` begins the second
 result: the block of client 1, bob, first, then that of client 0, ann. Below it stand the objects at the end, and each
 client with its variables. Configurations, which the last line counts, are where the script can stand between two blocks."
 );
@@ -112,8 +113,14 @@ client with its variables. Configurations, which the last line counts, are where
 pub const FORMAT: &str =
     "How the result is written: as text for people, or as JSON for programs: text or json";
 
+pub const REPORT_FORMAT: &str =
+    "How the report is written: as text for people, as JSON for programs, or as a picture that browsers show: text, json or svg";
+
 pub const GRAPH_FORMAT: &str =
     "How the graphs are written: as text, as JSON for programs, or as a drawing that graphviz draws: text, json or dot";
+
+pub const OUTCOMES_FORMAT: &str =
+    "How the outcomes are written: as text, as JSON for programs, or as a drawing of up to 200 configurations that graphviz draws: text, json or dot";
 
 pub const MODE: &str =
     "Which synchronisations are left out: by none, dynamic or static coalescing, or by both";
@@ -137,6 +144,9 @@ pub const PICK: &str =
 
 pub const COUNTS: &str =
     "Shows after each block how many synchronisations it has sent for each of its objects";
+
+pub const STEPS: &str =
+    "Writes a line for each step before the report: who made it, and what it did; not with --order, nor with another format than text";
 
 pub const VERBOSE: &str =
     "Says on standard error how much of each limit of the language the script uses, and how much is left";

@@ -10,7 +10,8 @@ mod plan;
 mod told;
 
 pub use line::{
-    Asked, Format, GraphFormat, LineFault, ReportStyle, Settings, asked_for, read_line,
+    Asked, Format, GraphFormat, LineFault, ReportFormat, ReportStyle, Settings, asked_for,
+    read_line,
 };
 pub use plan::Plan;
 pub use told::{refusal, value_after};

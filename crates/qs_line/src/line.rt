@@ -1,10 +1,10 @@
 // The settings of a line.
 
-ghost use Rattle.std.specs.Prelude.{◌≡◌, [], IfOk, IfErr, map, option_map};
+ghost use Rattle.std.specs.Prelude.{◌≡◌, [], IfOk, IfErr, map, option_and_then, option_map};
 ghost use Rattle.clap.specs.Words.{found_of, kind_of, rows_of, subcommand_of, subcommand_rows_of};
 ghost use Rattle.clap.specs.Faults.{fault_of};
 ghost use Rattle.qs_line.specs.Command.{qs_app};
-ghost use Rattle.qs_line.specs.Line.{IsAnswer, IsFault, IsFaultAmong, check_at, chunk_at, counts_at, flag_at, format_at, front_at, graph_at, graph_format_at, is_verbose_in, is_verbose_met, limit_at, line_in, mode_at, outcomes_at, play_at, request_at, request_met, request_of, rules_at, run_at, style_at, warns_in, warns_met};
+ghost use Rattle.qs_line.specs.Line.{IsAnswer, IsFault, IsFaultAmong, check_at, chunk_at, flag_at, format_at, front_at, graph_at, graph_format_at, is_verbose_in, is_verbose_met, limit_at, line_in, mode_at, outcomes_at, plan_of, play_at, report_format_at, request_at, request_met, request_of, rules_at, run_at, style_at, styled_plan, can_tell, warns_in, warns_met};
 
 use crate::command::command;
 use crate::found::text_at;
@@ -25,24 +25,51 @@ pub enum Format {
     Json,
 }
 
-/// How graphs are written.
+/// How graphs and outcomes are written.
 #[derive(Clone, Copy, Debug)]
 pub enum GraphFormat {
     /// As lines of words.
     Text,
     /// As JSON, for programs.
     Json,
-    /// As a drawing in the DOT language, which graphviz draws.
+    /// As a drawing in the DOT language, which graphviz draws: the graphs, or the configurations that lead to the outcomes.
     Dot,
+}
+
+impl GraphFormat {
+    ghost use Rattle.qs_line.specs.Line.{format_beside};
+
+    // In which format a refusal is written where this one is asked for: beside a drawing it is text.
+    fn refusals(self) -> Format
+        ensures format { result ≡ format_beside self }
+    {
+        match self {
+            GraphFormat::Text | GraphFormat::Dot => Format::Text,
+            GraphFormat::Json => Format::Json,
+        }
+    }
 }
 
 /// How the report of a run is written.
 #[derive(Clone, Copy, Debug)]
+pub enum ReportFormat {
+    /// As lines of words.
+    Text,
+    /// As JSON, for programs.
+    Json,
+    /// As a picture in the SVG language, which browsers show.
+    Svg,
+}
+
+/// What a report shows, and how it is written.
+#[derive(Clone, Copy, Debug)]
 pub struct ReportStyle {
     /// Whether each block's synchronisations are shown.
     pub counts: bool,
-    /// As text or as JSON.
-    pub format: Format,
+    /// As text, as JSON or as a picture.
+    pub format: ReportFormat,
+    /// Whether a line for each step stands before it: only where a schedule is played and the report is text.
+    pub steps: bool,
 }
 
 /// What an accepted line asks for.
@@ -88,7 +115,7 @@ pub enum Settings {
     /// Check it, and list all outcomes.
     Outcomes {
         /// How they are written.
-        format: Format,
+        format: GraphFormat,
         /// How many configurations are looked at, at most.
         limit: u32,
         /// Whose blocks were run before.
@@ -96,23 +123,34 @@ pub enum Settings {
     },
 }
 
+impl ReportStyle {
+    ghost use Rattle.qs_line.specs.Line.{format_beside_report};
+
+    // In which format a refusal is written where this report is asked for: beside a picture it is text.
+    fn refusals(self) -> Format
+        ensures format { result ≡ format_beside_report self.format }
+    {
+        match self.format {
+            ReportFormat::Text | ReportFormat::Svg => Format::Text,
+            ReportFormat::Json => Format::Json,
+        }
+    }
+}
+
 impl Settings {
     ghost use Rattle.qs_line.specs.Line.{format_of_request, request_of};
 
-    /// In which format the result is asked for, and its refusal: beside a drawing that is text.
+    /// In which format the result is asked for, and its refusal: beside a drawing or a picture that is text.
     pub fn format(&self) -> Format
         ensures format { result ≡ format_of_request (request_of self.now) }
     {
         match self {
             Settings::Check { format } => *format,
-            Settings::Graph { format } => match format {
-                GraphFormat::Json => Format::Json,
-                GraphFormat::Text | GraphFormat::Dot => Format::Text,
-            },
-            Settings::Rules { style, .. } => style.format,
-            Settings::Play { style, .. } => style.format,
-            Settings::Run { style, .. } => style.format,
-            Settings::Outcomes { format, .. } => *format,
+            Settings::Graph { format } => format.refusals(),
+            Settings::Rules { style, .. } => style.refusals(),
+            Settings::Play { style, .. } => style.refusals(),
+            Settings::Run { style, .. } => style.refusals(),
+            Settings::Outcomes { format, .. } => format.refusals(),
         }
     }
 }
@@ -140,10 +178,10 @@ impl From<AllocError> for LineFault {
     }
 }
 
-fn counts_of(found: &ArgMatches<'_>) -> bool
-    ensures counts { result ≡ counts_at (rows_of (found_of found.now)) }
+fn has_flag(found: &ArgMatches<'_>, name: &str) -> bool
+    ensures flag { result ≡ flag_at name.now (rows_of (found_of found.now)) }
 {
-    matches!(text_at(found, "counts"), Some("true"))
+    matches!(text_at(found, name), Some("true"))
 }
 
 fn format_of(found: &ArgMatches<'_>) -> Option<Format>
@@ -167,14 +205,48 @@ fn graph_format_of(found: &ArgMatches<'_>) -> Option<GraphFormat>
     }
 }
 
+fn report_format_of(found: &ArgMatches<'_>) -> Option<ReportFormat>
+    ensures format { result ≡ report_format_at (rows_of (found_of found.now)) }
+{
+    match text_at(found, "format")? {
+        "text" => Some(ReportFormat::Text),
+        "json" => Some(ReportFormat::Json),
+        "svg" => Some(ReportFormat::Svg),
+        _ => None,
+    }
+}
+
 fn style_of(found: &ArgMatches<'_>) -> Option<ReportStyle>
     ensures style { result ≡ style_at (rows_of (found_of found.now)) }
 {
-    let format = format_of(found)?;
+    let format = report_format_of(found)?;
     Some(ReportStyle {
-        counts: counts_of(found),
+        counts: has_flag(found, "counts"),
         format,
+        steps: has_flag(found, "steps"),
     })
+}
+
+// Whether the steps of a plan can be told before a report: those of a schedule, before a report as text.
+fn can_tell(format: ReportFormat, plan: &Plan) -> bool
+    ensures value { result ≡ can_tell format (plan_of plan.now) }
+{
+    match (format, plan) {
+        (ReportFormat::Text, Plan::Schedule { .. }) => true,
+        (ReportFormat::Text, Plan::Order(_)) => false,
+        (ReportFormat::Json | ReportFormat::Svg, _) => false,
+    }
+}
+
+// The plan of a report in a style; None where it has no plan, or its steps are asked for and can't be told.
+fn styled_plan(style: ReportStyle, plan: Option<Plan>) -> Option<Plan>
+    ensures plan { option_map plan_of result ≡ option_and_then (styled_plan style) (option_map plan_of plan) }
+{
+    let plan = plan?;
+    if style.steps && !can_tell(style.format, &plan) {
+        return None;
+    }
+    Some(plan)
 }
 
 fn mode_of(found: &ArgMatches<'_>) -> Option<Mode>
@@ -229,10 +301,13 @@ fn graph_settings(found: &ArgMatches<'_>) -> Option<Settings>
 fn rules_settings(alloc: Global, found: &ArgMatches<'_>) -> Result<Option<Settings>, AllocError>
     ensures settings { IfOk result (λ settings. option_map request_of settings ≡ rules_at (rows_of (found_of found.now))) }
 {
-    let (Some(style), Some(plan)) = (style_of(found), given_plan(alloc, found)?) else {
+    let Some(style) = style_of(found) else {
         return Ok(None);
     };
-    Ok(Some(Settings::Rules { style, plan }))
+    match styled_plan(style, given_plan(alloc, found)?) {
+        Some(plan) => Ok(Some(Settings::Rules { style, plan })),
+        None => Ok(None),
+    }
 }
 
 fn play_settings(alloc: Global, found: &ArgMatches<'_>) -> Result<Option<Settings>, AllocError>
@@ -242,7 +317,7 @@ fn play_settings(alloc: Global, found: &ArgMatches<'_>) -> Result<Option<Setting
     else {
         return Ok(None);
     };
-    match given_plan(alloc, found)? {
+    match styled_plan(style, given_plan(alloc, found)?) {
         Some(plan) => Ok(Some(Settings::Play {
             style,
             mode,
@@ -266,7 +341,7 @@ fn outcomes_settings(alloc: Global, found: &ArgMatches<'_>) -> Result<Option<Set
     ensures settings { IfOk result (λ settings. option_map request_of settings ≡ outcomes_at (rows_of (found_of found.now))) }
 {
     let (Some(format), Some(limit), Some(front)) = (
-        format_of(found),
+        graph_format_of(found),
         limit_of(found),
         given_front(alloc, found)?,
     ) else {
@@ -338,8 +413,8 @@ fn matches_of<'a>(alloc: Global, words: &'a [&'a str]) -> Result<ArgMatches<'a>,
 }
 
 /// The settings of a line, whose first word is the program's name: those that `clap` finds, and its defaults. `Refused` comes exactly where
-/// `clap` refuses the words by an error, where a format, a mode, a number or a list does not read, or where an order stands beside picks or a number
-/// of rounds; `Help` and
+/// `clap` refuses the words by an error, where a format, a mode, a number or a list does not read, where an order stands beside picks or a number
+/// of rounds, or where steps are asked for of an order or before a report that is no text; `Help` and
 /// `Version` come exactly where it answers with help or with the version. `Memory` may come in place of each.
 pub fn read_line<'a>(alloc: Global, words: &'a [&'a str]) -> Result<Settings, LineFault>
     ensures line { IsAnswer (line_in (map (λ word. word.now) words.entry.now)) result }
@@ -355,12 +430,6 @@ pub struct Asked {
     pub warnings: bool,
     /// How much of each limit is used, and how much is left.
     pub limits: bool,
-}
-
-fn has_flag(found: &ArgMatches<'_>, name: &str) -> bool
-    ensures flag { result ≡ flag_at name.now (rows_of (found_of found.now)) }
-{
-    matches!(text_at(found, name), Some("true"))
 }
 
 fn asked_of(matches: &ArgMatches<'_>) -> Asked
@@ -384,6 +453,7 @@ fn asked_of(matches: &ArgMatches<'_>) -> Asked
 pub fn asked_for<'a>(alloc: Global, words: &'a [&'a str]) -> Result<Asked, LineFault>
     ensures warnings { IfOk result (λ asked. asked.warnings ≡ warns_in (map (λ word. word.now) words.entry.now)) }
     ensures limits { IfOk result (λ asked. asked.limits ≡ is_verbose_in (map (λ word. word.now) words.entry.now)) }
+    ensures fault { IfErr result (IsFaultAmong (fault_of qs_app (map (λ word. word.now) words.entry.now))) }
 {
     let matches = matches_of(alloc, words)?;
     Ok(asked_of(&matches))

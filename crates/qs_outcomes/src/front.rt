@@ -9,12 +9,8 @@ use crate::standing::Standing;
 use qs_program::Program;
 use std::alloc::{AllocError, Global};
 
-// Where the program stands after these clients' blocks, each client's in turn. An error says that memory was refused.
-pub(crate) fn placed(
-    alloc: Global,
-    program: &Program,
-    clients: &[u8],
-) -> Result<Standing, AllocError>
+/// Where the program stands after these clients' blocks, each client's in turn. An error says that memory was refused.
+pub fn placed(alloc: Global, program: &Program, clients: &[u8]) -> Result<Standing, AllocError>
     requires legal { IsLegal program.now (order_of clients.now) }
     ensures first { IfOk result (IsFirst program.now (order_of clients.now)) }
 {

@@ -11,7 +11,7 @@ use qs_program::{MOST_CLIENTS, MOST_OBJECTS, Program};
 use std::alloc::{AllocError, Global};
 
 /// For each object how many blocks a client has up to the last one that reserves it.
-pub(crate) type Last = [u8; MOST_OBJECTS];
+pub type Last = [u8; MOST_OBJECTS];
 
 // Notes the number of a block at each object that it reserves.
 fn mark(last: &mut Last, reserved: &[u8], number: u8)
@@ -41,8 +41,8 @@ fn last_of(program: &Program, client: u8) -> Last
     last
 }
 
-// The last blocks of all clients. An error says that memory was refused.
-pub(crate) fn last_blocks(alloc: Global, program: &Program) -> Result<Vec<Last>, AllocError>
+/// The last blocks of all clients. An error says that memory was refused.
+pub fn last_blocks(alloc: Global, program: &Program) -> Result<Vec<Last>, AllocError>
     ensures last { IfOk result (λ rows. AreLast program.now rows.items) }
 {
     program.is_sound();

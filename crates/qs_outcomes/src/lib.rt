@@ -11,7 +11,11 @@ mod search;
 mod standing;
 mod watcher;
 
+pub use copies::copied;
 pub use fault::OutcomesFault;
+pub use front::placed;
+pub use going::{Last, last_blocks};
+pub use rows::Row;
 pub use search::{AllOutcomes, outcomes, outcomes_after, outcomes_watched};
 pub use standing::Standing;
 pub use watcher::Watcher;

@@ -20,7 +20,7 @@ const IN_PLACE: usize = 6;
 /// A configuration as a row of a table: how many blocks each client has begun, a byte each, and other numbers. A short one takes no memory of
 /// its own, so that where it is compared in a table nothing else is looked at.
 #[derive(Drop, PartialEq, Eq)]
-pub(crate) struct Row {
+pub struct Row {
     pub(crate) begun: [u8; MOST_CLIENTS],
     numbers: SmallVec<i64, IN_PLACE>,
 }

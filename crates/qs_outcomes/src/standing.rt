@@ -7,7 +7,7 @@ ghost use Rattle.qs_alone.specs.Alone.{AreCallsWithin, states_in};
 ghost use Rattle.qs_program.specs.Program.{blocks_of};
 
 use crate::going::{Last, goes_on};
-use crate::rows::{Draft, add_locals, add_objects, padded, put_stem};
+use crate::rows::{Draft, Row, add_locals, add_objects, padded, put_stem};
 use qs_alone::run_body;
 use qs_objects::{Object, ObjectFault, Ticket};
 use qs_program::{Block, Locals, MOST_VARIABLES, Program};
@@ -161,7 +161,7 @@ fn fresh_locals(alloc: Global, clients: usize) -> Result<Vec<Locals>, AllocError
 impl Standing {
     ghost use Rattle.qs_meaning.specs.Reduced.{goes_on};
     ghost use Rattle.qs_outcomes.specs.Going.{AreLast, in_byte};
-    ghost use Rattle.qs_outcomes.specs.Rows.{AreStarts, drafted};
+    ghost use Rattle.qs_outcomes.specs.Rows.{AreStarts, drafted, shape_of};
     ghost use Rattle.qs_outcomes.specs.Search.{NoneNext};
     ghost use Rattle.qs_outcomes.specs.Standings.{HasNext, HasRun, IsFirst, IsOneOn, IsStanding, configuration_in, row_of, with_block};
 
@@ -226,8 +226,8 @@ impl Standing {
         true
     }
 
-    // Who goes on. It takes no memory.
-    pub(crate) fn goes_on(&self, program: &Program, last: &[Last], front: &[Ticket]) -> u8
+    /// Who goes on, client c in bit c. It takes no memory.
+    pub fn goes_on(&self, program: &Program, last: &[Last], front: &[Ticket]) -> u8
         requires last { AreLast program.now last.now }
         requires standing { IsStanding program.now front.now self.now }
         ensures goes { in_byte result ≡ goes_on program.now (configuration_in self.now).begun }
@@ -298,8 +298,8 @@ impl Standing {
         Ok(())
     }
 
-    // Where the program stands after the next block of a client. An error says that memory was refused.
-    pub(crate) fn next(
+    /// Where the program stands after the next block of a client. An error says that memory was refused.
+    pub fn next(
         &self,
         alloc: Global,
         program: &Program,
@@ -317,6 +317,16 @@ impl Standing {
         let mut next = Standing::empty(alloc);
         self.put_next(program, front, client, &values, &mut left, &mut next)?;
         Ok(next)
+    }
+
+    /// Its row. An error says that memory was refused.
+    pub fn row(&self, alloc: Global, program: &Program, front: &[Ticket]) -> Result<Row, AllocError>
+        requires standing { IsStanding program.now front.now self.now }
+        ensures row { IfOk result (λ row. shape_of row ≡ row_of program.now self.now) }
+    {
+        let mut draft = Draft::new(alloc);
+        self.write_row(program, front, &mut draft)?;
+        draft.row(alloc)
     }
 
     // Writes itself as a row. An error says that memory was refused.

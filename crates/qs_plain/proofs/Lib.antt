@@ -12,3 +12,4 @@ pub mod RulesServe
 pub mod RulesSteps
 pub mod RulesFieldLemmas
 pub mod Blocks
+pub mod RulesDeeds

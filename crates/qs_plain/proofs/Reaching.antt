@@ -1,8 +1,9 @@
 -- Whatever state the plain rules can be stepped to, what it has shown is isolated and its synchronisations are counted, and one
 -- step more leads to such a state again. The contracts of `step`, `is_isolated` and `is_counted` promise it. A state that was
 -- reached is where a list of actors leads, and the laws speak of every such list; a step is one more actor at its end.
-use Rattle.std.proofs.Common.{sym, subst, ◌≡◌, Bool, true, false, List, [], ◌∷◌, ◌++◌, refl, ap, ◌∙◌}
+use Rattle.std.proofs.Common.{sym, subst, ◌≡◌, Bool, true, false, List, [], ◌∷◌, ◌++◌, refl, ap, ◌∙◌, Option, Some, None}
 use Rattle.std.specs.Bool.{OnTrue}
+use Rattle.std.specs.Prelude.{IfNone, IfSome}
 use Rattle.qs_program.specs.Sound.{IsSound}
 use Rattle.qs_program.specs.Program.{ProgramShape}
 use Rattle.qs_played.specs.Isolation.{IsIsolated}
@@ -36,6 +37,11 @@ stepped old new a (actors, is) steps =
 pub reached_next : (old new : RulesState) (a : Actor) (b : Bool) → IsReached old → OnTrue b (Steps old a new) → (b ≡ false → new ≡ old) → IsReached new
 reached_next old new a true reached steps same = stepped old new a reached steps
 reached_next old new a false reached steps same = subst IsReached (sym (same refl)) reached
+
+-- the same of a step that is told
+pub reached_told : {D : Type 0} (old new : RulesState) (a : Actor) (o : Option D) → IsReached old → IfSome o (λ _. Steps old a new) → IfNone o (new ≡ old) → IsReached new
+reached_told old new a (Some d) reached steps same = stepped old new a reached steps
+reached_told old new a None reached steps same = subst IsReached (sym same) reached
 
 pub reached_isolated : (r : RulesState) → IsSound r.program → IsReached r → AreIsolated r
 reached_isolated r sound (actors, is) =

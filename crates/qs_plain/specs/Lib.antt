@@ -4,3 +4,4 @@ pub mod Handlers
 pub mod Rules
 pub mod Served
 pub mod Blocks
+pub mod Deeds

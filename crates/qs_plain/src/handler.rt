@@ -4,8 +4,11 @@ ghost use Rattle.std.specs.Prelude.{◌≡◌, ◌-◌, ◌<◌, [], ◌∷◌, 
 ghost use Rattle.qs_objects.specs.Journals.{run_one};
 ghost use Rattle.qs_plain.specs.Served.{HandlerState as State, ServesFirst, after_put, IsLoggable};
 ghost use Rattle.qs_plain_client.specs.Queues.{queue_state};
+ghost use Rattle.qs_plain.specs.Deeds.{deed_of_queues, reply_in, unanswered};
+ghost use Rattle.qs_plain_client.specs.Queues.{QueueState};
 ghost use Rattle.qs_plain_laws.specs.declared.item.QueueItem.TheVariants as items;
 
+use crate::deed::Deed;
 use qs_objects::{Held, Request, Ticket};
 use qs_plain_client::PrivateQueue;
 use qs_plain_laws::QueueItem;
@@ -103,6 +106,41 @@ impl HandlerState {
             self.queues[0].put_query(ticket, request);
         } else {
             self.log(ticket, &QueueItem::Query(request));
+        }
+    }
+
+    /// What it does next, if anything; the reply of a query is left open.
+    pub(crate) fn next_deed(&self) -> Option<Deed>
+        ensures value { result ≡ unanswered (deed_of_queues self.now.held (map (λ (q : QueueState). q.queue) self.now.queues)) }
+    {
+        let queue = match self.queues.first() {
+            None => return None,
+            Some(queue) => queue,
+        };
+        match queue.first() {
+            None => None,
+            Some(QueueItem::Command(request)) => Some(Deed::Runs(queue.ticket(), request.copied())),
+            Some(QueueItem::Query(request)) => {
+                Some(Deed::Answers(queue.ticket(), request.copied(), None))
+            }
+            Some(QueueItem::EndMark) => Some(Deed::Leaves(queue.ticket())),
+        }
+    }
+
+    /// How many requests its object has served.
+    pub(crate) fn served(&self) -> usize
+        ensures value { result ≡ length self.now.held.journal }
+    {
+        self.held.journal().len()
+    }
+
+    /// The reply of the request that came to its object's journal after so many.
+    pub(crate) fn reply_after(&self, before: usize) -> Option<i64>
+        ensures value { result ≡ reply_in self.now.held.journal before }
+    {
+        match self.held.journal().get(before) {
+            Some(entry) => entry.reply,
+            None => None,
         }
     }
 

@@ -1,6 +1,7 @@
 //! The machine of the plain rules: for each handler a queue of queues, and in it a private queue of single requests for each reservation.
 #![tactic(auto)]
 
+mod deed;
 mod handler;
 mod handlers;
 mod machine;
@@ -9,6 +10,7 @@ mod rules;
 mod schedules;
 mod showing;
 
+pub use deed::Deed;
 pub use orders::play_plain_in_order;
 pub use rules::Rules;
 pub use schedules::play_plain;

@@ -1,11 +1,15 @@
 //! The machine of the plain rules.
 
-ghost use Rattle.std.specs.Prelude.{◌≡◌, ◌<◌, ◌∷◌, None, false, length, map, IfOk};
+ghost use Rattle.std.specs.Prelude.{◌≡◌, ◌<◌, ◌∷◌, None, Some, false, true, length, map, IfNone, IfOk, IfSome};
 ghost use Rattle.std.specs.Bool.{OnTrue};
 ghost use Rattle.qs_plain_laws.specs.Plain.{begin, step as the_step};
 ghost use Rattle.qs_played.specs.declared.schedule.actor.Actor.TheVariants as actors;
 ghost use Rattle.qs_plain_client.specs.declared.stage.Stage.TheVariants as stages;
+ghost use Rattle.qs_plain.specs.Deeds.{plain_deed, reply_in};
+ghost use Rattle.qs_plain.specs.declared.deed.Deed.{Deed as DeedShape};
+ghost use Rattle.qs_plain.specs.Handlers.{handler_at};
 
+use crate::deed::{Deed, asks, ends, logs};
 use crate::handler::{HandlerState, Served};
 use crate::handlers::{enter_all, fresh_handlers, log_all, log_command, log_query};
 use crate::showing;
@@ -94,6 +98,31 @@ impl<'p> Machine<'p> {
         }
     }
 
+    /// The same step, and what it does: None where the actor has none.
+    pub(crate) fn step_told(&mut self, actor: Actor) -> Option<Deed>
+        ensures steps { IfSome result (λ _. Steps self.old actor self.new) }
+        ensures deed { IfSome result (λ deed. plain_deed (plain_of self.old) actor ≡ Some deed) }
+        ensures none { IfNone result (the_step self.old.program (plain_of self.old) actor ≡ None) }
+        ensures unchanged { IfNone result (self.new ≡ self.old) }
+    {
+        match actor {
+            Actor::Client(client) => {
+                if usize::from(client) < self.clients.len() {
+                    self.step_client_told(client)
+                } else {
+                    None
+                }
+            }
+            Actor::Handler(handler) => {
+                if usize::from(handler) < self.handlers.len() {
+                    self.step_handler_told(handler)
+                } else {
+                    None
+                }
+            }
+        }
+    }
+
     fn step_client(&mut self, number: u8) -> bool
         requires { number < length self.old.clients }
         ensures steps { OnTrue result (Steps self.old (actors.Client number) self.new) }
@@ -110,10 +139,35 @@ impl<'p> Machine<'p> {
                 true
             }
             Stage::Within => {
-                self.go_on(number);
+                let _told = self.go_on::<false>(number);
                 true
             }
             Stage::Waiting(_) => false,
+        }
+    }
+
+    fn step_client_told(&mut self, number: u8) -> Option<Deed>
+        requires { number < length self.old.clients }
+        ensures steps { IfSome result (λ _. Steps self.old (actors.Client number) self.new) }
+        ensures deed { IfSome result (λ deed. plain_deed (plain_of self.old) (actors.Client number) ≡ Some deed) }
+        ensures none { IfNone result (the_step self.old.program (plain_of self.old) (actors.Client number) ≡ None) }
+        ensures unchanged { IfNone result (self.new ≡ self.old) }
+    {
+        let client = &self.clients[usize::from(number)];
+        match client.stage() {
+            Stage::Out => {
+                if !client.has_more() {
+                    return None;
+                }
+                let index = client.begun() as u8;
+                self.separate(number);
+                Some(Deed::Reserves(Ticket {
+                    client: number,
+                    index,
+                }))
+            }
+            Stage::Within => self.go_on::<true>(number),
+            Stage::Waiting(_) => None,
         }
     }
 
@@ -135,11 +189,13 @@ impl<'p> Machine<'p> {
         enter_all(&mut self.handlers, queues);
     }
 
-    /// A client in a block goes on up to its next request, which is logged, or to the block's end.
-    fn go_on(&mut self, number: u8)
+    /// A client in a block goes on up to its next request, which is logged, or to the block's end. It says what it did where that is to
+    /// be told; a run that is not told makes no copy of a request.
+    fn go_on<const TELLS: bool>(&mut self, number: u8) -> Option<Deed>
         requires number { number < length self.old.clients }
         requires within { (client_at self.old.clients number).stage ≡ stages.Within }
         ensures steps { Steps self.old (actors.Client number) self.new }
+        ensures told { TELLS ≡ true → (deed : DeedShape) × (result ≡ Some deed) × (plain_deed (plain_of self.old) (actors.Client number) ≡ Some deed) }
     {
         self.program.is_sound();
         let client = &mut self.clients[usize::from(number)];
@@ -150,11 +206,15 @@ impl<'p> Machine<'p> {
         match client.ask(self.alloc) {
             Asked::Command(request) => {
                 let object = request.object;
+                let told = logs::<TELLS>(&request);
                 log_command(&mut self.handlers, object, ticket, request);
+                told
             }
             Asked::Query(request) => {
                 let object = request.object;
+                let told = asks::<TELLS>(&request);
                 log_query(&mut self.handlers, object, ticket, request);
+                told
             }
             Asked::End => {
                 let block = self.program.block(ticket.client, ticket.index);
@@ -164,6 +224,7 @@ impl<'p> Machine<'p> {
                     ticket,
                     &QueueItem::EndMark,
                 );
+                ends::<TELLS>(ticket)
             }
         }
     }
@@ -182,6 +243,33 @@ impl<'p> Machine<'p> {
                 answer(&mut self.clients, ticket, request, reply);
                 true
             }
+        }
+    }
+
+    fn step_handler_told(&mut self, number: u8) -> Option<Deed>
+        requires { number < length self.old.handlers }
+        ensures steps { IfSome result (λ _. Steps self.old (actors.Handler number) self.new) }
+        ensures deed { IfSome result (λ deed. plain_deed (plain_of self.old) (actors.Handler number) ≡ Some deed) }
+        ensures none { IfNone result (the_step self.old.program (plain_of self.old) (actors.Handler number) ≡ None) }
+        ensures unchanged { IfNone result (self.new ≡ self.old) }
+    {
+        let handler = &self.handlers[usize::from(number)];
+        let before = handler.served();
+        let deed = handler.next_deed()?;
+        if !self.step_handler(number) {
+            return None;
+        }
+        let reply = self.reply_after(number, before);
+        Some(deed.answered(reply))
+    }
+
+    // The reply of the request that a handler's object served after so many.
+    fn reply_after(&self, number: u8, before: usize) -> Option<i64>
+        ensures value { result ≡ reply_in (handler_at self.now.handlers number).held.journal before }
+    {
+        match self.handlers.get(usize::from(number)) {
+            Some(handler) => handler.reply_after(before),
+            None => None,
         }
     }
 

@@ -1,13 +1,17 @@
 //! The plain rules.
 
-ghost use Rattle.std.specs.Prelude.{◌≡◌, None, false, IfOk};
+ghost use Rattle.std.specs.Prelude.{◌≡◌, None, Some, false, IfNone, IfOk, IfSome};
 ghost use Rattle.std.specs.Bool.{OnTrue};
 ghost use Rattle.qs_plain_laws.specs.Plain.{begin, step as the_step};
 ghost use Rattle.qs_plain.specs.Rules.{AreIsolated, Steps, plain_of};
 ghost use Rattle.qs_plain.specs.Rules.{AreRulesCounted};
+ghost use Rattle.qs_plain.specs.Deeds.{plain_deed};
+ghost use Rattle.qs_meaning.specs.Serial.{IsLegal};
+ghost use Rattle.qs_plain_laws.specs.PlainSchedule.{played_of};
 
+use crate::deed::Deed;
 use crate::machine::Machine;
-use qs_played::Actor;
+use qs_played::{Actor, Played};
 use qs_program::Program;
 use std::alloc::{AllocError, Global};
 use std::marker::Model;
@@ -59,6 +63,16 @@ impl<'p> Rules<'p> {
         stepped
     }
 
+    /// The same step, and what it does: None where the actor has none, with nothing changed; also where there is no such actor.
+    pub fn step_told(&mut self, actor: Actor) -> Option<Deed>
+        ensures steps { IfSome result (λ _. Steps self.old actor self.new) }
+        ensures deed { IfSome result (λ deed. plain_deed (plain_of self.old) actor ≡ Some deed) }
+        ensures none { IfNone result (the_step self.old.program (plain_of self.old) actor ≡ None) }
+        ensures unchanged { IfNone result (self.new ≡ self.old) }
+    {
+        self.machine.step_told(actor)
+    }
+
     /// At every moment each reservation has done what its block does alone, as far as it has come; it does nothing.
     pub fn is_isolated(&self)
         ensures isolated { AreIsolated self.now }
@@ -71,5 +85,17 @@ impl<'p> Rules<'p> {
         ensures counted { AreRulesCounted self.now }
     {
         self.machine.program().is_sound();
+    }
+
+    /// What the run has shown. It is isolated, and its synchronisations are counted. An error says that an allocation failed.
+    pub fn into_played(self, alloc: Global) -> Result<Played, AllocError>
+        ensures shown { IfOk result (λ played. played ≡ played_of self.entry.program (plain_of self.entry)) }
+        ensures legal { IfOk result (λ played. IsLegal self.entry.program played.order) }
+        ensures isolated { AreIsolated self.entry }
+        ensures counted { AreRulesCounted self.entry }
+    {
+        let Rules { machine } = self;
+        machine.program().is_sound();
+        machine.into_played(alloc)
     }
 }

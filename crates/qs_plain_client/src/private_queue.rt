@@ -1,10 +1,11 @@
 //! Private queues.
 
-ghost use Rattle.std.specs.Prelude.{◌≡◌, ◌+◌, ◌-◌, ◌<◌, [], ◌∷◌, ◌++◌, IfOk, IfNone, IfSome, MatchOption, if◌then◌else◌, true, false};
+ghost use Rattle.std.specs.Prelude.{◌≡◌, ◌+◌, ◌-◌, ◌<◌, [], ◌∷◌, ◌++◌, List, IfOk, IfNone, IfSome, MatchOption, if◌then◌else◌, true, false};
 ghost use Rattle.qs_objects.specs.Parts.{same as same_ticket};
 ghost use Rattle.qs_played.specs.Played.{ticket as the_ticket};
 ghost use Rattle.qs_plain_laws.specs.Plain.{Private, put_item};
 ghost use Rattle.qs_plain_client.specs.Queues.{queue_state};
+ghost use Rattle.qs_plain_laws.specs.declared.item.QueueItem.{QueueItem as ItemShape};
 ghost use Rattle.qs_plain_laws.specs.declared.item.QueueItem.TheVariants as items;
 
 use qs_objects::{Request, Ticket};
@@ -103,6 +104,13 @@ impl PrivateQueue {
             self.items.push_back_reserved(QueueItem::Query(request));
             self.room -= 1;
         }
+    }
+
+    /// Its first item.
+    pub fn first(&self) -> Option<&QueueItem>
+        ensures value { MatchOption result (self.now.queue.items ≡ []) (λ item. (rest : List ItemShape) × (self.now.queue.items ≡ item.now ∷ rest)) }
+    {
+        self.items.front()
     }
 
     /// Takes its first item.

@@ -5,7 +5,8 @@ ghost use Rattle.qs_program.specs.Program.{object_at, client_at, declared_as};
 
 use qs_program::{Names, Program};
 
-pub(crate) fn object_name(program: &Program, object: usize) -> &[u8]
+/// An object's name.
+pub fn object_name(program: &Program, object: usize) -> &[u8]
     ensures name { result.now ≡ (object_at program.now object).name }
 {
     program.is_sound();

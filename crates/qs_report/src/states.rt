@@ -52,8 +52,8 @@ fn put_size(out: &mut Vec<u8>, word: &[u8], size: i64) -> Result<(), AllocError>
     put_digits(out, size)
 }
 
-// The kind with its numbers, and the values where there are some.
-fn put_content(out: &mut Vec<u8>, object: &Object) -> Result<(), AllocError>
+/// Puts at the end what an object holds: its kind with its numbers, and the values where there are some.
+pub fn put_content(out: &mut Vec<u8>, object: &Object) -> Result<(), AllocError>
     ensures ok { OnOk result (out.new.items
         ≡ out.old.items ++ content_text (kind_of object.now.content) (values_of object.now.content)) }
 {

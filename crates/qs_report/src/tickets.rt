@@ -92,6 +92,18 @@ fn put_request(out: &mut Vec<u8>, program: &Program, request: &Request) -> Resul
     put_args(out, request.args.as_slice())
 }
 
+/// Puts a request at the end, as reports have it. An error says that an allocation failed.
+pub fn put_whole_request(
+    out: &mut Vec<u8>,
+    program: &Program,
+    request: &Request,
+) -> Result<(), AllocError>
+    ensures ok { OnOk result (out.new.items ≡ out.old.items ++ request_text program.now request.now) }
+{
+    put_request(out, program, request)?;
+    put(out, b")")
+}
+
 // A request's closing parenthesis, a query's reply, and the line's end.
 fn put_reply(out: &mut Vec<u8>, reply: Option<i64>) -> Result<(), AllocError>
     ensures ok { OnOk result (out.new.items ≡ out.old.items ++ codes ")" ++ reply_text reply ++ codes "\n") }

@@ -1,20 +1,19 @@
 -- Out of memory is always a due answer, the status 4 is due only after a read has failed, the status 0 only with a text, and the report of a run is due where
 -- the line asked for that run. The function `serve` and those that find what is due stand on it. Each goes by cases on what the
 -- line asks for and on the answer.
-use Rattle.std.proofs.Common.{◌≡◌, ◌≤◌, ◌⊎◌, ℕ, Bool, List, Option, Result, Ok, true, false, refl, sym, subst, inl, inr, IsOkAnd}
+use Rattle.std.proofs.Common.{◌≡◌, ◌≤◌, ◌⊎◌, ℕ, Bool, List, [], ◌++◌, Option, Result, Ok, true, false, refl, sym, subst, inl, inr, IsOkAnd}
 use Rattle.qs_played.specs.Played.{Played}
-use Rattle.qs_syncset.specs.declared.mode.Mode.{Mode}
 use Rattle.qs_report.specs.declared.faults.Fault.{Fault}
 use Rattle.qs_report.specs.declared.faults.Fault.TheVariants as fault
 use Rattle.qs_report.specs.Faults.{fault_status}
 use Rattle.qs_script.specs.declared.fault.ReadFault.TheVariants as read
 use Rattle.qs_places.specs.declared.fault.CheckFault.TheVariants as check_fault
 use Rattle.qs_played.specs.declared.fault.PlayFault.TheVariants as play_fault
-use Rattle.qs_run_laws.specs.Outcomes.{IsOutcome}
 use Rattle.qs_program.specs.Program.{ProgramShape}
 use Rattle.qs_orders.specs.NamedOrders.{order_of}
 use Rattle.qs_orders.specs.declared.fault.OrderFault.TheVariants as order_fault
 use Rattle.qs_outcomes.specs.Outcomes.{OutcomesShape}
+use Rattle.qs_outcomes.specs.declared.fault.OutcomesFault.{OutcomesFault}
 use Rattle.qs_outcomes.specs.declared.fault.OutcomesFault.TheVariants as outcomes_fault
 use Rattle.qs_report.specs.OutcomesText.{AreOutcomesAfter, IsOutcomesText}
 use Rattle.qs_json.specs.OutcomesJson.{IsOutcomesJson}
@@ -22,9 +21,10 @@ use Rattle.qs_lists.specs.Named.{clients_of}
 use Rattle.qs_lists.specs.declared.parts.Part.{Part}
 use Rattle.qs_line.specs.declared.line.Format.{Format}
 use Rattle.qs_line.specs.declared.line.Format.TheVariants as format
+use Rattle.qs_line.specs.declared.line.GraphFormat.{GraphFormat}
 use Rattle.qs_line.specs.declared.line.ReportStyle.{ReportStyle}
-use Rattle.qs_line.specs.Line.{Line, asks, help, outcomes, refused, run, version}
-use Rattle.qs_serve.specs.Due.{IsDue, IsDueOfProgram, IsListOf, IsOutOfMemory, IsRefusedBy, IsReportOf, IsSomeText, IsTextOfOutcomes, due_status, listed_in}
+use Rattle.qs_line.specs.Line.{Line, Request, asks, help, outcomes, refused, version}
+use Rattle.qs_serve.specs.Due.{IsDue, IsDueAfter, IsDueOfProgram, IsListOf, IsOutOfMemory, IsRefusedBy, IsReportAfter, IsSomeText, IsTextBy, IsTextOfOutcomes, IsUnlisted, AreLinesBefore, due_status, limit_in, listed_as, listed_in, report_by}
 use Rattle.qs_serve.specs.declared.due.Due.{Due}
 use Rattle.qs_serve.specs.declared.due.Due.TheVariants.{Text, Refused}
 
@@ -93,28 +93,54 @@ four_is_due (asks request) known false (Refused f) is e = absurd (is.0 (status_o
 pub of_named : {A E : Type 0} (P : A → Type 0) (r : Result A E) (x : A) → r ≡ Ok x → P x → IsOkAnd r P
 of_named P r x e holds = subst (λ s. IsOkAnd s P) (sym e) holds
 
--- a report of a run on threads that is due by what was asked for
-pub due_by_run : (style : ReportStyle) (p : ProgramShape) (mode : Mode) (size : ℕ) (outcome : Played) (due : Due)
-    → IsOutcome p mode size outcome → IsReportOf style p outcome due → IsOutOfMemory due ⊎ IsDueOfProgram (run style mode size) p due
-due_by_run style p mode size outcome (Text bytes) shows is = inr (outcome, shows, is)
-due_by_run style p mode size outcome (Refused f) shows is = inl (subst (λ g. IsOutOfMemory (Refused g)) (sym is) tt)
+-- a report after some lines that is due by what was asked for
+pub due_by_report : (request : Request) (style : ReportStyle) (p : ProgramShape) (lines : List ℕ) (played : Played) (due : Due)
+    → ((text : List ℕ) → text ≡ lines ++ report_by style p played → IsTextBy request p text) → IsReportAfter lines style p played due
+    → IsOutOfMemory due ⊎ IsDueOfProgram request p due
+due_by_report request style p lines played (Text bytes) by is = inr (by bytes.items is)
+due_by_report request style p lines played (Refused f) by is = inl (subst (λ g. IsOutOfMemory (Refused g)) (sym is) tt)
 
-pub report_is_no_input : (style : ReportStyle) (p : ProgramShape) (played : Played) (due : Due) → IsReportOf style p played due
+-- where no lines are asked for, none stand before a report
+pub no_lines : (asked : Bool) (Are : List ℕ → Type 0) → Are [] → AreLinesBefore asked Are []
+no_lines true Are are = are
+no_lines false Are are = refl
+
+pub report_is_no_input : (lines : List ℕ) (style : ReportStyle) (p : ProgramShape) (played : Played) (due : Due) → IsReportAfter lines style p played due
     → ¬ IsRefusedBy fault.Input due
-report_is_no_input style p played (Text bytes) is = λ none. none
-report_is_no_input style p played (Refused f) is = λ e. absurd (cc (is, e))
+report_is_no_input lines style p played (Text bytes) is = λ none. none
+report_is_no_input lines style p played (Refused f) is = λ e. absurd (cc (is, e))
 
 -- a list of outcomes that is due by what was asked for, in either format
 due_by_list : (how : Format) (p : ProgramShape) (limit : ℕ) (clients : List ℕ) (all : OutcomesShape) (text : List ℕ)
-    → AreOutcomesAfter p (order_of clients) all → all.configurations ≤ limit → text ≡ listed_in how p all → IsTextOfOutcomes how p limit clients text
+    → AreOutcomesAfter p (order_of clients) all → all.configurations ≤ limit → text ≡ listed_in how p all
+    → IsTextOfOutcomes (listed_as how) p limit clients text
 unfolding IsOutcomesText IsOutcomesJson
 due_by_list format.Text p limit clients all text are within is = (all, are, within, is)
 due_by_list format.Json p limit clients all text are within is = (all, are, within, is)
 
-pub due_by_outcomes : (how : Format) (p : ProgramShape) (limit : ℕ) (front : List Part) (clients : List ℕ) (all : OutcomesShape) (due : Due)
-    → clients_of p front ≡ Ok clients → AreOutcomesAfter p (order_of clients) all → all.configurations ≤ limit → IsListOf how p all due
-    → IsOutOfMemory due ⊎ IsDueOfProgram (outcomes how limit front) p due
-due_by_outcomes how p limit front clients all (Text bytes) named are within is =
-    inr (of_named (λ xs. IsTextOfOutcomes how p limit xs bytes.items) (clients_of p front) clients named
-    (due_by_list how p limit clients all bytes.items are within is))
-due_by_outcomes how p limit front clients all (Refused f) named are within is = inl (subst (λ g. IsOutOfMemory (Refused g)) (sym is) tt)
+pub due_after_list : (how : Format) (p : ProgramShape) (limit : ℕ) (clients : List ℕ) (all : OutcomesShape) (due : Due)
+    → AreOutcomesAfter p (order_of clients) all → all.configurations ≤ limit → IsListOf how p all due → IsDueAfter (listed_as how) p limit clients due
+due_after_list how p limit clients all (Text bytes) are within is = due_by_list how p limit clients all bytes.items are within is
+due_after_list how p limit clients all (Refused f) are within is = subst (λ g. IsDueAfter (listed_as how) p limit clients (Refused g)) (sym is) tt
+
+-- a list has as many configurations as were asked for
+pub unlisted_in : (how : Format) (p : ProgramShape) (limit : ℕ) (clients : List ℕ) (f : OutcomesFault) → IsUnlisted p limit clients f
+    → IsDueAfter (listed_as how) p limit clients (Refused (fault.Outcomes f))
+unlisted_in format.Text p limit clients f is = is
+unlisted_in format.Json p limit clients f is = is
+
+-- what is due after the blocks of the clients that a list names is due by what was asked for
+pub due_by_outcomes : (how : GraphFormat) (p : ProgramShape) (limit : ℕ) (front : List Part) (clients : List ℕ) (due : Due)
+    → clients_of p front ≡ Ok clients → IsDueAfter how p limit clients due → IsOutOfMemory due ⊎ IsDueOfProgram (outcomes how limit front) p due
+due_by_outcomes how p limit front clients (Text bytes) named is =
+    inr (of_named (λ xs. IsTextOfOutcomes how p limit xs bytes.items) (clients_of p front) clients named is)
+due_by_outcomes how p limit front clients (Refused fault.Memory) named is = inl tt
+due_by_outcomes how p limit front clients (Refused (fault.Outcomes f)) named is =
+    inr (of_named (λ xs. IsUnlisted p (limit_in how limit) xs f) (clients_of p front) clients named is)
+due_by_outcomes how p limit front clients (Refused fault.CommandLine) named is = absurd is
+due_by_outcomes how p limit front clients (Refused fault.Input) named is = absurd is
+due_by_outcomes how p limit front clients (Refused (fault.Read f)) named is = absurd is
+due_by_outcomes how p limit front clients (Refused (fault.Check f)) named is = absurd is
+due_by_outcomes how p limit front clients (Refused (fault.Play f)) named is = absurd is
+due_by_outcomes how p limit front clients (Refused (fault.Order f)) named is = absurd is
+due_by_outcomes how p limit front clients (Refused (fault.Run f)) named is = absurd is

@@ -1,5 +1,5 @@
 -- What a run has to write, and its status.
-use Rattle.std.specs.Prelude.{◌≡◌, ℕ, ◌⊎◌, List, take, Bool, true, false, Option, Some, None, Ok, Err, Result, Vec, ⊤, IfSome, IsErr, IsOkAnd, MatchBool}
+use Rattle.std.specs.Prelude.{◌≡◌, ℕ, ◌⊎◌, List, [], ◌++◌, min, take, Bool, true, false, Option, Some, None, Ok, Err, Result, Vec, ⊤, IfSome, IsErr, IsOkAnd, MatchBool}
 use Rattle.std.specs.Global.{Global}
 use Rattle.std.specs.Io.KnownBytes.{Appends}
 use Rattle.qs_script.specs.declared.fault.ReadFault.TheVariants as read
@@ -12,6 +12,7 @@ use Rattle.qs_orders.specs.declared.fault.OrderFault.TheVariants as order_fault
 use Rattle.qs_outcomes.specs.Outcomes.{HasMoreThanAfter, OutcomesShape}
 use Rattle.qs_outcomes.specs.declared.fault.OutcomesFault.{OutcomesFault}
 use Rattle.qs_outcomes.specs.declared.fault.OutcomesFault.TheVariants as outcomes_fault
+use Rattle.qs_chart.specs.ChartDot.{IsChartDot}
 use Rattle.qs_report.specs.declared.faults.Fault.{Fault}
 use Rattle.qs_report.specs.declared.faults.Fault.TheVariants as fault
 use Rattle.qs_report.specs.Faults.{fault_text, fault_status}
@@ -29,13 +30,18 @@ use Rattle.qs_script.specs.declared.tree.Item.{Item}
 use Rattle.qs_check.specs.Checked.{fault_of}
 use Rattle.qs_check.specs.Resolve.{program_of_items}
 use Rattle.qs_program.specs.Program.{ProgramShape}
+use Rattle.qs_core_laws.specs.Core.{AreCodes}
 use Rattle.qs_core_laws.specs.CoreSchedule.{IsPlayedIn}
 use Rattle.qs_core_orders.specs.CoreOrders.{IsPlayedInOrderOn}
 use Rattle.qs_plain_laws.specs.PlainSchedule.{IsPlayed}
 use Rattle.qs_plain_orders.specs.PlainOrders.{IsPlayedInOrder}
 use Rattle.qs_played.specs.declared.fault.PlayFault.{PlayFault}
 use Rattle.qs_played.specs.Played.{Played}
+use Rattle.qs_syncset.specs.Codes.{ClientCode}
 use Rattle.qs_syncset.specs.declared.mode.Mode.{Mode}
+use Rattle.qs_steps.specs.CoreSteps.{core_steps}
+use Rattle.qs_steps.specs.PlainSteps.{plain_steps}
+use Rattle.qs_svg.specs.RunSvg.{run_svg}
 use Rattle.qs_run_laws.specs.Outcomes.{IsOutcome}
 use Rattle.qs_run.specs.Starts.{IsRefusal, LetAllStart, worker_count}
 use Rattle.qs_lists.specs.Named.{actors_of, clients_of}
@@ -45,6 +51,8 @@ use Rattle.qs_line.specs.declared.line.Format.{Format}
 use Rattle.qs_line.specs.declared.line.Format.TheVariants as format
 use Rattle.qs_line.specs.declared.line.GraphFormat.{GraphFormat}
 use Rattle.qs_line.specs.declared.line.GraphFormat.TheVariants as graph_format
+use Rattle.qs_line.specs.declared.line.ReportFormat.{ReportFormat}
+use Rattle.qs_line.specs.declared.line.ReportFormat.TheVariants as report_format
 use Rattle.qs_line.specs.declared.line.ReportStyle.{ReportStyle}
 use Rattle.qs_line.specs.Line.{Line, PlanShape, Request, asks, by_order, by_schedule, check, format_by, graph, help, line_in, outcomes, play, refused, rules, run, version}
 use Rattle.qs_serve.specs.declared.due.Due.{Due}
@@ -88,18 +96,23 @@ abbrev pub counts_in : Format → ProgramShape → List ℕ
 counts_in format.Text p = counts_text p
 counts_in format.Json p = counts_json p
 
--- the report of what was played, as text or as JSON, with the counts of synchronisations where they are asked for
-abbrev pub report_in : Format → (counts : Bool) → ProgramShape → Played → List ℕ
-report_in format.Text counts p played = run_text counts p played
-report_in format.Json counts p played = run_json counts p played
+-- the report of what was played, as text or as JSON, with the counts of synchronisations where they are asked for, or as a picture
+abbrev pub report_in : ReportFormat → (counts : Bool) → ProgramShape → Played → List ℕ
+report_in report_format.Text counts p played = run_text counts p played
+report_in report_format.Json counts p played = run_json counts p played
+report_in report_format.Svg counts p played = run_svg p played
 
 abbrev pub report_by : ReportStyle → ProgramShape → Played → List ℕ
 report_by style p played = report_in style.format style.counts p played
 
--- this report; or that an allocation failed
+-- some lines, and then this report; or that an allocation failed
+abbrev pub IsReportAfter : (lines : List ℕ) → ReportStyle → ProgramShape → Played → Due → Type 0
+IsReportAfter lines style p played (Text bytes) = bytes.items ≡ lines ++ report_by style p played
+IsReportAfter lines style p played (Refused f) = f ≡ fault.Memory
+
+-- this report alone
 abbrev pub IsReportOf : ReportStyle → ProgramShape → Played → Due → Type 0
-IsReportOf style p played (Text bytes) = bytes.items ≡ report_by style p played
-IsReportOf style p played (Refused f) = f ≡ fault.Memory
+IsReportOf = IsReportAfter []
 
 -- a list of outcomes, as text or as JSON
 abbrev pub listed_in : Format → ProgramShape → OutcomesShape → List ℕ
@@ -125,25 +138,53 @@ IsShownByPlay mode size (by_schedule rounds picks) p played =
 IsShownByPlay mode size (by_order list) p played =
     IsOkAnd (clients_of p list) (λ clients. IsLegal p (order_of clients) × IsPlayedInOrderOn p mode size (order_of clients) played)
 
+-- the lines of the steps of a schedule under the plain rules, by the actors that its picks name in the program; of an order none are told
+abbrev pub AreLinesOfRules : PlanShape → ProgramShape → List ℕ → Type 0
+AreLinesOfRules (by_schedule rounds picks) p lines = IsOkAnd (actors_of p picks) (λ actors. lines ≡ plain_steps p actors rounds)
+AreLinesOfRules (by_order list) p lines = lines ≡ []
+
+-- the same in the optimised machine, by the codes of the mode
+abbrev pub AreLinesOfPlay : Mode → ℕ → PlanShape → ProgramShape → List ℕ → Type 0
+AreLinesOfPlay mode size (by_schedule rounds picks) p lines =
+    IsOkAnd (actors_of p picks) (λ actors. (code : ℕ → ClientCode) × AreCodes p mode code × (lines ≡ core_steps p code size actors rounds))
+AreLinesOfPlay mode size (by_order list) p lines = lines ≡ []
+
+-- what stands before a report: lines of this kind where they are asked for, and else nothing
+abbrev pub AreLinesBefore : (asked : Bool) → (List ℕ → Type 0) → List ℕ → Type 0
+AreLinesBefore true Are lines = Are lines
+AreLinesBefore false Are lines = lines ≡ []
+
 -- the graphs of a program, as lines of words, as JSON or as a drawing
 abbrev pub IsTextOfGraphs : GraphFormat → ProgramShape → List ℕ → Type 0
 IsTextOfGraphs graph_format.Text p text = IsGraphText p text
 IsTextOfGraphs graph_format.Json p text = IsGraphJson p text
 IsTextOfGraphs graph_format.Dot p text = IsDotText p text
 
--- all outcomes of a program after the blocks of some clients, as text or as JSON
-abbrev pub IsTextOfOutcomes : Format → ProgramShape → (limit : ℕ) → (clients : List ℕ) → List ℕ → Type 0
-IsTextOfOutcomes format.Text p limit clients text = IsOutcomesText p limit clients text
-IsTextOfOutcomes format.Json p limit clients text = IsOutcomesJson p limit clients text
+-- so many configurations there may be where outcomes are asked for: a drawing has no more than 200
+abbrev pub limit_in : GraphFormat → (limit : ℕ) → ℕ
+limit_in graph_format.Text limit = limit
+limit_in graph_format.Json limit = limit
+limit_in graph_format.Dot limit = min limit 200
+
+-- all outcomes of a program after the blocks of some clients, as text or as JSON, or the configurations that lead to them as a drawing
+abbrev pub IsTextOfOutcomes : GraphFormat → ProgramShape → (limit : ℕ) → (clients : List ℕ) → List ℕ → Type 0
+IsTextOfOutcomes graph_format.Text p limit clients text = IsOutcomesText p limit clients text
+IsTextOfOutcomes graph_format.Json p limit clients text = IsOutcomesJson p limit clients text
+IsTextOfOutcomes graph_format.Dot p limit clients text = IsChartDot p (limit_in graph_format.Dot limit) clients text
 
 -- what a request makes of a program: its counts; its graphs; the report of its run by the plain rules or in the optimised machine;
 -- that of an outcome which its run on threads may have; or all its outcomes after the blocks of some clients, of so many configurations
--- at most. Each is written in the format that is asked for, and a report with the counts of synchronisations where they are asked for.
+-- at most. Each is written in the format that is asked for, and a report with the counts of synchronisations where they are asked for, and
+-- after a line for each step where these are.
 abbrev pub IsTextBy : Request → ProgramShape → List ℕ → Type 0
 IsTextBy (check how) p text = text ≡ counts_in how p
 IsTextBy (graph how) p text = IsTextOfGraphs how p text
-IsTextBy (rules style plan) p text = (played : Played) × IsShownByRules plan p played × (text ≡ report_by style p played)
-IsTextBy (play style mode size plan) p text = (played : Played) × IsShownByPlay mode size plan p played × (text ≡ report_by style p played)
+IsTextBy (rules style plan) p text =
+    (played : Played) × (lines : List ℕ) × IsShownByRules plan p played × AreLinesBefore style.steps (AreLinesOfRules plan p) lines
+    × (text ≡ lines ++ report_by style p played)
+IsTextBy (play style mode size plan) p text =
+    (played : Played) × (lines : List ℕ) × IsShownByPlay mode size plan p played
+    × AreLinesBefore style.steps (AreLinesOfPlay mode size plan p) lines × (text ≡ lines ++ report_by style p played)
 IsTextBy (run style mode size) p text = (outcome : Played) × IsOutcome p mode size outcome × (text ≡ report_by style p outcome)
 IsTextBy (outcomes how limit front) p text = IsOkAnd (clients_of p front) (λ clients. IsTextOfOutcomes how p limit clients text)
 
@@ -196,8 +237,20 @@ IsUnlisted p limit clients outcomes_fault.Memory = Unit {0}
 
 -- why outcomes that a request asks for are not listed
 abbrev pub IsUnlistedBy : Request → ProgramShape → OutcomesFault → Type 0
-IsUnlistedBy (outcomes how limit front) p f = IsOkAnd (clients_of p front) (λ clients. IsUnlisted p limit clients f)
+IsUnlistedBy (outcomes how limit front) p f = IsOkAnd (clients_of p front) (λ clients. IsUnlisted p (limit_in how limit) clients f)
 IsUnlistedBy _ p f = ⊥
+
+-- the format of a list of outcomes, among those of outcomes
+abbrev pub listed_as : Format → GraphFormat
+listed_as format.Text = graph_format.Text
+listed_as format.Json = graph_format.Json
+
+-- what is due of the outcomes after the blocks of some clients: their text, why they are not listed, or that an allocation failed
+abbrev pub IsDueAfter : GraphFormat → ProgramShape → (limit : ℕ) → (clients : List ℕ) → Due → Type 0
+IsDueAfter how p limit clients (Text bytes) = IsTextOfOutcomes how p limit clients bytes.items
+IsDueAfter how p limit clients (Refused fault.Memory) = Unit {0}
+IsDueAfter how p limit clients (Refused (fault.Outcomes f)) = IsUnlisted p (limit_in how limit) clients f
+IsDueAfter how p limit clients (Refused _) = ⊥
 
 abbrev pub IsDueOfProgram : Request → ProgramShape → Due → Type 0
 IsDueOfProgram request p (Text bytes) = IsTextBy request p bytes.items

@@ -12,6 +12,16 @@ use qs_line::asked_for;
 use std::alloc::Global;
 use std::io::Write;
 
+// Whether a word of the line can ask for what is said beside a result; so clap reads a line once more only where it may.
+fn may_ask(words: &[&str]) -> bool {
+    for word in words {
+        if *word == "--warn" || *word == "--verbose" {
+            return true;
+        }
+    }
+    false
+}
+
 /// Says what was asked for beside a result, where one was due: how much of each limit is left, where the line asks for it, and what is warned
 /// of in the script, where the line asks for it or a terminal shows it. A writer that fails changes nothing else, and neither does memory
 /// that runs out.
@@ -28,9 +38,11 @@ pub(crate) fn tell_beside<'a, W: Write>(
     ensures refused { ¬ IsSomeText due.now → Keeps (W.contents err.old) (W.contents err.new) }
 {
     if let Due::Text(_) = due {
-        if let Ok(asked) = asked_for(alloc, words) {
-            tell_limits(alloc, text, asked.limits, err);
-            warn(alloc, text, asked.warnings || is_terminal, err);
+        if is_terminal || may_ask(words) {
+            if let Ok(asked) = asked_for(alloc, words) {
+                tell_limits(alloc, text, asked.limits, err);
+                warn(alloc, text, asked.warnings || is_terminal, err);
+            }
         }
     }
 }

@@ -1,27 +1,25 @@
 // What a run has to write.
 
 ghost use Rattle.std.specs.Prelude.{◌≡◌, ◌+◌, ◌≤◌, ◌⊎◌, false, IfOk, None, map};
-ghost use Rattle.qs_report.specs.Report.{run_text};
 ghost use Rattle.qs_report.specs.declared.faults.Fault.TheVariants as fault;
-ghost use Rattle.qs_line.specs.Line.{asks, by_order, by_schedule, check, graph, line_in, outcomes, plan_of, play, request_by, request_of, rules, run};
-ghost use Rattle.qs_serve.specs.Due.{HasAsked, IsDue, IsDueOfList, IsDueOfProgram, IsDueOfText, IsFormat, IsRefusedBy, IsListOf, IsReportOf, IsTextOf, IsOutOfMemory, due_status, longest, report_by};
+ghost use Rattle.qs_line.specs.declared.line.GraphFormat.TheVariants as graph_format;
+ghost use Rattle.qs_line.specs.Line.{asks, check, graph, line_in, outcomes, request_by, request_of, run};
+ghost use Rattle.qs_serve.specs.Due.{HasAsked, IsDue, IsDueAfter, IsDueOfList, IsDueOfProgram, IsDueOfText, IsFormat, IsRefusedBy, IsListOf, IsReportOf, IsTextOf, IsOutOfMemory, due_status, listed_as, longest};
 ghost use Rattle.std.specs.List.{AllByRecursion};
 ghost use Rattle.qs_outcomes.specs.Outcomes.{HasPlaces};
 
 use crate::input::{Counted, InputFault, gather};
+use crate::plays::{due_of_play, due_of_rules};
+use crate::reports::due_of_outcome;
+use qs_chart::{MOST_PLACES, chart_dot};
 use qs_check::{Program, check};
 use qs_chunk::ChunkSize;
-use qs_core::{play_in_order, play_plain, play_plain_in_order};
 use qs_dot::dot_text;
-use qs_json::{counts_json, graph_json, outcomes_json, run_json};
-use qs_line::{Format, GraphFormat, LineFault, Plan, ReportStyle, Settings, read_line};
-use qs_lists::{ListFault, Part, actors_of, clients_of};
+use qs_json::{counts_json, graph_json, outcomes_json};
+use qs_line::{Format, GraphFormat, LineFault, ReportStyle, Settings, read_line};
+use qs_lists::{ListFault, Part, clients_of};
 use qs_outcomes::{AllOutcomes, Watcher, outcomes_watched};
-use qs_played::{Outcome, Played};
-use qs_report::{
-    Fault, check_text, graph_text, outcomes_text, report, report_counts, report_run,
-    report_run_counts, status,
-};
+use qs_report::{Fault, check_text, graph_text, outcomes_text, status};
 use qs_run::{FreeGate, FreeStart, Starter, execute_with};
 use qs_script::{LONGEST_TEXT, read};
 use qs_syncset::Mode;
@@ -55,7 +53,7 @@ impl Due {
 }
 
 // A text that was made, or that an allocation failed.
-fn due_of_bytes(text: Result<Vec<u8>, AllocError>) -> Due
+pub(crate) fn due_of_bytes(text: Result<Vec<u8>, AllocError>) -> Due
     ensures text { IsTextOf text result }
 {
     match text {
@@ -64,36 +62,8 @@ fn due_of_bytes(text: Result<Vec<u8>, AllocError>) -> Due
     }
 }
 
-// The report of what was played as text, with the counts of synchronisations where they are asked for.
-fn report_text(
-    alloc: Global,
-    program: &Program,
-    counts: bool,
-    played: &Played,
-) -> Result<Vec<u8>, AllocError>
-    ensures text { IfOk result (λ text. text.items ≡ run_text counts program.now played.now) }
-{
-    if counts {
-        report_counts(alloc, program, played)
-    } else {
-        report(alloc, program, played)
-    }
-}
-
-// The report of what was played, in the style that is asked for.
-fn due_of_played(alloc: Global, program: &Program, style: ReportStyle, played: Played) -> Due
-    ensures due { IsReportOf style program.now played result }
-{
-    let text = match style.format {
-        Format::Text => report_text(alloc, program, style.counts, &played),
-        Format::Json => run_json(alloc, program, &played, style.counts),
-    };
-    drop(played);
-    due_of_bytes(text)
-}
-
 // What is due where a list names nobody, or is not read for want of memory.
-fn due_of_list(fault: ListFault) -> Due
+pub(crate) fn due_of_list(fault: ListFault) -> Due
     ensures due { IsDueOfList fault result }
 {
     match fault {
@@ -125,160 +95,6 @@ fn due_of_graphs(alloc: Global, program: &Program, format: GraphFormat) -> Due
     }
 }
 
-// A run by the plain rules, by a schedule.
-fn due_of_scheduled_rules(
-    alloc: Global,
-    program: &Program,
-    style: ReportStyle,
-    picks: &[Part],
-    rounds: u32,
-) -> Due
-    ensures not_input { ¬ IsRefusedBy fault.Input result }
-    ensures due { IsOutOfMemory result ⊎ IsDueOfProgram (rules style (by_schedule rounds picks.now)) program.now result }
-{
-    let actors = match actors_of(alloc, program, picks) {
-        Ok(actors) => actors,
-        Err(fault) => return due_of_list(fault),
-    };
-    match play_plain(alloc, program, actors.as_slice(), rounds) {
-        Ok(played) => due_of_played(alloc, program, style, played),
-        Err(fault) => Due::Refused(Fault::Play(fault)),
-    }
-}
-
-// A run by the plain rules, one whole block after another.
-fn due_of_ordered_rules(alloc: Global, program: &Program, style: ReportStyle, list: &[Part]) -> Due
-    ensures not_input { ¬ IsRefusedBy fault.Input result }
-    ensures due { IsOutOfMemory result ⊎ IsDueOfProgram (rules style (by_order list.now)) program.now result }
-{
-    let clients = match clients_of(alloc, program, list) {
-        Ok(clients) => clients,
-        Err(fault) => return due_of_list(fault),
-    };
-    match play_plain_in_order(alloc, program, clients.as_slice()) {
-        Ok(played) => due_of_played(alloc, program, style, played),
-        Err(fault) => Due::Refused(Fault::Order(fault)),
-    }
-}
-
-// A run by the plain rules.
-fn due_of_rules(alloc: Global, program: &Program, style: ReportStyle, plan: &Plan) -> Due
-    ensures not_input { ¬ IsRefusedBy fault.Input result }
-    ensures due { IsOutOfMemory result ⊎ IsDueOfProgram (rules style (plan_of plan.now)) program.now result }
-{
-    match plan {
-        Plan::Schedule { rounds, picks } => {
-            due_of_scheduled_rules(alloc, program, style, picks.as_slice(), *rounds)
-        }
-        Plan::Order(list) => due_of_ordered_rules(alloc, program, style, list.as_slice()),
-    }
-}
-
-// A run in the optimised machine, by a schedule.
-fn due_of_scheduled_play(
-    alloc: Global,
-    program: &Program,
-    style: ReportStyle,
-    mode: Mode,
-    chunk: ChunkSize,
-    picks: &[Part],
-    rounds: u32,
-) -> Due
-    ensures not_input { ¬ IsRefusedBy fault.Input result }
-    ensures due { IsOutOfMemory result ⊎ IsDueOfProgram (play style mode chunk (by_schedule rounds picks.now)) program.now result }
-{
-    let actors = match actors_of(alloc, program, picks) {
-        Ok(actors) => actors,
-        Err(fault) => return due_of_list(fault),
-    };
-    match qs_core::play(alloc, program, mode, chunk, actors.as_slice(), rounds) {
-        Ok(played) => due_of_played(alloc, program, style, played),
-        Err(fault) => Due::Refused(Fault::Play(fault)),
-    }
-}
-
-// A run in the optimised machine, one whole block after another.
-fn due_of_ordered_play(
-    alloc: Global,
-    program: &Program,
-    style: ReportStyle,
-    mode: Mode,
-    chunk: ChunkSize,
-    list: &[Part],
-) -> Due
-    ensures not_input { ¬ IsRefusedBy fault.Input result }
-    ensures due { IsOutOfMemory result ⊎ IsDueOfProgram (play style mode chunk (by_order list.now)) program.now result }
-{
-    let clients = match clients_of(alloc, program, list) {
-        Ok(clients) => clients,
-        Err(fault) => return due_of_list(fault),
-    };
-    match play_in_order(alloc, program, mode, chunk, clients.as_slice()) {
-        Ok(played) => due_of_played(alloc, program, style, played),
-        Err(fault) => Due::Refused(Fault::Order(fault)),
-    }
-}
-
-// A run in the optimised machine.
-fn due_of_play(
-    alloc: Global,
-    program: &Program,
-    style: ReportStyle,
-    mode: Mode,
-    chunk: ChunkSize,
-    plan: &Plan,
-) -> Due
-    ensures not_input { ¬ IsRefusedBy fault.Input result }
-    ensures due { IsOutOfMemory result ⊎ IsDueOfProgram (play style mode chunk (plan_of plan.now)) program.now result }
-{
-    match plan {
-        Plan::Schedule { rounds, picks } => {
-            due_of_scheduled_play(
-                alloc,
-                program,
-                style,
-                mode,
-                chunk,
-                picks.as_slice(),
-                *rounds,
-            )
-        }
-        Plan::Order(list) => {
-            due_of_ordered_play(alloc, program, style, mode, chunk, list.as_slice())
-        }
-    }
-}
-
-// The report of what ran on threads, in the style that is asked for.
-fn outcome_text(
-    alloc: Global,
-    program: &Program,
-    style: ReportStyle,
-    outcome: &Outcome,
-) -> Result<Vec<u8>, AllocError>
-    ensures text { IfOk result (λ text. text.items ≡ report_by style program.now outcome.now) }
-{
-    match style.format {
-        Format::Text => {
-            if style.counts {
-                report_run_counts(alloc, program, outcome)
-            } else {
-                report_run(alloc, program, outcome)
-            }
-        }
-        Format::Json => run_json(alloc, program, outcome.played(), style.counts),
-    }
-}
-
-// The same, where it was written.
-fn due_of_outcome(alloc: Global, program: &Program, style: ReportStyle, outcome: Outcome) -> Due
-    ensures due { IsReportOf style program.now outcome result }
-{
-    let text = outcome_text(alloc, program, style, &outcome);
-    drop(outcome);
-    due_of_bytes(text)
-}
-
 // A run on threads. Where it is told to be refused, it was: its starter was asked what a refused run asks, and no more.
 fn due_of_run<S: Starter, T: Threads + Wait + Sync>(
     rt: &T,
@@ -299,7 +115,7 @@ fn due_of_run<S: Starter, T: Threads + Wait + Sync>(
     }
 }
 
-// The text of all outcomes, in a format.
+// The list of all outcomes, in a format.
 fn due_of_all(alloc: Global, program: &Program, format: Format, all: AllOutcomes) -> Due
     requires places { AllByRecursion (HasPlaces program.now) all.found }
     ensures due { IsListOf format program.now all result }
@@ -312,11 +128,45 @@ fn due_of_all(alloc: Global, program: &Program, format: Format, all: AllOutcomes
     due_of_bytes(text)
 }
 
+// All outcomes after the blocks of some clients as a list, found over so many configurations at most; a watcher is told of each.
+fn due_of_list_after<P: Watcher>(
+    alloc: Global,
+    program: &Program,
+    format: Format,
+    limit: u32,
+    clients: &[u8],
+    watcher: &mut P,
+) -> Due
+    ensures not_input { ¬ IsRefusedBy fault.Input result }
+    ensures due { IsDueAfter (listed_as format) program.now limit clients.now result }
+{
+    match outcomes_watched(alloc, program, clients, limit, watcher) {
+        Ok(all) => due_of_all(alloc, program, format, all),
+        Err(fault) => Due::Refused(Fault::Outcomes(fault)),
+    }
+}
+
+// The configurations after the blocks of some clients as a drawing.
+fn due_of_drawing_after(alloc: Global, program: &Program, limit: u32, clients: &[u8]) -> Due
+    ensures not_input { ¬ IsRefusedBy fault.Input result }
+    ensures due { IsDueAfter graph_format.Dot program.now limit clients.now result }
+{
+    let limit = if limit < MOST_PLACES {
+        limit
+    } else {
+        MOST_PLACES
+    };
+    match chart_dot(alloc, program, clients, limit) {
+        Ok(text) => Due::Text(text),
+        Err(fault) => Due::Refused(Fault::Outcomes(fault)),
+    }
+}
+
 // All outcomes after the blocks of the clients that a list names, found over so many configurations at most; a watcher is told of each.
 fn due_of_outcomes<P: Watcher>(
     alloc: Global,
     program: &Program,
-    format: Format,
+    format: GraphFormat,
     limit: u32,
     front: &[Part],
     watcher: &mut P,
@@ -328,9 +178,15 @@ fn due_of_outcomes<P: Watcher>(
         Ok(clients) => clients,
         Err(fault) => return due_of_list(fault),
     };
-    match outcomes_watched(alloc, program, clients.as_slice(), limit, watcher) {
-        Ok(all) => due_of_all(alloc, program, format, all),
-        Err(fault) => Due::Refused(Fault::Outcomes(fault)),
+    let clients = clients.as_slice();
+    match format {
+        GraphFormat::Text => {
+            due_of_list_after(alloc, program, Format::Text, limit, clients, watcher)
+        }
+        GraphFormat::Json => {
+            due_of_list_after(alloc, program, Format::Json, limit, clients, watcher)
+        }
+        GraphFormat::Dot => due_of_drawing_after(alloc, program, limit, clients),
     }
 }
 

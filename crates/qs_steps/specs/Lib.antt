@@ -3,3 +3,8 @@ pub mod PlainSteps
 pub mod CoreSteps
 pub mod StepReplays
 pub mod StepExamples
+pub mod Telling
+pub mod PlainQueues
+pub mod CoreQueues
+pub mod QueueExamples
+pub mod StepNames

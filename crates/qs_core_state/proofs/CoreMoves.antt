@@ -30,8 +30,8 @@ use Rattle.qs_core_parts.specs.CoreHandlers as seats
 use Rattle.qs_core_state.specs.CoreState.{CoreState, CoreSteps, IsCoreState, IsSide, Side, all_blocks, codes_of, core_from, core_of, handler_at, side_at, side_of, tickets_at}
 use Rattle.qs_core_state.proofs.CoreFields.{field_kept, each}
 use Rattle.qs_core_state.proofs.CoreLists.{all_set, handler_put, side_put, tickets_keep}
-use Rattle.qs_core.proofs.ClientFields as clients
-use Rattle.qs_core.proofs.HandlerFields as handlers
+use Rattle.qs_core_state.proofs.ClientFields as clients
+use Rattle.qs_core_state.proofs.HandlerFields as handlers
 
 -- with other clients, and with other handlers
 abbrev pub with_clients : CoreState → List CoreClientState → CoreState

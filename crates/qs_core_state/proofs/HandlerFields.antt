@@ -20,7 +20,7 @@ use Rattle.qs_core_laws.specs.Core as core
 use Rattle.qs_core_parts.specs.CoreHandlers.{beside, gives_up, lane_step, takes_first, turns_to}
 use Rattle.qs_core_parts.specs.LaneStates.{LaneState, lane_at, with_down, with_spare, with_up}
 use Rattle.qs_core_state.specs.CoreState.{Side, core_from}
-use Rattle.qs_core.proofs.ClientFields.{counts_in, entries_in, traces_in}
+use Rattle.qs_core_state.proofs.ClientFields.{counts_in, entries_in, traces_in}
 use Rattle.qs_core_state.proofs.CoreFields.{field_kept, in_lanes, lanes_put, lanes_kept, tickets_kept}
 
 one_more : {A : Type 0} (xs : List A) (x : A) → length (xs ++ x ∷ []) ≡ suc (length xs)

@@ -1,0 +1,2 @@
+pub mod Charting
+pub mod Ends

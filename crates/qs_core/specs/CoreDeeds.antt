@@ -1,0 +1,86 @@
+-- What a step of the optimised machine does.
+use Rattle.std.specs.Prelude.{ℕ, ◌-◌, List, [], ◌∷◌, Option, Some, None}
+use Rattle.qs_objects.specs.declared.held.Ticket.{Ticket}
+use Rattle.qs_objects.specs.declared.Request.{Request}
+use Rattle.qs_syncset.specs.Codes.{ClientCode}
+use Rattle.qs_chunk.specs.declared.parcel.Parcel.{Parcel}
+use Rattle.qs_chunk.specs.declared.parcel.Parcel.TheVariants.{Work, Sync, Home, End}
+use Rattle.qs_handler.specs.Handler.{Handler, free, serves, spares, gives, away, closed}
+use Rattle.qs_client_run.specs.Client.{act_of}
+use Rattle.qs_client_run.specs.declared.act.Act.{Act}
+use Rattle.qs_client_run.specs.declared.act.Act.TheVariants as wants
+use Rattle.qs_played.specs.Played.{ticket}
+use Rattle.qs_played.specs.declared.schedule.actor.Actor.{Actor}
+use Rattle.qs_played.specs.declared.schedule.actor.Actor.TheVariants as actor
+use Rattle.qs_core_laws.specs.Core.{Core, blocks, settings_of}
+use Rattle.qs_core_parts.specs.CarriedRequests.{first_requests, sent_requests}
+use Rattle.qs_core.specs.declared.core_deed.CoreDeed.{CoreDeed}
+use Rattle.qs_core.specs.declared.core_deed.CoreDeed.TheVariants.{Reserves, TakesChunk, Sends, WaitsFor, Gets, Returns, EndsAt, Serves, Runs, GivesChunk, SeesWaiting, GivesItself, ComesBack, Leaves}
+
+-- a client sends the requests of a chunk, waits for the object, returns it, or ends its block there
+abbrev pub deed_of_sent : Ticket → (h : ℕ) → Parcel → CoreDeed
+deed_of_sent t h (Work chunk) = Sends
+deed_of_sent t h Sync = WaitsFor h
+deed_of_sent t h (Home x) = Returns h
+deed_of_sent t h End = EndsAt t h
+
+-- a client reserves its next block, sends a parcel, gets an object, or takes an empty chunk
+abbrev pub deed_of_act : (next current : Ticket) → Act → Option CoreDeed
+deed_of_act u t wants.Reserve = Some (Reserves u)
+deed_of_act u t (wants.Send h parcel) = Some (deed_of_sent t h parcel)
+deed_of_act u t (wants.Await h) = Some (Gets h)
+deed_of_act u t (wants.NeedChunk h) = Some (TakesChunk h)
+deed_of_act u t wants.Finished = None
+
+-- by its number, how many blocks it has begun, and its act
+abbrev pub deed_of_client : (c : ℕ) → (begun : ℕ) → Act → Option CoreDeed
+deed_of_client c begun act = deed_of_act (ticket c begun) (ticket c (begun - 1)) act
+
+abbrev pub deed_of_tickets : List Ticket → Option CoreDeed
+deed_of_tickets [] = None
+deed_of_tickets (t ∷ ts) = Some (Serves t)
+
+-- a handler runs the requests of a chunk, sees that the client waits, has its object back, or leaves the ticket
+abbrev pub deed_of_parcel : Ticket → Parcel → CoreDeed
+deed_of_parcel t (Work chunk) = Runs t
+deed_of_parcel t Sync = SeesWaiting t.client
+deed_of_parcel t (Home x) = ComesBack t.client
+deed_of_parcel t End = Leaves t
+
+abbrev pub deed_of_lane : Ticket → List Parcel → Option CoreDeed
+deed_of_lane t [] = None
+deed_of_lane t (p ∷ ps) = Some (deed_of_parcel t p)
+
+-- A handler serves the next ticket of its queue, takes a parcel of that ticket, gives an empty chunk back, or gives its object. `down` are
+-- the parcels in the lane of each client to it.
+abbrev pub deed_of_handler : List Ticket → (down : ℕ → List Parcel) → Handler → Option CoreDeed
+deed_of_handler ts down (free x) = deed_of_tickets ts
+deed_of_handler ts down (serves t x) = deed_of_lane t (down t.client)
+deed_of_handler ts down (spares t x n) = Some (GivesChunk t.client)
+deed_of_handler ts down (gives t x) = Some (GivesItself t.client)
+deed_of_handler ts down (away t) = deed_of_lane t (down t.client)
+deed_of_handler ts down (closed x) = None
+
+-- the requests of the chunk that a handler takes
+abbrev pub requests_of_handler : (down : ℕ → List Parcel) → Handler → List Request
+requests_of_handler down (free x) = []
+requests_of_handler down (serves t x) = first_requests (down t.client)
+requests_of_handler down (spares t x n) = []
+requests_of_handler down (gives t x) = []
+requests_of_handler down (away t) = first_requests (down t.client)
+requests_of_handler down (closed x) = []
+
+module _ (code : ℕ → ClientCode) (size : ℕ) where
+  -- what a client wants next
+  abbrev pub act_at : Core → ℕ → Act
+  act_at s c = act_of (settings_of code size c) (blocks code size c) (s.client c)
+
+  -- what an actor does, if it steps from this state
+  abbrev pub core_deed : Core → Actor → Option CoreDeed
+  core_deed s (actor.Client c) = deed_of_client c (s.client c).begun (act_at s c)
+  core_deed s (actor.Handler h) = deed_of_handler (s.tickets h) (λ c. s.down c h) (s.handler h)
+
+  -- and the requests of the chunk that it sends or runs then
+  abbrev pub core_requests : Core → Actor → List Request
+  core_requests s (actor.Client c) = sent_requests (act_at s c)
+  core_requests s (actor.Handler h) = requests_of_handler (λ c. s.down c h) (s.handler h)

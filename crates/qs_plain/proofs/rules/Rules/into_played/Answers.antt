@@ -1,0 +1,40 @@
+use Rattle.std.proofs.Common.{◌<◌, arith, get_or, subst, sym}
+use Rattle.std.specs.Prelude.{IfOk}
+use Rattle.std.proofs.lemmas.List.{length-map}
+use Rattle.qs_meaning.specs.Serial.{IsLegal}
+use Rattle.qs_program.specs.Sound.{IsSound}
+use Rattle.qs_played.specs.Played.{Played}
+use Rattle.qs_played.proofs.ShownRuns.{if_shown}
+use Rattle.qs_plain_laws.specs.Plain.{begin, begun_blocks}
+use Rattle.qs_plain_laws.specs.PlainSchedule.{played_of}
+use Rattle.qs_plain_laws.proofs.Ordering.{IsOrdered, ordered_begin, ordered_plays, tickets_begun}
+use Rattle.qs_plain_client.specs.Clients.{client_of}
+use Rattle.qs_plain.specs.Rules.{AreIsolated, AreRulesCounted, RulesState, plain_of}
+use Rattle.qs_plain.proofs.Reaching.{reached_counted, reached_isolated}
+use Rattle.qs_plain.proofs.ReadingOff.{at_client}
+use Rattle.qs_plain.proofs.rules.Rules.into_played.Goals as goal
+
+pub into_played-requires : goal.into_played-requires
+into_played-requires c = λ i d less.
+    let s = c.self.inside.machine in
+    let p = s.program in
+    let t = get_or s.order i d in
+    let all = subst (IsOrdered p) (sym c.self.invariant.1) (ordered_plays p (begin p) c.self.invariant.0 (ordered_begin p)) in
+    let found = tickets_begun p (plain_of s) all i d less in (
+      omega (arith, found.0, length-map s.clients client_of),
+      subst (λ it. t.index < begun_blocks it) (sym (at_client s.clients t.client)) found.1,
+    )
+
+pub returns-clause-legal : goal.returns-clause-legal
+returns-clause-legal c =
+    let s = c.self.inside.machine in
+    let p = s.program in
+    let all = subst (IsOrdered p) (sym c.self.invariant.1) (ordered_plays p (begin p) c.self.invariant.0 (ordered_begin p)) in
+    subst (λ (r : RulesState). IfOk c.into_played.result (λ (played : Played). IsLegal r.program played.order)) c.self.view_is
+    (if_shown (λ (played : Played). IsLegal p played.order) c.into_played.result (played_of p (plain_of s)) c.into_played.ensures.shown (λ played same. subst (λ (x : Played). IsLegal p x.order) (sym same) all.legal))
+
+pub returns-clause-isolated : goal.returns-clause-isolated
+returns-clause-isolated c = subst AreIsolated c.self.view_is (reached_isolated c.self.inside.machine (subst IsSound c.program.ensures.value c.is_sound.ensures.sound) c.self.invariant)
+
+pub returns-clause-counted : goal.returns-clause-counted
+returns-clause-counted c = subst AreRulesCounted c.self.view_is (reached_counted c.self.inside.machine (subst IsSound c.program.ensures.value c.is_sound.ensures.sound) c.self.invariant)

@@ -1,0 +1,169 @@
+//! The line of a step of the optimised machine.
+
+ghost use Rattle.std.specs.Prelude.{◌≡◌, ◌++◌, OnOk, codes, flat_map};
+ghost use Rattle.qs_program.specs.Program.{client_at, object_at};
+ghost use Rattle.qs_report.specs.Report.{request_text};
+ghost use Rattle.qs_steps.specs.CoreSteps.{core_deed_text, core_text_or_none, requests_text};
+ghost use Rattle.qs_steps.specs.Telling.{core_line};
+ghost use Rattle.qs_steps.specs.Told.{step_line, ticket_text};
+
+use crate::lines::{put_idle, put_reserves, put_ticket, put_who};
+use qs_core::CoreDeed;
+use qs_objects::{Request, Ticket};
+use qs_played::Actor;
+use qs_program::Program;
+use qs_report::{client_name, object_name, put, put_whole_request};
+use std::alloc::AllocError;
+
+// Further requests, each after a space.
+fn put_other_requests(
+    out: &mut Vec<u8>,
+    program: &Program,
+    requests: &[Request],
+) -> Result<(), AllocError>
+    ensures ok { OnOk result (out.new.items ≡ out.old.items ++ flat_map (λ r. codes " " ++ request_text program.now r) requests.now) }
+{
+    for request in requests {
+        put(out, b" ")?;
+        put_whole_request(out, program, request)?;
+    }
+    Ok(())
+}
+
+// Requests, joined by spaces.
+fn put_requests(
+    out: &mut Vec<u8>,
+    program: &Program,
+    requests: &[Request],
+) -> Result<(), AllocError>
+    ensures ok { OnOk result (out.new.items ≡ out.old.items ++ requests_text program.now requests.now) }
+{
+    match requests {
+        [] => Ok(()),
+        [first, others @ ..] => {
+            put_whole_request(out, program, first)?;
+            put_other_requests(out, program, others)
+        }
+    }
+}
+
+// Words and a handler's object.
+fn put_object(
+    out: &mut Vec<u8>,
+    program: &Program,
+    words: &[u8],
+    object: u8,
+) -> Result<(), AllocError>
+    ensures ok { OnOk result (out.new.items ≡ out.old.items ++ (words.now ++ (object_at program.now object).name)) }
+{
+    put(out, words)?;
+    put(out, object_name(program, usize::from(object)))
+}
+
+// Words and a client.
+fn put_client(
+    out: &mut Vec<u8>,
+    program: &Program,
+    words: &[u8],
+    client: u8,
+) -> Result<(), AllocError>
+    ensures ok { OnOk result (out.new.items ≡ out.old.items ++ (words.now ++ (client_at program.now client).name)) }
+{
+    put(out, words)?;
+    put(out, client_name(program, client))
+}
+
+// Words and a ticket.
+fn put_block(
+    out: &mut Vec<u8>,
+    program: &Program,
+    words: &[u8],
+    ticket: Ticket,
+) -> Result<(), AllocError>
+    ensures ok { OnOk result (out.new.items ≡ out.old.items ++ (words.now ++ ticket_text program.now ticket)) }
+{
+    put(out, words)?;
+    put_ticket(out, program, ticket)
+}
+
+// What a step does, with the requests of its chunk.
+fn put_core_deed(
+    out: &mut Vec<u8>,
+    program: &Program,
+    deed: CoreDeed,
+    requests: &[Request],
+) -> Result<(), AllocError>
+    ensures ok { OnOk result (out.new.items ≡ out.old.items ++ core_deed_text program.now deed requests.now) }
+{
+    match deed {
+        CoreDeed::Reserves(ticket) => put_reserves(out, program, ticket),
+        CoreDeed::TakesChunk(object) => {
+            put_object(out, program, b"takes an empty chunk of ", object)
+        }
+        CoreDeed::Sends => {
+            put(out, b"sends ")?;
+            put_requests(out, program, requests)
+        }
+        CoreDeed::WaitsFor(object) => put_object(out, program, b"waits for ", object),
+        CoreDeed::Gets(object) => put_object(out, program, b"gets ", object),
+        CoreDeed::Returns(object) => put_object(out, program, b"returns ", object),
+        CoreDeed::EndsAt(ticket, object) => {
+            put_block(out, program, b"ends ", ticket)?;
+            put_object(out, program, b" at ", object)
+        }
+        CoreDeed::Serves(ticket) => put_block(out, program, b"serves ", ticket),
+        CoreDeed::Runs(ticket) => {
+            put(out, b"runs ")?;
+            put_requests(out, program, requests)?;
+            put_block(out, program, b" of ", ticket)
+        }
+        CoreDeed::GivesChunk(client) => {
+            put_client(out, program, b"gives an empty chunk to ", client)
+        }
+        CoreDeed::SeesWaiting(client) => {
+            put_client(out, program, b"sees that ", client)?;
+            put(out, b" waits")
+        }
+        CoreDeed::GivesItself(client) => put_client(out, program, b"gives itself to ", client),
+        CoreDeed::ComesBack(client) => put_client(out, program, b"comes back from ", client),
+        CoreDeed::Leaves(ticket) => put_block(out, program, b"leaves ", ticket),
+    }
+}
+
+// The line of an actor that has stepped.
+fn put_stepped(
+    out: &mut Vec<u8>,
+    program: &Program,
+    number: u64,
+    actor: Actor,
+    deed: Option<CoreDeed>,
+    requests: &[Request],
+) -> Result<(), AllocError>
+    ensures ok { OnOk result (out.new.items ≡ out.old.items ++ step_line program.now number actor (core_text_or_none program.now deed requests.now)) }
+{
+    put_who(out, program, number, actor)?;
+    if let Some(deed) = deed {
+        put_core_deed(out, program, deed, requests)?;
+    }
+    put(out, b"\n")
+}
+
+/// Puts the line of an actor that was asked to step: whether it stepped, and what it did then.
+pub(crate) fn put_core_line(
+    out: &mut Vec<u8>,
+    program: &Program,
+    is_pick: bool,
+    number: u64,
+    actor: Actor,
+    stepped: bool,
+    deed: Option<CoreDeed>,
+    requests: &[Request],
+) -> Result<(), AllocError>
+    ensures ok { OnOk result (out.new.items ≡ out.old.items ++ core_line program.now is_pick number actor stepped deed requests.now) }
+{
+    if stepped {
+        put_stepped(out, program, number, actor, deed, requests)
+    } else {
+        put_idle(out, program, is_pick, number, actor)
+    }
+}

@@ -1,0 +1,97 @@
+//! The line of a step under the plain rules.
+
+ghost use Rattle.std.specs.Prelude.{◌≡◌, ◌++◌, OnOk, codes};
+ghost use Rattle.qs_report.specs.Report.{reply_text, request_text};
+ghost use Rattle.qs_steps.specs.PlainSteps.{deed_text};
+ghost use Rattle.qs_steps.specs.Telling.{plain_line};
+ghost use Rattle.qs_steps.specs.Told.{ticket_text};
+
+use crate::lines::{put_idle, put_reserves, put_ticket, put_who};
+use qs_objects::{Request, Ticket};
+use qs_plain::Deed;
+use qs_played::Actor;
+use qs_program::Program;
+use qs_report::{put, put_number, put_whole_request};
+use std::alloc::AllocError;
+
+// A verb and a request.
+fn put_asked(
+    out: &mut Vec<u8>,
+    program: &Program,
+    verb: &[u8],
+    request: &Request,
+) -> Result<(), AllocError>
+    ensures ok { OnOk result (out.new.items ≡ out.old.items ++ (verb.now ++ request_text program.now request.now)) }
+{
+    put(out, verb)?;
+    put_whole_request(out, program, request)
+}
+
+// A verb and a ticket.
+fn put_verb(
+    out: &mut Vec<u8>,
+    program: &Program,
+    verb: &[u8],
+    ticket: Ticket,
+) -> Result<(), AllocError>
+    ensures ok { OnOk result (out.new.items ≡ out.old.items ++ (verb.now ++ ticket_text program.now ticket)) }
+{
+    put(out, verb)?;
+    put_ticket(out, program, ticket)
+}
+
+// A query's reply.
+fn put_reply(out: &mut Vec<u8>, reply: Option<i64>) -> Result<(), AllocError>
+    ensures ok { OnOk result (out.new.items ≡ out.old.items ++ reply_text reply) }
+{
+    match reply {
+        None => Ok(()),
+        Some(value) => {
+            put(out, b" = ")?;
+            put_number(out, value)
+        }
+    }
+}
+
+// What a step does.
+fn put_deed(out: &mut Vec<u8>, program: &Program, deed: &Deed) -> Result<(), AllocError>
+    ensures ok { OnOk result (out.new.items ≡ out.old.items ++ deed_text program.now deed.now) }
+{
+    match deed {
+        Deed::Reserves(ticket) => put_reserves(out, program, *ticket),
+        Deed::Logs(request) => put_asked(out, program, b"logs ", request),
+        Deed::Asks(request) => put_asked(out, program, b"asks ", request),
+        Deed::Ends(ticket) => put_verb(out, program, b"ends ", *ticket),
+        Deed::Runs(ticket, request) => {
+            put_asked(out, program, b"runs ", request)?;
+            put_verb(out, program, b" of ", *ticket)
+        }
+        Deed::Answers(ticket, request, reply) => {
+            put_asked(out, program, b"answers ", request)?;
+            put_reply(out, *reply)?;
+            put_verb(out, program, b" of ", *ticket)
+        }
+        Deed::Leaves(ticket) => put_verb(out, program, b"leaves ", *ticket),
+    }
+}
+
+/// Puts the line of an actor that was asked to step, by what it did, if it stepped.
+pub(crate) fn put_line(
+    out: &mut Vec<u8>,
+    program: &Program,
+    is_pick: bool,
+    number: u64,
+    actor: Actor,
+    deed: &Option<Deed>,
+) -> Result<(), AllocError>
+    ensures ok { OnOk result (out.new.items ≡ out.old.items ++ plain_line program.now is_pick number actor deed.now) }
+{
+    match deed {
+        None => put_idle(out, program, is_pick, number, actor),
+        Some(deed) => {
+            put_who(out, program, number, actor)?;
+            put_deed(out, program, deed)?;
+            put(out, b"\n")
+        }
+    }
+}

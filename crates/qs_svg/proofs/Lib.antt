@@ -1,0 +1,5 @@
+pub mod Parts
+pub mod SentFor
+pub mod StretchEnds
+pub mod FewShapes
+pub mod WholeStretches

@@ -1,0 +1,87 @@
+-- In an isolated run a journal is its tickets' entries one after another, in the order of the reservations. So where the stretches before a
+-- ticket's are cut off, what is left begins with all of its entries: by induction on the place of the ticket.
+use Rattle.std.proofs.Common.{◌≡◌, ℕ, zero, suc, ◌+◌, ◌-◌, ◌<◌, ◌≤◌, min, Bool, true, false, if◌then◌else◌, List, [], ◌∷◌, ◌++◌, length, take, drop, flat_map, refl, sym, subst, true≢false, ⊎_elim, ap, ap₂, ◌∙◌, arith, length-append}
+use Rattle.std.proofs.lemmas.List.{drop-drop, length-drop}
+use Rattle.std.proofs.lemmas.List.Sums.{length-filter}
+use Rattle.std.proofs.Math.ListN.{drop_of_length-le}
+use Rattle.std.proofs.Math.Seq.{drop-append_seam, drop-cons, take-append_seam}
+use Rattle.qs_objects.proofs.Choices.{ticket_cases}
+use Rattle.qs_objects.specs.Parts.{entries_of, same}
+use Rattle.qs_objects.specs.declared.held.Entry.{Entry}
+use Rattle.qs_objects.specs.declared.held.Ticket.{Ticket}
+use Rattle.qs_played.specs.Isolation.{IsIsolated}
+use Rattle.qs_played.specs.Played.{Played}
+use Rattle.qs_report.specs.Report.{first_ticket}
+use Rattle.qs_svg.specs.Stretches.{entries_for, journal_of, stretch, stretch_start, ticket_at}
+use Rattle.qs_svg.specs.OneColour.{AreOfColour, AreRowsOfWholeBlocks}
+
+same_is : (t u : Ticket) → same t u ≡ true → t ≡ u
+same_is t u e = ⊎_elim (λ (is : t ≡ u). is) (λ (other : same t u ≡ false). absurd (true≢false (sym e ∙ other))) (ticket_cases t u)
+
+-- entries of a ticket are in its client's colour
+one_of_colour : (t : Ticket) (x : Entry) (b : Bool) (rest : List Entry) → (b ≡ true → t ≡ x.ticket) → AreOfColour t.client rest
+    → AreOfColour t.client (if b then x ∷ rest else rest)
+one_of_colour t x true rest is all = (ap (λ (u : Ticket). u.client) (sym (is refl)), all)
+one_of_colour t x false rest is all = all
+
+of_colour : (t : Ticket) (journal : List Entry) → AreOfColour t.client (entries_of t journal)
+of_colour t [] = tt
+of_colour t (x ∷ xs) = one_of_colour t x (same t x.ticket) (entries_of t xs) (same_is t x.ticket) (of_colour t xs)
+
+module _ (run : Played) (h : ℕ) (order : journal_of run h ≡ flat_map (λ t. entries_of t (journal_of run h)) run.order) where
+  abbrev own : Ticket → List Entry
+  own t = entries_of t (journal_of run h)
+
+  -- what is left from a ticket on begins with its entries
+  begins_with : (i : ℕ) → i < length run.order → drop (stretch_start run h i) (journal_of run h) ≡ flat_map own (drop i run.order)
+      → drop (stretch_start run h i) (journal_of run h) ≡ own (ticket_at run i) ++ flat_map own (drop (suc i) run.order)
+  begins_with i within left = left ∙ ap (flat_map own) (drop-cons run.order i first_ticket within)
+
+  -- and so the stretch takes them all
+  taken : (i : ℕ) → i < length run.order → drop (stretch_start run h i) (journal_of run h) ≡ flat_map own (drop i run.order)
+      → min (entries_for (ticket_at run i) (journal_of run h)) (length (journal_of run h) - stretch_start run h i) ≡ length (own (ticket_at run i))
+  taken i within left =
+      omega (
+        arith,
+        length-filter (λ (e : Entry). same (ticket_at run i) e.ticket) (journal_of run h),
+        length-drop (stretch_start run h i) (journal_of run h),
+        ap length (begins_with i within left),
+        length-append (own (ticket_at run i)) (flat_map own (drop (suc i) run.order)),
+      )
+
+  left_from : (i : ℕ) → i ≤ length run.order → drop (stretch_start run h i) (journal_of run h) ≡ flat_map own (drop i run.order)
+  left_from zero within = order
+  left_from (suc i) within =
+      let before = left_from i (omega arith) in
+      let rest = flat_map own (drop (suc i) run.order) in
+      ap (λ n. drop (stretch_start run h i + n) (journal_of run h)) (taken i (omega arith) before)
+      ∙ sym (drop-drop (length (own (ticket_at run i))) (stretch_start run h i) (journal_of run h))
+      ∙ ap (drop (length (own (ticket_at run i)))) (begins_with i (omega arith) before)
+      ∙ drop-append_seam (own (ticket_at run i)) rest
+
+  whole : (i : ℕ) → i < length run.order → stretch run h i ≡ own (ticket_at run i)
+  whole i within =
+      let before = left_from i (omega arith) in
+      let rest = flat_map own (drop (suc i) run.order) in
+      let size : stretch_start run h (suc i) - stretch_start run h i ≡ length (own (ticket_at run i)) = omega (arith, taken i within before) in
+      ap₂ (λ n l. take n l) size (begins_with i within before) ∙ take-append_seam (own (ticket_at run i)) rest
+
+  -- no stretch goes past the end
+  within : (i : ℕ) → stretch_start run h i ≤ length (journal_of run h)
+  within zero = omega arith
+  within (suc i) = omega (arith, within i)
+
+  all_taken : stretch_start run h (length run.order) ≡ length (journal_of run h)
+  all_taken =
+      let left = left_from (length run.order) (omega arith) ∙ ap (flat_map own) (drop_of_length-le run.order (omega arith)) in
+      omega (arith, ap length left, length-drop (stretch_start run h (length run.order)) (journal_of run h), within (length run.order))
+
+pub rows_of_whole_blocks : AreRowsOfWholeBlocks
+unfolding IsIsolated
+rows_of_whole_blocks p run waits isolated h inside =
+    let order = (isolated.objects h inside).order in
+    record {
+      whole = λ i place. whole run h order i place;
+      colour = λ i place. subst (AreOfColour (ticket_at run i).client) (sym (whole run h order i place)) (of_colour (ticket_at run i) (journal_of run h));
+      all = all_taken run h order;
+    }

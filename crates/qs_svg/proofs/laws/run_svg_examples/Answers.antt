@@ -1,0 +1,19 @@
+-- The digits of each number are computed.
+use Rattle.std.proofs.Common.{refl}
+use Rattle.std.specs.Fmt.{digits}
+use Rattle.qs_svg.proofs.laws.run_svg_examples.Goals as goal
+
+pub returns : goal.returns
+unfolding digits
+returns c = record {
+  examples = record {
+    deposit = refl;
+    nothing = refl;
+    open_block = refl;
+    mixed_first = refl;
+    mixed_second = refl;
+    many_marks = refl;
+    few_marks = refl;
+    long_stretch = refl;
+  };
+}

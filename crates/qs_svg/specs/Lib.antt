@@ -1,0 +1,10 @@
+pub mod Shapes
+pub mod Stretches
+pub mod Places
+pub mod Words
+pub mod Blocks
+pub mod Legend
+pub mod RunSvg
+pub mod Few
+pub mod OneColour
+pub mod RunSvgExamples

@@ -1,0 +1,21 @@
+//! Worked examples of pictures, that no picture has too many shapes, and what one shows of isolation.
+
+ghost use Rattle.qs_svg.specs.Few.{AreFewShapes};
+ghost use Rattle.qs_svg.specs.OneColour.{AreRowsOfWholeBlocks};
+ghost use Rattle.qs_svg.specs.RunSvgExamples.{RunSvgExamples};
+
+/// The pictures of a few runs, worked out by hand; it does nothing.
+pub fn run_svg_examples()
+    ensures examples { RunSvgExamples }
+{}
+
+/// A picture of whatever run of a sound program has at most 4,000 shapes; it does nothing.
+pub fn few_shapes()
+    ensures few { AreFewShapes }
+{}
+
+/// In the picture of an isolated run each stretch is all that its object ran for its ticket, in the colour of that ticket's client, and with
+/// the last ticket no request is left; it does nothing.
+pub fn rows_of_whole_blocks()
+    ensures rows { AreRowsOfWholeBlocks }
+{}

@@ -1,0 +1,15 @@
+//! A run as one picture in SVG: a row for each object, a column for each block.
+#![tactic(auto)]
+
+mod blocks;
+mod facts;
+mod head;
+pub mod laws;
+mod legend;
+mod pieces;
+mod rows;
+mod run;
+mod stretches;
+mod words;
+
+pub use run::run_svg;

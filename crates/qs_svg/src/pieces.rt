@@ -1,0 +1,88 @@
+// Pieces of a picture, put at the end of bytes.
+
+ghost use Rattle.std.specs.Prelude.{◌≡◌, ◌++◌, OnOk};
+ghost use Rattle.qs_program.specs.Program.{object_at};
+ghost use Rattle.qs_svg.specs.Shapes.{Puts, path_start, text_at, text_start, with_number};
+
+use itoa::Buffer;
+use qs_program::Program;
+use qs_report::{put, put_all};
+use std::alloc::AllocError;
+
+pub(crate) fn object_name(program: &Program, object: usize) -> &[u8]
+    ensures name { result.now ≡ (object_at program.now object).name }
+{
+    program.is_sound();
+    if object < program.objects() {
+        program.object_name(object as u8).as_slice()
+    } else {
+        b""
+    }
+}
+
+// A word.
+pub(crate) fn put_word(out: &mut Vec<u8>, word: &[u8]) -> Result<(), AllocError>
+    ensures ok { OnOk result (Puts word.now out.old.items out.new.items) }
+{
+    put(out, word)
+}
+
+// A word and a count.
+pub(crate) fn put_count(out: &mut Vec<u8>, word: &[u8], count: u64) -> Result<(), AllocError>
+    ensures ok { OnOk result (Puts (with_number word.now count) out.old.items out.new.items) }
+{
+    let mut buffer = Buffer::new();
+    put_all(out, &[word, buffer.format(count).as_bytes()])
+}
+
+// The beginning of a path, at a point.
+pub(crate) fn put_path(
+    out: &mut Vec<u8>,
+    word: &[u8],
+    client: u8,
+    x: u32,
+    y: u32,
+) -> Result<(), AllocError>
+    ensures ok { OnOk result (Puts (path_start word.now client x y) out.old.items out.new.items) }
+{
+    put_word(out, b"<path class='")?;
+    put_word(out, word)?;
+    put_count(out, b" c", u64::from(client))?;
+    put_count(out, b"' d='M", u64::from(x))?;
+    put_count(out, b",", u64::from(y))
+}
+
+// The beginning of a text, at a point.
+pub(crate) fn put_text(out: &mut Vec<u8>, x: u32, y: u32) -> Result<(), AllocError>
+    ensures ok { OnOk result (Puts (text_start x y) out.old.items out.new.items) }
+{
+    put_count(out, b"<text x='", u64::from(x))?;
+    put_count(out, b"' y='", u64::from(y))?;
+    put_word(out, b"'>")
+}
+
+// A text of one word, as one shape.
+pub(crate) fn put_name(out: &mut Vec<u8>, x: u32, y: u32, name: &[u8]) -> Result<(), AllocError>
+    ensures ok { OnOk result (Puts (text_at x y name.now) out.old.items out.new.items) }
+{
+    put_text(out, x, y)?;
+    put_word(out, name)?;
+    put_word(out, b"</text>\n")
+}
+
+// A text of a count between two words, as one shape.
+pub(crate) fn put_counted(
+    out: &mut Vec<u8>,
+    x: u32,
+    y: u32,
+    word: &[u8],
+    count: usize,
+    other: &[u8],
+) -> Result<(), AllocError>
+    ensures ok { OnOk result (Puts (text_at x y (with_number word.now count ++ other.now)) out.old.items out.new.items) }
+{
+    put_text(out, x, y)?;
+    put_count(out, word, count as u64)?;
+    put_word(out, other)?;
+    put_word(out, b"</text>\n")
+}
