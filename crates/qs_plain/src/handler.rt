@@ -85,6 +85,7 @@ impl HandlerState {
     }
 
     /// Logs a command in the ticket's private queue. Where no other reservation waits, the request itself goes there, and no copy of it.
+    #[inline(always)]
     pub(crate) fn log_command(&mut self, ticket: Ticket, request: Request)
         requires { IsLoggable ticket self.old.queues }
         ensures logged { self.new ≡ record { queues = map (after_put ticket (items.Command request)) self.old.queues; room = self.old.room; held = self.old.held } }
@@ -98,6 +99,7 @@ impl HandlerState {
 
     /// Logs a query in the ticket's private queue, as a command is logged. They are two functions, each called in one place, so that no
     /// request is moved from one call to the next.
+    #[inline(always)]
     pub(crate) fn log_query(&mut self, ticket: Ticket, request: Request)
         requires { IsLoggable ticket self.old.queues }
         ensures logged { self.new ≡ record { queues = map (after_put ticket (items.Query request)) self.old.queues; room = self.old.room; held = self.old.held } }
@@ -145,6 +147,7 @@ impl HandlerState {
     }
 
     /// Takes the first item of the first private queue: a request is run, an end mark takes the private queue away.
+    #[inline(always)]
     pub(crate) fn serve(&mut self) -> Served
         ensures serves { ServesFirst self.old self.old.queues result self.new }
     {

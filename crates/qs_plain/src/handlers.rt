@@ -18,6 +18,7 @@ use std::alloc::{AllocError, Global};
 use std::collections::VecDeque;
 
 /// Logs a command at one handler.
+#[inline(always)]
 pub(crate) fn log_command(
     handlers: &mut Vec<HandlerState>,
     object: u8,
@@ -32,6 +33,7 @@ pub(crate) fn log_command(
 }
 
 /// Logs a query at one handler.
+#[inline(always)]
 pub(crate) fn log_query(
     handlers: &mut Vec<HandlerState>,
     object: u8,

@@ -229,6 +229,7 @@ impl<'p> Machine<'p> {
         }
     }
 
+    #[inline(always)]
     fn step_handler(&mut self, number: u8) -> bool
         requires { number < length self.old.handlers }
         ensures steps { OnTrue result (Steps self.old (actors.Handler number) self.new) }

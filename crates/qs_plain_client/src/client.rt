@@ -236,6 +236,7 @@ impl<'p> ClientState<'p> {
     }
 
     /// All quiet moves, and then what is asked; a command enters the trace.
+    #[inline(always)]
     pub fn ask(&mut self, alloc: Global) -> Asked
         requires { self.old.stage ≡ stages.Within }
         ensures goes { AsksNext result self.old self.new }

@@ -83,6 +83,7 @@ impl PrivateQueue {
     }
 
     /// Logs a command if the queue is the ticket's; the request itself goes into the queue.
+    #[inline(always)]
     pub fn put_command(&mut self, ticket: Ticket, request: Request)
         requires { same_ticket ticket self.old.queue.ticket ≡ true → 0 < self.old.room }
         ensures queue { self.new.queue ≡ put_item ticket (items.Command request) self.old.queue }
@@ -95,6 +96,7 @@ impl PrivateQueue {
     }
 
     /// Logs a query if the queue is the ticket's; the request itself goes into the queue.
+    #[inline(always)]
     pub fn put_query(&mut self, ticket: Ticket, request: Request)
         requires { same_ticket ticket self.old.queue.ticket ≡ true → 0 < self.old.room }
         ensures queue { self.new.queue ≡ put_item ticket (items.Query request) self.old.queue }
