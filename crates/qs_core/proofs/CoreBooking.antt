@@ -45,7 +45,7 @@ use Rattle.qs_core_state.proofs.CoreFields.{each, field_kept}
 use Rattle.qs_core_state.proofs.CoreLists.{all_set, handler_put, map_here, side_put, tickets_put_at}
 use Rattle.qs_core_state.proofs.CoreMoves.{all_put}
 use Rattle.qs_core_state.proofs.HandlerFields as handlers
-use Rattle.qs_core.proofs.CoreReserving as reserving
+use Rattle.qs_core_state.proofs.CoreReserving as reserving
 
 -- what holds of each member holds of all
 members : (rs : List ℕ) (P : ℕ → Type 0) → ((h : ℕ) → is_in rs h ≡ true → P h) → AllByRecursion P rs

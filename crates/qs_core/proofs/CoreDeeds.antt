@@ -26,7 +26,7 @@ requests_taken down (away t) c is = let same : t.client ≡ c = cc in ap (λ n. 
 requests_taken down (closed x) c is = cc
 
 module _ (s : CoreState) (kept : IsCoreState s) where
-  act_is : (c : ℕ) → c < length s.clients → act_at (codes_of s) s.size (core_of s) c ≡ act_due (side_at s.clients c).mind
+  pub act_is : (c : ℕ) → c < length s.clients → act_at (codes_of s) s.size (core_of s) c ≡ act_due (side_at s.clients c).mind
   unfolding core_of
   act_is c inside =
       λ k. client_act (record { dynamic = (side_at s.clients c).mind.code.dynamic; size = sym (kept.sides c inside).size k }) (length (side_at s.clients c).mind.code.blocks) (side_at s.clients c).mind.client

@@ -17,7 +17,7 @@ use Rattle.qs_core_laws.specs.CoreReached.{IsBegun, ReachedCore}
 use Rattle.qs_core_laws.specs.CoreSchedule.{all_of, core_played, found_by, held_now, held_or_none, is_done, is_finished, is_idle}
 use Rattle.qs_core_parts.specs.CoreHandlers.{is_waiting, CoreHandlerState, handler_of, no_core_handler, core_handler_at, turns_to}
 use Rattle.qs_core_parts.specs.LaneStates.{lane_at}
-use Rattle.qs_core.specs.CoreShown.{AreBegunBy, AreShowable, AreSomewhere, HaveLanes, TurnTo, are_clear, core_in, held_at, is_clear, is_through, object_at, shown_by}
+use Rattle.qs_core.specs.CoreShown.{AreBegunBy, AreShowable, AreSomewhere, HaveLanes, TurnTo, are_clear, core_in, held_at, is_clear, is_through, object_at, object_with, shown_by}
 use Rattle.qs_core_state.specs.CoreState.{CoreKeeps, CoreState, IsCoreState, core_of, handler_at, side_at, tickets_at}
 use Rattle.qs_core_state.proofs.CoreLists.{map_here}
 
@@ -46,7 +46,7 @@ module _ (s : CoreState) (h : ℕ) (inside : h < length s.handlers) where
   pub tickets_are : tickets_at s.handlers h ≡ (core_handler_at s.handlers h).tickets
   tickets_are = map_here (λ (x : CoreHandlerState). x.tickets) s.handlers h no_core_handler [] inside
 
-  found_same : (x : Handler) → found_by (core_of s) h x ≡ found_by (core_in s.clients s.handlers) h x
+  found_same : (x : Handler) → found_by (core_of s) h x ≡ found_by (core_in s.clients) h x
   unfolding core_of
   found_same (free x) = refl
   found_same (serves t x) = refl
@@ -56,7 +56,7 @@ module _ (s : CoreState) (h : ℕ) (inside : h < length s.handlers) where
   found_same (closed x) = refl
 
   object_is : found_by (core_of s) h ((core_of s).handler h) ≡ object_at s.clients s.handlers h
-  unfolding core_of object_at
+  unfolding core_of object_with
   object_is = ap (found_by (core_of s) h) handler_is ∙ found_same (handler_of (core_handler_at s.handlers h))
 
   idle_is : length s.program.clients ≡ length s.clients → is_idle s.program (core_of s) h ≡ (is_waiting (core_handler_at s.handlers h) && are_clear s.clients h)

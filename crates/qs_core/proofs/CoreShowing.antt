@@ -13,10 +13,10 @@ use Rattle.qs_played.proofs.Lists.{range_more}
 use Rattle.qs_core_laws.specs.Core.{Core}
 use Rattle.qs_core_laws.specs.CoreSchedule.{all_of, found_by}
 use Rattle.qs_core_parts.specs.CoreClients.{CoreClientState, IsCoreClient, whole_of}
-use Rattle.qs_core_parts.specs.CoreHandlers.{CoreHandlerState, IsCoreHandler, handler_of, core_handler_at, turns_to}
+use Rattle.qs_core_parts.specs.CoreHandlers.{CoreHandlerState, IsCoreHandler, handler_of, turns_to}
 use Rattle.qs_core_parts.specs.LaneStates.{lane_at}
 use Rattle.qs_core_parts.proofs.CoreMinds.{whole_mind}
-use Rattle.qs_core.specs.CoreShown.{TurnsTo, core_in, most_syncs, object_at}
+use Rattle.qs_core.specs.CoreShown.{TurnsTo, core_in, most_syncs, object_with}
 use Rattle.qs_core_state.specs.CoreState.{side_at}
 
 and_true : (b : Bool) → (b && true) ≡ b
@@ -73,23 +73,20 @@ never_lost (gives t x) e turned = cc
 never_lost (away t) e turned = cc
 never_lost (closed x) e turned = cc
 
--- where a handler's object is, by its seat
-module _ (cs : List CoreClientState) (hs : List CoreHandlerState) (h : ℕ) (s : CoreHandlerState) (is : s ≡ core_handler_at hs h) where
-  pub object_here : (x : HeldState) → Some x ≡ held_of (handler_of s) → Some x ≡ object_at cs hs h
-  unfolding object_at
-  object_here x e = sym (found_here (core_in cs hs) h (handler_of (core_handler_at hs h)) x (ap (λ (z : CoreHandlerState). held_of (handler_of z)) (sym is) ∙ sym e))
+-- where the object of a handler of number h is
+module _ (cs : List CoreClientState) (h : ℕ) (s : CoreHandlerState) where
+  pub object_here : (x : HeldState) → Some x ≡ held_of (handler_of s) → Some x ≡ object_with cs s h
+  unfolding object_with
+  object_here x e = sym (found_here (core_in cs) h (handler_of s) x (sym e))
 
   pub object_away : IsCoreHandler s → None ≡ held_of (handler_of s) → (c : ℕ) → Some c ≡ turns_to s.act
-      → object_at cs hs h ≡ away_at (lane_at (side_at cs c).lanes h).up (lane_at (side_at cs c).lanes h).down ((side_at cs c).mind.client.held h)
-  unfolding object_at
-  object_away kept e c turned =
-      found_away (core_in cs hs) h (handler_of (core_handler_at hs h)) c
-      (ap (λ (z : CoreHandlerState). held_of (handler_of z)) (sym is) ∙ sym e)
-      (ap (λ (z : CoreHandlerState). turns_to (act_of (handler_of z))) (sym is) ∙ ap turns_to (sym kept.act) ∙ sym turned)
+      → object_with cs s h ≡ away_at (lane_at (side_at cs c).lanes h).up (lane_at (side_at cs c).lanes h).down ((side_at cs c).mind.client.held h)
+  unfolding object_with
+  object_away kept e c turned = found_away (core_in cs) h (handler_of s) c (sym e) (ap turns_to (sym kept.act) ∙ sym turned)
 
   -- the client to which it turns
-  pub turned_inside : IsCoreHandler s → TurnsTo cs (core_handler_at hs h) → (c : ℕ) → Some c ≡ turns_to s.act → c < length cs
-  turned_inside kept turns c e = turns c (ap (λ (z : CoreHandlerState). turns_to (act_of (handler_of z))) (sym is) ∙ ap turns_to (sym kept.act) ∙ sym e)
+  pub turned_inside : IsCoreHandler s → TurnsTo cs s → (c : ℕ) → Some c ≡ turns_to s.act → c < length cs
+  turned_inside kept turns c e = turns c (ap turns_to (sym kept.act) ∙ sym e)
 
   pub object_never_lost : IsCoreHandler s → None ≡ held_of (handler_of s) → None ≡ turns_to s.act → ⊥
   object_never_lost kept e turned = never_lost (handler_of s) (sym e) (ap turns_to (sym kept.act) ∙ sym turned)

@@ -1,12 +1,11 @@
 pub mod CoreBooking
 pub mod CoreCounted
-pub mod CoreFresh
 pub mod CorePlaying
 pub mod CoreReadings
-pub mod CoreReserving
 pub mod ServiceFieldLemmas
 pub mod CoreShowing
 pub mod CoreFieldLemmas
 pub mod CoreRows
 pub mod CoreBlocks
 pub mod CoreDeeds
+pub mod CorePlaces

@@ -1,5 +1,5 @@
 -- What a step of the optimised machine does.
-use Rattle.std.specs.Prelude.{ℕ, ◌-◌, List, [], ◌∷◌, Option, Some, None}
+use Rattle.std.specs.Prelude.{◌≡◌, ℕ, ◌-◌, length, List, [], ◌∷◌, Option, Some, None}
 use Rattle.qs_objects.specs.declared.held.Ticket.{Ticket}
 use Rattle.qs_objects.specs.declared.Request.{Request}
 use Rattle.qs_syncset.specs.Codes.{ClientCode}
@@ -14,6 +14,7 @@ use Rattle.qs_played.specs.declared.schedule.actor.Actor.{Actor}
 use Rattle.qs_played.specs.declared.schedule.actor.Actor.TheVariants as actor
 use Rattle.qs_core_laws.specs.Core.{Core, blocks, settings_of}
 use Rattle.qs_core_parts.specs.CarriedRequests.{first_requests, sent_requests}
+use Rattle.qs_core_parts.specs.LaneStates.{LaneState, lane_at}
 use Rattle.qs_core.specs.declared.core_deed.CoreDeed.{CoreDeed}
 use Rattle.qs_core.specs.declared.core_deed.CoreDeed.TheVariants.{Reserves, TakesChunk, Sends, WaitsFor, Gets, Returns, EndsAt, Serves, Runs, GivesChunk, SeesWaiting, GivesItself, ComesBack, Leaves}
 
@@ -69,6 +70,15 @@ requests_of_handler down (spares t x n) = []
 requests_of_handler down (gives t x) = []
 requests_of_handler down (away t) = first_requests (down t.client)
 requests_of_handler down (closed x) = []
+
+-- a lane's parcels, the object on its way up, and how many empty chunks lie ready, are those of the lane from client c to handler h
+pub record IsLaneOf (s : Core) (c h : ℕ) (lane : LaneState) : Type 0 where
+  pub down : lane.down ≡ s.down c h
+  pub up : lane.up ≡ s.up c h
+  pub spare : length lane.spare ≡ s.spare c h
+
+abbrev pub AreLanesOf : Core → (c : ℕ) → List LaneState → Type 0
+AreLanesOf s c lanes = (h : ℕ) → IsLaneOf s c h (lane_at lanes h)
 
 module _ (code : ℕ → ClientCode) (size : ℕ) where
   -- what a client wants next

@@ -12,7 +12,7 @@ use Rattle.qs_client.specs.MindState.{IsMind}
 use Rattle.qs_core_laws.specs.Core.{Core}
 use Rattle.qs_core_laws.specs.CoreSchedule.{all_of, found_by, held_or_none}
 use Rattle.qs_core_parts.specs.CoreClients.{CoreClientState, rows_of, whole_of}
-use Rattle.qs_core_parts.specs.CoreHandlers.{CoreHandlerState, handler_of, core_handler_at, turns_to, is_waiting}
+use Rattle.qs_core_parts.specs.CoreHandlers.{CoreHandlerState, handler_of, core_handler_at, no_core_handler, turns_to, is_waiting}
 use Rattle.qs_core_parts.specs.LaneStates.{LaneState, lane_at}
 use Rattle.qs_core_state.specs.CoreState.{core_from, side_at}
 
@@ -61,16 +61,23 @@ TurnsTo cs s = (c : ℕ) → turns_to (act_of (handler_of s)) ≡ Some c → c <
 abbrev pub TurnTo : List CoreClientState → List CoreHandlerState → Type 0
 TurnTo cs hs = (h : ℕ) → h < length hs → TurnsTo cs (core_handler_at hs h)
 
--- the machine of these clients and handlers
-abbrev pub core_in : List CoreClientState → List CoreHandlerState → Core
-core_in cs hs = core_from [] (side_at cs) (λ h. handler_of (core_handler_at hs h)) (λ h. (core_handler_at hs h).tickets)
+-- the machine of these clients
+abbrev pub core_in : List CoreClientState → Core
+core_in cs = core_from [] (side_at cs) (λ h. handler_of no_core_handler) (λ h. [])
 
--- the object of handler h with its journal, wherever it is
-unfoldable pub object_at : List CoreClientState → List CoreHandlerState → ℕ → Option HeldState
-object_at cs hs h = found_by (core_in cs hs) h (handler_of (core_handler_at hs h))
+-- the object of a handler of number h with its journal, wherever it is
+unfoldable pub object_with : List CoreClientState → CoreHandlerState → ℕ → Option HeldState
+object_with cs s h = found_by (core_in cs) h (handler_of s)
+
+abbrev pub held_with : List CoreClientState → CoreHandlerState → ℕ → HeldState
+held_with cs s h = held_or_none (object_with cs s h)
+
+-- the object of handler h
+abbrev pub object_at : List CoreClientState → List CoreHandlerState → ℕ → Option HeldState
+object_at cs hs h = object_with cs (core_handler_at hs h) h
 
 abbrev pub held_at : List CoreClientState → List CoreHandlerState → ℕ → HeldState
-held_at cs hs h = held_or_none (object_at cs hs h)
+held_at cs hs h = held_with cs (core_handler_at hs h) h
 
 -- each object is somewhere
 abbrev pub AreSomewhere : List CoreClientState → List CoreHandlerState → Type 0

@@ -12,6 +12,8 @@ ghost use Rattle.qs_client_run.specs.declared.act.Act.TheVariants as wants;
 ghost use Rattle.qs_core.specs.CoreDeeds.{core_deed, core_requests};
 ghost use Rattle.qs_played.specs.declared.schedule.actor.Actor.TheVariants as actors;
 
+mod reading;
+
 use crate::core_deed::CoreDeed;
 use crate::core_deeds::{client_deed, client_requests, handler_deed, handler_requests};
 use crate::core_showing;
@@ -342,6 +344,6 @@ impl<'p> CoreMachine<'p> {
         ensures shown { IfOk result (λ played. played ≡ core_played self.entry.program (core_of self.entry)) }
     {
         self.program.is_sound();
-        core_showing::shown(alloc, self.order, self.clients, &self.handlers)
+        core_showing::shown(alloc, self.order, self.clients, self.handlers)
     }
 }

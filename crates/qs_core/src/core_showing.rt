@@ -7,7 +7,7 @@ ghost use Rattle.qs_program.specs.Limits.{most_clients, most_handlers};
 ghost use Rattle.qs_core_parts.specs.CoreClients.{whole_of};
 ghost use Rattle.qs_client.specs.ClientModel.{has_ended};
 ghost use Rattle.qs_core_parts.specs.CoreHandlers.{is_waiting};
-ghost use Rattle.qs_core.specs.CoreShown.{AreBegunBy, AreShowable, AreMinds, AreSomewhere, HaveLane, HaveLanes, IsBegunBy, TurnTo, TurnsTo, are_clear, are_through, are_waiting, endings_by, held_at, most_syncs, object_at, rows_by, shown_by};
+ghost use Rattle.qs_core.specs.CoreShown.{AreBegunBy, AreShowable, AreMinds, AreSomewhere, HaveLane, HaveLanes, IsBegunBy, TurnTo, TurnsTo, are_clear, are_through, are_waiting, endings_by, held_at, held_with, most_syncs, object_with, rows_by, shown_by};
 ghost use Rattle.qs_core_state.specs.CoreState.{side_at};
 ghost use Rattle.qs_core_parts.specs.CoreHandlers.{IsCoreHandler, core_handler_at};
 
@@ -117,8 +117,8 @@ pub(crate) fn are_idle(clients: &[CoreClient], handlers: &[CoreHandler]) -> bool
     idle
 }
 
-// Whether the run is finished.
-fn are_finished(clients: &[CoreClient], handlers: &[CoreHandler]) -> bool
+/// Whether the run is finished.
+pub(crate) fn are_finished(clients: &[CoreClient], handlers: &[CoreHandler]) -> bool
     requires lanes { HaveLanes clients.now handlers.now }
     ensures value { result ≡ (are_through clients.now && are_waiting clients.now handlers.now) }
 {
@@ -136,19 +136,14 @@ pub(crate) fn handler_at(handlers: &[CoreHandler], number: u8) -> &CoreHandler
     handler
 }
 
-// The object of a handler, wherever it is.
-fn object<'a>(
-    clients: &'a [CoreClient],
-    handlers: &'a [CoreHandler],
-    number: u8,
-) -> Option<&'a Held>
-    requires number { number < length handlers.now }
-    requires few { length handlers.now ≤ most_handlers }
+// The object of a handler of this number, wherever it is.
+fn object<'a>(clients: &'a [CoreClient], handler: &'a CoreHandler, number: u8) -> Option<&'a Held>
+    requires few { number < most_handlers }
     requires lanes { HaveLane clients.now number }
-    requires turns { TurnsTo clients.now (core_handler_at handlers.now number) }
-    ensures value { option_copied result ≡ object_at clients.now handlers.now number }
+    requires turns { TurnsTo clients.now handler.now }
+    ensures value { option_copied result ≡ object_with clients.now handler.now number }
 {
-    let handler = handler_at(handlers, number);
+    handler.has_next_act();
     match handler.held() {
         Some(held) => Some(held),
         None => match handler.client() {
@@ -158,21 +153,23 @@ fn object<'a>(
     }
 }
 
-// The object of a handler once more.
-fn copied(
+// The object of a handler of this number: by move, where the handler waits for a ticket, and else once more.
+fn brought(
     alloc: Global,
     clients: &[CoreClient],
-    handlers: &[CoreHandler],
+    handler: CoreHandler,
     number: u8,
 ) -> Result<Held, AllocError>
-    requires number { number < length handlers.now }
-    requires few { length handlers.now ≤ most_handlers }
+    requires few { number < most_handlers }
     requires lanes { HaveLane clients.now number }
-    requires turns { TurnsTo clients.now (core_handler_at handlers.now number) }
-    requires somewhere { IsSome (object_at clients.now handlers.now number) }
-    ensures value { IfOk result (λ held. held ≡ held_at clients.now handlers.now number) }
+    requires turns { TurnsTo clients.now handler }
+    requires somewhere { IsSome (object_with clients.now handler number) }
+    ensures value { IfOk result (λ held. held ≡ held_with clients.now handler number) }
 {
-    match object(clients, handlers, number) {
+    if handler.takes_ticket() {
+        return Ok(handler.into_held());
+    }
+    match object(clients, &handler, number) {
         Some(held) => held.copied(alloc),
         None => unreachable!(),
     }
@@ -182,19 +179,20 @@ fn copied(
 pub(crate) fn parts(
     alloc: Global,
     clients: &[CoreClient],
-    handlers: &[CoreHandler],
+    handlers: Vec<CoreHandler>,
 ) -> Result<(Row<Journal>, Row<Object>), AllocError>
-    requires few { length handlers.now ≤ most_handlers }
-    requires lanes { HaveLanes clients.now handlers.now }
-    requires turns { TurnTo clients.now handlers.now }
-    requires somewhere { AreSomewhere clients.now handlers.now }
-    ensures journals { IfOk result (λ rows. rows.0 ≡ map (λ h. (held_at clients.now handlers.now h).journal) (range_with_len 0 (length handlers.now))) }
-    ensures states { IfOk result (λ rows. rows.1 ≡ map (λ h. (held_at clients.now handlers.now h).object) (range_with_len 0 (length handlers.now))) }
+    requires few { length handlers.items ≤ most_handlers }
+    requires lanes { HaveLanes clients.now handlers.items }
+    requires turns { TurnTo clients.now handlers.items }
+    requires somewhere { AreSomewhere clients.now handlers.items }
+    ensures journals { IfOk result (λ rows. rows.0 ≡ map (λ h. (held_at clients.now handlers.items h).journal) (range_with_len 0 (length handlers.items))) }
+    ensures states { IfOk result (λ rows. rows.1 ≡ map (λ h. (held_at clients.now handlers.items h).object) (range_with_len 0 (length handlers.items))) }
 {
     let mut journals = Vec::new(alloc);
     let mut states = Vec::new(alloc);
-    for number in 0..handlers.len() as u8 {
-        let (object, journal) = copied(alloc, clients, handlers, number)?.into_parts();
+    for handler in handlers {
+        let number = journals.len() as u8;
+        let (object, journal) = brought(alloc, clients, handler, number)?.into_parts();
         journals.push(journal)?;
         states.push(object)?;
     }
@@ -206,14 +204,14 @@ fn shown_endings(
     alloc: Global,
     order: &[Ticket],
     clients: &[CoreClient],
-    handlers: &[CoreHandler],
+    handlers: Vec<CoreHandler>,
 ) -> Result<Endings, AllocError>
-    requires showable { AreShowable order.now clients.now handlers.now }
-    ensures shown { IfOk result (λ endings. endings ≡ endings_by order.now clients.now handlers.now) }
+    requires showable { AreShowable order.now clients.now handlers.items }
+    ensures shown { IfOk result (λ endings. endings ≡ endings_by order.now clients.now handlers.items) }
 {
     let ended = endings(alloc, clients, order)?;
     let syncs = syncs(clients);
-    let finished = are_finished(clients, handlers);
+    let finished = are_finished(clients, &handlers);
     let (journals, states) = parts(alloc, clients, handlers)?;
     Ok(Endings {
         ended,
@@ -242,10 +240,10 @@ pub(crate) fn shown(
     alloc: Global,
     order: Vec<Ticket>,
     clients: Vec<CoreClient>,
-    handlers: &[CoreHandler],
+    handlers: Vec<CoreHandler>,
 ) -> Result<Played, AllocError>
-    requires showable { AreShowable order.items clients.items handlers.now }
-    ensures shown { IfOk result (λ played. played ≡ shown_by order.items clients.items handlers.now) }
+    requires showable { AreShowable order.items clients.items handlers.items }
+    ensures shown { IfOk result (λ played. played ≡ shown_by order.items clients.items handlers.items) }
 {
     let endings = shown_endings(alloc, &order, &clients, handlers)?;
     let rows = rows(alloc, clients)?;

@@ -15,6 +15,8 @@ ghost use Rattle.qs_core.specs.CoreOrders.{CoreGoes, IsOneBlockOn, IsQuietNow, b
 ghost use Rattle.qs_core_state.specs.CoreState.{CoreIsCounted};
 ghost use Rattle.qs_core_state.specs.CoreState.{CoreIsIsolated, CoreSteps, IsFreshCore, IsPlayedOn, codes_of, core_of};
 
+mod reading;
+
 use crate::core_deed::CoreDeed;
 use crate::core_machine::CoreMachine;
 use qs_chunk::ChunkSize;
@@ -133,7 +135,7 @@ impl<'p> Core<'p> {
     }
 
     /// So many rounds. It ends at the first one that steps nobody, as the further ones would change nothing either.
-    pub(crate) fn play_rounds(&mut self, rounds: u32)
+    pub fn play_rounds(&mut self, rounds: u32)
         ensures rounds { (p : ProgramShape) (mode : ModeShape) (size : ℕ) (actors : List ActorShape) → IsPlayedOn p mode size actors self.old → IsPlayedOn p mode size (actors ++ rounds_of rounds (actors_of p)) self.new }
     {
         for _round in 0..rounds {

@@ -1,14 +1,15 @@
 -- The parcel that lies first in a lane may be handed to the mind of a handler that wants one. The code's call `take_parcel` hands
 -- it on, and the mind asks for this. What is known speaks of the mind together with what its act carries; an act that takes a
 -- parcel carries nothing, so this is the mind itself, by cases on its state.
-use Rattle.std.proofs.Common.{◌≡◌, ℕ, refl, ap, ◌∙◌, subst, ◌∷◌, List}
+use Rattle.std.proofs.Common.{◌≡◌, ℕ, true, refl, ap, ◌∙◌, subst, ◌∷◌, List}
+use Rattle.qs_objects.specs.Journals.{HeldState}
 use Rattle.std.specs.Prelude.{IsTrue}
 use Rattle.qs_chunk.specs.Lanes.{may_stand}
 use Rattle.qs_chunk.specs.declared.parcel.Parcel.{Parcel}
-use Rattle.qs_handler.specs.Handler.{Handler, free, serves, spares, gives, away, closed, is_away, serving, with_act}
+use Rattle.qs_handler.specs.Handler.{Handler, free, serves, spares, gives, away, closed, act_of, is_away, serving, with_act}
 use Rattle.qs_handler.specs.declared.mind.Act.{Act}
 use Rattle.qs_handler.specs.declared.mind.Act.TheVariants as acts
-use Rattle.qs_core_parts.specs.CoreHandlers.{CoreHandlerState, MayCome}
+use Rattle.qs_core_parts.specs.CoreHandlers.{CoreHandlerState, MayCome, takes_ticket}
 use Rattle.qs_core_parts.specs.LaneStates.{LaneState}
 
 pub carries_no_parcel : (h : Handler) (c : ℕ) → with_act h (acts.TakeParcel c) ≡ h
@@ -41,3 +42,16 @@ serving_behind (away t) (acts.Give c y) = refl
 serving_behind (away t) (acts.Spare c chunk) = refl
 serving_behind (away t) acts.Closed = refl
 serving_behind (closed x) a = refl
+
+-- a handler that takes a ticket next is free
+pub free_behind : (h : Handler) (a : Act) → takes_ticket a ≡ true → a ≡ act_of (with_act h a) → (x : HeldState) × (h ≡ free x)
+free_behind (free x) acts.TakeTicket takes is = (x, refl)
+free_behind (serves t x) acts.TakeTicket takes is = cc
+free_behind (spares t x n) acts.TakeTicket takes is = cc
+free_behind (gives t x) acts.TakeTicket takes is = cc
+free_behind (away t) acts.TakeTicket takes is = cc
+free_behind (closed x) acts.TakeTicket takes is = cc
+free_behind h (acts.TakeParcel c) takes is = cc
+free_behind h (acts.Give c x) takes is = cc
+free_behind h (acts.Spare c chunk) takes is = cc
+free_behind h acts.Closed takes is = cc

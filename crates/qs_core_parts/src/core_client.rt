@@ -14,6 +14,8 @@ ghost use Rattle.qs_client.specs.ClientModel.{has_ended};
 ghost use Rattle.qs_core_parts.specs.LaneStates.{fresh_lane, lane_at};
 ghost use Rattle.qs_core_parts.specs.CarriedRequests.{first_requests, sent_requests};
 
+mod reading;
+
 use crate::core_handler::CoreHandler;
 use crate::lane::Lane;
 use crate::requests::carried;

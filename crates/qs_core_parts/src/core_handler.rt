@@ -1,6 +1,6 @@
 //! A handler of the optimised machine.
 
-ghost use Rattle.std.specs.Prelude.{◌≡◌, ◌<◌, [], ◌∷◌, List, ℕ, None, false, length, IfOk, MatchOption, option_copied};
+ghost use Rattle.std.specs.Prelude.{true, ◌≡◌, ◌<◌, [], ◌∷◌, List, ℕ, None, false, length, IfOk, MatchOption, option_copied};
 ghost use Rattle.qs_objects.specs.declared.held.Ticket.{Ticket as TicketShape};
 ghost use Rattle.qs_objects.specs.Journals.{HeldState};
 ghost use Rattle.qs_objects.specs.declared.Request.{Request};
@@ -10,6 +10,8 @@ ghost use Rattle.qs_handler.specs.Handler.{free, held_of, serving};
 ghost use Rattle.qs_handler.specs.declared.mind.Act.TheVariants as acts;
 ghost use Rattle.qs_core_parts.specs.CoreHandlers.{is_waiting, takes_ticket};
 ghost use Rattle.qs_core_parts.specs.CoreHandlers.{IsCoreHandler, LaneSteps, MayCome, TakesTicket, with_ticket, handler_of, handler_with, lane_step, turns_to};
+
+mod reading;
 
 use crate::lane::Lane;
 use qs_handler::{Act, Mind};
@@ -206,8 +208,8 @@ impl CoreHandler {
         true
     }
 
-    // Whether it waits for a ticket.
-    fn takes_ticket(&self) -> bool
+    /// Whether it waits for a ticket.
+    pub fn takes_ticket(&self) -> bool
         ensures value { result ≡ takes_ticket self.now.act }
     {
         match &self.act {
@@ -237,5 +239,20 @@ impl CoreHandler {
             Act::Spare(_, _) => self.mind.held(),
             Act::Closed => self.mind.held(),
         }
+    }
+
+    /// The object with its journal, by move, of one that waits for a ticket.
+    pub fn into_held(self) -> Held
+        requires free { takes_ticket self.act ≡ true }
+        ensures held { Some result ≡ held_of (handler_of self) }
+    {
+        let CoreHandler {
+            mut mind,
+            act: _,
+            tickets: _,
+            room: _,
+        } = self;
+        mind.ticket(Next::Closed);
+        mind.into_held()
     }
 }

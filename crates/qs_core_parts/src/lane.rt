@@ -6,6 +6,8 @@ ghost use Rattle.qs_chunk.specs.Limits.{lane_room, spare_room};
 ghost use Rattle.qs_core_parts.specs.CarriedRequests.{first_requests};
 ghost use Rattle.qs_core_parts.specs.LaneStates.{fresh_lane, with_down, with_spare, with_up};
 
+mod reading;
+
 use crate::requests::carried;
 use qs_chunk::{Chunk, ChunkSize, LANE_ROOM, Parcel, SPARE_ROOM};
 use qs_objects::{Held, Request};

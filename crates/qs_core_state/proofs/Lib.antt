@@ -6,3 +6,5 @@ pub mod CoreEntering
 pub mod ClientFields
 pub mod HandlerFields
 pub mod CoreMoves
+pub mod CoreReserving
+pub mod CoreFresh

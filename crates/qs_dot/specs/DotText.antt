@@ -1,5 +1,5 @@
 -- The control-flow graphs of a program as a drawing in the DOT language, as bytes.
-use Rattle.std.specs.Prelude.{◌≡◌, ℕ, List, [], ◌∷◌, ◌++◌, codes, decimal, length, Bool, if◌then◌else◌, nat_eq, slice_index_or}
+use Rattle.std.specs.Prelude.{◌≡◌, ℕ, List, [], ◌∷◌, ◌++◌, codes, decimal, length, Bool, if◌then◌else◌, nat_eq, slice_get, slice_index_or, Option, Some, None}
 use Rattle.std.specs.List.{filter}
 use Rattle.qs_program.specs.Program.{ProgramShape, blocks_of, client_at, own_block}
 use Rattle.qs_program.specs.Sound.{IsSound}
@@ -12,6 +12,7 @@ use Rattle.qs_syncset.specs.Flow.{Holding}
 use Rattle.qs_syncset.specs.Table.{AreSetsOf, has}
 use Rattle.qs_report.specs.GraphText.{AreTextsUpTo, list_text, name_of}
 use Rattle.qs_report.specs.Texts.{texts_up_to}
+use Rattle.qs_node_lines.specs.NodeLines.{lines_of_block}
 use Rattle.qs_dot.specs.Written.{written}
 
 -- the outline of a node, by its kind
@@ -34,7 +35,12 @@ line_text held _ = []
 abbrev pub node_name : (c k n : ℕ) → List ℕ
 node_name c k n = codes "n" ++ decimal c ++ codes "_" ++ decimal k ++ codes "_" ++ decimal n
 
--- a second line of a node's label: the names that are held there, where there are some
+-- a line of a node's label: the line of the script on which its statement stands, where it has one
+abbrev pub place_text : Option ℕ → List ℕ
+place_text None = []
+place_text (Some line) = codes "\\nline " ++ decimal line
+
+-- the last line of a node's label: the names that are held there, where there are some
 abbrev pub held_text : ProgramShape → (c : ℕ) → List ℕ → List ℕ
 held_text p c [] = []
 held_text p c (h ∷ hs) = codes "\\nheld" ++ list_text (name_of p c) (h ∷ hs)
@@ -45,10 +51,11 @@ head_text c k g sets n =
     codes "    " ++ node_name c k n ++ codes " [shape=" ++ outline_text (place_at g n).node ++ line_text (has sets n) (place_at g n).node
     ++ codes ", label=\"" ++ decimal n ++ codes " "
 
--- a node with its outline, its number, what it does, and which names of the block's list are held there, in the list's order
-abbrev pub node_line : ProgramShape → (c k : ℕ) → (reserved : List ℕ) → List GraphNode → (sets : List (List Bool)) → ℕ → List ℕ
-node_line p c k reserved g sets n =
-    head_text c k g sets n ++ written p c (place_at g n).node ++ held_text p c (filter (has sets n) reserved) ++ codes "\"];\n"
+-- a node with its outline, its number, what it does, the line on which that stands, and which names of the block's list are held there,
+-- in the list's order; `lines` are those of the block's nodes
+abbrev pub node_line : ProgramShape → (c k : ℕ) → (lines reserved : List ℕ) → List GraphNode → (sets : List (List Bool)) → ℕ → List ℕ
+node_line p c k lines reserved g sets n =
+    head_text c k g sets n ++ written p c (place_at g n).node ++ place_text (slice_get lines n) ++ held_text p c (filter (has sets n) reserved) ++ codes "\"];\n"
 
 -- what stands at the edge of a place among a node's edges: which of the two it is at a branch, and nothing elsewhere
 abbrev pub edge_text : Node → ℕ → List ℕ
@@ -63,12 +70,12 @@ edge_line c k g n i =
     ++ edge_text (place_at g n).node i ++ codes ";\n"
 
 -- a node, and the edges that it has
-abbrev pub node_text : ProgramShape → (c k : ℕ) → (reserved : List ℕ) → List GraphNode → (sets : List (List Bool)) → ℕ → List ℕ
-node_text p c k reserved g sets n =
-    node_line p c k reserved g sets n ++ texts_up_to (length (place_at g n).edges) (edge_line c k g n)
+abbrev pub node_text : ProgramShape → (c k : ℕ) → (lines reserved : List ℕ) → List GraphNode → (sets : List (List Bool)) → ℕ → List ℕ
+node_text p c k lines reserved g sets n =
+    node_line p c k lines reserved g sets n ++ texts_up_to (length (place_at g n).edges) (edge_line c k g n)
 
-abbrev pub nodes_text : ProgramShape → (c k : ℕ) → (reserved : List ℕ) → List GraphNode → (sets : List (List Bool)) → List ℕ
-nodes_text p c k reserved g sets = texts_up_to (length g) (node_text p c k reserved g sets)
+abbrev pub nodes_text : ProgramShape → (c k : ℕ) → (lines reserved : List ℕ) → List GraphNode → (sets : List (List Bool)) → List ℕ
+nodes_text p c k lines reserved g sets = texts_up_to (length g) (node_text p c k lines reserved g sets)
 
 -- block k of client c by numbers
 abbrev pub block_name : (c k : ℕ) → List ℕ
@@ -84,26 +91,27 @@ frame_text p c k =
     frame_head c k ++ (client_at p c).name ++ (codes " " ++ decimal k ++ codes "\";\n")
 
 -- the nodes of a graph, with what is held at each on every path, and the end of their block's frame
-abbrev pub AreNodesDrawn : ProgramShape → (c k : ℕ) → (reserved : List ℕ) → ControlGraph → List ℕ → Type 0
-AreNodesDrawn p c k reserved g text =
-    (sets : List (List Bool)) × AreSetsOf g sets × (text ≡ nodes_text p c k reserved g.nodes sets ++ codes "  }\n")
+abbrev pub AreNodesDrawn : ProgramShape → (c k : ℕ) → (lines reserved : List ℕ) → ControlGraph → List ℕ → Type 0
+AreNodesDrawn p c k lines reserved g text =
+    (sets : List (List Bool)) × AreSetsOf g sets × (text ≡ nodes_text p c k lines reserved g.nodes sets ++ codes "  }\n")
 
 -- block k of client c: the nodes of its graph as it is built, with what is held at each on every path, in a frame
-pub record IsBlockDrawn (p : ProgramShape) (c k : ℕ) (text : List ℕ) : Type 0 where
+pub record IsBlockDrawn (p : ProgramShape) (node_lines : List (List (List ℕ))) (c k : ℕ) (text : List ℕ) : Type 0 where
   pub sets : List (List Bool)
   pub held : AreSetsOf (graph_of p c k) sets
   pub lines : text
-      ≡ frame_text p c k ++ (nodes_text p c k (own_block p c k).reserved (graph_of p c k).nodes sets ++ codes "  }\n")
+      ≡ frame_text p c k ++ (nodes_text p c k (lines_of_block node_lines c k) (own_block p c k).reserved (graph_of p c k).nodes sets ++ codes "  }\n")
 
 -- the blocks of client c
-abbrev pub IsClientDrawn : ProgramShape → (c : ℕ) → List ℕ → Type 0
-IsClientDrawn p c text = AreTextsUpTo (blocks_of p c) (IsBlockDrawn p c) text
+abbrev pub IsClientDrawn : ProgramShape → List (List (List ℕ)) → (c : ℕ) → List ℕ → Type 0
+IsClientDrawn p lines c text = AreTextsUpTo (blocks_of p c) (IsBlockDrawn p lines c) text
 
--- the blocks of all clients, as one drawing
-unfoldable pub IsDotText : ProgramShape → List ℕ → Type 0
-IsDotText p text =
-    (blocks : List ℕ) × AreTextsUpTo (length p.clients) (IsClientDrawn p) blocks × (text ≡ (codes "digraph graphs {\n" ++ blocks) ++ codes "}\n")
+-- the blocks of all clients, as one drawing, where the nodes have these lines: of each client, of each of its blocks, in their order
+unfoldable pub IsDotText : ProgramShape → (lines : List (List (List ℕ))) → List ℕ → Type 0
+IsDotText p lines text =
+    (blocks : List ℕ) × AreTextsUpTo (length p.clients) (IsClientDrawn p lines) blocks × (text ≡ (codes "digraph graphs {\n" ++ blocks) ++ codes "}\n")
 
--- a program has one such text
+-- a program whose nodes have these lines has one such text
 abbrev pub DotTextsAreUnique : Type 0
-DotTextsAreUnique = (p : ProgramShape) (one other : List ℕ) → IsSound p → IsDotText p one → IsDotText p other → one ≡ other
+DotTextsAreUnique =
+    (p : ProgramShape) (lines : List (List (List ℕ))) (one other : List ℕ) → IsSound p → IsDotText p lines one → IsDotText p lines other → one ≡ other

@@ -1,4 +1,4 @@
--- Programs with the drawings of their graphs, worked out by hand.
+-- Programs and lines of their nodes, with the drawings of their graphs, worked out by hand.
 use Rattle.std.specs.Prelude.{◌≡◌, List, [], ◌∷◌, codes, pos, negsuc, None}
 use Rattle.qs_objects.specs.declared.Op.TheVariants.{SetCell}
 use Rattle.qs_objects.specs.declared.object.Kind.TheVariants.{Account}
@@ -41,16 +41,20 @@ pub record WrittenExamples : Type 0 where
 
 pub record DotTextExamples : Type 0 where
   pub words : WrittenExamples
-  pub no_block : IsDotText (with_variables []) (codes "digraph graphs {\n}\n")
+  pub no_block : IsDotText (with_variables []) ([] ∷ []) (codes "digraph graphs {\n}\n")
   pub empty :
-      IsDotText (with_variables (on_a end ∷ []))
+      IsDotText (with_variables (on_a end ∷ [])) (((3 ∷ []) ∷ []) ∷ [])
+      (codes "digraph graphs {\n  subgraph cluster_0_0 {\n    label=\"ann 0\";\n    n0_0_0 [shape=oval, label=\"0 entry\\nline 3\"];\n    n0_0_0 -> n0_0_1;\n    n0_0_1 [shape=oval, label=\"1 exit\"];\n  }\n}\n")
+  -- nodes that have no lines
+  pub no_lines :
+      IsDotText (with_variables (on_a end ∷ [])) []
       (codes "digraph graphs {\n  subgraph cluster_0_0 {\n    label=\"ann 0\";\n    n0_0_0 [shape=oval, label=\"0 entry\"];\n    n0_0_0 -> n0_0_1;\n    n0_0_1 [shape=oval, label=\"1 exit\"];\n  }\n}\n")
   pub removed_in_repeat :
-      IsDotText (with_variables (on_a query_in_repeat ∷ []))
-      (codes "digraph graphs {\n  subgraph cluster_0_0 {\n    label=\"ann 0\";\n    n0_0_0 [shape=oval, label=\"0 entry\"];\n    n0_0_0 -> n0_0_1;\n    n0_0_1 [shape=octagon, label=\"1 sync a\"];\n    n0_0_1 -> n0_0_2;\n    n0_0_2 [shape=parallelogram, label=\"2 x = a.balance()\\nheld a\"];\n    n0_0_2 -> n0_0_3;\n    n0_0_3 [shape=box, label=\"3 repeat 3\\nheld a\"];\n    n0_0_3 -> n0_0_4;\n    n0_0_4 [shape=hexagon, label=\"4 again\\nheld a\"];\n    n0_0_4 -> n0_0_5 [label=\"once more\"];\n    n0_0_4 -> n0_0_7 [label=\"done\"];\n    n0_0_5 [shape=octagon, style=dashed, label=\"5 sync a\\nheld a\"];\n    n0_0_5 -> n0_0_6;\n    n0_0_6 [shape=parallelogram, label=\"6 x = a.balance()\\nheld a\"];\n    n0_0_6 -> n0_0_4;\n    n0_0_7 [shape=oval, label=\"7 exit\\nheld a\"];\n  }\n}\n")
+      IsDotText (with_variables (on_a query_in_repeat ∷ [])) (((3 ∷ 4 ∷ 4 ∷ 5 ∷ 5 ∷ 6 ∷ 6 ∷ []) ∷ []) ∷ [])
+      (codes "digraph graphs {\n  subgraph cluster_0_0 {\n    label=\"ann 0\";\n    n0_0_0 [shape=oval, label=\"0 entry\\nline 3\"];\n    n0_0_0 -> n0_0_1;\n    n0_0_1 [shape=octagon, label=\"1 sync a\\nline 4\"];\n    n0_0_1 -> n0_0_2;\n    n0_0_2 [shape=parallelogram, label=\"2 x = a.balance()\\nline 4\\nheld a\"];\n    n0_0_2 -> n0_0_3;\n    n0_0_3 [shape=box, label=\"3 repeat 3\\nline 5\\nheld a\"];\n    n0_0_3 -> n0_0_4;\n    n0_0_4 [shape=hexagon, label=\"4 again\\nline 5\\nheld a\"];\n    n0_0_4 -> n0_0_5 [label=\"once more\"];\n    n0_0_4 -> n0_0_7 [label=\"done\"];\n    n0_0_5 [shape=octagon, style=dashed, label=\"5 sync a\\nline 6\\nheld a\"];\n    n0_0_5 -> n0_0_6;\n    n0_0_6 [shape=parallelogram, label=\"6 x = a.balance()\\nline 6\\nheld a\"];\n    n0_0_6 -> n0_0_4;\n    n0_0_7 [shape=oval, label=\"7 exit\\nheld a\"];\n  }\n}\n")
   pub kept_where_bodies_meet :
-      IsDotText (with_variables (on_a two_bodies ∷ []))
-      (codes "digraph graphs {\n  subgraph cluster_0_0 {\n    label=\"ann 0\";\n    n0_0_0 [shape=oval, label=\"0 entry\"];\n    n0_0_0 -> n0_0_1;\n    n0_0_1 [shape=diamond, label=\"1 if x < 1\"];\n    n0_0_1 -> n0_0_2 [label=\"true\"];\n    n0_0_1 -> n0_0_3 [label=\"false\"];\n    n0_0_2 [shape=note, label=\"2 a.deposit(1)\"];\n    n0_0_2 -> n0_0_5;\n    n0_0_3 [shape=octagon, label=\"3 sync a\"];\n    n0_0_3 -> n0_0_4;\n    n0_0_4 [shape=parallelogram, label=\"4 x = a.balance()\\nheld a\"];\n    n0_0_4 -> n0_0_5;\n    n0_0_5 [shape=octagon, label=\"5 sync a\"];\n    n0_0_5 -> n0_0_6;\n    n0_0_6 [shape=parallelogram, label=\"6 y = a.balance()\\nheld a\"];\n    n0_0_6 -> n0_0_7;\n    n0_0_7 [shape=oval, label=\"7 exit\\nheld a\"];\n  }\n}\n")
+      IsDotText (with_variables (on_a two_bodies ∷ [])) (((3 ∷ 4 ∷ 4 ∷ 5 ∷ 5 ∷ 7 ∷ 7 ∷ []) ∷ []) ∷ [])
+      (codes "digraph graphs {\n  subgraph cluster_0_0 {\n    label=\"ann 0\";\n    n0_0_0 [shape=oval, label=\"0 entry\\nline 3\"];\n    n0_0_0 -> n0_0_1;\n    n0_0_1 [shape=diamond, label=\"1 if x < 1\\nline 4\"];\n    n0_0_1 -> n0_0_2 [label=\"true\"];\n    n0_0_1 -> n0_0_3 [label=\"false\"];\n    n0_0_2 [shape=note, label=\"2 a.deposit(1)\\nline 4\"];\n    n0_0_2 -> n0_0_5;\n    n0_0_3 [shape=octagon, label=\"3 sync a\\nline 5\"];\n    n0_0_3 -> n0_0_4;\n    n0_0_4 [shape=parallelogram, label=\"4 x = a.balance()\\nline 5\\nheld a\"];\n    n0_0_4 -> n0_0_5;\n    n0_0_5 [shape=octagon, label=\"5 sync a\\nline 7\"];\n    n0_0_5 -> n0_0_6;\n    n0_0_6 [shape=parallelogram, label=\"6 y = a.balance()\\nline 7\\nheld a\"];\n    n0_0_6 -> n0_0_7;\n    n0_0_7 [shape=oval, label=\"7 exit\\nheld a\"];\n  }\n}\n")
   pub two_blocks :
-      IsDotText (with_variables (on_a end ∷ on_b_and_a ∷ []))
-      (codes "digraph graphs {\n  subgraph cluster_0_0 {\n    label=\"ann 0\";\n    n0_0_0 [shape=oval, label=\"0 entry\"];\n    n0_0_0 -> n0_0_1;\n    n0_0_1 [shape=oval, label=\"1 exit\"];\n  }\n  subgraph cluster_0_1 {\n    label=\"ann 1\";\n    n0_1_0 [shape=oval, label=\"0 entry\"];\n    n0_1_0 -> n0_1_1;\n    n0_1_1 [shape=octagon, label=\"1 sync a\"];\n    n0_1_1 -> n0_1_2;\n    n0_1_2 [shape=parallelogram, label=\"2 x = a.balance()\\nheld a\"];\n    n0_1_2 -> n0_1_3;\n    n0_1_3 [shape=octagon, label=\"3 sync b\\nheld a\"];\n    n0_1_3 -> n0_1_4;\n    n0_1_4 [shape=parallelogram, label=\"4 x = b.balance()\\nheld b a\"];\n    n0_1_4 -> n0_1_5;\n    n0_1_5 [shape=note, label=\"5 a.deposit(1)\\nheld b a\"];\n    n0_1_5 -> n0_1_6;\n    n0_1_6 [shape=octagon, style=dashed, label=\"6 sync b\\nheld b\"];\n    n0_1_6 -> n0_1_7;\n    n0_1_7 [shape=parallelogram, label=\"7 x = b.balance()\\nheld b\"];\n    n0_1_7 -> n0_1_8;\n    n0_1_8 [shape=oval, label=\"8 exit\\nheld b\"];\n  }\n}\n")
+      IsDotText (with_variables (on_a end ∷ on_b_and_a ∷ [])) (((3 ∷ []) ∷ (9 ∷ 10 ∷ 10 ∷ 11 ∷ 11 ∷ 12 ∷ 100 ∷ 100 ∷ []) ∷ []) ∷ [])
+      (codes "digraph graphs {\n  subgraph cluster_0_0 {\n    label=\"ann 0\";\n    n0_0_0 [shape=oval, label=\"0 entry\\nline 3\"];\n    n0_0_0 -> n0_0_1;\n    n0_0_1 [shape=oval, label=\"1 exit\"];\n  }\n  subgraph cluster_0_1 {\n    label=\"ann 1\";\n    n0_1_0 [shape=oval, label=\"0 entry\\nline 9\"];\n    n0_1_0 -> n0_1_1;\n    n0_1_1 [shape=octagon, label=\"1 sync a\\nline 10\"];\n    n0_1_1 -> n0_1_2;\n    n0_1_2 [shape=parallelogram, label=\"2 x = a.balance()\\nline 10\\nheld a\"];\n    n0_1_2 -> n0_1_3;\n    n0_1_3 [shape=octagon, label=\"3 sync b\\nline 11\\nheld a\"];\n    n0_1_3 -> n0_1_4;\n    n0_1_4 [shape=parallelogram, label=\"4 x = b.balance()\\nline 11\\nheld b a\"];\n    n0_1_4 -> n0_1_5;\n    n0_1_5 [shape=note, label=\"5 a.deposit(1)\\nline 12\\nheld b a\"];\n    n0_1_5 -> n0_1_6;\n    n0_1_6 [shape=octagon, style=dashed, label=\"6 sync b\\nline 100\\nheld b\"];\n    n0_1_6 -> n0_1_7;\n    n0_1_7 [shape=parallelogram, label=\"7 x = b.balance()\\nline 100\\nheld b\"];\n    n0_1_7 -> n0_1_8;\n    n0_1_8 [shape=oval, label=\"8 exit\\nheld b\"];\n  }\n}\n")

@@ -10,6 +10,7 @@ ghost use Rattle.qs_dot.specs.DotText.{AreNodesDrawn, IsBlockDrawn, IsClientDraw
 use crate::nodes::put_nodes;
 use itoa::Buffer;
 use qs_graph::{Graph, graph};
+use qs_node_lines::NodeLines;
 use qs_objects::Ticket;
 use qs_program::Program;
 use qs_report::{client_name, put, put_all, reserved_by};
@@ -67,15 +68,16 @@ fn put_graph(
     out: &mut Vec<u8>,
     program: &Program,
     ticket: Ticket,
+    lines: &[u32],
     reserved: &[u8],
     graph: &Graph,
 ) -> Result<(), AllocError>
     requires client { ticket.client < length program.now.clients }
     requires handlers { AllByRecursion (λ h. h < most_handlers) reserved.now }
-    ensures ok { OnOk result (IsAdded (AreNodesDrawn program.now ticket.client ticket.index reserved.now graph.now) out.old.items out.new.items) }
+    ensures ok { OnOk result (IsAdded (AreNodesDrawn program.now ticket.client ticket.index lines.now reserved.now graph.now) out.old.items out.new.items) }
 {
     let sets = held_sets(alloc, graph)?;
-    put_nodes(alloc, out, program, ticket, reserved, graph, &sets)?;
+    put_nodes(alloc, out, program, ticket, lines, reserved, graph, &sets)?;
     put(out, b"  }\n")
 }
 
@@ -83,26 +85,29 @@ fn put_block(
     alloc: Global,
     out: &mut Vec<u8>,
     program: &Program,
+    lines: &NodeLines,
     ticket: Ticket,
 ) -> Result<(), AllocError>
     requires client { ticket.client < length program.now.clients }
     requires block { ticket.index < blocks_of program.now ticket.client }
-    ensures ok { OnOk result (IsAdded (IsBlockDrawn program.now ticket.client ticket.index) out.old.items out.new.items) }
+    ensures ok { OnOk result (IsAdded (IsBlockDrawn program.now lines.now ticket.client ticket.index) out.old.items out.new.items) }
 {
     put_frame(out, program, ticket)?;
     let graph = graph(alloc, program, ticket.client, ticket.index)?;
     let reserved = reserved_by(program, ticket.client, ticket.index);
-    put_graph(alloc, out, program, ticket, reserved, &graph)
+    let lines = lines.block(ticket.client, ticket.index);
+    put_graph(alloc, out, program, ticket, lines, reserved, &graph)
 }
 
 fn put_blocks(
     alloc: Global,
     out: &mut Vec<u8>,
     program: &Program,
+    lines: &NodeLines,
     client: u8,
 ) -> Result<(), AllocError>
     requires client { client < length program.now.clients }
-    ensures ok { OnOk result (IsAdded (IsClientDrawn program.now client) out.old.items out.new.items) }
+    ensures ok { OnOk result (IsAdded (IsClientDrawn program.now lines.now client) out.old.items out.new.items) }
 {
     program.is_sound();
     for block in 0..program.blocks_of(client) {
@@ -110,22 +115,23 @@ fn put_blocks(
             client,
             index: block as u8,
         };
-        put_block(alloc, out, program, ticket)?;
+        put_block(alloc, out, program, lines, ticket)?;
     }
     Ok(())
 }
 
 /// A program's control-flow graphs as one drawing in the DOT language, which graphviz draws: each block in a frame of its own, its nodes
-/// outlined by kind and named by what they do and by what is held there, a synchronisation that static coalescing removes with a dashed
-/// outline, and its edges. An error says that an allocation failed, and nothing is left.
-pub fn dot_text(alloc: Global, program: &Program) -> Result<Vec<u8>, AllocError>
-    ensures text { IfOk result (λ bytes. IsDotText program.now bytes.items) }
+/// outlined by kind and named by what they do, by the line of the script on which that stands, and by what is held there, a
+/// synchronisation that static coalescing removes with a dashed outline, and its edges. A node has the line that stands for it among those
+/// of its block, and none where there are fewer. An error says that an allocation failed, and nothing is left.
+pub fn dot_text(alloc: Global, program: &Program, lines: &NodeLines) -> Result<Vec<u8>, AllocError>
+    ensures text { IfOk result (λ bytes. IsDotText program.now lines.now bytes.items) }
 {
     program.is_sound();
     let mut out = Vec::new(alloc);
     put(&mut out, b"digraph graphs {\n")?;
     for client in 0..program.clients() {
-        put_blocks(alloc, &mut out, program, client as u8)?;
+        put_blocks(alloc, &mut out, program, lines, client as u8)?;
     }
     put(&mut out, b"}\n")?;
     Ok(out)

@@ -1,13 +1,13 @@
 // The nodes of a block in the drawing, each with its edges.
 
-ghost use Rattle.std.specs.Prelude.{◌≡◌, ◌<◌, ◌++◌, length, OnOk};
+ghost use Rattle.std.specs.Prelude.{◌≡◌, ◌<◌, ◌++◌, length, slice_get, OnOk};
 ghost use Rattle.std.specs.List.{AllByRecursion, filter};
 ghost use Rattle.qs_program.specs.Limits.{most_handlers};
 ghost use Rattle.qs_graph.specs.Nodes.{place_at};
 ghost use Rattle.qs_report.specs.Texts.{texts_up_to};
 ghost use Rattle.qs_syncset.specs.Table.{has};
 ghost use Rattle.qs_dot.specs.Written.{written};
-ghost use Rattle.qs_dot.specs.DotText.{edge_line, edge_text, head_text, held_text, line_text, node_line, node_name, node_text, nodes_text, outline_text};
+ghost use Rattle.qs_dot.specs.DotText.{edge_line, edge_text, head_text, held_text, line_text, node_line, node_name, node_text, nodes_text, outline_text, place_text};
 
 use crate::written::put_written;
 use itoa::Buffer;
@@ -94,6 +94,19 @@ fn put_name(out: &mut Vec<u8>, ticket: Ticket, n: usize) -> Result<(), AllocErro
     )
 }
 
+// The line on which a node's statement stands, where it has one.
+fn put_place(out: &mut Vec<u8>, lines: &[u32], n: usize) -> Result<(), AllocError>
+    ensures ok { OnOk result (out.new.items ≡ out.old.items ++ place_text (slice_get lines.now n)) }
+{
+    match lines.get(n) {
+        Some(line) => {
+            let mut buffer = Buffer::new();
+            put_all(out, &[b"\\nline ", buffer.format(*line).as_bytes()])
+        }
+        None => Ok(()),
+    }
+}
+
 // The names that are held, where there are some.
 fn put_held(out: &mut Vec<u8>, program: &Program, client: u8, held: &[u8]) -> Result<(), AllocError>
     requires client { client < length program.now.clients }
@@ -156,6 +169,7 @@ fn put_line(
     out: &mut Vec<u8>,
     program: &Program,
     ticket: Ticket,
+    lines: &[u32],
     reserved: &[u8],
     graph: &Graph,
     sets: &Sets,
@@ -166,10 +180,11 @@ fn put_line(
     requires sets { length sets.now ≡ length graph.now.nodes }
     requires handlers { AllByRecursion (λ h. h < most_handlers) reserved.now }
     ensures ok { OnOk result (out.new.items
-        ≡ out.old.items ++ node_line program.now ticket.client ticket.index reserved.now graph.now.nodes sets.now n) }
+        ≡ out.old.items ++ node_line program.now ticket.client ticket.index lines.now reserved.now graph.now.nodes sets.now n) }
 {
     put_head(out, ticket, graph, sets, n)?;
     put_written(out, program, ticket.client, graph.node(n))?;
+    put_place(out, lines, n)?;
     put_held_at(alloc, out, program, ticket.client, reserved, sets, n)?;
     put(out, b"\"];\n")
 }
@@ -209,6 +224,7 @@ fn put_node(
     out: &mut Vec<u8>,
     program: &Program,
     ticket: Ticket,
+    lines: &[u32],
     reserved: &[u8],
     graph: &Graph,
     sets: &Sets,
@@ -219,9 +235,9 @@ fn put_node(
     requires sets { length sets.now ≡ length graph.now.nodes }
     requires handlers { AllByRecursion (λ h. h < most_handlers) reserved.now }
     ensures ok { OnOk result (out.new.items
-        ≡ out.old.items ++ node_text program.now ticket.client ticket.index reserved.now graph.now.nodes sets.now n) }
+        ≡ out.old.items ++ node_text program.now ticket.client ticket.index lines.now reserved.now graph.now.nodes sets.now n) }
 {
-    put_line(alloc, out, program, ticket, reserved, graph, sets, n)?;
+    put_line(alloc, out, program, ticket, lines, reserved, graph, sets, n)?;
     put_edges(out, ticket, graph, n)
 }
 
@@ -231,6 +247,7 @@ pub(crate) fn put_nodes(
     out: &mut Vec<u8>,
     program: &Program,
     ticket: Ticket,
+    lines: &[u32],
     reserved: &[u8],
     graph: &Graph,
     sets: &Sets,
@@ -239,10 +256,10 @@ pub(crate) fn put_nodes(
     requires sets { length sets.now ≡ length graph.now.nodes }
     requires handlers { AllByRecursion (λ h. h < most_handlers) reserved.now }
     ensures ok { OnOk result (out.new.items
-        ≡ out.old.items ++ nodes_text program.now ticket.client ticket.index reserved.now graph.now.nodes sets.now) }
+        ≡ out.old.items ++ nodes_text program.now ticket.client ticket.index lines.now reserved.now graph.now.nodes sets.now) }
 {
     for n in 0..graph.len() {
-        put_node(alloc, out, program, ticket, reserved, graph, sets, n)?;
+        put_node(alloc, out, program, ticket, lines, reserved, graph, sets, n)?;
     }
     Ok(())
 }

@@ -40,11 +40,12 @@ graph_app = shared_app (new_app (codes "graph"))
 abbrev pub scheduled_app : App → App
 scheduled_app app = with_rule (with_rule (with_rule app (option_rule (codes "rounds"))) (option_rule (codes "pick"))) (option_rule (codes "order"))
 
--- `.. [--rounds N] [--pick LIST] [--order LIST] [--counts] [--steps]`
+-- `.. [--rounds N] [--pick LIST] [--order LIST] [--counts] [--steps] [--queues]`
 abbrev pub planned_app : App → App
-planned_app app = with_rule (with_rule (scheduled_app app) (flag_rule (codes "counts"))) (flag_rule (codes "steps"))
+planned_app app =
+    with_rule (with_rule (with_rule (scheduled_app app) (flag_rule (codes "counts"))) (flag_rule (codes "steps"))) (flag_rule (codes "queues"))
 
--- `rules [--rounds N] [--pick LIST] [--order LIST] [--counts] [--steps] [--format F] [--warn]`
+-- `rules [--rounds N] [--pick LIST] [--order LIST] [--counts] [--steps] [--queues] [--format F] [--warn]`
 abbrev pub rules_app : App
 rules_app = shared_app (planned_app (new_app (codes "rules")))
 
@@ -52,7 +53,7 @@ rules_app = shared_app (planned_app (new_app (codes "rules")))
 abbrev pub machine_app : Text → App
 machine_app word = with_rule (with_rule (new_app word) (defaulted_rule (codes "mode") (codes "both"))) chunk_rule
 
--- `play [--mode M] [--chunk N] [--rounds N] [--pick LIST] [--order LIST] [--counts] [--steps] [--format F] [--warn]`
+-- `play [--mode M] [--chunk N] [--rounds N] [--pick LIST] [--order LIST] [--counts] [--steps] [--queues] [--format F] [--warn]`
 abbrev pub play_app : App
 play_app = shared_app (planned_app (machine_app (codes "play")))
 

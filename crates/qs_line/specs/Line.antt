@@ -37,7 +37,7 @@ pub data PlanShape : Type 0 where
 
 -- what is asked for: the counts; the graphs; a run by the plain rules; one in the optimised machine, in a mode and by chunks of a size;
 -- one on threads; or all outcomes after the blocks of some clients, with so many configurations at most. Each is asked for in a format, and
--- of a run the counts of synchronisations may be asked for as well, and of a schedule a line for each step.
+-- of a run the counts of synchronisations may be asked for as well, and of a schedule a line for each step, and what lies where at its end.
 pub data Request : Type 0 where
   check : Format → Request
   graph : GraphFormat → Request
@@ -133,8 +133,12 @@ report_format_at rows = option_and_then report_format_in (first_of (codes "forma
 
 abbrev pub style_at : List Row → Option ReportStyle
 style_at rows =
-    option_map (λ how. record { counts = flag_at (codes "counts") rows; format = how; steps = flag_at (codes "steps") rows })
-    (report_format_at rows)
+    option_map (λ how. record {
+      counts = flag_at (codes "counts") rows;
+      format = how;
+      steps = flag_at (codes "steps") rows;
+      queues = flag_at (codes "queues") rows;
+    }) (report_format_at rows)
 
 abbrev pub mode_at : List Row → Option Mode
 mode_at rows = option_and_then mode_in (first_of (codes "mode") rows)
@@ -172,16 +176,16 @@ order_at text rows = if has_schedule rows then None else option_map by_order (cl
 abbrev pub plan_at : List Row → Option PlanShape
 plan_at rows = option_map_or (λ text. order_at text rows) (first_of (codes "order") rows) (schedule_at rows)
 
--- the steps of a plan can be told before a report: those of a schedule, before a report as text
+-- the steps and the queues of a plan can be told beside a report: those of a schedule, beside a report as text
 abbrev pub can_tell : ReportFormat → PlanShape → Bool
 can_tell report_format.Text (by_schedule rounds picks) = true
 can_tell report_format.Text (by_order clients) = false
 can_tell report_format.Json plan = false
 can_tell report_format.Svg plan = false
 
--- a plan of a report in a style; none where its steps are asked for and can't be told
+-- a plan of a report in a style; none where its steps or its queues are asked for and can't be told
 abbrev pub styled_plan : ReportStyle → PlanShape → Option PlanShape
-styled_plan style plan = if style.steps && not (can_tell style.format plan) then None else Some plan
+styled_plan style plan = if (style.steps || style.queues) && not (can_tell style.format plan) then None else Some plan
 
 abbrev pub styled_plan_at : ReportStyle → List Row → Option PlanShape
 styled_plan_at style rows = option_and_then (styled_plan style) (plan_at rows)

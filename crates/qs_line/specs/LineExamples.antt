@@ -17,15 +17,19 @@ use Rattle.qs_line.specs.Line.{Line, asks, by_order, by_schedule, check, graph, 
 abbrev pub line : List Text → Line
 line words = line_in (codes "qs" ∷ words)
 
--- a report as text, without the counts and with them, and after the lines of its steps; and one as JSON and as a picture
+-- a report as text, without the counts and with them, after the lines of its steps, and before those of its queues; and one as JSON and as a
+-- picture
 abbrev pub plain : ReportStyle
-plain = record { counts = false; format = report_format.Text; steps = false }
+plain = record { counts = false; format = report_format.Text; steps = false; queues = false }
 
 abbrev pub counted : ReportStyle
 counted = record plain { counts = true }
 
 abbrev pub stepped : ReportStyle
 stepped = record plain { steps = true }
+
+abbrev pub queued : ReportStyle
+queued = record plain { queues = true }
 
 abbrev pub as_json : ReportStyle
 as_json = record plain { format = report_format.Json }
@@ -138,6 +142,18 @@ pub record StepLines : Type 0 where
   pub of_check : line (codes "check" ∷ codes "--steps" ∷ []) ≡ refused
   pub of_outcomes : line (codes "outcomes" ∷ codes "--steps" ∷ []) ≡ refused
 
+-- so are the queues, after it
+pub record QueueLines : Type 0 where
+  pub by_rules : line (codes "rules" ∷ codes "--rounds=3" ∷ codes "--queues" ∷ []) ≡ asks (rules queued (by_schedule 3 []))
+  pub by_play : line (codes "play" ∷ codes "--queues" ∷ codes "--mode=none" ∷ []) ≡ asks (play queued Plain 8 (by_schedule 1000000 []))
+  pub with_steps : line (codes "rules" ∷ codes "--queues" ∷ codes "--steps" ∷ []) ≡ asks (rules (record stepped { queues = true }) (by_schedule 1000000 []))
+  pub as_json : line (codes "rules" ∷ codes "--format=json" ∷ codes "--queues" ∷ []) ≡ refused
+  pub as_picture : line (codes "play" ∷ codes "--queues" ∷ codes "--format=svg" ∷ []) ≡ refused
+  pub of_an_order : line (codes "play" ∷ codes "--queues" ∷ codes "--order=c0" ∷ []) ≡ refused
+  pub twice : line (codes "play" ∷ codes "--queues" ∷ codes "--queues" ∷ []) ≡ refused
+  pub by_value : line (codes "rules" ∷ codes "--queues=1" ∷ []) ≡ refused
+  pub of_run : line (codes "run" ∷ codes "--queues" ∷ []) ≡ refused
+
 pub record CountedLines : Type 0 where
   pub rules_alone : line (codes "rules" ∷ codes "--counts" ∷ []) ≡ asks (rules counted (by_schedule 1000000 []))
   pub play_alone : line (codes "play" ∷ codes "--counts" ∷ []) ≡ asks (play counted Both 8 (by_schedule 1000000 []))
@@ -221,6 +237,7 @@ pub record LineExamples : Type 0 where
   pub orders : OrderLines
   pub formats : FormatLines
   pub steps : StepLines
+  pub queues : QueueLines
   pub counted : CountedLines
   pub uncounted : UncountedLines
   pub lists : ListLines

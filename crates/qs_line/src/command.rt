@@ -91,7 +91,7 @@ fn scheduled<'a>(alloc: Global, command: Command<'a>) -> Result<Command<'a>, All
         .arg(option(alloc, "order", "LIST", help::ORDER))
 }
 
-// With the settings of a run that is played: who goes when, and whether the counts and the steps are shown.
+// With the settings of a run that is played: who goes when, and whether the counts, the steps and the queues are shown.
 fn planned<'a>(alloc: Global, command: Command<'a>) -> Result<Command<'a>, AllocError>
     requires local { (fields_of command).has_globals ≡ false }
     ensures app { IfOk result (λ whole. app_of whole ≡ planned_app (app_of command.entry)) }
@@ -99,7 +99,8 @@ fn planned<'a>(alloc: Global, command: Command<'a>) -> Result<Command<'a>, Alloc
 {
     scheduled(alloc, command)?
         .arg(flag(alloc, "counts", help::COUNTS))?
-        .arg(flag(alloc, "steps", help::STEPS))
+        .arg(flag(alloc, "steps", help::STEPS))?
+        .arg(flag(alloc, "queues", help::QUEUES))
 }
 
 fn check_command<'a>(alloc: Global) -> Result<Command<'a>, AllocError>

@@ -148,6 +148,9 @@ pub const COUNTS: &str =
 pub const STEPS: &str =
     "Writes a line for each step before the report: who made it, and what it did; not with --order, nor with another format than text";
 
+pub const QUEUES: &str =
+    "Writes after the report of a run that has not finished who is in each object's queue, which requests wait, and what each client waits for; not with --order, nor with another format than text";
+
 pub const VERBOSE: &str =
     "Says on standard error how much of each limit of the language the script uses, and how much is left";
 

@@ -70,6 +70,8 @@ pub struct ReportStyle {
     pub format: ReportFormat,
     /// Whether a line for each step stands before it: only where a schedule is played and the report is text.
     pub steps: bool,
+    /// Whether, after the report of a run that has not finished, stands what lies where and who waits: only where steps may be told.
+    pub queues: bool,
 }
 
 /// What an accepted line asks for.
@@ -224,10 +226,11 @@ fn style_of(found: &ArgMatches<'_>) -> Option<ReportStyle>
         counts: has_flag(found, "counts"),
         format,
         steps: has_flag(found, "steps"),
+        queues: has_flag(found, "queues"),
     })
 }
 
-// Whether the steps of a plan can be told before a report: those of a schedule, before a report as text.
+// Whether steps and queues of a plan can be told beside a report: those of a schedule, beside a report as text.
 fn can_tell(format: ReportFormat, plan: &Plan) -> bool
     ensures value { result ≡ can_tell format (plan_of plan.now) }
 {
@@ -238,12 +241,12 @@ fn can_tell(format: ReportFormat, plan: &Plan) -> bool
     }
 }
 
-// The plan of a report in a style; None where it has no plan, or its steps are asked for and can't be told.
+// The plan of a report in a style; None where it has no plan, or its steps or queues are asked for and can't be told.
 fn styled_plan(style: ReportStyle, plan: Option<Plan>) -> Option<Plan>
     ensures plan { option_map plan_of result ≡ option_and_then (styled_plan style) (option_map plan_of plan) }
 {
     let plan = plan?;
-    if style.steps && !can_tell(style.format, &plan) {
+    if (style.steps || style.queues) && !can_tell(style.format, &plan) {
         return None;
     }
     Some(plan)
@@ -414,7 +417,7 @@ fn matches_of<'a>(alloc: Global, words: &'a [&'a str]) -> Result<ArgMatches<'a>,
 
 /// The settings of a line, whose first word is the program's name: those that `clap` finds, and its defaults. `Refused` comes exactly where
 /// `clap` refuses the words by an error, where a format, a mode, a number or a list does not read, where an order stands beside picks or a number
-/// of rounds, or where steps are asked for of an order or before a report that is no text; `Help` and
+/// of rounds, or where steps or queues are asked for of an order or beside a report that is no text; `Help` and
 /// `Version` come exactly where it answers with help or with the version. `Memory` may come in place of each.
 pub fn read_line<'a>(alloc: Global, words: &'a [&'a str]) -> Result<Settings, LineFault>
     ensures line { IsAnswer (line_in (map (λ word. word.now) words.entry.now)) result }

@@ -2,38 +2,39 @@
 
 ghost use Rattle.std.specs.Prelude.{◌≡◌, ℕ, ◌<◌, ◌≤◌, List, [], ◌∷◌, ◌++◌, length, true, false, if◌then◌else◌, nat_lt};
 
-use smallvec::SmallVec;
 use std::alloc::Global;
 use std::marker::Model;
 
 /// At most three numbers, kept in the value itself, so that no call takes memory.
 pub struct Args {
-    numbers: SmallVec<i64, 3>,
+    numbers: [i64; 3],
+    len: usize,
 }
 
 impl Drop for Args {
     fn drop(self) {
-        let Args { numbers: _ } = self;
+        let Args { numbers: _, len: _ } = self;
     }
 }
 
 impl Model for Args {
-    ghost use Rattle.std.specs.Prelude.{◌≡◌, ◌≤◌, List, ℤ, length};
+    ghost use Rattle.std.specs.Prelude.{◌≤◌, List, ℤ, take};
 
     ghost Value = { List ℤ };
 
-    ghost view = { λ a. a.numbers.items };
+    ghost view = { λ a. take a.len a.numbers };
 
-    ghost invariant = { λ a. (length a.numbers.items ≤ 3) × (a.numbers.capacity ≡ 3) };
+    ghost invariant = { λ a. a.len ≤ 3 };
 }
 
 impl Args {
     /// No arguments.
-    pub fn new(alloc: Global) -> Args
+    pub fn new(_alloc: Global) -> Args
         ensures empty { result ≡ [] }
     {
         Args {
-            numbers: SmallVec::new(alloc),
+            numbers: [0; 3],
+            len: 0,
         }
     }
 
@@ -43,10 +44,12 @@ impl Args {
         ensures change { self.new
             ≡ (if nat_lt (length self.old) 3 then self.old ++ number ∷ [] else self.old) }
     {
-        if self.numbers.len() == 3 {
+        let place = self.len;
+        if place == 3 {
             return false;
         }
-        self.numbers.push_reserved(number);
+        self.numbers[place] = number;
+        self.len = place + 1;
         true
     }
 
@@ -55,16 +58,16 @@ impl Args {
         ensures numbers { result.now ≡ self.now }
         ensures at_most_three { length self.now ≤ 3 }
     {
-        self.numbers.as_slice()
+        &self.numbers[..self.len]
     }
 
     /// The same numbers once more; takes no memory.
     pub fn copied(&self) -> Args
         ensures same { result ≡ self.now }
     {
-        match SmallVec::from_slice(*self.numbers.allocator(), self.numbers.as_slice()) {
-            Ok(numbers) => Args { numbers },
-            Err(_) => unreachable!(),
+        Args {
+            numbers: self.numbers,
+            len: self.len,
         }
     }
 }

@@ -13,3 +13,4 @@ pub mod RulesSteps
 pub mod RulesFieldLemmas
 pub mod Blocks
 pub mod RulesDeeds
+pub mod ReachedPlays

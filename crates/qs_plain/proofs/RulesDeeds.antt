@@ -1,7 +1,8 @@
--- What a step did is what the plain rules' definition says of it. The contracts of `go_on`, `step_client_told` and
--- `step_handler_told` promise this. A client's deed follows from what its frames ask. A handler's deed is read before its step, but
--- for a query's reply: that is read after the step, from the entry that the journal has more.
-use Rattle.std.proofs.Common.{◌≡◌, ◌<◌, ℕ, ◌-◌, Bool, true, false, if◌then◌else◌, List, [], ◌∷◌, ◌++◌, map, length, drop, refl, ap, sym, subst, ◌∙◌, Option, Some, None, ℤ, get_or-set_same}
+-- What a step did is what the plain rules' definition says of it. The contracts of `go_on`, `separate` and `step_handler_told`
+-- promise this. A client's deed follows from what its frames ask. A handler's deed is read before its step, but for a query's
+-- reply: that is read after the step, from the entry that the journal has more.
+use Rattle.std.proofs.Common.{◌≡◌, ◌<◌, ℕ, ◌-◌, Bool, true, false, if◌then◌else◌, List, [], ◌∷◌, ◌++◌, map, length, drop, refl, ap, sym, subst, ◌∙◌, Option, Some, None, ℤ, get_or-set_same, length-set}
+use Rattle.std.proofs.Math.ListN.{set}
 use Rattle.std.proofs.lemmas.List.{length-map}
 use Rattle.qs_objects.specs.Act.{act}
 use Rattle.qs_objects.specs.Journals.{HeldState, has_room, run_one, with_entry}
@@ -16,7 +17,7 @@ use Rattle.qs_plain_laws.specs.Plain.{Client, Handler, Plain, Private, current, 
 use Rattle.qs_plain_laws.specs.Plain as plain
 use Rattle.qs_plain_laws.specs.declared.item.QueueItem.{QueueItem}
 use Rattle.qs_plain_laws.specs.declared.item.QueueItem.TheVariants as item
-use Rattle.qs_plain_client.specs.Clients.{client_at, client_of, stage_of}
+use Rattle.qs_plain_client.specs.Clients.{ClientState, absent, client_at, client_of, stage_of}
 use Rattle.qs_plain_client.specs.Frames.{next_of}
 use Rattle.qs_plain_client.specs.declared.stage.Stage.TheVariants as stage
 use Rattle.qs_plain.specs.Deeds.{answered, deed_of_client, deed_of_queue, deed_of_queues, deed_of_rest, plain_deed, reply_in, reply_of, unanswered}
@@ -24,6 +25,10 @@ use Rattle.qs_plain.specs.Handlers.{handler_at}
 use Rattle.qs_plain.specs.Rules.{RulesState, Steps, plain_of}
 use Rattle.qs_plain.specs.declared.deed.Deed.{Deed}
 use Rattle.qs_plain.specs.declared.deed.Deed.TheVariants as deed
+use Rattle.qs_plain.specs.Served.{HandlerState}
+use Rattle.qs_plain.specs.Told.{IsShort, IsTold, deed_of_did, last_ticket}
+use Rattle.qs_plain.specs.declared.deed.Did.{Did}
+use Rattle.qs_plain.proofs.RulesFieldLemmas.{new_rules}
 use Rattle.qs_plain.proofs.RulesSteps.{plain_client, plain_handler}
 
 -- a client in a block, by what its frames ask
@@ -42,6 +47,19 @@ deed_out r c stays =
     let d = client_at r.clients c in
     ap (λ (it : Client). deed_of_client c it it.stage) (plain_client r.clients c)
     ∙ ap (λ s. deed_of_client c (client_of d) (stage_of s d.frames d.locals)) stays
+
+-- the client that has moved
+moved_here : (cs : List ClientState) (c n : ℕ) (new : ClientState) → n ≡ c → c < length cs → client_at (set cs n new) c ≡ new
+moved_here cs c n new is less = ap (λ m. client_at (set cs m new) c) is ∙ get_or-set_same cs c new absent less
+
+-- and what it did is told by it
+pub told_by : (it : Did) (before : Plain) (r : RulesState) (order : List Ticket) (c n : ℕ) (new : ClientState) (hs : List HandlerState) → n ≡ c → c < length r.clients → IsShort it
+    → plain_deed before (actor.Client c) ≡ deed_of_did it new.locals (last_ticket c new) → IsTold it before c (new_rules r order n new hs)
+told_by it before r order c n new hs is less short deed = record {
+  there = subst (λ k. c < k) (sym (length-set r.clients n new)) less;
+  short = short;
+  deed = deed ∙ ap (λ (d : ClientState). deed_of_did it d.locals (last_ticket c d)) (sym (moved_here r.clients c n new is less));
+}
 
 -- the deed with its reply
 answer : Option ℤ → Option Deed → Option Deed

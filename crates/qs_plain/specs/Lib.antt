@@ -5,3 +5,5 @@ pub mod Rules
 pub mod Served
 pub mod Blocks
 pub mod Deeds
+pub mod Awaiting
+pub mod Told

@@ -1,10 +1,11 @@
 //! What a step under the plain rules does.
 
-ghost use Rattle.std.specs.Prelude.{◌≡◌, true, Some};
+ghost use Rattle.std.specs.Prelude.{◌≡◌};
 ghost use Rattle.qs_plain.specs.Deeds.{answered};
-ghost use Rattle.qs_plain.specs.declared.deed.Deed.TheVariants as deeds;
+ghost use Rattle.qs_plain.specs.Told.{has_stepped};
 
 use qs_objects::{Request, Ticket};
+use qs_program::Call;
 
 /// What a step does: a client reserves its next block, logs a command, asks a query or ends its block; a handler runs a command, answers
 /// a query or leaves a ticket.
@@ -31,35 +32,21 @@ impl Deed {
     }
 }
 
-/// A client logs a command, where that is to be told.
-pub(crate) fn logs<const TELLS: bool>(request: &Request) -> Option<Deed>
-    ensures told { TELLS ≡ true → result ≡ Some (deeds.Logs request.now) }
-{
-    if TELLS {
-        Some(Deed::Logs(request.copied()))
-    } else {
-        None
-    }
+/// What a client's step did, a request as its text has it.
+#[derive(Clone, Copy)]
+pub(crate) enum Did<'p> {
+    Nothing,
+    Reserved,
+    Logged(&'p Call),
+    Asked(&'p Call),
+    Ended,
 }
 
-/// A client asks a query, where that is to be told.
-pub(crate) fn asks<const TELLS: bool>(request: &Request) -> Option<Deed>
-    ensures told { TELLS ≡ true → result ≡ Some (deeds.Asks request.now) }
-{
-    if TELLS {
-        Some(Deed::Asks(request.copied()))
-    } else {
-        None
-    }
-}
-
-/// A client ends its block, where that is to be told.
-pub(crate) fn ends<const TELLS: bool>(ticket: Ticket) -> Option<Deed>
-    ensures told { TELLS ≡ true → result ≡ Some (deeds.Ends ticket) }
-{
-    if TELLS {
-        Some(Deed::Ends(ticket))
-    } else {
-        None
+impl Did<'_> {
+    /// Whether it stepped.
+    pub(crate) fn has_stepped(self) -> bool
+        ensures value { result ≡ has_stepped self.entry }
+    {
+        !matches!(self, Did::Nothing)
     }
 }

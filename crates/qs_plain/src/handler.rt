@@ -8,6 +8,8 @@ ghost use Rattle.qs_plain.specs.Deeds.{deed_of_queues, reply_in, unanswered};
 ghost use Rattle.qs_plain_client.specs.Queues.{QueueState};
 ghost use Rattle.qs_plain_laws.specs.declared.item.QueueItem.TheVariants as items;
 
+mod reading;
+
 use crate::deed::Deed;
 use qs_objects::{Held, Request, Ticket};
 use qs_plain_client::PrivateQueue;

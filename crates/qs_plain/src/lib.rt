@@ -1,6 +1,7 @@
 //! The machine of the plain rules: for each handler a queue of queues, and in it a private queue of single requests for each reservation.
 #![tactic(auto)]
 
+mod awaited;
 mod deed;
 mod handler;
 mod handlers;
@@ -10,6 +11,7 @@ mod rules;
 mod schedules;
 mod showing;
 
+pub use awaited::Awaited;
 pub use deed::Deed;
 pub use orders::play_plain_in_order;
 pub use rules::Rules;

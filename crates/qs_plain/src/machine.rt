@@ -6,10 +6,13 @@ ghost use Rattle.qs_plain_laws.specs.Plain.{begin, step as the_step};
 ghost use Rattle.qs_played.specs.declared.schedule.actor.Actor.TheVariants as actors;
 ghost use Rattle.qs_plain_client.specs.declared.stage.Stage.TheVariants as stages;
 ghost use Rattle.qs_plain.specs.Deeds.{plain_deed, reply_in};
-ghost use Rattle.qs_plain.specs.declared.deed.Deed.{Deed as DeedShape};
+ghost use Rattle.qs_plain.specs.declared.deed.Did.TheVariants as dids;
+ghost use Rattle.qs_plain.specs.Told.{IsShort, IsTold, deed_of_did, has_stepped, last_ticket};
 ghost use Rattle.qs_plain.specs.Handlers.{handler_at};
 
-use crate::deed::{Deed, asks, ends, logs};
+mod reading;
+
+use crate::deed::{Deed, Did};
 use crate::handler::{HandlerState, Served};
 use crate::handlers::{enter_all, fresh_handlers, log_all, log_command, log_query};
 use crate::showing;
@@ -90,7 +93,7 @@ impl<'p> Machine<'p> {
     {
         match actor {
             Actor::Client(client) => {
-                usize::from(client) < self.clients.len() && self.step_client(client)
+                usize::from(client) < self.clients.len() && self.step_client(client).has_stepped()
             }
             Actor::Handler(handler) => {
                 usize::from(handler) < self.handlers.len() && self.step_handler(handler)
@@ -123,26 +126,24 @@ impl<'p> Machine<'p> {
         }
     }
 
-    fn step_client(&mut self, number: u8) -> bool
+    fn step_client(&mut self, number: u8) -> Did<'p>
         requires { number < length self.old.clients }
-        ensures steps { OnTrue result (Steps self.old (actors.Client number) self.new) }
-        ensures none { result ≡ false → the_step self.old.program (plain_of self.old) (actors.Client number) ≡ None }
-        ensures unchanged { result ≡ false → self.new ≡ self.old }
+        ensures steps { OnTrue (has_stepped result) (Steps self.old (actors.Client number) self.new) }
+        ensures told { OnTrue (has_stepped result) (IsTold result (plain_of self.old) number self.new) }
+        ensures none { has_stepped result ≡ false → the_step self.old.program (plain_of self.old) (actors.Client number) ≡ None }
+        ensures unchanged { has_stepped result ≡ false → self.new ≡ self.old }
     {
         let client = &self.clients[usize::from(number)];
         match client.stage() {
             Stage::Out => {
                 if !client.has_more() {
-                    return false;
+                    return Did::Nothing;
                 }
                 self.separate(number);
-                true
+                Did::Reserved
             }
-            Stage::Within => {
-                let _told = self.go_on::<false>(number);
-                true
-            }
-            Stage::Waiting(_) => false,
+            Stage::Within => self.go_on(number),
+            Stage::Waiting(_) => Did::Nothing,
         }
     }
 
@@ -153,21 +154,31 @@ impl<'p> Machine<'p> {
         ensures none { IfNone result (the_step self.old.program (plain_of self.old) (actors.Client number) ≡ None) }
         ensures unchanged { IfNone result (self.new ≡ self.old) }
     {
+        let did = self.step_client(number);
+        if !did.has_stepped() {
+            return None;
+        }
+        Some(self.told(number, did))
+    }
+
+    // What a client has just done.
+    fn told(&self, number: u8, did: Did) -> Deed
+        requires stepped { has_stepped did ≡ true }
+        requires number { number < length self.now.clients }
+        requires short { IsShort did }
+        ensures value { deed_of_did did.entry (client_at self.now.clients number).locals (last_ticket number (client_at self.now.clients number)) ≡ Some result }
+    {
         let client = &self.clients[usize::from(number)];
-        match client.stage() {
-            Stage::Out => {
-                if !client.has_more() {
-                    return None;
-                }
-                let index = client.begun() as u8;
-                self.separate(number);
-                Some(Deed::Reserves(Ticket {
-                    client: number,
-                    index,
-                }))
-            }
-            Stage::Within => self.go_on::<true>(number),
-            Stage::Waiting(_) => None,
+        let ticket = Ticket {
+            client: number,
+            index: client.begun().saturating_sub(1) as u8,
+        };
+        match did {
+            Did::Nothing => unreachable!(),
+            Did::Reserved => Deed::Reserves(ticket),
+            Did::Logged(call) => Deed::Logs(client.request(self.alloc, call)),
+            Did::Asked(call) => Deed::Asks(client.request(self.alloc, call)),
+            Did::Ended => Deed::Ends(ticket),
         }
     }
 
@@ -177,6 +188,7 @@ impl<'p> Machine<'p> {
         requires out { (client_at self.old.clients number).stage ≡ stages.Out }
         requires more { 0 < length (client_at self.old.clients number).prepared }
         ensures steps { Steps self.old (actors.Client number) self.new }
+        ensures told { IsTold dids.Reserved (plain_of self.old) number self.new }
     {
         self.program.is_sound();
         let client = &mut self.clients[usize::from(number)];
@@ -189,13 +201,13 @@ impl<'p> Machine<'p> {
         enter_all(&mut self.handlers, queues);
     }
 
-    /// A client in a block goes on up to its next request, which is logged, or to the block's end. It says what it did where that is to
-    /// be told; a run that is not told makes no copy of a request.
-    fn go_on<const TELLS: bool>(&mut self, number: u8) -> Option<Deed>
+    /// A client in a block goes on up to its next request, which is logged, or to the block's end.
+    fn go_on(&mut self, number: u8) -> Did<'p>
         requires number { number < length self.old.clients }
         requires within { (client_at self.old.clients number).stage ≡ stages.Within }
         ensures steps { Steps self.old (actors.Client number) self.new }
-        ensures told { TELLS ≡ true → (deed : DeedShape) × (result ≡ Some deed) × (plain_deed (plain_of self.old) (actors.Client number) ≡ Some deed) }
+        ensures stepped { has_stepped result ≡ true }
+        ensures told { IsTold result (plain_of self.old) number self.new }
     {
         self.program.is_sound();
         let client = &mut self.clients[usize::from(number)];
@@ -204,17 +216,15 @@ impl<'p> Machine<'p> {
             index: (client.begun() - 1) as u8,
         };
         match client.ask(self.alloc) {
-            Asked::Command(request) => {
-                let object = request.object;
-                let told = logs::<TELLS>(&request);
-                log_command(&mut self.handlers, object, ticket, request);
-                told
+            Asked::Command(call) => {
+                let request = client.request(self.alloc, call);
+                log_command(&mut self.handlers, call.object, ticket, request);
+                Did::Logged(call)
             }
-            Asked::Query(request) => {
-                let object = request.object;
-                let told = asks::<TELLS>(&request);
-                log_query(&mut self.handlers, object, ticket, request);
-                told
+            Asked::Query(call) => {
+                let request = client.request(self.alloc, call);
+                log_query(&mut self.handlers, call.object, ticket, request);
+                Did::Asked(call)
             }
             Asked::End => {
                 let block = self.program.block(ticket.client, ticket.index);
@@ -224,12 +234,11 @@ impl<'p> Machine<'p> {
                     ticket,
                     &QueueItem::EndMark,
                 );
-                ends::<TELLS>(ticket)
+                Did::Ended
             }
         }
     }
 
-    #[inline(always)]
     fn step_handler(&mut self, number: u8) -> bool
         requires { number < length self.old.handlers }
         ensures steps { OnTrue result (Steps self.old (actors.Handler number) self.new) }

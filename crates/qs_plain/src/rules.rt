@@ -9,6 +9,9 @@ ghost use Rattle.qs_plain.specs.Deeds.{plain_deed};
 ghost use Rattle.qs_meaning.specs.Serial.{IsLegal};
 ghost use Rattle.qs_plain_laws.specs.PlainSchedule.{played_of};
 
+mod playing;
+mod reading;
+
 use crate::deed::Deed;
 use crate::machine::Machine;
 use qs_played::{Actor, Played};

@@ -180,9 +180,6 @@ module _ {d : ClientState} (kept : IsClient d) where
       let asked = sum_by-asked (load_left fs) (load_left d.frames) h (current_block d).reserved member less in
       rw last_is_current (omega (arith, asked, (within_of is).room))
 
-pub same_member : (xs : List ℕ) (m n : ℕ) → n ≡ m → is_in xs m ≡ true → is_in xs n ≡ true
-same_member xs m n is member = subst (λ k. is_in xs k ≡ true) (sym is) member
-
 push_nil : {X : Type 0} (xs : List X) (x : X) → xs ≡ [] → xs ++ x ∷ [] ≡ x ∷ []
 push_nil xs x none = ap (λ ys. ys ++ x ∷ []) none
 

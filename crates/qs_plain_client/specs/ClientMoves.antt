@@ -1,9 +1,10 @@
 -- What a client's moves do to it.
-use Rattle.std.specs.Prelude.{◌≡◌, ℕ, ◌==◌, if◌then◌else◌, true, List, [], ◌∷◌, ◌++◌, length, slice_set, ℤ, Option, None}
+use Rattle.std.specs.Prelude.{◌≡◌, ◌≤◌, ℕ, ◌==◌, if◌then◌else◌, true, List, [], ◌∷◌, ◌++◌, length, slice_set, ℤ, Option, None}
 use Rattle.qs_objects.specs.declared.Request.{Request}
 use Rattle.qs_meaning.specs.Interaction.{Done, Call, Query}
 use Rattle.qs_meaning.specs.Solo.{event, value_of}
 use Rattle.qs_program.specs.Sound.{is_in}
+use Rattle.qs_program.specs.Values.{request_of}
 use Rattle.qs_sync_counts.specs.declared.sync_counts.SyncCount.{SyncCount}
 use Rattle.qs_plain_client.specs.Clients.{ClientState, block_of}
 use Rattle.qs_plain_client.specs.PreparedBlock.{PreparedState}
@@ -53,26 +54,32 @@ pub record Begins (old : ClientState) (queues : List (ℕ × QueueState)) (new :
 
 -- what a client in a block asks, after its quiet moves
 abbrev pub AsksNext : Asked → ClientState → ClientState → Type 0
-AsksNext (asked.Command r) old new =
-    (next_of old.frames old.locals ≡ Call r (next_of new.frames new.locals))
-    × (new ≡ after_moves old stage.Within new.locals new.frames (noted_in old.traces (event r None)) old.counts)
-AsksNext (asked.Query r) old new =
-    (x : ℕ) × (next_of old.frames old.locals ≡ Query r (λ v. next_of new.frames (slice_set new.locals x v)))
-    × (new ≡ after_moves old (stage.Waiting x) new.locals new.frames old.traces (counted_in old.counts r.object))
+AsksNext (asked.Command c) old new =
+    (next_of old.frames old.locals ≡ Call (request_of new.locals c.now) (next_of new.frames new.locals))
+    × (new ≡ after_moves old stage.Within new.locals new.frames (noted_in old.traces (event (request_of new.locals c.now) None)) old.counts)
+AsksNext (asked.Query c) old new =
+    (x : ℕ) × (next_of old.frames old.locals ≡ Query (request_of new.locals c.now) (λ v. next_of new.frames (slice_set new.locals x v)))
+    × (new ≡ after_moves old (stage.Waiting x) new.locals new.frames old.traces (counted_in old.counts c.now.object))
 AsksNext asked.End old new =
     (next_of old.frames old.locals ≡ Done new.locals) × (new ≡ after_moves old stage.Out new.locals [] old.traces old.counts)
 
 -- how many requests on an object it makes
 abbrev pub requested_of : Asked → ℕ → ℕ
-requested_of (asked.Command r) h = if r.object == h then 1 else 0
-requested_of (asked.Query r) h = if r.object == h then 1 else 0
+requested_of (asked.Command c) h = if c.now.object == h then 1 else 0
+requested_of (asked.Query c) h = if c.now.object == h then 1 else 0
 requested_of asked.End h = 0
 
 -- a request is on an object of the list
 abbrev pub IsReserved : List ℕ → Asked → Type 0
-IsReserved reserved (asked.Command r) = is_in reserved r.object ≡ true
-IsReserved reserved (asked.Query r) = is_in reserved r.object ≡ true
+IsReserved reserved (asked.Command c) = is_in reserved c.now.object ≡ true
+IsReserved reserved (asked.Query c) = is_in reserved c.now.object ≡ true
 IsReserved reserved asked.End = Unit {0}
+
+-- a request has at most three arguments
+abbrev pub IsShort : Asked → Type 0
+IsShort (asked.Command c) = length c.now.args ≤ 3
+IsShort (asked.Query c) = length c.now.args ≤ 3
+IsShort asked.End = Unit {0}
 
 -- a reply goes to a client that waits, and to no other
 abbrev pub RepliesAt : Stage → ClientState → Request → Option ℤ → ClientState → Type 0

@@ -9,6 +9,7 @@ ghost use Rattle.qs_played.specs.Schedule.{queries_in};
 ghost use Rattle.qs_plain_client.specs.ReplyDelivery.{Hears};
 ghost use Rattle.qs_plain_client.specs.FreshClients.{AreFresh};
 ghost use Rattle.std.specs.Prelude.{◌≡◌, ◌+◌, ◌*◌, ◌<◌, ◌≤◌, ℕ, IfOk, IsErr, length, map, nat_lt, slice_set, suc};
+ghost use Rattle.qs_program.specs.Values.{request_of};
 ghost use Rattle.qs_plain_client.specs.Frames.{load_left};
 ghost use Rattle.qs_plain_client.specs.declared.stage.Stage.TheVariants as stages;
 
@@ -17,7 +18,7 @@ use crate::private_queue::PrivateQueue;
 use crate::stage::Stage;
 use qs_objects::{Event, Request, Ticket, Traces};
 use qs_played::ClientRows;
-use qs_program::{Locals, MOST_VARIABLES, Program};
+use qs_program::{Call, Locals, MOST_VARIABLES, Program};
 use qs_sync_counts::SyncCounts;
 use std::alloc::{AllocError, Global};
 use std::collections::VecDeque;
@@ -41,11 +42,11 @@ impl Model for Prepared {
     ghost view = { λ p. p.queues.items };
 }
 
-/// What a client asked.
-#[derive(Drop)]
-pub enum Asked {
-    Command(Request),
-    Query(Request),
+/// What a client asked, a request as its text has it.
+#[derive(Clone, Copy)]
+pub enum Asked<'p> {
+    Command(&'p Call),
+    Query(&'p Call),
     End,
 }
 
@@ -98,7 +99,7 @@ impl<'p> Model for ClientState<'p> {
 impl<'p> ClientState<'p> {
     ghost use Rattle.qs_plain_client.specs.Clients.{AreRowsOf, IsClient, IsFresh, client_of, current_block};
     ghost use Rattle.qs_plain_laws.specs.PlainSchedule.{has_ended, is_done, syncs_of, waits};
-    ghost use Rattle.qs_plain_client.specs.ClientMoves.{Begins, AsksNext, Replies, requested_of, IsReserved};
+    ghost use Rattle.qs_plain_client.specs.ClientMoves.{Begins, AsksNext, Replies, requested_of, IsReserved, IsShort};
 
     /// A client of the program before its first block, with all the memory that it will need. An error says that this memory was refused: it
     /// comes only where the client has a block.
@@ -235,29 +236,37 @@ impl<'p> ClientState<'p> {
         queues
     }
 
+    /// The request that a call of its text makes, with the variables as they are now.
+    #[inline(always)]
+    pub fn request(&self, alloc: Global, call: &Call) -> Request
+        requires { length call.now.args ≤ 3 }
+        ensures value { result ≡ request_of self.now.locals call.now }
+    {
+        call.request(alloc, &self.locals)
+    }
+
     /// All quiet moves, and then what is asked; a command enters the trace.
     #[inline(always)]
-    pub fn ask(&mut self, alloc: Global) -> Asked
+    pub fn ask(&mut self, alloc: Global) -> Asked<'p>
         requires { self.old.stage ≡ stages.Within }
         ensures goes { AsksNext result self.old self.new }
+        ensures short { IsShort result }
         ensures load { (h : ℕ) → requested_of result h + load_left self.new.frames h ≤ load_left self.old.frames h }
         ensures reserves { IsReserved (current_block self.old).reserved result }
     {
         match self.frames.settle(&mut self.locals) {
             Ask::Command(call) => {
-                let request = call.request(alloc, &self.locals);
                 let event = Event {
                     request: call.request(alloc, &self.locals),
                     reply: None,
                 };
                 self.traces.note(self.entries.len() - 1, event);
-                Asked::Command(request)
+                Asked::Command(call)
             }
             Ask::Query(variable, call) => {
                 self.stage = Stage::Waiting(variable);
-                let request = call.request(alloc, &self.locals);
-                self.counts.add(self.entries.len() - 1, request.object);
-                Asked::Query(request)
+                self.counts.add(self.entries.len() - 1, call.object);
+                Asked::Query(call)
             }
             Ask::End => {
                 self.stage = Stage::Out;

@@ -8,6 +8,8 @@ ghost use Rattle.qs_plain_client.specs.Queues.{queue_state};
 ghost use Rattle.qs_plain_laws.specs.declared.item.QueueItem.{QueueItem as ItemShape};
 ghost use Rattle.qs_plain_laws.specs.declared.item.QueueItem.TheVariants as items;
 
+mod reading;
+
 use qs_objects::{Request, Ticket};
 use qs_plain_laws::QueueItem;
 use std::alloc::{AllocError, Global};

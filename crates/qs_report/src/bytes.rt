@@ -46,6 +46,7 @@ pub(crate) fn put_digits(out: &mut Vec<u8>, number: i64) -> Result<(), AllocErro
 }
 
 // Puts a text at the end, mostly one of a few bytes, for which a call that copies takes longer than to push them.
+#[inline(always)]
 pub(crate) fn put_short(out: &mut Vec<u8>, text: &[u8]) -> Result<(), AllocError>
     ensures ok { OnOk result (out.new.items ≡ out.old.items ++ text.now) }
 {
@@ -58,6 +59,7 @@ pub(crate) fn put_short(out: &mut Vec<u8>, text: &[u8]) -> Result<(), AllocError
 }
 
 // Pushes bytes for which there is room.
+#[inline(always)]
 fn push_all(out: &mut Vec<u8>, text: &[u8])
     requires { vec_len out.old + length text.now ≤ vec_capacity out.old }
     ensures pushed { out.new.items ≡ out.old.items ++ text.now }

@@ -37,6 +37,7 @@ pub fn opening(op: Op) -> &'static [u8]
 }
 
 // The same, put at the end: each text by itself, so that its length is known where it is copied.
+#[inline(always)]
 fn put_opening(out: &mut Vec<u8>, op: Op) -> Result<(), AllocError>
     ensures ok { OnOk result (out.new.items ≡ out.old.items ++ codes "." ++ op_text op ++ codes "(") }
 {
@@ -59,6 +60,7 @@ fn put_opening(out: &mut Vec<u8>, op: Op) -> Result<(), AllocError>
 }
 
 // Further arguments, each after a comma.
+#[inline(always)]
 fn put_others(out: &mut Vec<u8>, args: &[i64]) -> Result<(), AllocError>
     ensures ok { OnOk result (out.new.items
         ≡ out.old.items ++ flat_map (λ arg. codes "," ++ signed_decimal arg) args.now) }
@@ -71,6 +73,7 @@ fn put_others(out: &mut Vec<u8>, args: &[i64]) -> Result<(), AllocError>
 }
 
 // The arguments, joined by commas.
+#[inline(always)]
 pub(crate) fn put_args(out: &mut Vec<u8>, args: &[i64]) -> Result<(), AllocError>
     ensures ok { OnOk result (out.new.items ≡ out.old.items ++ args_text args.now) }
 {
@@ -84,6 +87,7 @@ pub(crate) fn put_args(out: &mut Vec<u8>, args: &[i64]) -> Result<(), AllocError
 }
 
 // A request without its closing parenthesis.
+#[inline(always)]
 fn put_request(out: &mut Vec<u8>, program: &Program, request: &Request) -> Result<(), AllocError>
     ensures ok { OnOk result (out.new.items ++ codes ")" ≡ out.old.items ++ request_text program.now request.now) }
 {

@@ -1,7 +1,8 @@
 -- Out of memory is always a due answer, the status 4 is due only after a read has failed, the status 0 only with a text, and the report of a run is due where
 -- the line asked for that run. The function `serve` and those that find what is due stand on it. Each goes by cases on what the
 -- line asks for and on the answer.
-use Rattle.std.proofs.Common.{◌≡◌, ◌≤◌, ◌⊎◌, ℕ, Bool, List, [], ◌++◌, Option, Result, Ok, true, false, refl, sym, subst, inl, inr, IsOkAnd}
+use Rattle.std.proofs.Common.{◌≡◌, ◌≤◌, ◌⊎◌, ◌||◌, if◌then◌else◌, ℕ, Bool, List, [], ◌∙◌, Option, Result, Ok, true, false, refl, sym, subst, inl, inr, IsOkAnd}
+use Rattle.std.proofs.lemmas.List.{append-nil}
 use Rattle.qs_played.specs.Played.{Played}
 use Rattle.qs_report.specs.declared.faults.Fault.{Fault}
 use Rattle.qs_report.specs.declared.faults.Fault.TheVariants as fault
@@ -22,9 +23,10 @@ use Rattle.qs_lists.specs.declared.parts.Part.{Part}
 use Rattle.qs_line.specs.declared.line.Format.{Format}
 use Rattle.qs_line.specs.declared.line.Format.TheVariants as format
 use Rattle.qs_line.specs.declared.line.GraphFormat.{GraphFormat}
+use Rattle.qs_line.specs.declared.line.GraphFormat.TheVariants as graph_format
 use Rattle.qs_line.specs.declared.line.ReportStyle.{ReportStyle}
-use Rattle.qs_line.specs.Line.{Line, Request, asks, help, outcomes, refused, version}
-use Rattle.qs_serve.specs.Due.{IsDue, IsDueAfter, IsDueOfProgram, IsListOf, IsOutOfMemory, IsRefusedBy, IsReportAfter, IsSomeText, IsTextBy, IsTextOfOutcomes, IsUnlisted, AreLinesBefore, due_status, limit_in, listed_as, listed_in, report_by}
+use Rattle.qs_line.specs.Line.{Line, Request, asks, check, graph, help, outcomes, play, refused, rules, run, version}
+use Rattle.qs_serve.specs.Due.{AreLinesFor, AreLinesWhere, IsDue, IsDueAfter, IsDueOfProgram, IsListOf, IsOutOfMemory, IsRefusedBy, IsReportBetween, IsReportOf, IsSomeText, IsTextBy, IsTextOfOutcomes, Lines, IsUnlisted, due_status, limit_in, listed_as, listed_in, report_by, told_report}
 use Rattle.qs_serve.specs.declared.due.Due.{Due}
 use Rattle.qs_serve.specs.declared.due.Due.TheVariants.{Text, Refused}
 
@@ -93,22 +95,53 @@ four_is_due (asks request) known false (Refused f) is e = absurd (is.0 (status_o
 pub of_named : {A E : Type 0} (P : A → Type 0) (r : Result A E) (x : A) → r ≡ Ok x → P x → IsOkAnd r P
 of_named P r x e holds = subst (λ s. IsOkAnd s P) (sym e) holds
 
--- a report after some lines that is due by what was asked for
-pub due_by_report : (request : Request) (style : ReportStyle) (p : ProgramShape) (lines : List ℕ) (played : Played) (due : Due)
-    → ((text : List ℕ) → text ≡ lines ++ report_by style p played → IsTextBy request p text) → IsReportAfter lines style p played due
-    → IsOutOfMemory due ⊎ IsDueOfProgram request p due
-due_by_report request style p lines played (Text bytes) by is = inr (by bytes.items is)
-due_by_report request style p lines played (Refused f) by is = inl (subst (λ g. IsOutOfMemory (Refused g)) (sym is) tt)
+-- a report between some lines that is due by what was asked for
+pub due_by_lines : (request : Request) (style : ReportStyle) (p : ProgramShape) (steps queues : List ℕ) (played : Played) (due : Due)
+    → ((text : List ℕ) → text ≡ told_report steps queues (report_by style p played) → IsTextBy request [] p text)
+    → IsReportBetween steps queues style p played due → IsOutOfMemory due ⊎ IsDueOfProgram request [] p due
+due_by_lines request style p steps queues played (Text bytes) by is = inr (by bytes.items is)
+due_by_lines request style p steps queues played (Refused f) by is = inl (subst (λ g. IsOutOfMemory (Refused g)) (sym is) tt)
 
--- where no lines are asked for, none stand before a report
-pub no_lines : (asked : Bool) (Are : List ℕ → Type 0) → Are [] → AreLinesBefore asked Are []
+-- a report alone stands between no lines
+pub alone : (text report : List ℕ) → text ≡ report → text ≡ told_report [] [] report
+alone text report is = is ∙ sym (append-nil report)
+
+-- a report alone that is due by what was asked for
+pub due_by_report : (request : Request) (style : ReportStyle) (p : ProgramShape) (played : Played) (due : Due)
+    → ((text : List ℕ) → text ≡ report_by style p played → IsTextBy request [] p text) → IsReportOf style p played due
+    → IsOutOfMemory due ⊎ IsDueOfProgram request [] p due
+due_by_report request style p played (Text bytes) by is = inr (by bytes.items is)
+due_by_report request style p played (Refused f) by is = inl (subst (λ g. IsOutOfMemory (Refused g)) (sym is) tt)
+
+-- where no lines are asked for, none stand beside a report
+pub no_lines : (asked : Bool) (Are : List ℕ → Type 0) → Are [] → AreLinesWhere asked Are []
 no_lines true Are are = are
 no_lines false Are are = refl
 
-pub report_is_no_input : (lines : List ℕ) (style : ReportStyle) (p : ProgramShape) (played : Played) (due : Due) → IsReportAfter lines style p played due
+-- and none where neither steps nor queues are asked for
+pub no_steps : (steps queues : Bool) (Are : List ℕ → Type 0) → (steps || queues) ≡ false → AreLinesWhere steps Are []
+no_steps true queues Are none = absurd (cc none)
+no_steps false queues Are none = refl
+
+pub no_queues : (steps queues : Bool) (Are : List ℕ → Type 0) → (steps || queues) ≡ false → AreLinesWhere queues Are []
+no_queues true queues Are none = absurd (cc none)
+no_queues false true Are none = absurd (cc none)
+no_queues false false Are none = refl
+
+-- lines that are right where they are asked for, and empty where they are not
+pub lines_where : (asked : Bool) (Are : List ℕ → Type 0) (lines told : List ℕ) → told ≡ (if asked then lines else []) → Are lines → AreLinesWhere asked Are told
+lines_where true Are lines told is are = subst Are (sym is) are
+lines_where false Are lines told is are = is
+
+pub report_is_no_input : (style : ReportStyle) (p : ProgramShape) (played : Played) (due : Due) → IsReportOf style p played due
     → ¬ IsRefusedBy fault.Input due
-report_is_no_input lines style p played (Text bytes) is = λ none. none
-report_is_no_input lines style p played (Refused f) is = λ e. absurd (cc (is, e))
+report_is_no_input style p played (Text bytes) is = λ none. none
+report_is_no_input style p played (Refused f) is = λ e. absurd (cc (is, e))
+
+pub lines_are_no_input : (steps queues : List ℕ) (style : ReportStyle) (p : ProgramShape) (played : Played) (due : Due)
+    → IsReportBetween steps queues style p played due → ¬ IsRefusedBy fault.Input due
+lines_are_no_input steps queues style p played (Text bytes) is = λ none. none
+lines_are_no_input steps queues style p played (Refused f) is = λ e. absurd (cc (is, e))
 
 -- a list of outcomes that is due by what was asked for, in either format
 due_by_list : (how : Format) (p : ProgramShape) (limit : ℕ) (clients : List ℕ) (all : OutcomesShape) (text : List ℕ)
@@ -131,7 +164,7 @@ unlisted_in format.Json p limit clients f is = is
 
 -- what is due after the blocks of the clients that a list names is due by what was asked for
 pub due_by_outcomes : (how : GraphFormat) (p : ProgramShape) (limit : ℕ) (front : List Part) (clients : List ℕ) (due : Due)
-    → clients_of p front ≡ Ok clients → IsDueAfter how p limit clients due → IsOutOfMemory due ⊎ IsDueOfProgram (outcomes how limit front) p due
+    → clients_of p front ≡ Ok clients → IsDueAfter how p limit clients due → IsOutOfMemory due ⊎ IsDueOfProgram (outcomes how limit front) [] p due
 due_by_outcomes how p limit front clients (Text bytes) named is =
     inr (of_named (λ xs. IsTextOfOutcomes how p limit xs bytes.items) (clients_of p front) clients named is)
 due_by_outcomes how p limit front clients (Refused fault.Memory) named is = inl tt
@@ -144,3 +177,26 @@ due_by_outcomes how p limit front clients (Refused (fault.Check f)) named is = a
 due_by_outcomes how p limit front clients (Refused (fault.Play f)) named is = absurd is
 due_by_outcomes how p limit front clients (Refused (fault.Order f)) named is = absurd is
 due_by_outcomes how p limit front clients (Refused (fault.Run f)) named is = absurd is
+
+-- a text that has no lines in it is due with any lines
+any_text : (request : Request) (found lines : Lines) (p : ProgramShape) (text : List ℕ) → AreLinesFor request found lines → IsTextBy request found p text
+    → IsTextBy request lines p text
+any_text (check how) found lines p text are is = is
+any_text (graph graph_format.Text) found lines p text are is = is
+any_text (graph graph_format.Json) found lines p text are is = is
+any_text (graph graph_format.Dot) found lines p text are is = subst (λ xs. IsTextBy (graph graph_format.Dot) xs p text) are is
+any_text (rules style plan) found lines p text are is = is
+any_text (play style mode size plan) found lines p text are is = is
+any_text (run style mode size) found lines p text are is = is
+any_text (outcomes how limit front) found lines p text are is = is
+
+-- what is due with the lines that were found is due with these
+pub due_with_lines : (request : Request) (found lines : Lines) (p : ProgramShape) (due : Due) → AreLinesFor request found lines
+    → IsDueOfProgram request found p due → IsDueOfProgram request lines p due
+due_with_lines request found lines p (Text bytes) are is = any_text request found lines p bytes.items are is
+due_with_lines request found lines p (Refused f) are is = is
+
+pub due_with_any : (request : Request) (found lines : Lines) (p : ProgramShape) (due : Due) → AreLinesFor request found lines
+    → IsOutOfMemory due ⊎ IsDueOfProgram request found p due → IsOutOfMemory due ⊎ IsDueOfProgram request lines p due
+due_with_any request found lines p due are (inl memory) = inl memory
+due_with_any request found lines p due are (inr is) = inr (due_with_lines request found lines p due are is)

@@ -19,6 +19,7 @@ use Rattle.qs_report.specs.Faults.{fault_text, fault_status}
 use Rattle.qs_report.specs.Report.{run_text, counts_text}
 use Rattle.qs_report.specs.GraphText.{IsGraphText}
 use Rattle.qs_dot.specs.DotText.{IsDotText}
+use Rattle.qs_node_lines.specs.NodeLines.{node_lines}
 use Rattle.qs_json.specs.FaultJson.{fault_json}
 use Rattle.qs_json.specs.GraphJson.{IsGraphJson}
 use Rattle.qs_json.specs.OutcomesJson.{IsOutcomesJson, listed_json}
@@ -39,7 +40,9 @@ use Rattle.qs_played.specs.declared.fault.PlayFault.{PlayFault}
 use Rattle.qs_played.specs.Played.{Played}
 use Rattle.qs_syncset.specs.Codes.{ClientCode}
 use Rattle.qs_syncset.specs.declared.mode.Mode.{Mode}
+use Rattle.qs_steps.specs.CoreQueues.{core_queues}
 use Rattle.qs_steps.specs.CoreSteps.{core_steps}
+use Rattle.qs_steps.specs.PlainQueues.{plain_queues}
 use Rattle.qs_steps.specs.PlainSteps.{plain_steps}
 use Rattle.qs_svg.specs.RunSvg.{run_svg}
 use Rattle.qs_run_laws.specs.Outcomes.{IsOutcome}
@@ -105,14 +108,19 @@ report_in report_format.Svg counts p played = run_svg p played
 abbrev pub report_by : ReportStyle → ProgramShape → Played → List ℕ
 report_by style p played = report_in style.format style.counts p played
 
--- some lines, and then this report; or that an allocation failed
-abbrev pub IsReportAfter : (lines : List ℕ) → ReportStyle → ProgramShape → Played → Due → Type 0
-IsReportAfter lines style p played (Text bytes) = bytes.items ≡ lines ++ report_by style p played
-IsReportAfter lines style p played (Refused f) = f ≡ fault.Memory
+-- a report, after the lines of its steps and before those of its queues
+abbrev pub told_report : (steps queues report : List ℕ) → List ℕ
+told_report steps queues report = steps ++ (report ++ queues)
+
+-- this report between these lines; or that an allocation failed
+abbrev pub IsReportBetween : (steps queues : List ℕ) → ReportStyle → ProgramShape → Played → Due → Type 0
+IsReportBetween steps queues style p played (Text bytes) = bytes.items ≡ told_report steps queues (report_by style p played)
+IsReportBetween steps queues style p played (Refused f) = f ≡ fault.Memory
 
 -- this report alone
 abbrev pub IsReportOf : ReportStyle → ProgramShape → Played → Due → Type 0
-IsReportOf = IsReportAfter []
+IsReportOf style p played (Text bytes) = bytes.items ≡ report_by style p played
+IsReportOf style p played (Refused f) = f ≡ fault.Memory
 
 -- a list of outcomes, as text or as JSON
 abbrev pub listed_in : Format → ProgramShape → OutcomesShape → List ℕ
@@ -139,26 +147,40 @@ IsShownByPlay mode size (by_order list) p played =
     IsOkAnd (clients_of p list) (λ clients. IsLegal p (order_of clients) × IsPlayedInOrderOn p mode size (order_of clients) played)
 
 -- the lines of the steps of a schedule under the plain rules, by the actors that its picks name in the program; of an order none are told
-abbrev pub AreLinesOfRules : PlanShape → ProgramShape → List ℕ → Type 0
-AreLinesOfRules (by_schedule rounds picks) p lines = IsOkAnd (actors_of p picks) (λ actors. lines ≡ plain_steps p actors rounds)
-AreLinesOfRules (by_order list) p lines = lines ≡ []
+abbrev pub AreStepsOfRules : PlanShape → ProgramShape → List ℕ → Type 0
+AreStepsOfRules (by_schedule rounds picks) p lines = IsOkAnd (actors_of p picks) (λ actors. lines ≡ plain_steps p actors rounds)
+AreStepsOfRules (by_order list) p lines = lines ≡ []
+
+-- and those of the queues at its end
+abbrev pub AreQueuesOfRules : PlanShape → ProgramShape → List ℕ → Type 0
+AreQueuesOfRules (by_schedule rounds picks) p lines = IsOkAnd (actors_of p picks) (λ actors. lines ≡ plain_queues p actors rounds)
+AreQueuesOfRules (by_order list) p lines = lines ≡ []
 
 -- the same in the optimised machine, by the codes of the mode
-abbrev pub AreLinesOfPlay : Mode → ℕ → PlanShape → ProgramShape → List ℕ → Type 0
-AreLinesOfPlay mode size (by_schedule rounds picks) p lines =
+abbrev pub AreStepsOfPlay : Mode → ℕ → PlanShape → ProgramShape → List ℕ → Type 0
+AreStepsOfPlay mode size (by_schedule rounds picks) p lines =
     IsOkAnd (actors_of p picks) (λ actors. (code : ℕ → ClientCode) × AreCodes p mode code × (lines ≡ core_steps p code size actors rounds))
-AreLinesOfPlay mode size (by_order list) p lines = lines ≡ []
+AreStepsOfPlay mode size (by_order list) p lines = lines ≡ []
 
--- what stands before a report: lines of this kind where they are asked for, and else nothing
-abbrev pub AreLinesBefore : (asked : Bool) → (List ℕ → Type 0) → List ℕ → Type 0
-AreLinesBefore true Are lines = Are lines
-AreLinesBefore false Are lines = lines ≡ []
+abbrev pub AreQueuesOfPlay : Mode → ℕ → PlanShape → ProgramShape → List ℕ → Type 0
+AreQueuesOfPlay mode size (by_schedule rounds picks) p lines =
+    IsOkAnd (actors_of p picks) (λ actors. (code : ℕ → ClientCode) × AreCodes p mode code × (lines ≡ core_queues p code size actors rounds))
+AreQueuesOfPlay mode size (by_order list) p lines = lines ≡ []
 
--- the graphs of a program, as lines of words, as JSON or as a drawing
-abbrev pub IsTextOfGraphs : GraphFormat → ProgramShape → List ℕ → Type 0
-IsTextOfGraphs graph_format.Text p text = IsGraphText p text
-IsTextOfGraphs graph_format.Json p text = IsGraphJson p text
-IsTextOfGraphs graph_format.Dot p text = IsDotText p text
+-- what stands beside a report: lines of this kind where they are asked for, and else nothing
+abbrev pub AreLinesWhere : (asked : Bool) → (List ℕ → Type 0) → List ℕ → Type 0
+AreLinesWhere true Are lines = Are lines
+AreLinesWhere false Are lines = lines ≡ []
+
+-- for each client, block and node of its graph the line of the script's text
+abbrev pub Lines : Type 0
+Lines = List (List (List ℕ))
+
+-- the graphs of a program, as lines of words, as JSON or as a drawing, which tells the lines of the script's text
+abbrev pub IsTextOfGraphs : GraphFormat → Lines → ProgramShape → List ℕ → Type 0
+IsTextOfGraphs graph_format.Text lines p text = IsGraphText p text
+IsTextOfGraphs graph_format.Json lines p text = IsGraphJson p text
+IsTextOfGraphs graph_format.Dot lines p text = IsDotText p lines text
 
 -- so many configurations there may be where outcomes are asked for: a drawing has no more than 200
 abbrev pub limit_in : GraphFormat → (limit : ℕ) → ℕ
@@ -174,19 +196,20 @@ IsTextOfOutcomes graph_format.Dot p limit clients text = IsChartDot p (limit_in 
 
 -- what a request makes of a program: its counts; its graphs; the report of its run by the plain rules or in the optimised machine;
 -- that of an outcome which its run on threads may have; or all its outcomes after the blocks of some clients, of so many configurations
--- at most. Each is written in the format that is asked for, and a report with the counts of synchronisations where they are asked for, and
--- after a line for each step where these are.
-abbrev pub IsTextBy : Request → ProgramShape → List ℕ → Type 0
-IsTextBy (check how) p text = text ≡ counts_in how p
-IsTextBy (graph how) p text = IsTextOfGraphs how p text
-IsTextBy (rules style plan) p text =
-    (played : Played) × (lines : List ℕ) × IsShownByRules plan p played × AreLinesBefore style.steps (AreLinesOfRules plan p) lines
-    × (text ≡ lines ++ report_by style p played)
-IsTextBy (play style mode size plan) p text =
-    (played : Played) × (lines : List ℕ) × IsShownByPlay mode size plan p played
-    × AreLinesBefore style.steps (AreLinesOfPlay mode size plan p) lines × (text ≡ lines ++ report_by style p played)
-IsTextBy (run style mode size) p text = (outcome : Played) × IsOutcome p mode size outcome × (text ≡ report_by style p outcome)
-IsTextBy (outcomes how limit front) p text = IsOkAnd (clients_of p front) (λ clients. IsTextOfOutcomes how p limit clients text)
+-- at most. Each is written in the format that is asked for, and a report with the counts of synchronisations where they are asked for, after
+-- a line for each step where these are, and before what lies where at the end of a run that has not finished.
+abbrev pub IsTextBy : Request → Lines → ProgramShape → List ℕ → Type 0
+IsTextBy (check how) lines p text = text ≡ counts_in how p
+IsTextBy (graph how) lines p text = IsTextOfGraphs how lines p text
+IsTextBy (rules style plan) lines p text =
+    (played : Played) × (steps queues : List ℕ) × IsShownByRules plan p played × AreLinesWhere style.steps (AreStepsOfRules plan p) steps
+    × AreLinesWhere style.queues (AreQueuesOfRules plan p) queues × (text ≡ told_report steps queues (report_by style p played))
+IsTextBy (play style mode size plan) lines p text =
+    (played : Played) × (steps queues : List ℕ) × IsShownByPlay mode size plan p played
+    × AreLinesWhere style.steps (AreStepsOfPlay mode size plan p) steps × AreLinesWhere style.queues (AreQueuesOfPlay mode size plan p) queues
+    × (text ≡ told_report steps queues (report_by style p played))
+IsTextBy (run style mode size) lines p text = (outcome : Played) × IsOutcome p mode size outcome × (text ≡ report_by style p outcome)
+IsTextBy (outcomes how limit front) lines p text = IsOkAnd (clients_of p front) (λ clients. IsTextOfOutcomes how p limit clients text)
 
 -- a list of a plan names nobody in the program: a part of it is at fault
 abbrev pub IsUnnamed : PlanShape → ProgramShape → Type 0
@@ -252,20 +275,36 @@ IsDueAfter how p limit clients (Refused fault.Memory) = Unit {0}
 IsDueAfter how p limit clients (Refused (fault.Outcomes f)) = IsUnlisted p (limit_in how limit) clients f
 IsDueAfter how p limit clients (Refused _) = ⊥
 
-abbrev pub IsDueOfProgram : Request → ProgramShape → Due → Type 0
-IsDueOfProgram request p (Text bytes) = IsTextBy request p bytes.items
-IsDueOfProgram request p (Refused fault.CommandLine) = IsUnnamedBy request p
-IsDueOfProgram request p (Refused (fault.Play f)) = IsUnplayedBy request p f
-IsDueOfProgram request p (Refused (fault.Order f)) = IsUnorderedBy request p f
-IsDueOfProgram request p (Refused (fault.Run f)) = IsRun request
-IsDueOfProgram request p (Refused (fault.Outcomes f)) = IsUnlistedBy request p f
-IsDueOfProgram request p (Refused _) = ⊥
+-- why a request makes nothing of a program
+abbrev pub IsRefusedFor : Request → ProgramShape → Fault → Type 0
+IsRefusedFor request p fault.CommandLine = IsUnnamedBy request p
+IsRefusedFor request p (fault.Play f) = IsUnplayedBy request p f
+IsRefusedFor request p (fault.Order f) = IsUnorderedBy request p f
+IsRefusedFor request p (fault.Run f) = IsRun request
+IsRefusedFor request p (fault.Outcomes f) = IsUnlistedBy request p f
+IsRefusedFor request p _ = ⊥
+
+-- what a request makes of a program, with these lines for the nodes of its graphs
+abbrev pub IsDueOfProgram : Request → Lines → ProgramShape → Due → Type 0
+IsDueOfProgram request lines p (Text bytes) = IsTextBy request lines p bytes.items
+IsDueOfProgram request lines p (Refused f) = IsRefusedFor request p f
+
+-- the lines that were found are these, where graphs are to be drawn; nothing else tells them
+abbrev pub AreLinesFor : Request → (found lines : Lines) → Type 0
+AreLinesFor (graph graph_format.Dot) found lines = found ≡ lines
+AreLinesFor (graph graph_format.Text) found lines = ⊤
+AreLinesFor (graph graph_format.Json) found lines = ⊤
+AreLinesFor (check how) found lines = ⊤
+AreLinesFor (rules style plan) found lines = ⊤
+AreLinesFor (play style mode size plan) found lines = ⊤
+AreLinesFor (run style mode size) found lines = ⊤
+AreLinesFor (outcomes how limit front) found lines = ⊤
 
 -- what a request makes of a text: the result of its program, or the fault of the text, of its script, of the list whose names are the
 -- script's, of its schedule, of its order, of its threads or of its outcomes
 abbrev pub IsDueOfText : Request → List ℕ → Due → Type 0
 IsDueOfText request text (Text bytes) =
-    (s : List Item) × IsScriptText text s × (fault_of s ≡ None) × IsTextBy request (program_of_items s) bytes.items
+    (s : List Item) × IsScriptText text s × (fault_of s ≡ None) × IsTextBy request (node_lines text s) (program_of_items s) bytes.items
 IsDueOfText request text (Refused (fault.Read f)) = IsRefused f text
 IsDueOfText request text (Refused (fault.Check f)) = (s : List Item) × IsScriptText text s × (fault_of s ≡ Some f)
 IsDueOfText request text (Refused fault.CommandLine) =

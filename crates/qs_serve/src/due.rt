@@ -1,10 +1,12 @@
 // What a run has to write.
 
-ghost use Rattle.std.specs.Prelude.{◌≡◌, ◌+◌, ◌≤◌, ◌⊎◌, false, IfOk, None, map};
+ghost use Rattle.std.specs.Prelude.{◌≡◌, ◌+◌, ◌≤◌, ◌⊎◌, [], false, length, IfOk, None, map};
 ghost use Rattle.qs_report.specs.declared.faults.Fault.TheVariants as fault;
 ghost use Rattle.qs_line.specs.declared.line.GraphFormat.TheVariants as graph_format;
 ghost use Rattle.qs_line.specs.Line.{asks, check, graph, line_in, outcomes, request_by, request_of, run};
-ghost use Rattle.qs_serve.specs.Due.{HasAsked, IsDue, IsDueAfter, IsDueOfList, IsDueOfProgram, IsDueOfText, IsFormat, IsRefusedBy, IsListOf, IsReportOf, IsTextOf, IsOutOfMemory, due_status, listed_as, longest};
+ghost use Rattle.qs_serve.specs.Due.{AreLinesFor, HasAsked, IsDue, IsDueAfter, IsDueOfList, IsDueOfProgram, IsDueOfText, IsFormat, IsRefusedBy, IsListOf, IsReportOf, IsTextOf, IsOutOfMemory, due_status, listed_as, longest};
+ghost use Rattle.qs_node_lines.specs.NodeLines.{node_lines};
+ghost use Rattle.qs_script.specs.Limits.{longest_text};
 ghost use Rattle.std.specs.List.{AllByRecursion};
 ghost use Rattle.qs_outcomes.specs.Outcomes.{HasPlaces};
 
@@ -18,10 +20,11 @@ use qs_dot::dot_text;
 use qs_json::{counts_json, graph_json, outcomes_json};
 use qs_line::{Format, GraphFormat, LineFault, ReportStyle, Settings, read_line};
 use qs_lists::{ListFault, Part, clients_of};
+use qs_node_lines::{NodeLines, node_lines};
 use qs_outcomes::{AllOutcomes, Watcher, outcomes_watched};
 use qs_report::{Fault, check_text, graph_text, outcomes_text, status};
 use qs_run::{FreeGate, FreeStart, Starter, execute_with};
-use qs_script::{LONGEST_TEXT, read};
+use qs_script::{LONGEST_TEXT, Script, read};
 use qs_syncset::Mode;
 use std::alloc::{AllocError, Global};
 use std::io::Read;
@@ -75,7 +78,7 @@ pub(crate) fn due_of_list(fault: ListFault) -> Due
 // The counts, in a format.
 fn due_of_counts(alloc: Global, program: &Program, format: Format) -> Due
     ensures not_input { ¬ IsRefusedBy fault.Input result }
-    ensures due { IsOutOfMemory result ⊎ IsDueOfProgram (check format) program.now result }
+    ensures due { IsOutOfMemory result ⊎ IsDueOfProgram (check format) [] program.now result }
 {
     match format {
         Format::Text => due_of_bytes(check_text(alloc, program)),
@@ -83,15 +86,15 @@ fn due_of_counts(alloc: Global, program: &Program, format: Format) -> Due
     }
 }
 
-// The graphs, in a format.
-fn due_of_graphs(alloc: Global, program: &Program, format: GraphFormat) -> Due
+// The graphs, in a format; a drawing tells the lines of the script's text.
+fn due_of_graphs(alloc: Global, program: &Program, lines: &NodeLines, format: GraphFormat) -> Due
     ensures not_input { ¬ IsRefusedBy fault.Input result }
-    ensures due { IsOutOfMemory result ⊎ IsDueOfProgram (graph format) program.now result }
+    ensures due { IsOutOfMemory result ⊎ IsDueOfProgram (graph format) lines.now program.now result }
 {
     match format {
         GraphFormat::Text => due_of_bytes(graph_text(alloc, program)),
         GraphFormat::Json => due_of_bytes(graph_json(alloc, program)),
-        GraphFormat::Dot => due_of_bytes(dot_text(alloc, program)),
+        GraphFormat::Dot => due_of_bytes(dot_text(alloc, program, lines)),
     }
 }
 
@@ -106,7 +109,7 @@ fn due_of_run<S: Starter, T: Threads + Wait + Sync>(
     starter: &mut S,
 ) -> Due
     ensures not_input { ¬ IsRefusedBy fault.Input result }
-    ensures due { IsOutOfMemory result ⊎ IsDueOfProgram (run style mode chunk) program.now result }
+    ensures due { IsOutOfMemory result ⊎ IsDueOfProgram (run style mode chunk) [] program.now result }
     ensures started { HasAsked S.answers program.now starter.old starter.new result }
 {
     match execute_with(rt, alloc, program, mode, chunk, &FreeGate, starter) {
@@ -172,7 +175,7 @@ fn due_of_outcomes<P: Watcher>(
     watcher: &mut P,
 ) -> Due
     ensures not_input { ¬ IsRefusedBy fault.Input result }
-    ensures due { IsOutOfMemory result ⊎ IsDueOfProgram (outcomes format limit front.now) program.now result }
+    ensures due { IsOutOfMemory result ⊎ IsDueOfProgram (outcomes format limit front.now) [] program.now result }
 {
     let clients = match clients_of(alloc, program, front) {
         Ok(clients) => clients,
@@ -197,10 +200,11 @@ fn due_of_program<T: Threads + Wait + Sync, P: Watcher>(
     alloc: Global,
     settings: &Settings,
     program: &Program,
+    lines: &NodeLines,
     watcher: &mut P,
 ) -> Due
     ensures not_input { ¬ IsRefusedBy fault.Input result }
-    ensures due { IsOutOfMemory result ⊎ IsDueOfProgram (request_of settings.now) program.now result }
+    ensures due { IsOutOfMemory result ⊎ IsDueOfProgram (request_of settings.now) lines.now program.now result }
 {
     match settings {
         Settings::Rules { style, plan } => due_of_rules(alloc, program, *style, plan),
@@ -219,7 +223,25 @@ fn due_of_program<T: Threads + Wait + Sync, P: Watcher>(
             front,
         } => due_of_outcomes(alloc, program, *format, *limit, front.as_slice(), watcher),
         Settings::Check { format } => due_of_counts(alloc, program, *format),
-        Settings::Graph { format } => due_of_graphs(alloc, program, *format),
+        Settings::Graph { format } => due_of_graphs(alloc, program, lines, *format),
+    }
+}
+
+// The lines of a script's text for the nodes of its graphs, where these are to be drawn; else none are looked for.
+fn lines_for(
+    alloc: Global,
+    settings: &Settings,
+    text: &[u8],
+    script: &Script,
+) -> Result<NodeLines, AllocError>
+    requires short { length text.now ≤ longest_text }
+    ensures lines { IfOk result (λ lines. AreLinesFor (request_of settings.now) lines (node_lines text.now script.now)) }
+{
+    match settings {
+        Settings::Graph {
+            format: GraphFormat::Dot,
+        } => node_lines(alloc, text, script),
+        _ => Ok(NodeLines::none(alloc)),
     }
 }
 
@@ -238,11 +260,14 @@ fn due_of_script<T: Threads + Wait + Sync, P: Watcher>(
         Ok(script) => script,
         Err(fault) => return Due::Refused(Fault::Read(fault)),
     };
+    let Ok(lines) = lines_for(alloc, settings, text, &script) else {
+        return Due::Refused(Fault::Memory);
+    };
     let program = match check(alloc, script) {
         Ok(program) => program,
         Err(fault) => return Due::Refused(Fault::Check(fault)),
     };
-    due_of_program(rt, alloc, settings, &program, watcher)
+    due_of_program(rt, alloc, settings, &program, &lines, watcher)
 }
 
 // One byte more than a script may have shows that a text is longer.

@@ -1,6 +1,6 @@
 // What a run has to write that is played by one thread: by the plain rules, or in the optimised machine.
 
-ghost use Rattle.std.specs.Prelude.{◌⊎◌};
+ghost use Rattle.std.specs.Prelude.{◌≡◌, ◌⊎◌, ◌||◌, []};
 ghost use Rattle.qs_report.specs.declared.faults.Fault.TheVariants as fault;
 ghost use Rattle.qs_line.specs.Line.{by_order, by_schedule, plan_of, play, rules};
 ghost use Rattle.qs_serve.specs.Due.{IsDueOfProgram, IsOutOfMemory, IsRefusedBy};
@@ -13,9 +13,27 @@ use qs_core::{play, play_in_order, play_plain, play_plain_in_order};
 use qs_line::{Plan, ReportStyle};
 use qs_lists::{Part, actors_of, clients_of};
 use qs_report::Fault;
-use qs_steps::{play_steps, rules_steps};
+use qs_steps::{Wanted, play_told, rules_told};
 use qs_syncset::Mode;
 use std::alloc::Global;
+
+// Whether something is told beside a report.
+fn is_told(style: ReportStyle) -> bool
+    ensures value { result ≡ (style.steps || style.queues) }
+{
+    style.steps || style.queues
+}
+
+// What a style wants to be told beside a report.
+fn wanted_by(style: ReportStyle) -> Wanted
+    ensures steps { result.steps ≡ style.steps }
+    ensures queues { result.queues ≡ style.queues }
+{
+    Wanted {
+        steps: style.steps,
+        queues: style.queues,
+    }
+}
 
 // A run by the plain rules, by a schedule.
 fn due_of_scheduled_rules(
@@ -26,15 +44,16 @@ fn due_of_scheduled_rules(
     rounds: u32,
 ) -> Due
     ensures not_input { ¬ IsRefusedBy fault.Input result }
-    ensures due { IsOutOfMemory result ⊎ IsDueOfProgram (rules style (by_schedule rounds picks.now)) program.now result }
+    ensures due { IsOutOfMemory result ⊎ IsDueOfProgram (rules style (by_schedule rounds picks.now)) [] program.now result }
 {
     let actors = match actors_of(alloc, program, picks) {
         Ok(actors) => actors,
         Err(fault) => return due_of_list(fault),
     };
-    if style.steps {
-        return match rules_steps(alloc, program, actors.as_slice(), rounds) {
-            Ok((lines, played)) => due_of_told(alloc, program, style, lines, played),
+    if is_told(style) {
+        let wanted = wanted_by(style);
+        return match rules_told(alloc, program, actors.as_slice(), rounds, wanted) {
+            Ok(told) => due_of_told(alloc, program, style, told),
             Err(fault) => Due::Refused(Fault::Play(fault)),
         };
     }
@@ -47,7 +66,7 @@ fn due_of_scheduled_rules(
 // A run by the plain rules, one whole block after another.
 fn due_of_ordered_rules(alloc: Global, program: &Program, style: ReportStyle, list: &[Part]) -> Due
     ensures not_input { ¬ IsRefusedBy fault.Input result }
-    ensures due { IsOutOfMemory result ⊎ IsDueOfProgram (rules style (by_order list.now)) program.now result }
+    ensures due { IsOutOfMemory result ⊎ IsDueOfProgram (rules style (by_order list.now)) [] program.now result }
 {
     let clients = match clients_of(alloc, program, list) {
         Ok(clients) => clients,
@@ -62,7 +81,7 @@ fn due_of_ordered_rules(alloc: Global, program: &Program, style: ReportStyle, li
 /// A run by the plain rules.
 pub(crate) fn due_of_rules(alloc: Global, program: &Program, style: ReportStyle, plan: &Plan) -> Due
     ensures not_input { ¬ IsRefusedBy fault.Input result }
-    ensures due { IsOutOfMemory result ⊎ IsDueOfProgram (rules style (plan_of plan.now)) program.now result }
+    ensures due { IsOutOfMemory result ⊎ IsDueOfProgram (rules style (plan_of plan.now)) [] program.now result }
 {
     match plan {
         Plan::Schedule { rounds, picks } => {
@@ -83,15 +102,24 @@ fn due_of_scheduled_play(
     rounds: u32,
 ) -> Due
     ensures not_input { ¬ IsRefusedBy fault.Input result }
-    ensures due { IsOutOfMemory result ⊎ IsDueOfProgram (play style mode chunk (by_schedule rounds picks.now)) program.now result }
+    ensures due { IsOutOfMemory result ⊎ IsDueOfProgram (play style mode chunk (by_schedule rounds picks.now)) [] program.now result }
 {
     let actors = match actors_of(alloc, program, picks) {
         Ok(actors) => actors,
         Err(fault) => return due_of_list(fault),
     };
-    if style.steps {
-        return match play_steps(alloc, program, mode, chunk, actors.as_slice(), rounds) {
-            Ok((lines, played)) => due_of_told(alloc, program, style, lines, played),
+    if is_told(style) {
+        let wanted = wanted_by(style);
+        return match play_told(
+            alloc,
+            program,
+            mode,
+            chunk,
+            actors.as_slice(),
+            rounds,
+            wanted,
+        ) {
+            Ok(told) => due_of_told(alloc, program, style, told),
             Err(fault) => Due::Refused(Fault::Play(fault)),
         };
     }
@@ -111,7 +139,7 @@ fn due_of_ordered_play(
     list: &[Part],
 ) -> Due
     ensures not_input { ¬ IsRefusedBy fault.Input result }
-    ensures due { IsOutOfMemory result ⊎ IsDueOfProgram (play style mode chunk (by_order list.now)) program.now result }
+    ensures due { IsOutOfMemory result ⊎ IsDueOfProgram (play style mode chunk (by_order list.now)) [] program.now result }
 {
     let clients = match clients_of(alloc, program, list) {
         Ok(clients) => clients,
@@ -133,7 +161,7 @@ pub(crate) fn due_of_play(
     plan: &Plan,
 ) -> Due
     ensures not_input { ¬ IsRefusedBy fault.Input result }
-    ensures due { IsOutOfMemory result ⊎ IsDueOfProgram (play style mode chunk (plan_of plan.now)) program.now result }
+    ensures due { IsOutOfMemory result ⊎ IsDueOfProgram (play style mode chunk (plan_of plan.now)) [] program.now result }
 {
     match plan {
         Plan::Schedule { rounds, picks } => {

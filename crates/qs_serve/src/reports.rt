@@ -1,8 +1,8 @@
 // The reports of what was played.
 
-ghost use Rattle.std.specs.Prelude.{◌≡◌, ◌++◌, IfOk};
+ghost use Rattle.std.specs.Prelude.{◌≡◌, IfOk};
 ghost use Rattle.qs_report.specs.Report.{run_text};
-ghost use Rattle.qs_serve.specs.Due.{IsReportAfter, IsReportOf, report_by};
+ghost use Rattle.qs_serve.specs.Due.{IsReportBetween, IsReportOf, report_by, told_report};
 
 use crate::due::{Due, due_of_bytes};
 use qs_check::Program;
@@ -10,6 +10,7 @@ use qs_json::run_json;
 use qs_line::{ReportFormat, ReportStyle};
 use qs_played::{Outcome, Played};
 use qs_report::{report, report_counts};
+use qs_steps::Told;
 use qs_svg::run_svg;
 use std::alloc::{AllocError, Global};
 
@@ -73,33 +74,35 @@ pub(crate) fn due_of_outcome(
     due_of_bytes(text)
 }
 
-// Lines, and after them the report of what was played.
-fn report_after(
-    alloc: Global,
-    program: &Program,
-    style: ReportStyle,
-    lines: Vec<u8>,
-    played: &Played,
-) -> Result<Vec<u8>, AllocError>
-    ensures text { IfOk result (λ text. text.items ≡ lines.items ++ report_by style program.now played.now) }
+// A report between the lines of its steps and of its queues.
+fn joined(steps: Vec<u8>, report: &[u8], queues: &[u8]) -> Result<Vec<u8>, AllocError>
+    ensures text { IfOk result (λ text. text.items ≡ told_report steps.items queues.now report.now) }
 {
-    let report = styled_report(alloc, program, style, played)?;
-    let mut text = lines;
-    text.extend_from_slice(report.as_slice())?;
+    let mut text = steps;
+    text.extend_from_slice(report)?;
+    text.extend_from_slice(queues)?;
     Ok(text)
 }
 
-/// The same, where both were written.
-pub(crate) fn due_of_told(
+// The report of what was told, between the lines of its steps and of its queues.
+fn report_between(
     alloc: Global,
     program: &Program,
     style: ReportStyle,
-    lines: Vec<u8>,
-    played: Played,
-) -> Due
-    ensures due { IsReportAfter lines.items style program.now played result }
+    told: Told,
+) -> Result<Vec<u8>, AllocError>
+    ensures text { IfOk result (λ text. text.items ≡ told_report told.steps.items told.queues.items (report_by style program.now told.played)) }
 {
-    let text = report_after(alloc, program, style, lines, &played);
+    let (steps, queues, played) = told.into_parts();
+    let report = styled_report(alloc, program, style, &played);
     drop(played);
-    due_of_bytes(text)
+    let report = report?;
+    joined(steps, report.as_slice(), queues.as_slice())
+}
+
+/// The same, where both were written.
+pub(crate) fn due_of_told(alloc: Global, program: &Program, style: ReportStyle, told: Told) -> Due
+    ensures due { IsReportBetween told.steps.items told.queues.items style program.now told.played result }
+{
+    due_of_bytes(report_between(alloc, program, style, told))
 }

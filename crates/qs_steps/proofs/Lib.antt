@@ -3,3 +3,5 @@ pub mod TellingRuns
 pub mod RulesTelling
 pub mod CoreTelling
 pub mod NamedSteps
+pub mod Queues
+pub mod CoreQueuesText

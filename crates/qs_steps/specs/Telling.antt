@@ -1,5 +1,5 @@
 -- What the code that tells steps promises, call by call.
-use Rattle.std.specs.Prelude.{◌≡◌, ℕ, Bool, true, false, List, [], ◌++◌, codes, Option, Some, None, Result, Ok, Err}
+use Rattle.std.specs.Prelude.{◌≡◌, ℕ, Bool, true, false, if◌then◌else◌, List, [], ◌++◌, codes, Option, Some, None, Result, Ok, Err}
 use Rattle.qs_objects.specs.declared.Request.{Request}
 use Rattle.qs_program.specs.Program.{ProgramShape}
 use Rattle.qs_syncset.specs.Codes.{ClientCode}
@@ -10,19 +10,30 @@ use Rattle.qs_played.specs.declared.schedule.actor.Actor.{Actor}
 use Rattle.qs_plain_laws.specs.Plain.{step}
 use Rattle.qs_plain_laws.specs.PlainSchedule.{scheduled}
 use Rattle.qs_plain.specs.Rules.{RulesState, plain_of}
+use Rattle.qs_plain.specs.declared.awaited.Awaited.{Awaited}
+use Rattle.qs_plain.specs.declared.awaited.Awaited.TheVariants.{Nothing, Reply, Done}
 use Rattle.qs_plain.specs.declared.deed.Deed.{Deed}
 use Rattle.qs_core_laws.specs.Core.{AreCodes, core_step}
 use Rattle.qs_core_laws.specs.CoreSchedule.{core_played, core_scheduled}
 use Rattle.qs_core_state.specs.CoreState.{CoreState, codes_of, core_of}
 use Rattle.qs_core.specs.declared.core_deed.CoreDeed.{CoreDeed}
+use Rattle.qs_steps.specs.declared.wanted.Wanted.{Wanted}
+use Rattle.qs_steps.specs.declared.wanted.Told.{Told}
 use Rattle.qs_steps.specs.Told.{lines_by, step_line, steppers_by}
 use Rattle.qs_steps.specs.PlainSteps.{deed_text, plain_told}
+use Rattle.qs_steps.specs.CoreQueues.{core_queues}
 use Rattle.qs_steps.specs.CoreSteps.{core_steps, core_told, core_text_or_none}
 
--- the run of a text with its run
-abbrev pub played_in : {A E : Type 0} → Result (A × Played) E → Result Played E
-played_in (Ok told) = Ok told.1
+-- the run of what was told with it
+abbrev pub played_in : {E : Type 0} → Result Told E → Result Played E
+played_in (Ok told) = Ok told.played
 played_in (Err fault) = Err fault
+
+-- what a client waits for under the plain rules, in words
+abbrev pub awaited_text : Awaited → List ℕ
+awaited_text Nothing = codes "waits for nothing"
+awaited_text Reply = codes "waits for a reply"
+awaited_text Done = codes "is done"
 
 -- the line of an actor that has stepped, or that has not
 abbrev pub idle_line : ProgramShape → (is_pick : Bool) → ℕ → Actor → List ℕ
@@ -75,7 +86,8 @@ pub record IsScheduledIn (p : ProgramShape) (picks : List Actor) (rounds : ℕ) 
   pub codes : codes_of new ≡ codes_of s
   pub state : core_of new ≡ core_scheduled p (codes_of s) s.size picks rounds
 
--- by the same codes of the program's clients: the text is the lines of the steps, and this is shown
-abbrev pub IsToldIn : ProgramShape → Mode → (size : ℕ) → List Actor → (rounds : ℕ) → List ℕ → Played → Type 0
-IsToldIn p mode size picks rounds text played =
-    (code : ℕ → ClientCode) × AreCodes p mode code × (text ≡ core_steps p code size picks rounds) × (played ≡ core_played p (core_scheduled p code size picks rounds))
+-- by the same codes of the program's clients: the texts that are asked for are the lines of the steps and what lies where, and this is shown
+abbrev pub IsToldIn : ProgramShape → Mode → (size : ℕ) → List Actor → (rounds : ℕ) → Wanted → (steps queues : List ℕ) → Played → Type 0
+IsToldIn p mode size picks rounds wanted steps queues played =
+    (code : ℕ → ClientCode) × AreCodes p mode code × (steps ≡ (if wanted.steps then core_steps p code size picks rounds else []))
+    × (queues ≡ (if wanted.queues then core_queues p code size picks rounds else [])) × (played ≡ core_played p (core_scheduled p code size picks rounds))

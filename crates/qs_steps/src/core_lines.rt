@@ -1,18 +1,18 @@
 //! The line of a step of the optimised machine.
 
 ghost use Rattle.std.specs.Prelude.{◌≡◌, ◌++◌, OnOk, codes, flat_map};
-ghost use Rattle.qs_program.specs.Program.{client_at, object_at};
+ghost use Rattle.qs_program.specs.Program.{object_at};
 ghost use Rattle.qs_report.specs.Report.{request_text};
 ghost use Rattle.qs_steps.specs.CoreSteps.{core_deed_text, core_text_or_none, requests_text};
 ghost use Rattle.qs_steps.specs.Telling.{core_line};
 ghost use Rattle.qs_steps.specs.Told.{step_line, ticket_text};
 
-use crate::lines::{put_idle, put_reserves, put_ticket, put_who};
+use crate::lines::{put_client, put_idle, put_reserves, put_ticket, put_who};
 use qs_core::CoreDeed;
 use qs_objects::{Request, Ticket};
 use qs_played::Actor;
 use qs_program::Program;
-use qs_report::{client_name, object_name, put, put_whole_request};
+use qs_report::{object_name, put, put_whole_request};
 use std::alloc::AllocError;
 
 // Further requests, each after a space.
@@ -30,8 +30,8 @@ fn put_other_requests(
     Ok(())
 }
 
-// Requests, joined by spaces.
-fn put_requests(
+/// Puts requests, joined by spaces.
+pub(crate) fn put_requests(
     out: &mut Vec<u8>,
     program: &Program,
     requests: &[Request],
@@ -47,8 +47,8 @@ fn put_requests(
     }
 }
 
-// Words and a handler's object.
-fn put_object(
+/// Puts words and a handler's object.
+pub(crate) fn put_object(
     out: &mut Vec<u8>,
     program: &Program,
     words: &[u8],
@@ -58,19 +58,6 @@ fn put_object(
 {
     put(out, words)?;
     put(out, object_name(program, usize::from(object)))
-}
-
-// Words and a client.
-fn put_client(
-    out: &mut Vec<u8>,
-    program: &Program,
-    words: &[u8],
-    client: u8,
-) -> Result<(), AllocError>
-    ensures ok { OnOk result (out.new.items ≡ out.old.items ++ (words.now ++ (client_at program.now client).name)) }
-{
-    put(out, words)?;
-    put(out, client_name(program, client))
 }
 
 // Words and a ticket.

@@ -1,7 +1,7 @@
 //! What the lines of both machines have in common.
 
 ghost use Rattle.std.specs.Prelude.{◌≡◌, ◌++◌, OnOk, codes, decimal, flat_map};
-ghost use Rattle.qs_program.specs.Program.{ProgramShape, object_at, text_of};
+ghost use Rattle.qs_program.specs.Program.{ProgramShape, client_at, object_at, text_of};
 ghost use Rattle.qs_steps.specs.Telling.{idle_line};
 ghost use Rattle.qs_steps.specs.Told.{actor_text, names_text, reserves_text, ticket_text};
 
@@ -123,4 +123,40 @@ pub(crate) fn put_reserves(
     put(out, b" (")?;
     put_ticket(out, program, ticket)?;
     put(out, b")")
+}
+
+/// Puts a handler's object, and how many are before the handler.
+pub(crate) fn put_head(
+    out: &mut Vec<u8>,
+    program: &Program,
+    handler: u8,
+    count: usize,
+) -> Result<(), AllocError>
+    ensures ok { OnOk result (out.new.items ≡ out.old.items ++ (codes "queue " ++ (object_at program.now handler).name ++ codes " " ++ decimal count ++ codes "\n")) }
+{
+    let mut buffer = Buffer::new();
+    let name = object_name(program, usize::from(handler));
+    put_all(
+        out,
+        &[
+            b"queue ",
+            name,
+            b" ",
+            buffer.format(count).as_bytes(),
+            b"\n",
+        ],
+    )
+}
+
+/// Puts words and a client.
+pub(crate) fn put_client(
+    out: &mut Vec<u8>,
+    program: &Program,
+    words: &[u8],
+    client: u8,
+) -> Result<(), AllocError>
+    ensures ok { OnOk result (out.new.items ≡ out.old.items ++ (words.now ++ (client_at program.now client).name)) }
+{
+    put(out, words)?;
+    put(out, client_name(program, client))
 }

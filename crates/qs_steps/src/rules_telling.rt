@@ -1,20 +1,23 @@
 //! The steps of a schedule under the plain rules, told as they are made.
 
-ghost use Rattle.std.specs.Prelude.{◌≡◌, ◌≤◌, ◌+◌, ◌^◌, ◌++◌, ◌∷◌, [], false, true, IfOk, OnOk};
+ghost use Rattle.std.specs.Prelude.{◌≡◌, ◌≤◌, ◌+◌, ◌^◌, ◌++◌, ◌∷◌, [], false, if◌then◌else◌, true, IfOk, OnOk};
 ghost use Rattle.qs_meaning.specs.Serial.{IsLegal};
 ghost use Rattle.qs_played.specs.Isolation.{IsIsolated};
-ghost use Rattle.qs_played.specs.Schedule.{actors_of, rounds_of};
+ghost use Rattle.qs_played.specs.Schedule.{actors_of, rounds_of, schedule};
 ghost use Rattle.qs_plain_laws.specs.PlainIsolation.{commands_in_queue};
-ghost use Rattle.qs_plain_laws.specs.PlainSchedule.{IsPlayed, played_of, scheduled};
+ghost use Rattle.qs_plain_laws.specs.PlainSchedule.{IsPlayed, played_of, plays, scheduled};
 ghost use Rattle.qs_plain_laws.specs.PlainSyncSums.{AreQueriesCounted};
 ghost use Rattle.qs_plain_laws.specs.Plain.{begin};
 ghost use Rattle.qs_plain.specs.Rules.{plain_of};
+ghost use Rattle.qs_steps.specs.PlainQueues.{plain_queues, queues_text};
 ghost use Rattle.qs_steps.specs.PlainSteps.{plain_steps};
 ghost use Rattle.qs_steps.specs.Telling.{AreRulesTold, IsScheduled, NoneStep, played_in};
 
 use crate::plain_lines::put_line;
+use crate::plain_queues::put_plain_queues;
+use crate::wanted::{Told, Wanted};
 use qs_plain::Rules;
-use qs_played::{Actor, MOST_ROUNDS, PlayFault, Played, are_named};
+use qs_played::{Actor, MOST_ROUNDS, PlayFault, are_named};
 use qs_program::Program;
 use std::alloc::{AllocError, Global};
 
@@ -122,40 +125,102 @@ fn put_schedule(
     put_rounds(out, program, rules, picks.len() as u64, rounds)
 }
 
-// The text, and what the run has shown.
+// The whole schedule, and no text.
+fn play(rules: &mut Rules, picks: &[Actor], rounds: u32)
+    ensures state { plain_of rules.new ≡ plays rules.old.program (schedule rules.old.program picks.now rounds) (plain_of rules.old) }
+    ensures program { rules.new.program ≡ rules.old.program }
+{
+    for pick in picks {
+        let _stepped = rules.step(*pick);
+    }
+    rules.play_rounds(rounds);
+}
+
+// Plays the whole schedule: the lines of its steps, where they are asked for, and else no text.
+fn play_steps(
+    alloc: Global,
+    program: &Program,
+    rules: &mut Rules,
+    picks: &[Actor],
+    rounds: u32,
+    tells: bool,
+) -> Result<Vec<u8>, AllocError>
+    requires own { rules.old.program ≡ program.now }
+    requires begins { plain_of rules.old ≡ begin program.now }
+    ensures text { IfOk result (λ out. out.items ≡ (if tells then plain_steps program.now picks.now rounds else [])) }
+    ensures state { OnOk result (IsScheduled program.now picks.now rounds rules.new) }
+{
+    if tells {
+        let mut out = Vec::new(alloc);
+        put_schedule(&mut out, program, rules, picks, rounds)?;
+        Ok(out)
+    } else {
+        play(rules, picks, rounds);
+        Ok(Vec::new(alloc))
+    }
+}
+
+// What lies where, where it is asked for, and else no text.
+fn queues_of(
+    alloc: Global,
+    program: &Program,
+    rules: &Rules,
+    tells: bool,
+) -> Result<Vec<u8>, AllocError>
+    requires own { rules.now.program ≡ program.now }
+    ensures text { IfOk result (λ out. out.items ≡ (if tells then queues_text program.now (plain_of rules.now) else [])) }
+{
+    if tells {
+        let mut out = Vec::new(alloc);
+        put_plain_queues(&mut out, program, rules)?;
+        Ok(out)
+    } else {
+        Ok(Vec::new(alloc))
+    }
+}
+
+// The texts, and what the run has shown.
 fn tell(
     alloc: Global,
     program: &Program,
     picks: &[Actor],
     rounds: u32,
-) -> Result<(Vec<u8>, Played), AllocError>
-    ensures text { IfOk result (λ told. told.0.items ≡ plain_steps program.now picks.now rounds) }
-    ensures played { IfOk result (λ told. told.1 ≡ played_of program.now (scheduled program.now picks.now rounds)) }
-    ensures legal { IfOk result (λ told. IsLegal program.now told.1.order) }
-    ensures isolated { IfOk result (λ told. IsIsolated program.now told.1 (commands_in_queue (scheduled program.now picks.now rounds))) }
-    ensures counted { IfOk result (λ told. AreQueriesCounted program.now (scheduled program.now picks.now rounds) told.1) }
+    wanted: Wanted,
+) -> Result<Told, AllocError>
+    ensures steps { IfOk result (λ told. told.steps.items ≡ (if wanted.steps then plain_steps program.now picks.now rounds else [])) }
+    ensures queues { IfOk result (λ told. told.queues.items ≡ (if wanted.queues then plain_queues program.now picks.now rounds else [])) }
+    ensures played { IfOk result (λ told. told.played ≡ played_of program.now (scheduled program.now picks.now rounds)) }
+    ensures legal { IfOk result (λ told. IsLegal program.now told.played.order) }
+    ensures isolated { IfOk result (λ told. IsIsolated program.now told.played (commands_in_queue (scheduled program.now picks.now rounds))) }
+    ensures counted { IfOk result (λ told. AreQueriesCounted program.now (scheduled program.now picks.now rounds) told.played) }
 {
     let mut rules = Rules::new(alloc, program)?;
-    let mut out = Vec::new(alloc);
-    put_schedule(&mut out, program, &mut rules, picks, rounds)?;
+    let steps = play_steps(alloc, program, &mut rules, picks, rounds, wanted.steps)?;
+    let queues = queues_of(alloc, program, &rules, wanted.queues)?;
     let played = rules.into_played(alloc)?;
-    Ok((out, played))
+    Ok(Told {
+        steps,
+        queues,
+        played,
+    })
 }
 
-/// The lines of the steps of a schedule under the plain rules, and what it shows: first the picks, one step each, then so many rounds. The
-/// text is exactly the definition's; what is shown, and when each fault comes, is as `play_plain` has it. The text grows as the steps are
-/// made, and `Memory` comes where one of its allocations or of the run's fails.
-pub fn rules_steps(
+/// What a schedule shows under the plain rules: first the picks, one step each, then so many rounds; and what is asked for, the lines of
+/// its steps and what lies where after it. The texts are exactly the definitions'; what is shown, and when each fault comes, is as
+/// `play_plain` has it. The texts grow as they are written, and `Memory` comes where one of their allocations or of the run's fails.
+pub fn rules_told(
     alloc: Global,
     program: &Program,
     picks: &[Actor],
     rounds: u32,
-) -> Result<(Vec<u8>, Played), PlayFault>
+    wanted: Wanted,
+) -> Result<Told, PlayFault>
     ensures played { IsPlayed program.now picks.now rounds (played_in result) }
-    ensures text { IfOk result (λ told. told.0.items ≡ plain_steps program.now picks.now rounds) }
-    ensures legal { IfOk result (λ told. IsLegal program.now told.1.order) }
-    ensures isolated { IfOk result (λ told. IsIsolated program.now told.1 (commands_in_queue (scheduled program.now picks.now rounds))) }
-    ensures counted { IfOk result (λ told. AreQueriesCounted program.now (scheduled program.now picks.now rounds) told.1) }
+    ensures steps { IfOk result (λ told. told.steps.items ≡ (if wanted.steps then plain_steps program.now picks.now rounds else [])) }
+    ensures queues { IfOk result (λ told. told.queues.items ≡ (if wanted.queues then plain_queues program.now picks.now rounds else [])) }
+    ensures legal { IfOk result (λ told. IsLegal program.now told.played.order) }
+    ensures isolated { IfOk result (λ told. IsIsolated program.now told.played (commands_in_queue (scheduled program.now picks.now rounds))) }
+    ensures counted { IfOk result (λ told. AreQueriesCounted program.now (scheduled program.now picks.now rounds) told.played) }
 {
     if rounds > MOST_ROUNDS {
         return Err(PlayFault::Rounds);
@@ -163,7 +228,7 @@ pub fn rules_steps(
     if !are_named(program, picks) {
         return Err(PlayFault::Actor);
     }
-    match tell(alloc, program, picks, rounds) {
+    match tell(alloc, program, picks, rounds, wanted) {
         Ok(told) => Ok(told),
         Err(_) => Err(PlayFault::Memory),
     }

@@ -1,10 +1,11 @@
 //! From bytes to tokens.
 
-ghost use Rattle.std.specs.Prelude.{◌≡◌, ◌-◌, drop, ℕ, ◌<◌, ◌≤◌, ◌≢◌, length, slice_index, IsTrue, IfOk, All, false};
+ghost use Rattle.std.specs.Prelude.{◌≡◌, ◌-◌, drop, ℕ, ◌<◌, ◌≤◌, ◌≢◌, length, slice_index, IsTrue, IfOk, All, false, if◌then◌else◌};
 ghost use Rattle.qs_tokens.specs.Limits.{most_digits};
-ghost use Rattle.qs_tokens.specs.Tokens.{is_digit as digit, is_letter as letter, is_space as space, at, signs, equals_signs, value_of, word_token, tokens_of, tokens_from, going_on, single_sign, sign};
+ghost use Rattle.qs_tokens.specs.Tokens.{is_digit as digit, is_letter as letter, is_space as space, at, signs, equals_signs, value_of, word_token, tokens_of, tokens_from, going_on, same, single_sign, sign};
 ghost use Rattle.qs_tokens.specs.Cutting.{Cuts, in_run, run_of};
 ghost use Rattle.qs_tokens.specs.Limits.{longest_name};
+ghost use Rattle.qs_tokens.specs.declared.token.Token.TheVariants.{Name as name};
 
 use crate::limits::{LONGEST_NAME, MOST_DIGITS};
 use crate::name::Name;
@@ -96,34 +97,36 @@ fn front_word(text: &[u8]) -> Result<(Piece, &[u8]), TokenFault>
     Ok((Piece::Token(token_of(word)), rest))
 }
 
-// A reserved word, or a name.
+// A reserved word, or a name. No two reserved words begin with the same letter.
 fn token_of(word: &[u8]) -> Token
     requires { length word.now ≤ longest_name }
     ensures { result ≡ word_token word.now }
 {
-    if word == b"object".as_slice() {
-        Token::Object
-    } else if word == b"client".as_slice() {
-        Token::Client
-    } else if word == b"separate".as_slice() {
-        Token::Separate
-    } else if word == b"if".as_slice() {
-        Token::If
-    } else if word == b"else".as_slice() {
-        Token::Else
-    } else if word == b"repeat".as_slice() {
-        Token::Repeat
-    } else if word == b"leave".as_slice() {
-        Token::Leave
-    } else if word == b"account".as_slice() {
-        Token::Account
-    } else if word == b"buffer".as_slice() {
-        Token::Buffer
-    } else if word == b"grid".as_slice() {
-        Token::Grid
-    } else if word == b"template".as_slice() {
-        Token::Template
+    match word {
+        [b'o', ..] => reserved_or_name(word, b"object", Token::Object),
+        [b'c', ..] => reserved_or_name(word, b"client", Token::Client),
+        [b's', ..] => reserved_or_name(word, b"separate", Token::Separate),
+        [b'i', ..] => reserved_or_name(word, b"if", Token::If),
+        [b'e', ..] => reserved_or_name(word, b"else", Token::Else),
+        [b'r', ..] => reserved_or_name(word, b"repeat", Token::Repeat),
+        [b'l', ..] => reserved_or_name(word, b"leave", Token::Leave),
+        [b'a', ..] => reserved_or_name(word, b"account", Token::Account),
+        [b'b', ..] => reserved_or_name(word, b"buffer", Token::Buffer),
+        [b'g', ..] => reserved_or_name(word, b"grid", Token::Grid),
+        [b't', ..] => reserved_or_name(word, b"template", Token::Template),
+        _ => Token::Name(Name::new(word)),
+    }
+}
+
+// This reserved word, or a name.
+fn reserved_or_name(word: &[u8], reserved: &[u8], token: Token) -> Token
+    requires { length word.now ≤ longest_name }
+    ensures { result ≡ (if same word.now reserved.now then token else name word.now) }
+{
+    if word == reserved {
+        token
     } else {
+        drop(token);
         Token::Name(Name::new(word))
     }
 }

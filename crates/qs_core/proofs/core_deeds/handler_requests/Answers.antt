@@ -7,25 +7,26 @@ use Rattle.qs_core_parts.specs.LaneStates.{lane_at}
 use Rattle.qs_core_state.specs.CoreState.{Side, side_at}
 use Rattle.qs_core.proofs.CoreDeeds.{requests_taken}
 use Rattle.qs_core.proofs.CoreFieldLemmas.{client_here}
+use Rattle.qs_core.specs.CoreShown.{TurnsTo}
 use Rattle.qs_core.proofs.CoreShowing.{turned_inside}
 use Rattle.qs_core.proofs.core_deeds.handler_requests.Goals as goal
 
 pub index_mut-client-requires : goal.index_mut-client-requires
 index_mut-client-requires c =
-    let inside = turned_inside c.args.clients.now.items c.args.handlers.now c.args.number c.handler_at-handler.result.now c.handler_at-handler.ensures.seat c.handler_at-handler.ensures.kept c.requires.turns _
+    let inside = turned_inside c.args.clients.now.items c.args.number c.handler_at-handler.result.now c.handler_at-handler.ensures.kept (subst (TurnsTo c.args.clients.now.items) (sym c.handler_at-handler.ensures.seat) c.requires.turns) _
     (sym (ap turns_to (sym c.act.ensures.value ∙ c.in-TakeParcel.is))) in
     omega (arith, inside, c.from.ensures, c.args.clients.now.ok)
 
 pub lane_requests-requires : goal.lane_requests-requires
 lane_requests-requires c =
-    let inside = turned_inside c.args.clients.now.items c.args.handlers.now c.args.number c.handler_at-handler.result.now c.handler_at-handler.ensures.seat c.handler_at-handler.ensures.kept c.requires.turns _
+    let inside = turned_inside c.args.clients.now.items c.args.number c.handler_at-handler.result.now c.handler_at-handler.ensures.kept (subst (TurnsTo c.args.clients.now.items) (sym c.handler_at-handler.ensures.seat) c.requires.turns) _
     (sym (ap turns_to (sym c.act.ensures.value ∙ c.in-TakeParcel.is))) in
     let here = client_here c.args.clients.now.items _ c.from.result c.index_mut-client.result.now c.from.ensures inside c.index_mut-client.ensures.value in
     omega (arith, c.requires.lanes _ inside, ap (λ (x : Side). length x.lanes) here)
 
 pub returns-in-TakeParcel-clause-value : goal.returns-in-TakeParcel-clause-value
 returns-in-TakeParcel-clause-value c =
-    let inside = turned_inside c.args.clients.now.items c.args.handlers.now c.args.number c.handler_at-handler.result.now c.handler_at-handler.ensures.seat c.handler_at-handler.ensures.kept c.requires.turns _
+    let inside = turned_inside c.args.clients.now.items c.args.number c.handler_at-handler.result.now c.handler_at-handler.ensures.kept (subst (TurnsTo c.args.clients.now.items) (sym c.handler_at-handler.ensures.seat) c.requires.turns) _
     (sym (ap turns_to (sym c.act.ensures.value ∙ c.in-TakeParcel.is))) in
     let here = client_here c.args.clients.now.items _ c.from.result c.index_mut-client.result.now c.from.ensures inside c.index_mut-client.ensures.value in
     let act = ap (λ (x : CoreHandlerState). act_of (handler_of x)) (sym c.handler_at-handler.ensures.seat) ∙ sym c.handler_at-handler.ensures.kept.act ∙ sym c.act.ensures.value ∙ c.in-TakeParcel.is in

@@ -17,9 +17,9 @@ pub returns : goal.returns
 returns c =
     let tickets : c.from_vec.result ≡ c.args.order.items = c.from_vec.ensures.value in
     let e : Endings = c.in_ok-endings.endings in
-    let is = c.in_ok-endings.ensures.shown ∙ ((λ k. endings_by (c.deref.ensures.value k) (c.deref-2.ensures.value k) c.args.handlers.now)) in
+    let is = c.in_ok-endings.ensures.shown ∙ ((λ k. endings_by (c.deref.ensures.value k) (c.deref-2.ensures.value k) c.args.handlers.items)) in
     record {
       shown = c.new.ensures.value
           ∙ (ap (λ ts. shown_with ts e.ended c.in_ok-rows.rows.items e.journals e.states e.syncs e.finished) tickets
-          ∙ shown_are c.args.order.items c.args.clients.items c.args.handlers.now c.in_ok-rows.rows.items e c.in_ok-rows.ensures.rows is);
+          ∙ shown_are c.args.order.items c.args.clients.items c.args.handlers.items c.in_ok-rows.rows.items e c.in_ok-rows.ensures.rows is);
     }

@@ -6,7 +6,7 @@ use Rattle.qs_dot.proofs.blocks.dot_text.Goals as goal
 
 pub loop-client-preserved : goal.loop-client-preserved
 loop-client-preserved c =
-    one_added_more (IsClientDrawn c.args.program.now) c.loop-client.client (codes "digraph graphs {\n") _ _
+    one_added_more (IsClientDrawn c.args.program.now c.args.lines.now) c.loop-client.client (codes "digraph graphs {\n") _ _
     c.loop-client.invariant c.in_ok-put_blocks.ensures.ok
 
 pub returns : goal.returns
@@ -17,7 +17,7 @@ returns c =
     record {
       text = (
         blocks,
-        subst (λ n. AreTextsUpTo n (IsClientDrawn c.args.program.now) blocks) all are,
+        subst (λ n. AreTextsUpTo n (IsClientDrawn c.args.program.now c.args.lines.now) blocks) all are,
         c.in_ok-put-2.ensures.ok ∙ ap (λ l. l ++ codes "}\n") e,
       );
     }

@@ -5,4 +5,4 @@ use Rattle.qs_dot.specs.DotText.{IsClientDrawn}
 use Rattle.qs_dot.proofs.blocks.dot_text.Given as goal
 
 abbrev pub invariant-loop-client : goal.invariant-loop-client
-invariant-loop-client l = IsAdded (AreTextsUpTo l.client (IsClientDrawn l.program)) (codes "digraph graphs {\n") l.out.items
+invariant-loop-client l = IsAdded (AreTextsUpTo l.client (IsClientDrawn l.program l.lines)) (codes "digraph graphs {\n") l.out.items

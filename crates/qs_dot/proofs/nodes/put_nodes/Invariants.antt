@@ -6,4 +6,5 @@ use Rattle.qs_dot.proofs.nodes.put_nodes.Given as goal
 
 abbrev pub invariant-loop-n : goal.invariant-loop-n
 invariant-loop-n l =
-    l.out.items ≡ l.initial.out.items ++ texts_up_to l.n (node_text l.program l.ticket.client l.ticket.index l.reserved l.graph.nodes l.sets)
+    l.out.items
+    ≡ l.initial.out.items ++ texts_up_to l.n (node_text l.program l.ticket.client l.ticket.index l.lines l.reserved l.graph.nodes l.sets)

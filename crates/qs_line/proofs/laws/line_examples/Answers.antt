@@ -78,6 +78,17 @@ returns c = record {
       of_check = refl;
       of_outcomes = refl;
     };
+    queues = record {
+      by_rules = refl;
+      by_play = refl;
+      with_steps = refl;
+      as_json = refl;
+      as_picture = refl;
+      of_an_order = refl;
+      twice = refl;
+      by_value = refl;
+      of_run = refl;
+    };
     counted = record { rules_alone = refl; play_alone = refl; run_alone = refl; before_others = refl; between_others = refl; after_others = refl };
     uncounted = record { twice = refl; by_value = refl; by_true = refl; by_word = refl; before_word = refl; of_check = refl; of_graph = refl };
     lists = record {

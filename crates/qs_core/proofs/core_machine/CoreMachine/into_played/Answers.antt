@@ -14,7 +14,7 @@ shown-requires c =
     let s : CoreState = c.args.self in
     let order = ap (λ (r : CoreState). r.order) c.self.view_is in
     let clients = ap (λ (r : CoreState). r.clients) c.self.view_is in
-    let handlers = c.deref.ensures.value ∙ ap (λ (r : CoreState). r.handlers) c.self.view_is in
+    let handlers = ap (λ (r : CoreState). r.handlers) c.self.view_is in
     let sound = subst IsSound (ap (λ (r : CoreState). r.program) c.self.view_is) c.is_sound.ensures.sound in
     let whole = showable s (subst IsCoreState c.self.view_is c.self.invariant.0) c.requires.keeps sound in
     let of_order = subst (λ (ts : List Ticket). AreShowable ts s.clients s.handlers) (sym order) whole in
@@ -26,7 +26,7 @@ returns c =
     let s : CoreState = c.args.self in
     let order = ap (λ (r : CoreState). r.order) c.self.view_is in
     let clients = ap (λ (r : CoreState). r.clients) c.self.view_is in
-    let handlers = c.deref.ensures.value ∙ ap (λ (r : CoreState). r.handlers) c.self.view_is in
+    let handlers = ap (λ (r : CoreState). r.handlers) c.self.view_is in
     let kept = subst IsCoreState c.self.view_is c.self.invariant.0 in
     record {
       shown = subst (λ (x : Played). IfOk c.shown.result (λ played. played ≡ x)) ((λ k. shown_by (order k) (clients k) (handlers k)) ∙ sym (shown_is s kept)) c.shown.ensures.shown;

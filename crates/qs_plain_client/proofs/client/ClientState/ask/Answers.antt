@@ -1,25 +1,23 @@
-use Rattle.std.proofs.Common.{◌≡◌, ◌<◌, ◌-◌, [], None, ap, get_or, get_or-take, length, refl, set, slice_set, sym, subst, take, ◌∙◌, arith, true}
+use Rattle.std.proofs.Common.{◌≡◌, ◌<◌, ◌-◌, [], None, ap, get_or, get_or-take, length, refl, set, sym, subst, take, ◌∙◌, arith, true}
 use Rattle.qs_objects.specs.Traces.{TraceState, noted_at, trace_at}
-use Rattle.qs_objects.specs.declared.Request.{Request}
 use Rattle.qs_objects.specs.declared.held.Event.{Event}
 use Rattle.qs_program.specs.Sound.{is_in}
+use Rattle.qs_program.specs.Values.{request_of}
 use Rattle.qs_sync_counts.specs.SyncRows.{AreFew, CountsState, with_sync}
 use Rattle.qs_sync_counts.proofs.CountRows.{few_in}
 use Rattle.qs_plain_client.specs.Clients.{AreStored, ClientState, IsClient, client_from, current_block}
-use Rattle.qs_meaning.specs.Interaction.{Call, Query}
 use Rattle.qs_meaning.specs.Solo.{event}
-use Rattle.qs_plain_client.specs.Frames.{next_of}
 use Rattle.qs_plain_client.specs.declared.client.Asked.TheVariants as asked
 use Rattle.qs_plain_client.specs.ClientMoves.{AsksNext, after_moves}
 use Rattle.qs_plain_client.specs.TraceMoves.{no_trace, noted_in}
 use Rattle.qs_plain_client.specs.declared.stage.Stage.TheVariants as stages
 use Rattle.qs_objects.proofs.Arities.{arity_small}
-use Rattle.qs_plain_client.proofs.ClientPreserved.{within_of, commanded, queried, ended, can_note, same_member}
+use Rattle.qs_plain_client.proofs.ClientPreserved.{within_of, commanded, queried, ended, can_note}
 use Rattle.qs_plain_client.proofs.StoredClients.{empty_later, last_begun, many_prepared, moved_counted, moved_noted, stored_counted, stored_noted}
 use Rattle.qs_plain_client.proofs.client.ClientState.ask.Goals as goal
 
-pub request-request-requires : goal.request-request-requires
-request-request-requires c =
+pub request-requires : goal.request-requires
+request-requires c =
     let stands = ap (λ (d : ClientState). d.stage) c.self.view_is ∙ c.requires in
     let within = within_of c.self.invariant.0 stands in
     let (sound, call) = c.in-Command.ensures.sound _ _ within.sound in
@@ -67,13 +65,6 @@ invariant_of-self c =
       c.self.invariant.2,
     )
 
-pub request-request-requires-in-Query : goal.request-request-requires-in-Query
-request-request-requires-in-Query c =
-    let stands = ap (λ (d : ClientState). d.stage) c.self.view_is ∙ c.requires in
-    let within = within_of c.self.invariant.0 stands in
-    let (sound, call) = c.in-Query.ensures.sound _ _ within.sound in
-    omega (arith, call.1.arity, arity_small c.in-Query.call.now.op)
-
 pub add-requires : goal.add-requires
 add-requires c =
     let s = c.self.inside in
@@ -104,10 +95,9 @@ invariant_of-self-in-Query c =
     let (sound, call) = c.in-Query.ensures.sound _ _ within.sound in
     let same : c.len-in-Query.result ≡ n = c.len-in-Query.ensures ∙ s.entries.ok.0 in
     let h = c.in-Query.call.now.object in
-    let object : c.request-request-in-Query.result.object ≡ h = ap (λ (r : Request). r.object) c.request-request-in-Query.ensures.value in
     let added = ap (λ (t : CountsState). t.rows) c.add.ensures.added in
     let counted : c.add.new.self.rows ≡ set s.counts.rows (n - 1) (with_sync h (get_or s.counts.rows (n - 1) [])) =
-    added ∙ (λ i. set s.counts.rows (same i - 1) (with_sync (object i) (get_or s.counts.rows (same i - 1) []))) in (
+    added ∙ (λ i. set s.counts.rows (same i - 1) (with_sync h (get_or s.counts.rows (same i - 1) []))) in (
       subst IsClient
           (sym (moved_counted s.program.now s.number s.stage s.locals s.frames.frames s.frames.room s.entries.items s.traces s.counts.rows s.prepared.items stored some (stages.Waiting c.in-Query.variable) c.settle.new.locals c.settle.new.self.frames c.settle.new.self.room c.add.new.self.rows h c.settle.ensures.room counted))
           (queried kept c.in-Query.variable c.settle.new.locals c.settle.new.self.frames s.frames.room h _ refl stands refl sound call.1.reserves c.in-Query.ensures.load),
@@ -124,16 +114,28 @@ returns-in-Command-clause-reserves c =
     let stands = ap (λ (d : ClientState). d.stage) c.self.view_is ∙ c.requires in
     let within = within_of c.self.invariant.0 stands in
     let (sound, call) = c.in-Command.ensures.sound _ _ within.sound in
-    same_member (current_block c.args.self.now).reserved c.in-Command.call.now.object c.request-request.result.object (ap (λ (r : Request). r.object) c.request-request.ensures.value)
-    (subst (λ (d : ClientState). is_in (current_block d).reserved c.in-Command.call.now.object ≡ true) c.self.view_is call.reserves)
+    subst (λ (d : ClientState). is_in (current_block d).reserved c.in-Command.call.now.object ≡ true) c.self.view_is call.reserves
 
 pub returns-in-Query-clause-reserves : goal.returns-in-Query-clause-reserves
 returns-in-Query-clause-reserves c =
     let stands = ap (λ (d : ClientState). d.stage) c.self.view_is ∙ c.requires in
     let within = within_of c.self.invariant.0 stands in
     let (sound, call) = c.in-Query.ensures.sound _ _ within.sound in
-    same_member (current_block c.args.self.now).reserved c.in-Query.call.now.object c.request-request-in-Query.result.object (ap (λ (r : Request). r.object) c.request-request-in-Query.ensures.value)
-    (subst (λ (d : ClientState). is_in (current_block d).reserved c.in-Query.call.now.object ≡ true) c.self.view_is call.1.reserves)
+    subst (λ (d : ClientState). is_in (current_block d).reserved c.in-Query.call.now.object ≡ true) c.self.view_is call.1.reserves
+
+pub returns-in-Command-clause-short : goal.returns-in-Command-clause-short
+returns-in-Command-clause-short c =
+    let stands = ap (λ (d : ClientState). d.stage) c.self.view_is ∙ c.requires in
+    let within = within_of c.self.invariant.0 stands in
+    let (sound, call) = c.in-Command.ensures.sound _ _ within.sound in
+    omega (arith, call.arity, arity_small c.in-Command.call.now.op)
+
+pub returns-in-Query-clause-short : goal.returns-in-Query-clause-short
+returns-in-Query-clause-short c =
+    let stands = ap (λ (d : ClientState). d.stage) c.self.view_is ∙ c.requires in
+    let within = within_of c.self.invariant.0 stands in
+    let (sound, call) = c.in-Query.ensures.sound _ _ within.sound in
+    omega (arith, call.1.arity, arity_small c.in-Query.call.now.op)
 
 pub returns-in-Command-clause-goes : goal.returns-in-Command-clause-goes
 returns-in-Command-clause-goes c =
@@ -142,18 +144,15 @@ returns-in-Command-clause-goes c =
     let stands = ap (λ (d : ClientState). d.stage) c.self.view_is ∙ c.requires in
     let within = within_of c.self.invariant.0 stands in
     let same : c.len.result ≡ n = c.len.ensures ∙ s.entries.ok.0 in
-    let r = c.request-request.result in
-    let e : Event = event r None in
-    let noted : c.note.new.self ≡ noted_at s.traces (n - 1) e = c.note.ensures.noted ∙ (λ i. noted_at s.traces (same i - 1) (event ((c.request.ensures.value ∙ sym c.request-request.ensures.value) i) None)) in
+    let call = c.in-Command.call in
+    let e : Event = event (request_of c.settle.new.locals call.now) None in
+    let noted : c.note.new.self ≡ noted_at s.traces (n - 1) e = c.note.ensures.noted ∙ (λ i. noted_at s.traces (same i - 1) (event (c.request.ensures.value i) None)) in
     let old = client_from s.program.now s.number s.stage s.locals s.frames.frames s.frames.room s.entries.items s.traces s.counts.rows s.prepared.items in
     let new = client_from s.program.now s.number s.stage c.settle.new.locals c.settle.new.self.frames c.settle.new.self.room s.entries.items c.note.new.self s.counts.rows s.prepared.items in
     let moves = moved_noted s.program.now s.number s.stage s.locals s.frames.frames s.frames.room s.entries.items s.traces s.counts.rows s.prepared.items c.self.invariant.1 within.some s.stage
     c.settle.new.locals c.settle.new.self.frames c.settle.new.self.room c.note.new.self e c.settle.ensures.room noted in
-    let asks = c.in-Command.ensures.asks in
-    subst (λ (d : ClientState). AsksNext (asked.Command r) d new) c.self.view_is (
-      asks ∙ ap (λ q. Call q (next_of c.settle.new.self.frames c.settle.new.locals)) (sym c.request-request.ensures.value),
-      moves ∙ ap (λ st. after_moves old st c.settle.new.locals c.settle.new.self.frames (noted_in old.traces e) old.counts) stands,
-    )
+    subst (λ (d : ClientState). AsksNext (asked.Command call) d new) c.self.view_is
+    (c.in-Command.ensures.asks, moves ∙ ap (λ st. after_moves old st c.settle.new.locals c.settle.new.self.frames (noted_in old.traces e) old.counts) stands)
 
 pub returns-in-Query-clause-goes : goal.returns-in-Query-clause-goes
 returns-in-Query-clause-goes c =
@@ -163,12 +162,11 @@ returns-in-Query-clause-goes c =
     let within = within_of c.self.invariant.0 stands in
     let same : c.len-in-Query.result ≡ n = c.len-in-Query.ensures ∙ s.entries.ok.0 in
     let x = c.in-Query.variable in
-    let r = c.request-request-in-Query.result in
-    let counted : c.add.new.self.rows ≡ set s.counts.rows (n - 1) (with_sync r.object (get_or s.counts.rows (n - 1) [])) =
-    ap (λ (t : CountsState). t.rows) c.add.ensures.added ∙ (λ i. set s.counts.rows (same i - 1) (with_sync r.object (get_or s.counts.rows (same i - 1) []))) in
+    let call = c.in-Query.call in
+    let h = call.now.object in
+    let counted : c.add.new.self.rows ≡ set s.counts.rows (n - 1) (with_sync h (get_or s.counts.rows (n - 1) [])) =
+    ap (λ (t : CountsState). t.rows) c.add.ensures.added ∙ (λ i. set s.counts.rows (same i - 1) (with_sync h (get_or s.counts.rows (same i - 1) []))) in
     let new = client_from s.program.now s.number (stages.Waiting x) c.settle.new.locals c.settle.new.self.frames c.settle.new.self.room s.entries.items s.traces c.add.new.self.rows s.prepared.items in
     let moves = moved_counted s.program.now s.number s.stage s.locals s.frames.frames s.frames.room s.entries.items s.traces s.counts.rows s.prepared.items c.self.invariant.1 within.some (stages.Waiting x)
-    c.settle.new.locals c.settle.new.self.frames c.settle.new.self.room c.add.new.self.rows r.object c.settle.ensures.room counted in
-    let asks = c.in-Query.ensures.asks in
-    subst (λ (d : ClientState). AsksNext (asked.Query r) d new) c.self.view_is
-    (x, asks ∙ ap (λ q. Query q (λ v. next_of c.settle.new.self.frames (slice_set c.settle.new.locals x v))) (sym c.request-request-in-Query.ensures.value), moves)
+    c.settle.new.locals c.settle.new.self.frames c.settle.new.self.room c.add.new.self.rows h c.settle.ensures.room counted in
+    subst (λ (d : ClientState). AsksNext (asked.Query call) d new) c.self.view_is (x, c.in-Query.ensures.asks, moves)

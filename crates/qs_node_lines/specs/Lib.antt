@@ -1,0 +1,4 @@
+pub mod AnchorLines
+pub mod NodeLines
+pub mod Examples
+pub mod Laws

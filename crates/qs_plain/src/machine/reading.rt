@@ -1,0 +1,52 @@
+//! What lies where in the machine of the plain rules, and what its clients wait for.
+
+ghost use Rattle.std.specs.Prelude.{◌≡◌, map};
+ghost use Rattle.qs_plain_client.specs.Queues.{QueueState};
+ghost use Rattle.qs_plain_laws.specs.Plain.{handler_at as the_handler};
+ghost use Rattle.qs_plain_laws.specs.PlainSchedule.{is_finished};
+ghost use Rattle.qs_plain.specs.Awaiting.{awaited_at};
+ghost use Rattle.qs_plain.specs.Rules.{plain_of};
+
+use super::Machine;
+use crate::awaited::Awaited;
+use crate::showing;
+use qs_plain_client::{PrivateQueue, Stage};
+
+impl Machine<'_> {
+    /// Whether the run is finished.
+    pub(crate) fn is_finished(&self) -> bool
+        ensures value { result ≡ is_finished self.now.program (plain_of self.now) }
+    {
+        showing::are_done(&self.clients) && showing::are_idle(&self.handlers)
+    }
+
+    /// The private queues of a handler, the first of which it serves.
+    pub(crate) fn queues(&self, number: u8) -> &[PrivateQueue]
+        ensures value { map (λ (q : QueueState). q.queue) result.now ≡ (the_handler (plain_of self.now).handlers number).queues }
+    {
+        match self.handlers.get(usize::from(number)) {
+            Some(handler) => handler.queues(),
+            None => &[],
+        }
+    }
+
+    /// What a client waits for.
+    pub(crate) fn awaited(&self, number: u8) -> Awaited
+        ensures value { result ≡ awaited_at self.now.program (plain_of self.now) number }
+    {
+        match self.clients.get(usize::from(number)) {
+            None => Awaited::Done,
+            Some(client) => match client.stage() {
+                Stage::Out => {
+                    if client.has_more() {
+                        Awaited::Nothing
+                    } else {
+                        Awaited::Done
+                    }
+                }
+                Stage::Within => Awaited::Nothing,
+                Stage::Waiting(_) => Awaited::Reply,
+            },
+        }
+    }
+}

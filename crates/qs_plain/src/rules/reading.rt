@@ -1,0 +1,35 @@
+//! What lies where under the plain rules, and what the clients wait for.
+
+ghost use Rattle.std.specs.Prelude.{◌≡◌, map};
+ghost use Rattle.qs_plain_client.specs.Queues.{QueueState};
+ghost use Rattle.qs_plain_laws.specs.Plain.{handler_at};
+ghost use Rattle.qs_plain_laws.specs.PlainSchedule.{is_finished};
+ghost use Rattle.qs_plain.specs.Awaiting.{awaited_at};
+ghost use Rattle.qs_plain.specs.Rules.{plain_of};
+
+use super::Rules;
+use crate::awaited::Awaited;
+use qs_plain_client::PrivateQueue;
+
+impl Rules<'_> {
+    /// Whether the run is finished: no block is to come or goes on, and no private queue is there.
+    pub fn is_finished(&self) -> bool
+        ensures value { result ≡ is_finished self.now.program (plain_of self.now) }
+    {
+        self.machine.is_finished()
+    }
+
+    /// The private queues of a handler, the first of which it serves; of a handler that is not there none.
+    pub fn queues(&self, handler: u8) -> &[PrivateQueue]
+        ensures value { map (λ (q : QueueState). q.queue) result.now ≡ (handler_at (plain_of self.now).handlers handler).queues }
+    {
+        self.machine.queues(handler)
+    }
+
+    /// What a client waits for; one that is not there is done.
+    pub fn awaited(&self, client: u8) -> Awaited
+        ensures value { result ≡ awaited_at self.now.program (plain_of self.now) client }
+    {
+        self.machine.awaited(client)
+    }
+}

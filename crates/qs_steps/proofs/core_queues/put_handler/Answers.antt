@@ -1,0 +1,11 @@
+use Rattle.std.proofs.Common.{◌<◌, length, subst, sym}
+use Rattle.qs_program.specs.Program.{ProgramShape}
+use Rattle.qs_steps.proofs.Queues.{joined}
+use Rattle.qs_steps.proofs.TellingRuns.{on_ok}
+use Rattle.qs_steps.proofs.core_queues.put_handler.Goals as goal
+
+pub put_queue-requires : goal.put_queue-requires
+put_queue-requires c = record { handler = subst (λ (q : ProgramShape). c.args.handler < length q.objects) (sym c.requires.own) c.requires.handler }
+
+pub returns-clause-ok : goal.returns-clause-ok
+returns-clause-ok c = on_ok c.put_lanes.result c.put_lanes.ensures.ok (λ last. joined c.args.out.now.items _ _ _ _ c.in_ok-put_queue.ensures.ok last)
