@@ -102,7 +102,7 @@ pub(crate) fn resolve_blocks(
     requires variables { length variables.now ≤ most_variables }
     ensures blocks { IfOk result (λ v. v.items ≡ map (block_of objects.now kinds.now variables.now) blocks.now) }
 {
-    let mut all = Vec::new(alloc);
+    let mut all = Vec::with_capacity(alloc, blocks.len())?;
     for block in blocks {
         all.push(resolve_block(alloc, objects, kinds, variables, block)?)?;
     }
@@ -134,7 +134,7 @@ pub(crate) fn resolve_list(
     requires objects { length objects.now ≤ most_objects }
     ensures list { IfOk result (λ v. v.items ≡ map (found_at objects.now) names.now) }
 {
-    let mut reserved = Vec::new(alloc);
+    let mut reserved = Vec::with_capacity(alloc, names.len())?;
     for name in names {
         reserved.push(objects.number_of(name) as u8)?;
     }
@@ -155,8 +155,9 @@ fn resolve_body(
     requires variables { length variables.now ≤ most_variables }
     ensures body { IfOk result (λ code. code ≡ body_of objects.now kinds.now variables.now body.now) }
 {
-    let mut code = Body::new(alloc);
-    for stmt in body.as_slice() {
+    let stmts = body.as_slice();
+    let mut code = Body::with_capacity(alloc, stmts.len())?;
+    for stmt in stmts {
         code.push(resolve_stmt(alloc, objects, kinds, variables, stmt)?)?;
     }
     Ok(code)
@@ -207,6 +208,7 @@ fn resolve_stmt(
     }
 }
 
+#[inline(always)]
 fn resolve_call(
     alloc: Global,
     objects: &Names,
@@ -229,6 +231,7 @@ fn resolve_call(
     })
 }
 
+#[inline(always)]
 fn resolve_atoms(
     alloc: Global,
     variables: &Names,
@@ -237,7 +240,7 @@ fn resolve_atoms(
     requires variables { length variables.now ≤ most_variables }
     ensures atoms { IfOk result (λ v. v ≡ map (atom_of variables.now) atoms.now) }
 {
-    let mut args = Atoms::new(alloc);
+    let mut args = Atoms::with_capacity(alloc, atoms.len())?;
     for atom in atoms {
         args.push(resolve_atom(variables, atom))?;
     }

@@ -1,6 +1,6 @@
 //! The chunk: values in order, in a ring of places.
 
-ghost use Rattle.std.specs.Prelude.{◌≡◌, ◌<◌, ◌≤◌, ◌↔◌, [], ◌∷◌, ◌++◌, length, IfNone, IfSome, IfOk, IfErr, IsOk};
+ghost use Rattle.std.specs.Prelude.{◌≡◌, ◌==◌, ◌<◌, ◌≤◌, ◌↔◌, [], ◌∷◌, ◌++◌, length, IfNone, IfSome, IfOk, IfErr, IsOk};
 ghost use Rattle.qs_chunk.specs.Batch.{batch};
 ghost use Rattle.qs_chunk.specs.Limits.{largest_chunk};
 
@@ -71,6 +71,21 @@ impl<T> Chunk<T> {
         self.capacity
     }
 
+    /// Adds a value at the end of a chunk that is not full. Answers whether it is full then.
+    #[inline(always)]
+    pub fn add(&mut self, item: T) -> bool
+        requires room { length self.old.items < self.old.capacity }
+        ensures added { self.new ≡ batch (self.old.items ++ item ∷ []) self.old.capacity }
+        ensures full { result ≡ (length self.new.items == self.new.capacity) }
+    {
+        let count = self.count;
+        let capacity = self.capacity;
+        let back = place_on(self.start, count, capacity);
+        self.room.write(back, item);
+        self.count = count + 1;
+        count + 1 == capacity
+    }
+
     /// Adds a value at the end. It comes back exactly where the chunk is full, and nothing changes then.
     pub fn push(&mut self, item: T) -> Result<(), T>
         ensures fits { IsOk result ↔ (length self.old.items < self.old.capacity) }
@@ -80,9 +95,7 @@ impl<T> Chunk<T> {
         if self.count >= self.capacity {
             return Err(item);
         }
-        let back = place_on(self.start, self.count, self.capacity);
-        self.room.write(back, item);
-        self.count += 1;
+        self.add(item);
         Ok(())
     }
 

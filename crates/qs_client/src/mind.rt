@@ -140,6 +140,7 @@ impl Mind {
     }
 
     // The last act was sent: what is left to be done for it is done.
+    #[inline(always)]
     fn finish(&mut self)
         ensures done { mind_of self.new ≡ finish (mind_of self.old) }
     {
@@ -162,10 +163,22 @@ impl Mind {
         ensures rest { mind_of self.new ≡ next_mind (mind_of self.old) }
         ensures asked { SendsNothing result → Asks (mind_of self.new) result }
     {
-        self.finish();
-        let act = self.run.act(&self.code, self.ticket, self.entries.len());
-        self.outgoing = act.outgoing();
+        let mut act = Act::Finished;
+        self.next_into(&mut act);
         act
+    }
+
+    /// What the client does next, as `next` says, put where another act lay.
+    #[inline(never)]
+    pub fn next_into(&mut self, act: &mut Act)
+        ensures act { act.new ≡ next_act (mind_of self.old) }
+        ensures rest { mind_of self.new ≡ next_mind (mind_of self.old) }
+        ensures asked { SendsNothing act.new → Asks (mind_of self.new) act.new }
+    {
+        self.finish();
+        let begun = self.entries.len();
+        self.run.act_into(&self.code, self.ticket, begun, act);
+        self.outgoing = act.outgoing();
     }
 
     /// The client's next block was reserved, with this ticket.

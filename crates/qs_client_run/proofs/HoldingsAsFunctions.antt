@@ -49,9 +49,6 @@ put_field k f h x n = by_test (h == n)
 pub held_put : (s : HoldingsState) (h : ℕ) (x : Option HeldState) → h < length s.held → held_at (with_held s h x) ≡ put (held_at s) h x
 held_put s h x inside = fun_ext (put_set_at s.held h x None inside)
 
-pub chunk_put : (s : HoldingsState) (h : ℕ) (c : Option (Batch Request)) → h < length s.chunks → chunk_at (with_chunk s h c) ≡ put (chunk_at s) h c
-chunk_put s h c inside = fun_ext (put_set_at s.chunks h c None inside)
-
 pub items_put : (s : HoldingsState) (h : ℕ) (c : Option (Batch Request)) → h < length s.chunks
     → (λ n. items_of (chunk_at (with_chunk s h c) n)) ≡ put (λ n. items_of (chunk_at s n)) h (items_of c)
 items_put s h c inside = fun_ext (λ n. ap items_of (put_set_at s.chunks h c None inside n) ∙ put_field items_of (chunk_at s) h c n)

@@ -1,11 +1,10 @@
 -- What a run keeps before the client's first block, and what it keeps as a block begins.
-use Rattle.std.specs.Prelude.{List, replicate}
+use Rattle.std.specs.Prelude.{List, length, replicate}
 use Rattle.qs_meaning.specs.Serial.{zeros}
-use Rattle.qs_graph.specs.Walk.{entry}
+use Rattle.qs_graph.specs.Walk.{Spot, entry}
 use Rattle.qs_syncset.specs.Codes.{BlockCode}
 use Rattle.qs_client_run.specs.Holdings.{no_holdings}
 use Rattle.qs_client_run.specs.BlockSizes.{empty_rows, longest}
-use Rattle.qs_client_run.specs.Restart.{restart}
 use Rattle.qs_client_run.specs.RunState.{RunState}
 use Rattle.qs_client_run.specs.declared.stage.Stage.TheVariants as stages
 
@@ -16,6 +15,10 @@ fresh_run blocks = record {
   traces = empty_rows blocks;
   stage = stages.Between;
 }
+
+-- at the first node with all counts 0
+abbrev pub restart : Spot → Spot
+restart s = entry s.locals (replicate (length s.counts) 0)
 
 abbrev pub at_beginning : RunState → RunState
 at_beginning s = record s { position = restart s.position }

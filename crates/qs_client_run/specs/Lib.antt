@@ -7,6 +7,5 @@ pub mod Holdings
 pub mod BlockSizes
 pub mod BetweenActs
 pub mod ClientOfRun
-pub mod Restart
 pub mod RunState
 pub mod Running

@@ -38,90 +38,7 @@ impl Act {
     }
 }
 
-// What goes to a handler first, or an empty chunk is wanted.
-fn or_chunk(handler: u8, first: Option<Parcel>) -> Act
-    ensures act { result ≡ send_or handler first (Act.NeedChunk handler) }
-{
-    match first {
-        Some(parcel) => Act::Send(handler, parcel),
-        None => Act::NeedChunk(handler),
-    }
-}
-
-// What goes to a handler first, or a Sync.
-fn or_sync(handler: u8, first: Option<Parcel>) -> Act
-    ensures act { result ≡ send_or handler first (Act.Send handler parcels.Sync) }
-{
-    match first {
-        Some(parcel) => Act::Send(handler, parcel),
-        None => Act::Send(handler, Parcel::Sync),
-    }
-}
-
-// What goes to a handler first, or the end of the block.
-fn or_end(handler: u8, first: Option<Parcel>) -> Act
-    ensures act { result ≡ send_or handler first (Act.Send handler parcels.End) }
-{
-    match first {
-        Some(parcel) => Act::Send(handler, parcel),
-        None => Act::Send(handler, Parcel::End),
-    }
-}
-
-impl Holdings {
-    // What goes to a handler first: a held object goes home; else an open chunk goes.
-    fn clear(&mut self, handler: u8) -> Option<Parcel>
-        requires handler { handler < most_handlers }
-        ensures parcel { result ≡ first_parcel (held_at self.old handler) (chunk_at self.old handler) }
-        ensures rest { self.new ≡ without self.old handler }
-    {
-        if self.holds(handler) {
-            return match self.take_held(handler) {
-                Some(held) => Some(Parcel::Home(held)),
-                None => unreachable!(),
-            };
-        }
-        match self.take_chunk(handler) {
-            Some(chunk) => Some(Parcel::Work(chunk)),
-            None => None,
-        }
-    }
-
-    // A full chunk goes.
-    fn send_full(&mut self, handler: u8) -> Act
-        requires handler { handler < most_handlers }
-        ensures act { result ≡ send_full handler (chunk_at self.old handler) }
-        ensures rest { self.new ≡ with_chunk self.old handler None }
-    {
-        match self.take_chunk(handler) {
-            Some(chunk) => Act::Send(handler, Parcel::Work(chunk)),
-            None => Act::Finished,
-        }
-    }
-}
-
 impl Run {
-    // The act at a command or a synchronisation.
-    fn act_at_node(&mut self, graph: &Graph) -> Act
-        requires inside { self.old.position.node < length graph.now.nodes }
-        requires loud { IsLoud (move graph.now.nodes self.old.position) }
-        ensures act { result ≡ act_by self.old.holdings (move graph.now.nodes self.old.position) }
-        ensures rest { self.new ≡ with_holdings self.old (holdings_by self.old.holdings (move graph.now.nodes self.old.position)) }
-    {
-        graph.is_graph();
-        match graph.node(self.position.node()) {
-            Node::Call(call) => {
-                let object = call.object;
-                or_chunk(object, self.holdings.clear(object))
-            }
-            Node::Sync(name) => {
-                let handler = *name;
-                or_sync(handler, self.holdings.clear(handler))
-            }
-            _ => unreachable!(),
-        }
-    }
-
     /// The next act of a client that has begun so many blocks. What the act carries goes out.
     pub fn act(&mut self, code: &Code, ticket: Ticket, begun: usize) -> Act
         requires inside { IsInside self.old.stage ticket.index (length code.now.blocks) }
@@ -130,28 +47,9 @@ impl Run {
             → IsStanding (code_at code.now ticket.index) settings.size ticket.index most self.old self.old.stage
             → HasActed (code_at code.now ticket.index) settings (length code.now.blocks) ticket.index begun most result self.old self.new }
     {
-        code.is_code();
-        let block = usize::from(ticket.index);
-        match self.stage {
-            Stage::Between => {
-                if begun < code.blocks() {
-                    Act::Reserve
-                } else {
-                    Act::Finished
-                }
-            }
-            Stage::Runs => {
-                let graph = code.graph(block);
-                graph.is_graph();
-                self.act_at_node(graph)
-            }
-            Stage::Full(handler) => self.holdings.send_full(handler),
-            Stage::Awaits(handler) => Act::Await(handler),
-            Stage::Leaves(place) => {
-                let handler = code.reserved(block)[place];
-                or_end(handler, self.holdings.clear(handler))
-            }
-        }
+        let mut act = Act::Finished;
+        self.act_into(code, ticket, begun, &mut act);
+        act
     }
 
     /// The object came that the client waits for.

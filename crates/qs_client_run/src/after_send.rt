@@ -1,11 +1,12 @@
 //! What a client in a block does once a parcel was sent.
 
-ghost use Rattle.std.specs.Prelude.{◌≡◌, ◌<◌, ℕ, length};
+ghost use Rattle.std.specs.Prelude.{◌≡◌, ◌<◌, ℕ, IsTrue, List, false, length};
 ghost use Rattle.qs_syncset.specs.Codes.{code_at};
 ghost use Rattle.qs_client_run.specs.Client.{ClientStage, Settings};
 ghost use Rattle.qs_client_run.specs.ClientOfRun.{HasSettled};
 ghost use Rattle.qs_client_run.specs.BetweenActs.{HasSent, IsOutgoingAt, IsStanding, leave_next, await_object};
-ghost use Rattle.qs_client_run.specs.Running.{IsRunning};
+ghost use Rattle.qs_client_run.specs.Running.{IsRunning, step};
+ghost use Rattle.qs_client_run.specs.declared.run.BlockContext.{BlockContext};
 
 use crate::run::{BlockContext, Run};
 use crate::stage::{Outgoing, Stage};
@@ -14,6 +15,21 @@ use qs_objects::Ticket;
 use qs_syncset::Code;
 
 impl Run {
+    // Whether the client can make no quiet move, as at a command that may go into no chunk, or at a synchronisation that is not skipped.
+    #[inline(always)]
+    pub(crate) fn rests(&self, graph: &Graph, dynamic: bool) -> bool
+        requires inside { self.now.position.node < length graph.now.nodes }
+        ensures still { IsTrue result → (context : BlockContext) (reserved : List ℕ) → context.dynamic ≡ dynamic
+            → step graph.now.nodes context reserved self.now ≡ (self.now, false) }
+    {
+        graph.is_graph();
+        match graph.node(self.position.node()) {
+            Node::Call(call) => !self.holdings.takes_requests(call.object),
+            Node::Sync(name) => !self.holdings.skips(dynamic, *name),
+            _ => false,
+        }
+    }
+
     /// The client goes on, once the object or the chunk that was in its way has gone.
     pub(crate) fn resume(&mut self, code: &Code, ticket: Ticket)
         requires block { ticket.index < length code.now.blocks }
@@ -73,7 +89,12 @@ impl Run {
         match outgoing {
             Outgoing::Nothing => {}
             Outgoing::Value => match self.stage {
-                Stage::Runs => self.resume(code, ticket),
+                Stage::Runs => {
+                    if self.rests(graph, code.is_dynamic()) {
+                        return;
+                    }
+                    self.resume(code, ticket);
+                }
                 Stage::Full(_) => self.resume(code, ticket),
                 Stage::Awaits(_) => {}
                 Stage::Leaves(_) => {}

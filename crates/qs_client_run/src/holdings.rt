@@ -1,11 +1,14 @@
 //! The objects that a client holds, and its open chunks.
 
-ghost use Rattle.std.specs.Prelude.{◌≡◌, ◌<◌, None, Some, is_some, length, option_copied};
+ghost use Rattle.std.specs.Prelude.{◌≡◌, ◌<◌, ◌&&◌, IsSome, None, Some, is_some, length, not, option_copied};
+ghost use Rattle.qs_objects.specs.Journals.{HeldState, run_one};
+ghost use Rattle.qs_objects.specs.declared.Request.{Request};
+ghost use Rattle.qs_chunk.specs.Batch.{Batch};
 ghost use Rattle.qs_program.specs.Limits.{most_handlers};
-ghost use Rattle.qs_client_run.specs.Holdings.{held_at, chunk_at, with_held, with_chunk, no_holdings};
+ghost use Rattle.qs_client_run.specs.Holdings.{held_at, chunk_at, with_held, with_chunk, with_request, is_full, no_holdings};
 
 use qs_chunk::Chunk;
-use qs_objects::{Held, Request};
+use qs_objects::{Held, Request, Ticket};
 use qs_program::MOST_HANDLERS;
 use std::marker::Model;
 use std::mem;
@@ -67,6 +70,56 @@ impl Holdings {
         ensures value { result ≡ is_some (held_at self.now handler) }
     {
         self.held[usize::from(handler)].is_some()
+    }
+
+    /// Whether there is an open chunk.
+    pub fn has_chunk(&self, handler: u8) -> bool
+        requires handler { handler < most_handlers }
+        ensures value { result ≡ is_some (chunk_at self.now handler) }
+    {
+        self.chunks[usize::from(handler)].is_some()
+    }
+
+    /// Whether a command may go into an open chunk: the object is not held, and there is one.
+    pub fn takes_requests(&self, handler: u8) -> bool
+        requires handler { handler < most_handlers }
+        ensures value { result ≡ (not (is_some (held_at self.now handler)) && is_some (chunk_at self.now handler)) }
+    {
+        !self.holds(handler) && self.has_chunk(handler)
+    }
+
+    /// Whether a synchronisation is skipped: the client tests, and the object is held.
+    pub fn skips(&self, dynamic: bool, handler: u8) -> bool
+        requires handler { handler < most_handlers }
+        ensures value { result ≡ (dynamic && is_some (held_at self.now handler)) }
+    {
+        dynamic && self.holds(handler)
+    }
+
+    /// Runs a request on the object, which the client holds.
+    pub fn run(&mut self, handler: u8, ticket: Ticket, request: Request) -> Option<i64>
+        requires handler { handler < most_handlers }
+        requires held { IsSome (held_at self.old handler) }
+        ensures ran { (x : HeldState) → held_at self.old handler ≡ Some x
+            → (self.new ≡ with_held self.old handler (Some (run_one x ticket request).0)) × (result ≡ (run_one x ticket request).1) }
+    {
+        match &mut self.held[usize::from(handler)] {
+            Some(held) => held.run(ticket, request),
+            None => unreachable!(),
+        }
+    }
+
+    /// Puts a request into the open chunk, which has room; answers whether it is full then.
+    pub fn push(&mut self, handler: u8, request: Request) -> bool
+        requires handler { handler < most_handlers }
+        requires open { (b : Batch Request) × (chunk_at self.old handler ≡ Some b) × (length b.items < b.capacity) }
+        ensures pushed { (b : Batch Request) → chunk_at self.old handler ≡ Some b
+            → (self.new ≡ with_chunk self.old handler (Some (with_request b request))) × (result ≡ is_full (with_request b request)) }
+    {
+        match &mut self.chunks[usize::from(handler)] {
+            Some(chunk) => chunk.add(request),
+            None => unreachable!(),
+        }
     }
 
     /// Takes the object out.

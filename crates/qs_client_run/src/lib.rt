@@ -3,6 +3,7 @@
 #![tactic(auto)]
 
 mod act;
+mod act_into;
 mod acts;
 mod after_send;
 mod begin;

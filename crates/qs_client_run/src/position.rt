@@ -3,7 +3,7 @@
 ghost use Rattle.std.specs.Prelude.{◌≡◌, ◌<◌, ◌≤◌, length};
 ghost use Rattle.qs_program.specs.Values.{request_of};
 ghost use Rattle.qs_graph.specs.Walk.{after_local, at_node, after_branch, with_value};
-ghost use Rattle.qs_client_run.specs.Restart.{restart};
+ghost use Rattle.qs_client_run.specs.Beginning.{restart};
 
 use qs_graph::{Action, Choice};
 use qs_objects::Request;

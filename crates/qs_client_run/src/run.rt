@@ -114,21 +114,17 @@ impl Run {
         if self.holdings.holds(object) {
             return false;
         }
-        let Some(mut chunk) = self.holdings.take_chunk(object) else {
+        if !self.holdings.has_chunk(object) {
             return false;
-        };
+        }
         let request = self.position.request(command);
         let event = Event {
             request: request.copied(),
             reply: None,
         };
-        let Ok(()) = chunk.push(request) else {
-            unreachable!();
-        };
-        let is_full = chunk.len() == chunk.capacity();
-        self.holdings.put_chunk(object, chunk);
-        self.traces.note(block, event);
         self.position.go_to(next);
+        self.traces.note(block, event);
+        let is_full = self.holdings.push(object, request);
         if is_full {
             self.stage = Stage::Full(object);
         }
@@ -147,12 +143,8 @@ impl Run {
             ≡ (query ticket (request_of self.old.position.locals call.now) (λ v. at_node (with_value self.old.position variable v) next) self.old).0 }
     {
         let object = call.object;
-        let Some(mut held) = self.holdings.take_held(object) else {
-            unreachable!();
-        };
         let request = self.position.request(call);
-        let reply = held.run(ticket, request.copied());
-        self.holdings.put_held(object, held);
+        let reply = self.holdings.run(object, ticket, request.copied());
         self.traces
             .note(usize::from(ticket.index), Event { request, reply });
         self.position.assign(variable, reply.unwrap_or(0));

@@ -208,6 +208,7 @@ impl<'p> CoreMachine<'p> {
     }
 
     // A client reserves the objects of its next block.
+    #[inline(never)]
     fn reserve(&mut self, number: u8)
         requires number { number < length self.old.clients }
         requires asked { (d : CoreClientState) → (slice_index_or self.old.clients number d).act ≡ wants.Reserve }

@@ -3,3 +3,4 @@ pub mod CoreMinds
 pub mod HandlerFronts
 pub mod LaneStock
 pub mod TurnedChunks
+pub mod HandlerGifts

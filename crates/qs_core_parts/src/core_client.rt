@@ -136,7 +136,7 @@ impl CoreClient {
         ensures lanes { self.new.lanes ≡ self.old.lanes }
     {
         self.mind.booked(ticket);
-        self.act = self.mind.next();
+        self.mind.next_into(&mut self.act);
     }
 
     /// The handler to whose lane it turns.
@@ -173,6 +173,7 @@ impl CoreClient {
     }
 
     // Sends a parcel, where the lane has room.
+    #[inline(never)]
     fn send(&mut self, handler: u8) -> bool
         requires asked { (p : ParcelShape) × (self.old.act ≡ acts.Send handler p) }
         requires lane { handler < length self.old.lanes }
@@ -188,12 +189,27 @@ impl CoreClient {
             unreachable!();
         };
         lane.push(parcel);
-        self.act = self.mind.next();
+        self.mind.next_into(&mut self.act);
         true
     }
 
-    // Takes the object that it waits for.
+    // Takes the object that it waits for. A first look keeps a wait cheap.
     fn get(&mut self, handler: u8) -> bool
+        requires asked { self.old.act ≡ acts.Await handler }
+        requires lane { handler < length self.old.lanes }
+        ensures steps { OnTrue result (LaneSteps self.old self.new) }
+        ensures stays { result ≡ false → LaneStays self.old }
+        ensures unchanged { result ≡ false → self.new ≡ self.old }
+    {
+        if self.lanes[usize::from(handler)].object().is_none() {
+            return false;
+        }
+        self.take_object(handler)
+    }
+
+    // Takes the object, where it has come.
+    #[inline(never)]
+    fn take_object(&mut self, handler: u8) -> bool
         requires asked { self.old.act ≡ acts.Await handler }
         requires lane { handler < length self.old.lanes }
         ensures steps { OnTrue result (LaneSteps self.old self.new) }
@@ -205,11 +221,12 @@ impl CoreClient {
             return false;
         };
         self.mind.got(held);
-        self.act = self.mind.next();
+        self.mind.next_into(&mut self.act);
         true
     }
 
     // Takes an empty chunk.
+    #[inline(never)]
     fn take_chunk(&mut self, handler: u8) -> bool
         requires asked { self.old.act ≡ acts.NeedChunk handler }
         requires lane { handler < length self.old.lanes }
@@ -223,7 +240,7 @@ impl CoreClient {
             return false;
         };
         self.mind.chunk(chunk);
-        self.act = self.mind.next();
+        self.mind.next_into(&mut self.act);
         true
     }
 

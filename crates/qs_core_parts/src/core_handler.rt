@@ -120,6 +120,7 @@ impl CoreHandler {
     }
 
     /// Takes the first ticket of its queue; false where there is none.
+    #[inline(never)]
     pub fn take_ticket(&mut self) -> bool
         requires asked { self.old.act ≡ acts.TakeTicket }
         ensures takes { OnTrue result (TakesTicket self.old self.new) }
@@ -130,7 +131,7 @@ impl CoreHandler {
             None => false,
             Some(ticket) => {
                 self.mind.ticket(Next::Ticket(ticket));
-                self.act = self.mind.next();
+                self.mind.next_into(&mut self.act);
                 true
             }
         }
@@ -146,15 +147,37 @@ impl CoreHandler {
     {
         match &self.act {
             Act::TakeParcel(_) => self.take_parcel(lane),
-            Act::Give(_, _) => self.give(lane),
-            Act::Spare(_, _) => self.spare(lane),
+            Act::Give(client, _) => {
+                let client = *client;
+                self.give(client, lane)
+            }
+            Act::Spare(client, _) => {
+                let client = *client;
+                self.spare(client, lane)
+            }
             Act::TakeTicket => false,
             Act::Closed => false,
         }
     }
 
-    // Takes the first parcel.
+    // Takes the first parcel. A first look keeps a wait cheap.
     fn take_parcel(&mut self, lane: &mut Lane) -> bool
+        requires asked { (c : ℕ) × (self.old.act ≡ acts.TakeParcel c) }
+        requires comes { MayCome self.old lane.old }
+        ensures steps { OnTrue result (LaneSteps self.old lane.old self.new lane.new) }
+        ensures none { result ≡ false → lane_step (handler_of self.old) self.old.act lane.old ≡ None }
+        ensures unchanged { result ≡ false → self.new ≡ self.old }
+        ensures lane { result ≡ false → lane.new ≡ lane.old }
+    {
+        if lane.is_empty() {
+            return false;
+        }
+        self.take_first(lane)
+    }
+
+    // Takes the first parcel, where there is one.
+    #[inline(never)]
+    fn take_first(&mut self, lane: &mut Lane) -> bool
         requires asked { (c : ℕ) × (self.old.act ≡ acts.TakeParcel c) }
         requires comes { MayCome self.old lane.old }
         ensures steps { OnTrue result (LaneSteps self.old lane.old self.new lane.new) }
@@ -165,14 +188,14 @@ impl CoreHandler {
         let Some(parcel) = lane.pop() else {
             return false;
         };
-        self.mind.parcel(parcel);
-        self.act = self.mind.next();
+        self.mind.parcel_into(parcel, &mut self.act);
         true
     }
 
-    // Gives the object, where none is on its way up.
-    fn give(&mut self, lane: &mut Lane) -> bool
-        requires asked { (c : ℕ) × (x : HeldState) × (self.old.act ≡ acts.Give c x) }
+    // Gives the object, where none is on its way up. A parcel is taken next.
+    #[inline(never)]
+    fn give(&mut self, client: u8, lane: &mut Lane) -> bool
+        requires asked { (x : HeldState) × (self.old.act ≡ acts.Give client x) }
         ensures steps { OnTrue result (LaneSteps self.old lane.old self.new lane.new) }
         ensures none { result ≡ false → lane_step (handler_of self.old) self.old.act lane.old ≡ None }
         ensures unchanged { result ≡ false → self.new ≡ self.old }
@@ -181,17 +204,17 @@ impl CoreHandler {
         if lane.object().is_some() {
             return false;
         }
-        let Act::Give(_, held) = mem::replace(&mut self.act, Act::Closed) else {
+        let Act::Give(_, held) = mem::replace(&mut self.act, Act::TakeParcel(client)) else {
             unreachable!();
         };
         lane.put_object(held);
-        self.act = self.mind.next();
         true
     }
 
-    // Gives an empty chunk back, where there is room for it.
-    fn spare(&mut self, lane: &mut Lane) -> bool
-        requires asked { (c : ℕ) × (chunk : Batch Request) × (self.old.act ≡ acts.Spare c chunk) }
+    // Gives an empty chunk back, where there is room for it. A parcel is taken next.
+    #[inline(never)]
+    fn spare(&mut self, client: u8, lane: &mut Lane) -> bool
+        requires asked { (chunk : Batch Request) × (self.old.act ≡ acts.Spare client chunk) }
         ensures steps { OnTrue result (LaneSteps self.old lane.old self.new lane.new) }
         ensures none { result ≡ false → lane_step (handler_of self.old) self.old.act lane.old ≡ None }
         ensures unchanged { result ≡ false → self.new ≡ self.old }
@@ -200,11 +223,10 @@ impl CoreHandler {
         if !lane.has_chunk_room() {
             return false;
         }
-        let Act::Spare(_, chunk) = mem::replace(&mut self.act, Act::Closed) else {
+        let Act::Spare(_, chunk) = mem::replace(&mut self.act, Act::TakeParcel(client)) else {
             unreachable!();
         };
         lane.put_chunk(chunk);
-        self.act = self.mind.next();
         true
     }
 

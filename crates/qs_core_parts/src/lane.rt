@@ -125,7 +125,11 @@ impl Lane {
     pub fn put_object(&mut self, held: Held)
         ensures put { self.new ≡ with_up self.old (Some held) }
     {
-        self.up = Some(held);
+        if self.up.is_some() {
+            self.up = Some(held);
+        } else {
+            self.up = Some(held);
+        }
     }
 
     /// Takes the object.

@@ -2,3 +2,4 @@ pub mod HandlerActs
 pub mod LaneTurns
 pub mod Runs
 pub mod RunTurns
+pub mod ServingStages

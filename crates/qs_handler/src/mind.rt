@@ -6,7 +6,7 @@ ghost use Rattle.qs_chunk.specs.declared.parcel.Parcel.TheVariants as Parcel;
 ghost use Rattle.qs_chunk.specs.Batch.{batch};
 ghost use Rattle.qs_chunk.specs.Lanes.{may_stand};
 ghost use Rattle.qs_chunk.specs.Runs.{ran_all};
-ghost use Rattle.qs_handler.specs.Handler.{free, serves, spares, gives, away, closed, act_of, gave, accept_next, accept_parcel, is_away, held_of, serving};
+ghost use Rattle.qs_handler.specs.Handler.{Handler as HandlerShape, free, serves, spares, gives, away, closed, act_of, gave, accept_next, accept_parcel, is_away, held_of, serving};
 
 use qs_chunk::{Chunk, Parcel};
 use qs_objects::{Held, Next, Request, Ticket};
@@ -74,6 +74,29 @@ fn run_all(ticket: Ticket, held: &mut Held, chunk: &mut Chunk<Request>)
     }
 }
 
+// An act takes the place of another one. Of one that takes a parcel, nothing is to be dropped.
+#[inline(always)]
+fn put(act: &mut Act, next: Act)
+    ensures put { act.new ≡ next }
+{
+    if let Act::TakeParcel(_) = act {
+        *act = next;
+    } else {
+        *act = next;
+    }
+}
+
+// A parcel is to be taken next. Where one was to be taken before, only the client changes.
+#[inline(always)]
+fn put_parcel(act: &mut Act, client: u8)
+    ensures put { act.new ≡ Act.TakeParcel client }
+{
+    match act {
+        Act::TakeParcel(place) => *place = client,
+        _ => *act = Act::TakeParcel(client),
+    }
+}
+
 impl Mind {
     /// The mind of a handler that is free, with its object.
     pub fn new(held: Held) -> Mind
@@ -91,38 +114,51 @@ impl Mind {
         ensures act { result ≡ act_of self.old }
         ensures rest { self.new ≡ gave self.old }
     {
+        let mut act = Act::Closed;
+        self.next_into(&mut act);
+        act
+    }
+
+    /// What the handler does next, as `next` says, put where another act lay.
+    #[inline(always)]
+    pub fn next_into(&mut self, act: &mut Act)
+        ensures act { act.new ≡ act_of self.old }
+        ensures rest { self.new ≡ gave self.old }
+    {
         match self.stage {
-            Stage::Free => Act::TakeTicket,
-            Stage::Serves(ticket) => Act::TakeParcel(ticket.client),
-            Stage::Spares(ticket) => self.spare(ticket),
-            Stage::Gives(ticket) => self.give(ticket),
-            Stage::Away(ticket) => Act::TakeParcel(ticket.client),
-            Stage::Closed => Act::Closed,
+            Stage::Free => put(act, Act::TakeTicket),
+            Stage::Serves(ticket) => put_parcel(act, ticket.client),
+            Stage::Spares(ticket) => self.spare(ticket, act),
+            Stage::Gives(ticket) => self.give(ticket, act),
+            Stage::Away(ticket) => put_parcel(act, ticket.client),
+            Stage::Closed => put(act, Act::Closed),
         }
     }
 
     // The empty chunk goes out of the mind.
-    fn spare(&mut self, ticket: Ticket) -> Act
+    #[inline(always)]
+    fn spare(&mut self, ticket: Ticket, act: &mut Act)
         requires spares { (x : HeldState) × (n : ℕ) × (self.old ≡ spares ticket x n) }
-        ensures act { result ≡ act_of self.old }
+        ensures act { act.new ≡ act_of self.old }
         ensures rest { self.new ≡ gave self.old }
     {
         self.stage = Stage::Serves(ticket);
         match self.spare.take() {
-            Some(chunk) => Act::Spare(ticket.client, chunk),
+            Some(chunk) => put(act, Act::Spare(ticket.client, chunk)),
             None => unreachable!(),
         }
     }
 
     // The object goes out of the mind.
-    fn give(&mut self, ticket: Ticket) -> Act
+    #[inline(always)]
+    fn give(&mut self, ticket: Ticket, act: &mut Act)
         requires gives { (x : HeldState) × (self.old ≡ gives ticket x) }
-        ensures act { result ≡ act_of self.old }
+        ensures act { act.new ≡ act_of self.old }
         ensures rest { self.new ≡ gave self.old }
     {
         self.stage = Stage::Away(ticket);
         match self.held.take() {
-            Some(held) => Act::Give(ticket.client, held),
+            Some(held) => put(act, Act::Give(ticket.client, held)),
             None => unreachable!(),
         }
     }
@@ -139,6 +175,7 @@ impl Mind {
     }
 
     /// What the lane had next. All requests of a chunk run in this call.
+    #[inline(always)]
     pub fn parcel(&mut self, parcel: Parcel)
         requires asked { (client : ℕ) × (act_of self.old ≡ Act.TakeParcel client) }
         requires stands { IsTrue (may_stand (is_away self.old) parcel) }
@@ -151,7 +188,69 @@ impl Mind {
         }
     }
 
+    /// What the lane had next, and what the handler does next then, put where another act lay: `parcel`, and then `next_into`.
+    #[inline(always)]
+    pub fn parcel_into(&mut self, parcel: Parcel, act: &mut Act)
+        requires asked { (client : ℕ) × (act_of self.old ≡ Act.TakeParcel client) }
+        requires stands { IsTrue (may_stand (is_away self.old) parcel) }
+        ensures received { (h : HandlerShape) × (accept_parcel self.old parcel ≡ Some h) × (act.new ≡ act_of h) × (self.new ≡ gave h) }
+    {
+        match self.stage {
+            Stage::Serves(ticket) => self.serve_into(ticket, parcel, act),
+            Stage::Away(ticket) => self.go_on_at_home(ticket, parcel, act),
+            _ => unreachable!(),
+        }
+    }
+
+    // A handler that serves a block, and has its object, takes a parcel, and does the next act.
+    #[inline(always)]
+    fn serve_into(&mut self, ticket: Ticket, parcel: Parcel, act: &mut Act)
+        requires serves { (x : HeldState) × (self.old ≡ serves ticket x) }
+        requires stands { IsTrue (may_stand false parcel) }
+        ensures received { (h : HandlerShape) × (accept_parcel self.old parcel ≡ Some h) × (act.new ≡ act_of h) × (self.new ≡ gave h) }
+    {
+        match parcel {
+            Parcel::Work(chunk) => self.run_into(ticket, chunk, act),
+            Parcel::Sync => {
+                self.stage = Stage::Gives(ticket);
+                self.give(ticket, act);
+            }
+            Parcel::End => {
+                self.stage = Stage::Free;
+                put(act, Act::TakeTicket);
+            }
+            Parcel::Home(_) => unreachable!(),
+        }
+    }
+
+    // The requests of a chunk run, and the chunk is given back.
+    #[inline(always)]
+    fn run_into(&mut self, ticket: Ticket, chunk: Chunk<Request>, act: &mut Act)
+        requires serves { (x : HeldState) × (self.old ≡ serves ticket x) }
+        ensures received { (h : HandlerShape) × (accept_parcel self.old (Parcel.Work chunk) ≡ Some h) × (act.new ≡ act_of h) × (self.new ≡ gave h) }
+    {
+        let mut chunk = chunk;
+        match &mut self.held {
+            Some(object) => run_all(ticket, object, &mut chunk),
+            None => unreachable!(),
+        }
+        self.stage = Stage::Serves(ticket);
+        put(act, Act::Spare(ticket.client, chunk));
+    }
+
+    // The object comes home, and the next parcel is taken.
+    #[inline(always)]
+    fn go_on_at_home(&mut self, ticket: Ticket, parcel: Parcel, act: &mut Act)
+        requires away { self.old ≡ away ticket }
+        requires stands { IsTrue (may_stand true parcel) }
+        ensures received { (h : HandlerShape) × (accept_parcel self.old parcel ≡ Some h) × (act.new ≡ act_of h) × (self.new ≡ gave h) }
+    {
+        self.take_home(ticket, parcel);
+        put_parcel(act, ticket.client);
+    }
+
     // A handler that serves a block, and has its object, takes a parcel.
+    #[inline(always)]
     fn serve(&mut self, ticket: Ticket, parcel: Parcel)
         requires serves { (x : HeldState) × (self.old ≡ serves ticket x) }
         requires stands { IsTrue (may_stand false parcel) }
@@ -166,6 +265,7 @@ impl Mind {
     }
 
     // The requests of a chunk run, and the chunk is to be given back.
+    #[inline(always)]
     fn run(&mut self, ticket: Ticket, chunk: Chunk<Request>)
         requires serves { (x : HeldState) × (self.old ≡ serves ticket x) }
         ensures received { accept_parcel self.old (Parcel.Work chunk) ≡ Some self.new }
@@ -180,6 +280,7 @@ impl Mind {
     }
 
     // The object comes home.
+    #[inline(always)]
     fn take_home(&mut self, ticket: Ticket, parcel: Parcel)
         requires away { self.old ≡ away ticket }
         requires stands { IsTrue (may_stand true parcel) }
@@ -188,7 +289,11 @@ impl Mind {
         match parcel {
             Parcel::Home(held) => {
                 self.stage = Stage::Serves(ticket);
-                self.held = Some(held);
+                if self.held.is_some() {
+                    self.held = Some(held);
+                } else {
+                    self.held = Some(held);
+                }
             }
             _ => unreachable!(),
         }

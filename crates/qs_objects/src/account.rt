@@ -8,6 +8,7 @@ use crate::Op;
 use crate::object::{GREATEST_BALANCE, count_refusal};
 
 // Serves a request to an account.
+#[inline(always)]
 pub(crate) fn apply(balance: &mut i64, refused: &mut i64, op: Op, args: &[i64]) -> Option<i64>
     requires kept { IsBalance balance.old }
     ensures keeps { IsBalance balance.new }

@@ -1,6 +1,6 @@
 // The arguments of a request.
 
-ghost use Rattle.std.specs.Prelude.{◌≡◌, ℕ, ◌<◌, ◌≤◌, List, [], ◌∷◌, ◌++◌, length, true, false, if◌then◌else◌, nat_lt};
+ghost use Rattle.std.specs.Prelude.{◌≡◌, ℕ, ◌<◌, ◌≤◌, List, [], ◌∷◌, ◌++◌, length, true, false, if◌then◌else◌, nat_lt, take};
 
 use std::alloc::Global;
 use std::marker::Model;
@@ -36,6 +36,14 @@ impl Args {
             numbers: [0; 3],
             len: 0,
         }
+    }
+
+    /// The first `len` of three numbers.
+    pub fn of(numbers: [i64; 3], len: usize) -> Args
+        requires few { len ≤ 3 }
+        ensures value { result ≡ take len numbers }
+    {
+        Args { numbers, len }
     }
 
     /// Adds a number at the end. Answers false exactly where three are there, and changes nothing then.

@@ -8,6 +8,7 @@ use crate::Op;
 use crate::object::count_refusal;
 
 // Serves a request to a buffer.
+#[inline(never)]
 pub(crate) fn apply(
     capacity: usize,
     values: &mut Vec<i64>,

@@ -9,6 +9,7 @@ use crate::Op;
 use crate::object::count_refusal;
 
 // Serves a request to a grid.
+#[inline(never)]
 pub(crate) fn apply(
     rows: usize,
     columns: usize,

@@ -193,6 +193,7 @@ impl Held {
 
     /// Serves a request and notes it at the journal's end; answers what the object answers. With no
     /// room left it changes nothing and answers None.
+    #[inline(always)]
     pub fn run(&mut self, ticket: Ticket, request: Request) -> Option<i64>
         ensures ran { (self.new, result) ≡ run_one self.old ticket request }
     {

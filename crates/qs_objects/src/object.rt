@@ -224,6 +224,7 @@ impl Object {
     /// Serves a request: a query answers, a command that can't be done is counted as refused. An
     /// operation of another kind, or with a wrong number of arguments, answers None and changes
     /// nothing. Takes no memory.
+    #[inline(always)]
     pub fn apply(&mut self, request: &Request) -> Option<i64>
         ensures acts { (self.new, result) ≡ act self.old request.now.op request.now.args }
     {

@@ -7,6 +7,7 @@ use qs_objects::{Kind, Op};
 use qs_script::Name;
 
 /// The query, or else the command, that a kind has under a name.
+#[inline(always)]
 pub fn find_op(asks: bool, kind: Kind, name: &Name) -> Option<Op>
     ensures op { result ≡ operation_of asks kind name.now }
 {

@@ -235,8 +235,19 @@ impl Scope {
     ) -> Result<(), CheckFault>
         ensures meets { Meets result (scope_or_fault self.now (request_places asks name.now word.now count)) self.now }
     {
-        self.target(name)?;
-        self.operation(asks, name, word, count)
+        let Some(number) = self.objects.find(name) else {
+            return Err(CheckFault::UnknownObject);
+        };
+        if !self.reserved.contains(name) {
+            return Err(CheckFault::NotReserved);
+        }
+        let Some(op) = find_op(asks, kind_at(self.kinds.as_slice(), number), word) else {
+            return Err(CheckFault::UnknownOp);
+        };
+        if op.arity() != count {
+            return Err(CheckFault::Arity);
+        }
+        Ok(())
     }
 
     fn op(&self, asks: bool, name: &Name, word: &Name) -> Option<Op>

@@ -7,7 +7,7 @@ use Rattle.std.proofs.lemmas.List.Folds.{list_any-append}
 use Rattle.std.proofs.lemmas.List.Sums.{prefix_len_stops}
 use Rattle.std.specs.Cmp.Lexicographic.{same_text, other_text}
 use Rattle.std.specs.List.{list_any, position, position_or_len}
-use Rattle.qs_program.specs.Numbering.{Name, same_name, is_among, found_at}
+use Rattle.qs_program.specs.Numbering.{Name, same_name, is_among, found_at, with_name}
 use Rattle.qs_program.specs.Limits.{most_variables}
 
 within_cons : (b : Bool) (i n : ℕ) (later : Bool) → (later ≡ true → i < n) → (b || later) ≡ true → cond (not b) (1 + i) 0 < suc n
@@ -94,3 +94,33 @@ or_true false c h = h
 pub is_among-last : (xs : List Name) (o : Name) → is_among (xs ++ o ∷ []) o ≡ true
 is_among-last [] o = ap (λ b. b || false) (same_name-refl o)
 is_among-last (x ∷ xs) o = or_true (same_name o x) (is_among (xs ++ o ∷ []) o) (is_among-last xs o)
+
+different : (b : Bool) → (b ≡ true → ⊥) → b ≡ false
+different true h = absurd (h refl)
+different false h = refl
+
+-- two names that differ are not the same
+pub not_same : (a b : Name) → a ≢ b → same_name a b ≡ false
+not_same a b h = different (same_name a b) (λ e. h (same_text a b (sym e)))
+
+among_cons : (b : Bool) (i n : ℕ) (later : Bool) → later ≡ nat_lt i n → (b || later) ≡ nat_lt (cond (not b) (1 + i) 0) (suc n)
+among_cons true i n later h = sym (less 0 (suc n) (omega arith))
+among_cons false i n later h = h ∙ grind (arith, nat_tests)
+
+-- a name is among others where its place is in range
+pub among_place : (xs : List Name) (o : Name) → is_among xs o ≡ nat_lt (position_or_len (same_name o) xs) (length xs)
+among_place [] o = refl
+among_place (x ∷ xs) o = among_cons (same_name o x) (position_or_len (same_name o) xs) (length xs) (is_among xs o) (among_place xs o)
+
+pub among_within : (xs : List Name) (o : Name) → position_or_len (same_name o) xs < length xs → is_among xs o ≡ true
+among_within xs o h = among_place xs o ∙ less (position_or_len (same_name o) xs) (length xs) h
+
+pub among_past : (xs : List Name) (o : Name) → length xs ≤ position_or_len (same_name o) xs → is_among xs o ≡ false
+among_past xs o h = let e : nat_lt (position_or_len (same_name o) xs) (length xs) ≡ false = grind (arith, nat_tests) in among_place xs o ∙ e
+
+-- the names with one more, by its place
+pub with_known : (xs : List Name) (o : Name) → position_or_len (same_name o) xs < length xs → with_name xs o ≡ xs
+with_known xs o h = rw (among_place xs o, less (position_or_len (same_name o) xs) (length xs) h) refl
+
+pub with_new : (xs : List Name) (o : Name) → length xs ≤ position_or_len (same_name o) xs → with_name xs o ≡ xs ++ o ∷ []
+with_new xs o h = let e : nat_lt (position_or_len (same_name o) xs) (length xs) ≡ false = grind (arith, nat_tests) in rw (among_place xs o, e) refl

@@ -1,6 +1,6 @@
 //! Statements with each name replaced by its number.
 
-ghost use Rattle.std.specs.Prelude.{◌≡◌, ◌≤◌, ◌+◌, [], ◌∷◌, ◌++◌, OnOk, OnErr, min};
+ghost use Rattle.std.specs.Prelude.{◌≡◌, ◌≤◌, ◌+◌, [], ◌∷◌, ◌++◌, OnOk, OnErr, IfOk, min};
 ghost use Rattle.qs_script.specs.Limits.{most_levels};
 ghost use Rattle.qs_program.specs.Limits.{most_requests, most_steps};
 ghost use Rattle.qs_program.specs.Loads.{load_of, weight_of};
@@ -59,6 +59,15 @@ impl Atoms {
         Atoms {
             atoms: Vec::new(alloc),
         }
+    }
+
+    /// No arguments; takes memory for so many at once.
+    pub fn with_capacity(alloc: Global, count: usize) -> Result<Atoms, AllocError>
+        ensures empty { IfOk result (λ atoms. atoms ≡ []) }
+    {
+        Ok(Atoms {
+            atoms: Vec::with_capacity(alloc, count)?,
+        })
     }
 
     /// Adds an argument at the end. An error means out of memory, and leaves the arguments as they were.
@@ -140,6 +149,15 @@ impl Body {
         }
     }
 
+    /// No statements; takes memory for so many at once.
+    pub fn with_capacity(alloc: Global, count: usize) -> Result<Body, AllocError>
+        ensures empty { IfOk result (λ body. body ≡ end) }
+    {
+        Ok(Body {
+            stmts: Vec::with_capacity(alloc, count)?,
+        })
+    }
+
     /// The statements in order.
     pub fn as_slice(&self) -> &[Stmt]
         ensures value { self.now ≡ statements_of result.now }
@@ -148,6 +166,7 @@ impl Body {
     }
 
     /// Adds a statement at the end, which stands inside at most eight others. An error means out of memory, and leaves the list as it was.
+    #[inline(always)]
     pub fn push(&mut self, stmt: Stmt) -> Result<(), AllocError>
         requires shallow { levels_of (single stmt) ≤ most_levels }
         ensures ok { OnOk result (self.new ≡ join_statements self.old (single stmt)) }

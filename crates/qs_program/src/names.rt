@@ -1,22 +1,17 @@
 //! Names, numbered in the order of their first appearance.
 
-ghost use Rattle.std.specs.Prelude.{◌≡◌, [], OnOk, OnErr, IfOk, length, slice_get, option_copied};
-ghost use Rattle.qs_program.specs.Numbering.{with_name, number_of, found_at, is_among};
+ghost use Rattle.std.specs.Prelude.{◌≡◌, ◌≢◌, ◌≤◌, false, [], OnOk, OnErr, IfOk, IfSome, is_some, length, IsTrue, slice_get, option_copied};
+ghost use Rattle.std.specs.List.{position_or_len};
+ghost use Rattle.qs_program.specs.Numbering.{same_name, with_name, number_of, found_at, is_among};
 
-use indexmap::IndexSet;
 use qs_script::Name;
 use std::alloc::{AllocError, Global};
 use std::marker::Model;
 
-/// Names by number, from 0.
+/// Names by number, from 0. They are few, so a name is looked for one by one.
+#[derive(Drop)]
 pub struct Names {
-    names: IndexSet<Name>,
-}
-
-impl Drop for Names {
-    fn drop(self) {
-        let Names { names: _ } = self;
-    }
+    names: Vec<Name>,
 }
 
 impl Model for Names {
@@ -24,7 +19,40 @@ impl Model for Names {
 
     ghost Value = { List (List ℕ) };
 
-    ghost view = { λ n. n.names.keys };
+    ghost view = { λ n. n.names.items };
+}
+
+// Whether two texts are as long and end alike. Most names that differ do so here.
+#[inline(always)]
+fn ends_alike(one: &[u8], other: &[u8]) -> bool
+    ensures long { IsTrue result → length one.now ≡ length other.now }
+    ensures differ { result ≡ false → one.now ≢ other.now }
+{
+    let count = one.len();
+    count == other.len() && (count == 0 || one[count - 1] == other[count - 1])
+}
+
+#[inline(always)]
+fn is_same(one: &Name, other: &Name) -> bool
+    ensures value { result ≡ same_name one.now other.now }
+{
+    let one = one.as_slice();
+    let other = other.as_slice();
+    ends_alike(one, other) && are_same(one, other)
+}
+
+// Whether two texts of one length have the same bytes. They are short, so they are compared one by one.
+#[inline(always)]
+fn are_same(one: &[u8], other: &[u8]) -> bool
+    requires long { length one.now ≡ length other.now }
+    ensures value { result ≡ same_name one.now other.now }
+{
+    for (i, byte) in one.iter().enumerate() {
+        if *byte != other[i] {
+            return false;
+        }
+    }
+    true
 }
 
 impl Names {
@@ -33,8 +61,22 @@ impl Names {
         ensures empty { result ≡ [] }
     {
         Names {
-            names: IndexSet::new(alloc),
+            names: Vec::new(alloc),
         }
+    }
+
+    // The first place of a name, or past the last where it is none of them.
+    #[inline(always)]
+    fn place(&self, name: &Name) -> usize
+        ensures place { result ≡ position_or_len (same_name name.now) self.now }
+        ensures within { result ≤ length self.now }
+    {
+        for (place, other) in self.names.iter().enumerate() {
+            if is_same(name, other) {
+                return place;
+            }
+        }
+        self.len()
     }
 
     /// The number of a name, which is added at the end if it is new. An error leaves the names as they were.
@@ -43,7 +85,12 @@ impl Names {
         ensures number { IfOk result (λ i. i ≡ number_of self.old name) }
         ensures err { OnErr result (self.new ≡ self.old) }
     {
-        let (number, _) = self.names.insert_full(name)?;
+        let number = self.place(&name);
+        if number < self.len() {
+            drop(name);
+        } else {
+            self.names.push(name)?;
+        }
         Ok(number)
     }
 
@@ -55,23 +102,40 @@ impl Names {
     }
 
     /// Whether a name is among them.
+    #[inline(always)]
     pub fn contains(&self, name: &Name) -> bool
         ensures value { result ≡ is_among self.now name.now }
     {
-        self.names.contains(name)
+        self.place(name) < self.len()
+    }
+
+    /// The number of a name that is among them.
+    #[inline(always)]
+    pub fn find(&self, name: &Name) -> Option<usize>
+        ensures among { is_some result ≡ is_among self.now name.now }
+        ensures number { IfSome result (λ number. number ≡ found_at self.now name.now) }
+    {
+        let place = self.place(name);
+        if place < self.len() {
+            Some(place)
+        } else {
+            None
+        }
     }
 
     /// The number of a name, or 0 where it is none of them.
+    #[inline(never)]
     pub fn number_of(&self, name: &Name) -> usize
         ensures value { result ≡ found_at self.now name.now }
     {
-        self.names.get_index_of(name).unwrap_or(0)
+        let place = self.place(name);
+        if place < self.len() { place } else { 0 }
     }
 
     /// The name of a number; None past the last.
     pub fn name(&self, number: usize) -> Option<&Name>
         ensures value { option_copied result ≡ slice_get self.now number }
     {
-        self.names.get_index(number)
+        self.names.get(number)
     }
 }

@@ -1,6 +1,6 @@
 //! What expressions, tests and requests are worth, by a client's variables.
 
-ghost use Rattle.std.specs.Prelude.{◌≡◌, ◌≤◌, ◌++◌, length, map, take};
+ghost use Rattle.std.specs.Prelude.{◌≡◌, ◌≤◌, length, map, pos, slice_index_or};
 ghost use Rattle.qs_program.specs.Values.{atom_value, exact, expr_value, relates as holds, test_value, request_of};
 ghost use Rattle.qs_objects.specs.Act.{clamp_to_word};
 
@@ -75,20 +75,43 @@ fn relates(relation: Relation, left: i64, right: i64) -> bool
     }
 }
 
+// The value of the argument at a place, or 0 where there is none.
+#[inline(always)]
+fn value_at(atoms: &[Atom], place: usize, locals: &Locals) -> i64
+    ensures value { result ≡ slice_index_or (map (atom_value locals.now) atoms.now) place (pos 0) }
+{
+    if place < atoms.len() {
+        atoms[place].value(locals)
+    } else {
+        0
+    }
+}
+
+// At most three arguments, by their values.
+#[inline(always)]
+fn values(atoms: &[Atom], locals: &Locals) -> Args
+    requires few { length atoms.now ≤ 3 }
+    ensures value { result ≡ map (atom_value locals.now) atoms.now }
+{
+    let numbers = [
+        value_at(atoms, 0, locals),
+        value_at(atoms, 1, locals),
+        value_at(atoms, 2, locals),
+    ];
+    Args::of(numbers, atoms.len())
+}
+
 impl Call {
     /// The request that it makes: its arguments are evaluated now. Takes no memory.
-    pub fn request(&self, alloc: Global, locals: &Locals) -> Request
+    #[inline(always)]
+    pub fn request(&self, _alloc: Global, locals: &Locals) -> Request
         requires { length self.now.args ≤ 3 }
         ensures value { result ≡ request_of locals.now self.now }
     {
-        let mut args = Args::new(alloc);
-        for atom in self.args.as_slice() {
-            let _added = args.push(atom.value(locals));
-        }
         Request {
             object: self.object,
             op: self.op,
-            args,
+            args: values(self.args.as_slice(), locals),
         }
     }
 }

@@ -50,23 +50,15 @@ pub(crate) fn put_digits(out: &mut Vec<u8>, number: i64) -> Result<(), AllocErro
 pub(crate) fn put_short(out: &mut Vec<u8>, text: &[u8]) -> Result<(), AllocError>
     ensures ok { OnOk result (out.new.items ≡ out.old.items ++ text.now) }
 {
-    if text.len() < 5 && out.capacity() - out.len() >= text.len() {
-        push_all(out, text);
-        Ok(())
-    } else {
-        put(out, text)
+    match text {
+        [only] => out.push(*only)?,
+        [first, second] => {
+            out.push(*first)?;
+            out.push(*second)?;
+        }
+        _ => put(out, text)?,
     }
-}
-
-// Pushes bytes for which there is room.
-#[inline(always)]
-fn push_all(out: &mut Vec<u8>, text: &[u8])
-    requires { vec_len out.old + length text.now ≤ vec_capacity out.old }
-    ensures pushed { out.new.items ≡ out.old.items ++ text.now }
-{
-    for byte in text {
-        out.push_reserved(*byte);
-    }
+    Ok(())
 }
 
 // Puts a line at the end: a word, a space and a count.

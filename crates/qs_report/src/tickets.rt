@@ -60,7 +60,6 @@ fn put_opening(out: &mut Vec<u8>, op: Op) -> Result<(), AllocError>
 }
 
 // Further arguments, each after a comma.
-#[inline(always)]
 fn put_others(out: &mut Vec<u8>, args: &[i64]) -> Result<(), AllocError>
     ensures ok { OnOk result (out.new.items
         ≡ out.old.items ++ flat_map (λ arg. codes "," ++ signed_decimal arg) args.now) }
@@ -79,6 +78,7 @@ pub(crate) fn put_args(out: &mut Vec<u8>, args: &[i64]) -> Result<(), AllocError
 {
     match args {
         [] => Ok(()),
+        [only] => put_number(out, *only),
         [first, others @ ..] => {
             put_number(out, *first)?;
             put_others(out, others)

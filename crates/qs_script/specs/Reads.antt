@@ -49,7 +49,3 @@ HasFault (f.Number line) tokens = tokens ≡ Err token.Number
 HasFault (f.Name line) tokens = tokens ≡ Err token.Name
 HasFault (f.Form line) tokens = ⊥
 HasFault f.Memory tokens = Unit {0}
-
-abbrev pub AreTokensOf : List ℕ → Result (List Token) ReadFault → Type 0
-AreTokensOf text (Ok ts) = tokens_of text ≡ Ok ts
-AreTokensOf text (Err fault) = HasFault fault (tokens_of text)

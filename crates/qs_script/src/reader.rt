@@ -1,102 +1,60 @@
 // From a text to a script.
 
-ghost use Rattle.std.specs.Prelude.{◌≡◌, ◌<◌, ◌≤◌, ◌↔◌, [], ◌++◌, length, OnOk, IsErrOf};
-ghost use Rattle.qs_tokens.specs.Cutting.{tokens_in};
-ghost use Rattle.qs_script.specs.Reads.{IsReadOf, IsPlaced, AreTokensOf};
+ghost use Rattle.std.specs.Prelude.{◌≡◌, ◌<◌, ◌↔◌, length, Ok, IfOk, IfErr, IsErrOf};
+ghost use Rattle.qs_tokens.specs.Tokens.{tokens_of};
+ghost use Rattle.qs_script.specs.Reads.{HasFault, IsReadOf, IsPlaced};
 ghost use Rattle.qs_script.specs.Limits.{longest_text};
 
 use crate::fault::{Fault, ReadFault};
 use crate::items::script;
 use crate::limits::LONGEST_TEXT;
 use crate::tree::Script;
-use qs_tokens::{Piece, Token, TokenFault, front};
-use std::alloc::{AllocError, Global};
-use std::marker::Model;
+use qs_tokens::{ListFault, Piece, Token, TokenFault, front, list_tokens};
+use std::alloc::Global;
 
-// A text's tokens in order, each with its line, and the line that was reached.
-#[derive(Drop)]
-struct Tokens {
-    tokens: Vec<Token>,
-    lines: Vec<u32>,
-    line: u32,
-}
-
-impl Model for Tokens {
-    ghost use Rattle.std.specs.Prelude.{List};
-    ghost use Rattle.qs_tokens.specs.declared.token.Token.{Token};
-
-    ghost Value = { List Token };
-
-    ghost view = { λ t. t.tokens.items };
-}
-
-impl Tokens {
-    fn new(alloc: Global) -> Tokens
-        ensures empty { result ≡ [] }
-    {
-        Tokens {
-            tokens: Vec::new(alloc),
-            lines: Vec::new(alloc),
-            line: 1,
-        }
-    }
-
-    // Adds what the piece holds.
-    fn add(&mut self, piece: Piece) -> Result<(), AllocError>
-        ensures added { OnOk result (self.new ≡ self.old ++ tokens_in piece) }
-    {
-        match piece {
-            Piece::Token(token) => {
-                self.tokens.push(token)?;
-                self.lines.push(self.line)?;
+// The line of the token before which so many stand, or of the fault or the end where fewer stand.
+fn line_after(text: &[u8], count: usize) -> u32 {
+    let mut line: u32 = 1;
+    let mut left = count;
+    let mut rest = text;
+    'each: while !rest.is_empty() {
+        match front(rest) {
+            Ok((Piece::Token(_), _)) if left == 0 => return line,
+            Ok((piece, after)) => {
+                match piece {
+                    Piece::Token(_) => left = left.saturating_sub(1),
+                    Piece::Line => line = line.saturating_add(1),
+                    Piece::Gap => {}
+                }
+                rest = after;
             }
-            Piece::Line => self.line = self.line.saturating_add(1),
-            Piece::Gap => {}
-        }
-        Ok(())
-    }
-
-    // The fault at the line that was reached.
-    fn placed(&self, fault: TokenFault) -> ReadFault
-        ensures same { IsPlaced fault result }
-    {
-        let line = self.line;
-        match fault {
-            TokenFault::Byte => ReadFault::Byte { line },
-            TokenFault::Number => ReadFault::Number { line },
-            TokenFault::Name => ReadFault::Name { line },
+            Err(_) => return line,
         }
     }
+    line
+}
 
-    // The line of the token with which so many are left, or of the text's end.
-    fn line_before(&self, left: usize) -> u32 {
-        let place = self.tokens.len().saturating_sub(left);
-        self.lines.get(place).copied().unwrap_or(self.line)
-    }
-
-    fn as_slice(&self) -> &[Token]
-        ensures same { result.now ≡ self.now }
-    {
-        self.tokens.as_slice()
+// The fault at that line.
+fn placed(fault: TokenFault, line: u32) -> ReadFault
+    ensures same { IsPlaced fault result }
+{
+    match fault {
+        TokenFault::Byte => ReadFault::Byte { line },
+        TokenFault::Number => ReadFault::Number { line },
+        TokenFault::Name => ReadFault::Name { line },
     }
 }
 
 // The tokens of a text, or its first token fault.
-fn tokenize(alloc: Global, text: &[u8]) -> Result<Tokens, ReadFault>
-    ensures exact { AreTokensOf text.now result }
+fn tokenize(alloc: Global, text: &[u8]) -> Result<Vec<Token>, ReadFault>
+    ensures tokens { IfOk result (λ tokens. tokens_of text.now ≡ Ok tokens.items) }
+    ensures fault { IfErr result (λ fault. HasFault fault (tokens_of text.now)) }
 {
-    let mut tokens = Tokens::new(alloc);
-    let mut rest = text;
-    'each: while !rest.is_empty() {
-        match front(rest) {
-            Ok((piece, after)) => {
-                tokens.add(piece)?;
-                rest = after;
-            }
-            Err(fault) => return Err(tokens.placed(fault)),
-        }
+    match list_tokens(alloc, text) {
+        Ok(tokens) => Ok(tokens),
+        Err(ListFault::Token(fault)) => Err(placed(fault, line_after(text, usize::MAX))),
+        Err(ListFault::Memory) => Err(ReadFault::Memory),
     }
-    Ok(tokens)
 }
 
 /// Reads a script: objects, and clients whose blocks reserve the objects that they name together. The answer is the tree of the
@@ -114,7 +72,7 @@ pub fn read(alloc: Global, text: &[u8]) -> Result<Script, ReadFault>
     match script(alloc, tokens.as_slice()) {
         Ok(script) => Ok(script),
         Err(Fault::Form(left)) => Err(ReadFault::Form {
-            line: tokens.line_before(left),
+            line: line_after(text, tokens.len().saturating_sub(left)),
         }),
         Err(Fault::Memory) => Err(ReadFault::Memory),
     }

@@ -6,10 +6,16 @@ ghost use Rattle.qs_script.specs.Reading.{Gives, run, body_loop, stmt_in, stmt_a
 
 use crate::expect::past_close_brace;
 use crate::fault::Fault;
+use crate::limits::MOST_LEVELS;
 use crate::tree::{Body, Stmt};
 use crate::values::{call, expr, test};
 use qs_tokens::{Name, Token};
 use std::alloc::Global;
+
+// How many statements a body may well have: that of a block more than one inside it.
+fn usual_length(levels: u8) -> usize {
+    if levels == MOST_LEVELS { 12 } else { 1 }
+}
 
 // Statements, at most `levels` one inside another, and the brace that closes them.
 #[cycle(body)]
@@ -17,7 +23,7 @@ pub(crate) fn body(alloc: Global, levels: u8, tokens: &[Token]) -> Result<(Body,
     ensures exact { Gives (λ x. (x.0, x.1.now)) result (run (body_loop levels) tokens.now) }
     ensures shorter { IfOk result (λ x. length x.1.now < length tokens.now) }
 {
-    let mut stmts = Body::new(alloc);
+    let mut stmts = Body::with_capacity(alloc, usual_length(levels))?;
     let mut rest = tokens;
     'each: loop {
         if let Some(after) = past_close_brace(rest) {

@@ -1,6 +1,6 @@
 // Syntax trees.
 
-ghost use Rattle.std.specs.Prelude.{◌≡◌, OnOk, OnErr};
+ghost use Rattle.std.specs.Prelude.{◌≡◌, OnOk, OnErr, IfOk};
 ghost use Rattle.qs_script.specs.Tree.{end, join_statements};
 ghost use Rattle.qs_script.specs.Views.{single, stmts_of};
 ghost use Rattle.qs_script.specs.Form.{HasForm};
@@ -122,13 +122,13 @@ impl Model for Body {
 }
 
 impl Body {
-    // No statements. It takes no memory yet.
-    pub(crate) fn new(alloc: Global) -> Body
-        ensures empty { result ≡ end }
+    // No statements. It takes memory for so many at once.
+    pub(crate) fn with_capacity(alloc: Global, count: usize) -> Result<Body, AllocError>
+        ensures empty { IfOk result (λ body. body ≡ end) }
     {
-        Body {
-            stmts: Vec::new(alloc),
-        }
+        Ok(Body {
+            stmts: Vec::with_capacity(alloc, count)?,
+        })
     }
 
     // Adds a statement at the end. An error means out of memory, and leaves the list as it was.

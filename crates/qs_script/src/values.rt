@@ -10,6 +10,7 @@ use crate::tree::{Args, Atom, Call, Expr, Operator, Relation, Test};
 use qs_tokens::{Name, Token};
 use std::alloc::Global;
 
+#[inline(always)]
 fn atom(tokens: &[Token]) -> Result<(Atom, &[Token]), Fault>
     ensures exact { Gives (λ x. (x.0, x.1.now)) result (atom_at tokens.now) }
     ensures shorter { IfOk result (λ x. length x.1.now < length tokens.now) }
@@ -68,6 +69,7 @@ fn args(alloc: Global, tokens: &[Token]) -> Result<(Args, &[Token]), Fault>
 }
 
 // A request on the object, after its dot.
+#[inline(always)]
 pub(crate) fn call(alloc: Global, object: Name, tokens: &[Token]) -> Result<(Call, &[Token]), Fault>
     ensures exact { Gives (λ x. (x.0, x.1.now)) result (call_at object tokens.now) }
     ensures shorter { IfOk result (λ x. length x.1.now < length tokens.now) }

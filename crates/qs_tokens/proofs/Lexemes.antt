@@ -2,6 +2,7 @@
 -- the rest of the text. The functions that cut off one token, such as `front_word` and `front_number`, stand on it. The
 -- definition goes byte by byte, so the proof goes by induction on the bytes that belong to the token.
 use Rattle.std.proofs.Common.{◌≡◌, ◌≢◌, ℕ, ◌+◌, ◌<◌, get_or, ◌||◌, nat_eq, not, ◌≤◌, Bool, true, false, if◌then◌else◌, List, [], ◌∷◌, ◌++◌, length, take, drop, refl, ap, sym, ◌∙◌, append_assoc, append-nil, one-add, All, IsTrue, Option, Some, None, Result, Ok, Err, arith}
+use Rattle.std.proofs.lemmas.List.{length-take-le}
 use Rattle.std.proofs.lemmas.List.Elements.{All-cons, All-nil}
 use Rattle.qs_tokens.specs.declared.token.Token.{Token}
 use Rattle.qs_tokens.specs.declared.lex.TokenFault.{TokenFault}
@@ -9,7 +10,7 @@ use Rattle.qs_tokens.specs.declared.lex.TokenFault.TheVariants.{Number, Name}
 use Rattle.std.proofs.Math.Dec.{ltb}
 use Rattle.qs_tokens.specs.Tokens.{Pending, nothing, word, digits, comment, sign, is_name_byte, is_letter, is_digit, is_space, word_token, value_of, Step, over, tokens_from, tokens_of, after, ends, first_byte, before, step, going_on, any_sign, single_sign, at, equals_signs}
 use Rattle.qs_tokens.specs.declared.token.Token.TheVariants as t
-use Rattle.qs_tokens.specs.Cutting.{run_of}
+use Rattle.qs_tokens.specs.Cutting.{run_of, alone, with_equals as with_equals_of}
 use Rattle.qs_tokens.specs.Limits.{longest_name}
 
 abbrev Tokens : Type 0
@@ -121,6 +122,11 @@ front_comment [] rest n some e en erest = absurd (omega arith)
 front_comment (b ∷ bs) rest n some e en erest =
     rw (erest, en, e, one-add) (ap (after []) (comment_goes bs))
 
+-- a space at the front
+pub front_space : (text rest : List ℕ) (b : ℕ) → 0 < length text → b ≡ get_or text 0 0 → rest ≡ drop 1 text → is_letter b ≡ false → is_digit b ≡ false → is_space b ≡ true → tokens_of text ≡ tokens_of rest
+front_space [] rest b some eb erest no_letter no_digit space = absurd (omega arith)
+front_space (c ∷ bs) rest b some eb erest no_letter no_digit space = rw (← eb, erest, no_letter, no_digit, space) (after-nil _)
+
 -- the sign at the front
 pub front_sign : (text rest : List ℕ) (b : ℕ) → 0 < length text → b ≡ get_or text 0 0 → rest ≡ drop 1 text → is_letter b ≡ false → is_digit b ≡ false → is_space b ≡ false → b ≢ 35 → tokens_of text ≡ going_on (any_sign b (at b equals_signs)) (λ q. tokens_from q rest)
 front_sign [] rest b some eb erest no_letter no_digit no_space no_comment = absurd (omega arith)
@@ -147,3 +153,59 @@ without_equals alone both (b ∷ bs) h =
 -- the digits at the front are digits
 pub front_passes : (text ds : List ℕ) (n : ℕ) → n ≡ run_of is_digit text → ds ≡ take n text → All (λ b. IsTrue (is_digit b)) ds
 front_passes text ds n en eds = rw (eds, en) (run_passes is_digit text)
+
+-- the sign with = after it
+sign_and_equals : (both : Token) (b : ℕ) (rest : List ℕ) (p : Option (Option Token × Token)) → 0 < length rest → get_or rest 0 0 ≡ 61 → with_equals_of p ≡ Some both
+    → going_on (any_sign b p) (λ q. tokens_from q rest) ≡ after (both ∷ []) (tokens_of (drop 1 rest))
+sign_and_equals both b rest None some e is = cc
+sign_and_equals both b rest (Some p) some e is =
+    let same : p.1 ≡ both = cc in
+    after-nil _ ∙ with_equals p.0 p.1 rest some e ∙ rw same refl
+
+drop_two : (text : List ℕ) → drop 1 (drop 1 text) ≡ drop 2 text
+drop_two [] = refl
+drop_two (b ∷ []) = refl
+drop_two (b ∷ c ∷ bs) = refl
+
+pub front_two : (text rest : List ℕ) (b : ℕ) (both : Token) → 0 < length text → b ≡ get_or text 0 0 → rest ≡ drop 1 text → is_letter b ≡ false → is_digit b ≡ false → is_space b ≡ false → b ≢ 35
+    → 0 < length rest → get_or rest 0 0 ≡ 61 → with_equals_of (at b equals_signs) ≡ Some both → tokens_of text ≡ after (both ∷ []) (tokens_of (drop 2 text))
+front_two text rest b both some eb erest no_letter no_digit no_space no_comment more e is =
+    front_sign text rest b some eb erest no_letter no_digit no_space no_comment ∙ sign_and_equals both b rest (at b equals_signs) more e is
+    ∙ rw (erest, drop_two text) refl
+
+-- the sign without = after it, or a byte that is no sign
+sign_on_its_own : (b : ℕ) (rest : List ℕ) (p : Option (Option Token × Token)) → (0 < length rest → get_or rest 0 0 ≡ 61 → with_equals_of p ≡ None)
+    → going_on (any_sign b p) (λ q. tokens_from q rest) ≡ going_on (single_sign (alone b p)) (λ q. tokens_from q rest)
+sign_on_its_own b rest None h = refl
+sign_on_its_own b rest (Some p) h =
+    after-nil _ ∙ without_equals p.0 p.1 rest (λ some e. let no : Some p.1 ≡ None = h some e in cc)
+
+pub front_one : (text rest : List ℕ) (b : ℕ) (found : Option Token) → 0 < length text → b ≡ get_or text 0 0 → rest ≡ drop 1 text → is_letter b ≡ false → is_digit b ≡ false → is_space b ≡ false → b ≢ 35
+    → (0 < length rest → get_or rest 0 0 ≡ 61 → with_equals_of (at b equals_signs) ≡ None) → found ≡ alone b (at b equals_signs)
+    → tokens_of text ≡ going_on (single_sign found) (λ q. tokens_from q rest)
+front_one text rest b found some eb erest no_letter no_digit no_space no_comment h is =
+    front_sign text rest b some eb erest no_letter no_digit no_space no_comment ∙ sign_on_its_own b rest (at b equals_signs) h ∙ rw is refl
+
+-- a word at the front: its token, or that it is too long
+pub long_word : (text : List ℕ) (n : ℕ) → 0 < length text → is_letter (get_or text 0 0) ≡ true → n ≡ run_of is_name_byte text → n ≤ length text → 16 < n → tokens_of text ≡ Err Name
+long_word text n some letter run within long =
+    front_name text (take n text) (drop n text) n some letter run refl refl
+    ∙ name_too_long (take n text) (drop n text) (rw (length-take-le n text within) long)
+
+pub short_word : (text rest : List ℕ) (n : ℕ) (token : Token) → 0 < length text → is_letter (get_or text 0 0) ≡ true → n ≡ run_of is_name_byte text → n ≤ length text → n ≤ longest_name
+    → rest ≡ drop n text → word_token (take n text) ≡ token → tokens_of text ≡ after (token ∷ []) (tokens_of rest)
+short_word text rest n token some letter run within short erest is =
+    front_name text (take n text) rest n some letter run refl erest
+    ∙ name_short (take n text) rest (rw (length-take-le n text within) short) ∙ rw is refl
+
+-- digits at the front: their number, or that there are too many
+pub many_digits : (text : List ℕ) (n : ℕ) → 0 < length text → is_letter (get_or text 0 0) ≡ false → is_digit (get_or text 0 0) ≡ true → n ≡ run_of is_digit text → n ≤ length text → 18 < n → tokens_of text ≡ Err Number
+many_digits text n some not_letter digit run within long =
+    front_digits text (take n text) (drop n text) n some not_letter digit run refl refl
+    ∙ digits_too_long (take n text) (drop n text) (rw (length-take-le n text within) long)
+
+pub few_digits : (text rest : List ℕ) (n value : ℕ) → 0 < length text → is_letter (get_or text 0 0) ≡ false → is_digit (get_or text 0 0) ≡ true → n ≡ run_of is_digit text → n ≤ length text → n ≤ 18
+    → rest ≡ drop n text → value ≡ value_of (take n text) → tokens_of text ≡ after (t.Number value ∷ []) (tokens_of rest)
+few_digits text rest n value some not_letter digit run within short erest is =
+    front_digits text (take n text) rest n some not_letter digit run refl erest
+    ∙ digits_short (take n text) rest (rw (length-take-le n text within) short) ∙ rw is refl

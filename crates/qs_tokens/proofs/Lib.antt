@@ -2,3 +2,4 @@ pub mod Powers
 pub mod Lexemes
 pub mod TokenCounts
 pub mod Suffixes
+pub mod Lists

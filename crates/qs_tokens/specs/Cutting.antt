@@ -1,13 +1,16 @@
 -- What the tokenizer cuts off at the front of a text.
 use Rattle.std.specs.Borrow.{Bor}
-use Rattle.std.specs.Prelude.{◌≡◌, ℕ, ◌+◌, Bool, not, nat_eq, if◌then◌else◌, List, [], ◌∷◌, Result, Ok, Err}
+use Rattle.std.specs.Prelude.{◌≡◌, ℕ, ◌+◌, Bool, not, nat_eq, if◌then◌else◌, List, [], ◌∷◌, Option, Some, None, Result, Ok, Err}
 use Rattle.qs_tokens.specs.declared.token.Token.{Token}
+use Rattle.qs_tokens.specs.declared.token.Token.TheVariants as t
 use Rattle.qs_tokens.specs.declared.lex.TokenFault.{TokenFault}
 use Rattle.qs_tokens.specs.declared.lex.Run.{Run}
 use Rattle.qs_tokens.specs.declared.lex.Run.TheVariants as r
 use Rattle.qs_tokens.specs.declared.lex.Piece.{Piece}
 use Rattle.qs_tokens.specs.declared.lex.Piece.TheVariants as p
-use Rattle.qs_tokens.specs.Tokens.{is_name_byte, is_digit, tokens_of, after}
+use Rattle.qs_tokens.specs.declared.listing.ListFault.{ListFault}
+use Rattle.qs_tokens.specs.declared.listing.ListFault.TheVariants as l
+use Rattle.qs_tokens.specs.Tokens.{is_name_byte, is_digit, tokens_of, after, at, signs}
 
 -- whether a byte goes on with the run
 abbrev pub in_run : Run → ℕ → Bool
@@ -29,3 +32,28 @@ tokens_in p.Gap = []
 abbrev pub Cuts : Result (Piece × Bor (List ℕ)) TokenFault → Result (List Token) TokenFault → Type 0
 Cuts (Ok x) all = all ≡ after (tokens_in x.0) (tokens_of x.1.now)
 Cuts (Err e) all = all ≡ Err e
+
+-- what goes on after the tokens of a list: those that were added come first, then those of the rest; or the first fault
+abbrev pub Adds : List Token → List Token → Result (Bor (List ℕ)) ListFault → Result (List Token) TokenFault → Type 0
+Adds old new (Ok rest) all = after old all ≡ after new (tokens_of rest.now)
+Adds old new (Err (l.Token e)) all = all ≡ Err e
+Adds old new (Err l.Memory) all = Unit {0}
+
+-- the first fault of a text, unless memory ran out
+abbrev pub IsFirstFault : Result (List Token) TokenFault → ListFault → Type 0
+IsFirstFault all (l.Token e) = all ≡ Err e
+IsFirstFault all l.Memory = Unit {0}
+
+-- a reserved word, or a name
+abbrev pub or_name : List ℕ → Option Token → Token
+or_name word None = t.Name word
+or_name word (Some token) = token
+
+-- a sign with = after it, and the sign of a byte alone, if these are signs
+abbrev pub with_equals : Option (Option Token × Token) → Option Token
+with_equals None = None
+with_equals (Some p) = Some p.1
+
+abbrev pub alone : ℕ → Option (Option Token × Token) → Option Token
+alone b None = at b signs
+alone b (Some p) = p.0

@@ -1,9 +1,9 @@
 //! From bytes to tokens.
 
-ghost use Rattle.std.specs.Prelude.{◌≡◌, ◌-◌, drop, ℕ, ◌<◌, ◌≤◌, ◌≢◌, length, slice_index, IsTrue, IfOk, All, false, if◌then◌else◌};
+ghost use Rattle.std.specs.Prelude.{◌≡◌, ◌-◌, drop, ℕ, ◌<◌, ◌≤◌, ◌≢◌, length, take, slice_index, IsTrue, IfOk, All, false, if◌then◌else◌};
 ghost use Rattle.qs_tokens.specs.Limits.{most_digits};
 ghost use Rattle.qs_tokens.specs.Tokens.{is_digit as digit, is_letter as letter, is_space as space, at, signs, equals_signs, value_of, word_token, tokens_of, tokens_from, going_on, same, single_sign, sign};
-ghost use Rattle.qs_tokens.specs.Cutting.{Cuts, in_run, run_of};
+ghost use Rattle.qs_tokens.specs.Cutting.{Cuts, in_run, run_of, or_name, with_equals, alone};
 ghost use Rattle.qs_tokens.specs.Limits.{longest_name};
 ghost use Rattle.qs_tokens.specs.declared.token.Token.TheVariants.{Name as name};
 
@@ -30,12 +30,13 @@ pub enum Piece {
 
 // Bytes that belong together.
 #[derive(Clone, Copy)]
-enum Run {
+pub(crate) enum Run {
     Name,
     Digits,
     Comment,
 }
 
+#[inline(always)]
 fn belongs(run: Run, b: u8) -> bool
     ensures { result ≡ in_run run b }
 {
@@ -47,7 +48,8 @@ fn belongs(run: Run, b: u8) -> bool
 }
 
 // Where the run at the front ends.
-fn run_end(run: Run, text: &[u8]) -> usize
+#[inline(always)]
+pub(crate) fn run_end(run: Run, text: &[u8]) -> usize
     ensures run { result ≡ run_of (in_run run) text.now }
     ensures within { result ≤ length text.now }
 {
@@ -83,6 +85,7 @@ pub fn front(text: &[u8]) -> Result<(Piece, &[u8]), TokenFault>
 }
 
 // The name or reserved word at the front, and what comes after it.
+#[inline(always)]
 fn front_word(text: &[u8]) -> Result<(Piece, &[u8]), TokenFault>
     requires some { 0 < length text.now }
     requires letter { IsTrue (letter (slice_index text.now 0)) }
@@ -90,49 +93,51 @@ fn front_word(text: &[u8]) -> Result<(Piece, &[u8]), TokenFault>
     ensures shorter { IfOk result (λ x. length x.1.now < length text.now) }
     ensures suffix { IfOk result (λ x. x.1.now ≡ drop (length text.now - length x.1.now) text.now) }
 {
-    let (word, rest) = text.split_at(run_end(Run::Name, text));
-    if word.len() > LONGEST_NAME {
+    let end = run_end(Run::Name, text);
+    if end > LONGEST_NAME {
         return Err(TokenFault::Name);
     }
-    Ok((Piece::Token(token_of(word)), rest))
+    match reserved(&text[..end]) {
+        Some(token) => Ok((Piece::Token(token), &text[end..])),
+        None => Ok((
+            Piece::Token(Token::Name(Name::front(text, end))),
+            &text[end..],
+        )),
+    }
 }
 
-// A reserved word, or a name. No two reserved words begin with the same letter.
-fn token_of(word: &[u8]) -> Token
-    requires { length word.now ≤ longest_name }
-    ensures { result ≡ word_token word.now }
+// The reserved word that this is, if it is one. No two of them begin with the same letter.
+#[inline(always)]
+pub(crate) fn reserved(word: &[u8]) -> Option<Token>
+    ensures { word_token word.now ≡ or_name word.now result }
 {
     match word {
-        [b'o', ..] => reserved_or_name(word, b"object", Token::Object),
-        [b'c', ..] => reserved_or_name(word, b"client", Token::Client),
-        [b's', ..] => reserved_or_name(word, b"separate", Token::Separate),
-        [b'i', ..] => reserved_or_name(word, b"if", Token::If),
-        [b'e', ..] => reserved_or_name(word, b"else", Token::Else),
-        [b'r', ..] => reserved_or_name(word, b"repeat", Token::Repeat),
-        [b'l', ..] => reserved_or_name(word, b"leave", Token::Leave),
-        [b'a', ..] => reserved_or_name(word, b"account", Token::Account),
-        [b'b', ..] => reserved_or_name(word, b"buffer", Token::Buffer),
-        [b'g', ..] => reserved_or_name(word, b"grid", Token::Grid),
-        [b't', ..] => reserved_or_name(word, b"template", Token::Template),
-        _ => Token::Name(Name::new(word)),
+        [b'o', ..] if is(word, b"object") => Some(Token::Object),
+        [b'c', ..] if is(word, b"client") => Some(Token::Client),
+        [b's', ..] if is(word, b"separate") => Some(Token::Separate),
+        [b'i', ..] if is(word, b"if") => Some(Token::If),
+        [b'e', ..] if is(word, b"else") => Some(Token::Else),
+        [b'r', ..] if is(word, b"repeat") => Some(Token::Repeat),
+        [b'l', ..] if is(word, b"leave") => Some(Token::Leave),
+        [b'a', ..] if is(word, b"account") => Some(Token::Account),
+        [b'b', ..] if is(word, b"buffer") => Some(Token::Buffer),
+        [b'g', ..] if is(word, b"grid") => Some(Token::Grid),
+        [b't', ..] if is(word, b"template") => Some(Token::Template),
+        _ => None,
     }
 }
 
-// This reserved word, or a name.
-fn reserved_or_name(word: &[u8], reserved: &[u8], token: Token) -> Token
-    requires { length word.now ≤ longest_name }
-    ensures { result ≡ (if same word.now reserved.now then token else name word.now) }
+// Whether the word is this one.
+#[inline(always)]
+fn is(word: &[u8], reserved: &[u8]) -> bool
+    ensures { result ≡ same word.now reserved.now }
 {
-    if word == reserved {
-        token
-    } else {
-        drop(token);
-        Token::Name(Name::new(word))
-    }
+    word == reserved
 }
 
 // The number at the front, and what comes after it.
-fn front_number(text: &[u8]) -> Result<(Piece, &[u8]), TokenFault>
+#[inline(always)]
+pub(crate) fn front_number(text: &[u8]) -> Result<(Piece, &[u8]), TokenFault>
     requires some { 0 < length text.now }
     requires not_letter { letter (slice_index text.now 0) ≡ false }
     requires digit { IsTrue (digit (slice_index text.now 0)) }
@@ -151,6 +156,7 @@ fn front_number(text: &[u8]) -> Result<(Piece, &[u8]), TokenFault>
 }
 
 // The sign at the front, and what comes after it.
+#[inline(always)]
 fn front_sign(text: &[u8]) -> Result<(Piece, &[u8]), TokenFault>
     requires some { 0 < length text.now }
     requires not_letter { letter (slice_index text.now 0) ≡ false }
@@ -162,43 +168,35 @@ fn front_sign(text: &[u8]) -> Result<(Piece, &[u8]), TokenFault>
     ensures suffix { IfOk result (λ x. x.1.now ≡ drop (length text.now - length x.1.now) text.now) }
 {
     let rest = &text[1..];
-    match sign_with_equals(text[0]) {
-        Some((alone, with_equals)) => equals_sign(alone, with_equals, rest),
-        None => lone_sign(single_sign(text[0]), rest),
-    }
-}
-
-// A sign that an = may follow, with the = if it stands there.
-fn equals_sign(
-    alone: Option<Token>,
-    with_equals: Token,
-    rest: &[u8],
-) -> Result<(Piece, &[u8]), TokenFault>
-    ensures exact { Cuts result (tokens_from (sign alone with_equals) rest.now) }
-    ensures within { IfOk result (λ x. length x.1.now ≤ length rest.now) }
-    ensures suffix { IfOk result (λ x. x.1.now ≡ drop (length rest.now - length x.1.now) rest.now) }
-{
     if !rest.is_empty() && rest[0] == b'=' {
-        return Ok((Piece::Token(with_equals), &rest[1..]));
+        if let Some(token) = sign_with_equals(text[0]) {
+            return Ok((Piece::Token(token), &text[2..]));
+        }
     }
-    lone_sign(alone, rest)
-}
-
-// The sign, if it is one.
-fn lone_sign(sign: Option<Token>, rest: &[u8]) -> Result<(Piece, &[u8]), TokenFault>
-    ensures exact { Cuts result (going_on (single_sign sign) (λ p. tokens_from p rest.now)) }
-    ensures within { IfOk result (λ x. length x.1.now ≤ length rest.now) }
-    ensures suffix { IfOk result (λ x. x.1.now ≡ drop (length rest.now - length x.1.now) rest.now) }
-{
-    match sign {
-        Some(sign) => Ok((Piece::Token(sign), rest)),
+    match sign_alone(text[0]) {
+        Some(token) => Ok((Piece::Token(token), rest)),
         None => Err(TokenFault::Byte),
     }
 }
 
-// The sign of one byte that no = may follow.
-fn single_sign(b: u8) -> Option<Token>
-    ensures { result ≡ at b signs }
+// The sign of the byte with = after it, if it is one.
+#[inline(always)]
+pub(crate) fn sign_with_equals(b: u8) -> Option<Token>
+    ensures { result ≡ with_equals (at b equals_signs) }
+{
+    match b {
+        b'=' => Some(Token::Equal),
+        b'<' => Some(Token::AtMost),
+        b'>' => Some(Token::AtLeast),
+        b'!' => Some(Token::Unequal),
+        _ => None,
+    }
+}
+
+// The sign of the byte alone, if it is one.
+#[inline(always)]
+pub(crate) fn sign_alone(b: u8) -> Option<Token>
+    ensures { result ≡ alone b (at b equals_signs) }
 {
     match b {
         b'{' => Some(Token::OpenBrace),
@@ -211,25 +209,16 @@ fn single_sign(b: u8) -> Option<Token>
         b'+' => Some(Token::Plus),
         b'-' => Some(Token::Minus),
         b'*' => Some(Token::Times),
-        _ => None,
-    }
-}
-
-// The sign of the byte alone, if it is one, and the sign of the byte with = after it.
-fn sign_with_equals(b: u8) -> Option<(Option<Token>, Token)>
-    ensures { result ≡ at b equals_signs }
-{
-    match b {
-        b'=' => Some((Some(Token::Assign), Token::Equal)),
-        b'<' => Some((Some(Token::Less), Token::AtMost)),
-        b'>' => Some((Some(Token::Greater), Token::AtLeast)),
-        b'!' => Some((None, Token::Unequal)),
+        b'=' => Some(Token::Assign),
+        b'<' => Some(Token::Less),
+        b'>' => Some(Token::Greater),
         _ => None,
     }
 }
 
 // The number that at most eighteen digits write.
-fn number_of(digits: &[u8]) -> u64
+#[inline(always)]
+pub(crate) fn number_of(digits: &[u8]) -> u64
     requires short { length digits.now ≤ most_digits }
     requires digits { All (λ b. IsTrue (digit b)) digits.now }
     ensures value { result ≡ value_of digits.now }

@@ -3,11 +3,13 @@
 
 mod lex;
 mod limits;
+mod listing;
 mod name;
 mod number;
 mod token;
 
 pub use lex::{Piece, TokenFault, front};
+pub use listing::{ListFault, list_tokens};
 pub use name::Name;
 pub use number::Number;
 pub use token::Token;

@@ -1,6 +1,6 @@
 //! Names.
 
-ghost use Rattle.std.specs.Prelude.{◌≡◌, ◌≤◌, ◌==◌, length};
+ghost use Rattle.std.specs.Prelude.{◌≡◌, ◌≤◌, ◌==◌, length, take};
 ghost use Rattle.std.proofs.Common.{rules};
 ghost use Rattle.std.specs.Hash as fed;
 ghost use Rattle.std.specs.Cmp.Lexicographic.{pointwise};
@@ -46,6 +46,25 @@ impl Name {
         Name {
             bytes,
             len: text.len() as u8,
+        }
+    }
+
+    /// The name that the first bytes of a text are.
+    #[inline(always)]
+    pub fn front(text: &[u8], end: usize) -> Name
+        requires within { end ≤ length text.now }
+        requires short { end ≤ longest_name }
+        ensures same { result ≡ take end text.now }
+    {
+        let mut bytes = [0; LONGEST_NAME];
+        if text.len() < LONGEST_NAME {
+            bytes[..end].copy_from_slice(&text[..end]);
+        } else {
+            bytes.copy_from_slice(&text[..LONGEST_NAME]);
+        }
+        Name {
+            bytes,
+            len: end as u8,
         }
     }
 

@@ -12,5 +12,5 @@ decreases-resolve_stmt l = 2 * views.size_of (views.single l.stmt.now)
 
 abbrev pub invariant-resolve_body-loop-stmt : goal.invariant-resolve_body-loop-stmt
 invariant-resolve_body-loop-stmt l =
-    body_of l.objects l.kinds l.variables (views.stmts_of l.stmt-items)
-    ≡ join_statements l.code (body_of l.objects l.kinds l.variables (views.stmts_of (drop l.stmt-index l.stmt-items)))
+    body_of l.objects l.kinds l.variables (views.stmts_of l.stmts)
+    ≡ join_statements l.code (body_of l.objects l.kinds l.variables (views.stmts_of (drop l.stmt-index l.stmts)))

@@ -7,7 +7,7 @@ use Rattle.qs_script.proofs.statements.+body.Goals as goal
 
 pub body-each-init : goal.body-each-init
 body-each-init t c = record {
-  whole = rw c.new-stmts.ensures.empty (begins (body_loop c.args.levels) (body_lawful c.args.levels) end c.args.tokens.now);
+  whole = rw c.in_ok-stmts.ensures.empty (begins (body_loop c.args.levels) (body_lawful c.args.levels) end c.args.tokens.now);
   shorter = omega arith;
 }
 
@@ -17,7 +17,7 @@ body-returns-in-Some-clause-exact t c =
 
 pub body-returns-in_err-stmt-clause-exact : goal.body-returns-in_err-stmt-clause-exact
 body-returns-in_err-stmt-clause-exact t c =
-    let p = err_from_is_err_and c.from_residual.result c.from_residual.ensures.1 in
+    let p = err_from_is_err_and c.from_residual-in_err-stmt.result c.from_residual-in_err-stmt.ensures.1 in
     rw (p.1, p.2)
     (whole_fails (body_loop c.args.levels) (body_lawful c.args.levels) c.in_err-stmt.field-0.0 c.args.tokens.now c.each.rest.now c.each.stmts c.each.invariant.whole c.in_default.ensures.exact c.in_err-stmt.ensures.exact)
 

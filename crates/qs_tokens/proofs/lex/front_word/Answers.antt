@@ -1,14 +1,19 @@
-use Rattle.std.proofs.Common.{◌∙◌, arith}
-use Rattle.qs_tokens.proofs.Lexemes.{front_name, name_too_long, name_short}
+use Rattle.std.proofs.Common.{◌∙◌, ap, sym, arith}
+use Rattle.std.proofs.lemmas.List.{take_rest}
+use Rattle.qs_tokens.specs.declared.token.Token.TheVariants.{Name as name}
+use Rattle.qs_tokens.proofs.Lexemes.{long_word, short_word}
 use Rattle.qs_tokens.proofs.lex.front_word.Goals as goal
 
-pub returns-then-word-gt-LONGEST_NAME-clause-exact : goal.returns-then-word-gt-LONGEST_NAME-clause-exact
-returns-then-word-gt-LONGEST_NAME-clause-exact c =
-    front_name c.args.text.now c.split_at.result.0.now c.split_at.result.1.now c.run_end.result c.requires.some c.requires.letter c.run_end.ensures.run c.split_at.ensures.front c.split_at.ensures.back
-    ∙ name_too_long c.split_at.result.0.now c.split_at.result.1.now (omega arith)
+pub returns-then-end-gt-LONGEST_NAME-clause-exact : goal.returns-then-end-gt-LONGEST_NAME-clause-exact
+returns-then-end-gt-LONGEST_NAME-clause-exact c =
+    long_word c.args.text.now c.run_end-end.result c.requires.some c.requires.letter c.run_end-end.ensures.run c.run_end-end.ensures.within (omega arith)
 
-pub returns-clause-exact : goal.returns-clause-exact
-returns-clause-exact c =
-    rw c.token_of.ensures
-    (front_name c.args.text.now c.split_at.result.0.now c.split_at.result.1.now c.run_end.result c.requires.some c.requires.letter c.run_end.ensures.run c.split_at.ensures.front c.split_at.ensures.back
-    ∙ name_short c.split_at.result.0.now c.split_at.result.1.now (omega arith))
+pub returns-in-Some-clause-exact : goal.returns-in-Some-clause-exact
+returns-in-Some-clause-exact c =
+    short_word c.args.text.now _ c.run_end-end.result c.in-Some.token c.requires.some c.requires.letter c.run_end-end.ensures.run c.run_end-end.ensures.within (omega arith)
+    (take_rest c.args.text.now c.run_end-end.result) c.in-Some.ensures
+
+pub returns-in-None-clause-exact : goal.returns-in-None-clause-exact
+returns-in-None-clause-exact c =
+    short_word c.args.text.now _ c.run_end-end.result _ c.requires.some c.requires.letter c.run_end-end.ensures.run c.run_end-end.ensures.within (omega arith)
+    (take_rest c.args.text.now c.run_end-end.result) (c.in-None.ensures ∙ ap name (sym c.front.ensures.same))

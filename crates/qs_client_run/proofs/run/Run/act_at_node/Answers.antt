@@ -1,13 +1,10 @@
-use Rattle.std.proofs.Common.{◌≡◌, ℕ, refl, sym, ap, ◌∙◌, subst, Option}
+use Rattle.std.proofs.Common.{◌≡◌, ℕ, refl, sym, ap, ◌∙◌, subst}
 use Rattle.qs_program.specs.declared.code.Call as calls
 use Rattle.qs_graph.specs.declared.node.Node.{Node}
 use Rattle.qs_graph.specs.Nodes.{place_at, first_target, second_target}
 use Rattle.qs_graph.specs.Walk.{Move, Spot, move_by}
 use Rattle.qs_graph.specs.declared.node.Node.TheVariants as nodes
-use Rattle.qs_client_run.specs.NextActs.{act_by, holdings_by, send_or, with_holdings}
-use Rattle.qs_client_run.specs.declared.act.Act.TheVariants as acts
-use Rattle.qs_chunk.specs.declared.parcel.Parcel.{Parcel}
-use Rattle.qs_chunk.specs.declared.parcel.Parcel.TheVariants as parcels
+use Rattle.qs_client_run.specs.NextActs.{act_by, holdings_by, with_holdings}
 use Rattle.qs_client_run.specs.Running.{IsLoud}
 use Rattle.qs_client_run.specs.RunState.{RunState}
 use Rattle.qs_client_run.specs.contracts.run.Run.{the_view}
@@ -42,8 +39,8 @@ returns-in-Call c =
     let is = ap (λ n. (place_at g n).node) (sym c.node.ensures.value) ∙ sym c.node-2.ensures.value ∙ c.in-Call.is in
     let at = sym (moves g s.position (nodes.Call c.in-Call.call) is) in
     record {
-      act = c.or_chunk.ensures.act ∙ ap (λ (p : Option Parcel). send_or c.in-Call.call.object p (acts.NeedChunk c.in-Call.call.object)) c.clear.ensures.parcel ∙ ap (λ (m : Move). act_by s.holdings m) at;
-      rest = ap (with_holdings s) (c.clear.ensures.rest ∙ ap (λ (m : Move). holdings_by s.holdings m) at);
+      act = c.clear_or_chunk.ensures.act ∙ ap (λ (m : Move). act_by s.holdings m) at;
+      rest = ap (with_holdings s) (c.clear_or_chunk.ensures.rest ∙ ap (λ (m : Move). holdings_by s.holdings m) at);
     }
     )
 
@@ -56,7 +53,7 @@ returns-in-Sync c =
     let is = ap (λ n. (place_at g n).node) (sym c.node.ensures.value) ∙ sym c.node-2.ensures.value ∙ c.in-Sync.is in
     let at = sym (moves g s.position (nodes.Sync c.in-Sync.name) is) in
     record {
-      act = c.or_sync.ensures.act ∙ ap (λ (p : Option Parcel). send_or c.in-Sync.name p (acts.Send c.in-Sync.name parcels.Sync)) c.clear-in-Sync.ensures.parcel ∙ ap (λ (m : Move). act_by s.holdings m) at;
-      rest = ap (with_holdings s) (c.clear-in-Sync.ensures.rest ∙ ap (λ (m : Move). holdings_by s.holdings m) at);
+      act = c.clear_or_sync.ensures.act ∙ ap (λ (m : Move). act_by s.holdings m) at;
+      rest = ap (with_holdings s) (c.clear_or_sync.ensures.rest ∙ ap (λ (m : Move). holdings_by s.holdings m) at);
     }
     )

@@ -1,18 +1,53 @@
-use Rattle.std.proofs.Common.{◌≡◌, refl, sym, ap, ◌∙◌, subst, List, ℕ, length}
+use Rattle.std.proofs.Common.{◌≡◌, Bool, refl, sym, ap, ◌∙◌, subst, List, ℕ, length}
 use Rattle.qs_graph.specs.WellFormed.{IsGraph}
 use Rattle.qs_graph.specs.Nodes as places
 use Rattle.qs_syncset.specs.Codes.{BlockCode, code_at}
-use Rattle.qs_client_run.specs.ClientOfRun.{stage_of}
+use Rattle.qs_client_run.specs.ClientOfRun.{HasSettled, stage_of}
 use Rattle.qs_client_run.specs.BetweenActs.{HasSent, IsOutgoingAt, IsStanding, leave_next, await_object}
 use Rattle.qs_client_run.specs.RunState.{RunState}
-use Rattle.qs_client_run.proofs.StepRefinement.{full_running, resumes}
+use Rattle.qs_client_run.proofs.StepRefinement.{full_running, resumes, stops}
+use Rattle.qs_client_run.proofs.ArrivalRefinement.{node_inside}
+use Rattle.qs_client_run.specs.Running.{IsRunning}
+use Rattle.qs_client_run.specs.declared.run.BlockContext.{BlockContext}
 use Rattle.qs_client_run.proofs.AfterSyncAndEnd.{awaits_sent, end_sent}
 use Rattle.qs_client_run.specs.declared.stage.Outgoing.TheVariants as outgoings
 use Rattle.qs_client_run.specs.declared.stage.Stage.TheVariants as stages
 use Rattle.qs_client_run.proofs.run.Run.after_send.Goals as goal
 
-pub returns-in-Runs : goal.returns-in-Runs
-returns-in-Runs c =
+pub rests-requires : goal.rests-requires
+rests-requires c =
+    let s : RunState = c.args.self.now in
+    let b : BlockCode = code_at c.args.code.now c.args.ticket.index in
+    let graph : c.graph-graph.result.now.nodes ≡ b.graph = c.graph-graph.ensures.value ∙ ap (λ n. (code_at c.args.code.now n).graph) c.from-block.ensures in
+    let standing = c.requires.standing in
+    let w = subst (IsStanding b standing.0 c.args.ticket.index standing.1 s) (ap (λ (x : RunState). x.stage) (sym c.self.view_is) ∙ c.in-Runs.is) standing.2 in
+    record { inside = rw graph (node_inside b.graph w.0 s.position w.2.within) }
+
+pub returns-then-rests : goal.returns-then-rests
+returns-then-rests c =
+    let s : RunState = c.args.self.now in
+    let u = c.args.ticket in
+    let b : BlockCode = code_at c.args.code.now u.index in
+    let g = c.graph-graph.result.now.nodes in
+    let graph : g ≡ b.graph = c.graph-graph.ensures.value ∙ ap (λ n. (code_at c.args.code.now n).graph) c.from-block.ensures in
+    let runs = ap (λ (x : RunState). x.stage) (sym c.self.view_is) ∙ c.in-Runs.is in
+    let context : BlockContext = record { dynamic = c.is_dynamic.result; ticket = u } in
+    let still = c.rests.ensures.still c.if-rests.true context b.reserved refl in
+    record {
+      sent = λ settings begun most dynamic standing.
+          let w = subst (IsStanding b settings.size u.index most s) runs standing in
+          let p = stage_of b.graph b.reserved s in
+          let settled : HasSettled b.graph settings u b.reserved begun p w.0 s s =
+          subst (λ q. HasSettled q settings u b.reserved begun p w.0 s s) graph
+          (stops g settings context b.reserved begun p w.0 s s c.is_graph.ensures.graph (dynamic ∙ sym c.is_dynamic.ensures.value) runs
+          (subst (λ (q : List places.GraphNode). IsRunning q settings.size u.index w.0 s) (sym graph) w.2)
+          (sym (ap (λ (q : RunState × Bool). q.0) still)) (ap (λ (q : RunState × Bool). q.1) still)) in
+          subst (λ h. HasSent b settings u begun most h s s) (sym c.in-Value.is)
+          (resumes b settings u begun w.0 most s s stages.Runs runs w.1 (λ m rest. refl) w.2 settled);
+    }
+
+pub returns-else-rests : goal.returns-else-rests
+returns-else-rests c =
     let s : RunState = c.args.self.now in
     let b : BlockCode = code_at c.args.code.now c.args.ticket.index in
     record {

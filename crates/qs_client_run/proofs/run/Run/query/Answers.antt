@@ -1,12 +1,12 @@
-use Rattle.std.proofs.Common.{◌≡◌, arith, refl, sym, ap, ◌∙◌, set-set, Some, None, Option, ℤ, pos}
+use Rattle.std.proofs.Common.{◌≡◌, arith, refl, ap, ◌∙◌, IsSome, Some, None, Option, ℤ, pos}
 use Rattle.std.specs.Prelude.{unwrap_or}
 use Rattle.std.proofs.lemmas.Int.{to_z-of_z, ints}
 use Rattle.qs_objects.specs.declared.Request.{Request}
-use Rattle.qs_objects.specs.Journals.{run_one}
+use Rattle.qs_objects.specs.Journals.{HeldState, run_one}
 use Rattle.qs_program.specs.Values.{request_of}
 use Rattle.qs_meaning.specs.Solo.{event, value_of}
 use Rattle.qs_graph.specs.Walk.{Spot, at_node, with_value}
-use Rattle.qs_client_run.specs.Holdings.{HoldingsState, with_held}
+use Rattle.qs_client_run.specs.Holdings.{held_at, with_held}
 use Rattle.qs_objects.specs.Traces.{noted_at}
 use Rattle.qs_client_run.specs.RunState.{RunState}
 use Rattle.qs_client_run.specs.contracts.run.Run.{the_view}
@@ -19,6 +19,10 @@ unwrapped : (v : Option ℤ) → unwrap_or v (pos 0) ≡ value_of v
 unwrapped None = refl
 unwrapped (Some v) = refl
 
+here : (x : Option HeldState) → IsSome x → (y : HeldState) × (x ≡ Some y)
+here None h = cc
+here (Some y) h = (y, refl)
+
 pub returns : goal.returns
 returns c =
     rw (← c.self.view_is)
@@ -28,11 +32,12 @@ returns c =
     let u = c.args.ticket in
     let r : Request = request_of s.position.locals c.args.call.now in
     let same : c.request-request.result ≡ r = c.request-request.ensures.value in
-    let holdings : c.put_held.new.self ≡ with_held s.holdings h (Some c.run-reply.new.self) =
-    c.put_held.ensures.value ∙ ap (λ (x : HoldingsState). with_held x h (Some c.run-reply.new.self)) c.take_held.ensures.rest
-    ∙ ap (λ xs. record { held = xs; chunks = s.holdings.chunks }) (set-set s.holdings.held h None (Some c.run-reply.new.self)) in
-    let done : (c.run-reply.new.self, c.run-reply.result) ≡ run_one c.in-Some.held u r =
-    c.run-reply.ensures.ran ∙ ap (λ (q : Request). run_one c.in-Some.held u q) (c.copied.ensures.same ∙ same) in
+    let there = here (held_at s.holdings h) (rw (← c.self.view_is) at c.requires.held) in
+    let ran = c.run-reply.ensures.ran there.0 there.1 in
+    let asked : c.copied.result ≡ r = c.copied.ensures.same ∙ same in
+    let holdings : c.run-reply.new.self ≡ with_held s.holdings h (Some (run_one there.0 u r).0) =
+    ran.0 ∙ ap (λ (q : Request). with_held s.holdings h (Some (run_one there.0 u q).0)) asked in
+    let answer : c.run-reply.result ≡ (run_one there.0 u r).1 = ran.1 ∙ ap (λ (q : Request). (run_one there.0 u q).1) asked in
     let spot = λ (v : ℤ). at_node (with_value s.position c.args.variable v) c.args.next in
     let kept : to_z w64 (of_z w64 c.unwrap_or.result) ≡ unwrap_or c.run-reply.result (pos 0) = search (arith, ints, to_z-of_z, c.unwrap_or.ensures) in
     let reply : to_z w64 (of_z w64 c.unwrap_or.result) ≡ value_of c.run-reply.result = kept ∙ unwrapped c.run-reply.result in
@@ -43,7 +48,7 @@ returns c =
     ∙ ap (λ (q : Request). noted_at s.traces u.index (event q c.run-reply.result)) same in
     record {
       new =
-          (λ i. record { position = position i; holdings = c.put_held.new.self; traces = event i; stage = s.stage })
-          ∙ query_runs u r spot s c.in-Some.held c.run-reply.new.self c.run-reply.result c.put_held.new.self (sym c.take_held.ensures.value ∙ c.in-Some.is) done holdings;
+          (λ i. record { position = position i; holdings = c.run-reply.new.self; traces = event i; stage = s.stage })
+          ∙ query_runs u r spot s there.0 c.run-reply.result c.run-reply.new.self there.1 answer holdings;
     }
     )

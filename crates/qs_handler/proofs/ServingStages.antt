@@ -1,0 +1,27 @@
+-- A handler that serves a block is in that stage in the code, and has its object.
+use Rattle.std.proofs.Common.{◌≡◌, Option, Some, None}
+use Rattle.qs_objects.specs.Journals.{HeldState}
+use Rattle.qs_objects.specs.declared.Request.{Request}
+use Rattle.qs_objects.specs.declared.held.Ticket.{Ticket}
+use Rattle.qs_chunk.specs.Batch.{Batch}
+use Rattle.qs_handler.specs.Handler.{serves}
+use Rattle.qs_handler.specs.Stages.{handler_of}
+use Rattle.qs_handler.specs.declared.mind.Stage.{Stage}
+use Rattle.qs_handler.specs.declared.mind.Stage.TheVariants as stages
+
+pub serves_with : (s : Stage) (held : Option HeldState) (spare : Option (Batch Request)) (t : Ticket) (x : HeldState) → handler_of s held spare ≡ serves t x → held ≡ Some x
+serves_with stages.Free (Some y) spare t x e = cc
+serves_with stages.Free None spare t x e = cc
+serves_with (stages.Serves u) (Some y) spare t x e = cc
+serves_with (stages.Serves u) None spare t x e = cc
+serves_with (stages.Spares u) (Some y) (Some chunk) t x e = cc
+serves_with (stages.Spares u) (Some y) None t x e = cc
+serves_with (stages.Spares u) None spare t x e = cc
+serves_with (stages.Gives u) (Some y) spare t x e = cc
+serves_with (stages.Gives u) None spare t x e = cc
+serves_with (stages.Away u) held spare t x e = cc
+serves_with stages.Closed (Some y) spare t x e = cc
+serves_with stages.Closed None spare t x e = cc
+
+pub one_object : (o : Option HeldState) (y x : HeldState) → o ≡ Some y → o ≡ Some x → y ≡ x
+one_object o y x e f = cc

@@ -1,0 +1,9 @@
+use Rattle.std.proofs.Common.{◌≡◌, length}
+use Rattle.qs_tokens.specs.Tokens.{tokens_of, after}
+use Rattle.qs_tokens.proofs.listing.list_tokens.Given as goal
+
+abbrev pub invariant-each : goal.invariant-each
+invariant-each l = tokens_of l.text ≡ after l.tokens.items (tokens_of l.rest)
+
+abbrev pub decreases-each : goal.decreases-each
+decreases-each l = length l.rest
