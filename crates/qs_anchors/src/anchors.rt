@@ -1,8 +1,8 @@
 //! From trees to anchors.
 
-ghost use Rattle.std.specs.Prelude.{◌≡◌, ◌∷◌, ◌++◌, [], OnOk, flat_map, map};
+ghost use Rattle.std.specs.Prelude.{◌≡◌, ◌∷◌, ◌++◌, [], OnOk, map};
 ghost use Rattle.qs_script.specs.Views.{single};
-ghost use Rattle.qs_anchors.specs.Anchors.{anchors, atom_anchor, expr_anchors, test_anchors, call_anchors, block_anchors, blocks_anchors, kind_anchors, formal_anchor, text_anchors, given_anchors, item_anchors};
+ghost use Rattle.qs_anchors.specs.Anchors.{anchors, atom_anchor, expr_anchors, test_anchors, call_anchors, block_anchors, blocks_anchors, kind_anchors, formal_anchor, given_anchors, item_anchors};
 
 use crate::anchor::Anchor;
 use qs_objects::{GREATEST_BALANCE, MOST_LINES, MOST_VALUES};

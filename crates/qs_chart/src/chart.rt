@@ -4,11 +4,11 @@ ghost use Rattle.std.specs.Prelude.{◌≡◌, ◌+◌, ◌<◌, ◌≤◌, ◌+
 ghost use Rattle.qs_orders.specs.NamedOrders.{order_of};
 ghost use Rattle.qs_meaning.specs.Serial.{IsLegal};
 ghost use Rattle.qs_meaning.specs.Reduced.{goes_on};
-ghost use Rattle.qs_chart.specs.Charts.{AreCharted, AreLeads, AreLeadsUpTo, AreMore, ArePlaces, IsPlaced, IsRowPlaced, StandsAt};
+ghost use Rattle.qs_chart.specs.Charts.{AreCharted, AreLeads, AreLeadsUpTo, AreMore, ArePlaces, IsPlaced, IsRowPlaced};
 ghost use Rattle.qs_outcomes.specs.Going.{AreLast, in_byte};
 ghost use Rattle.qs_outcomes.specs.Outcomes.{HasMoreThanAfter};
 ghost use Rattle.qs_outcomes.specs.Rows.{rows_in, shape_of};
-ghost use Rattle.qs_outcomes.specs.Standings.{GoesOn, IsFirst, IsNext, IsStanding, StandingShape, configuration_in, row_of};
+ghost use Rattle.qs_outcomes.specs.Standings.{GoesOn, IsFirst, IsNext, IsStanding, StandingShape, configuration_in};
 
 use indexmap::IndexSet;
 use qs_objects::Ticket;

@@ -1,6 +1,6 @@
 //! The chart of a program as a drawing, in the DOT language of graphviz.
 
-ghost use Rattle.std.specs.Prelude.{◌≡◌, ◌<◌, ◌≤◌, ◌++◌, codes, decimal, flat_map, length, nat_eq, slice_index_or, IfOk, OnOk, IsErrOf};
+ghost use Rattle.std.specs.Prelude.{◌≡◌, ◌<◌, ◌++◌, flat_map, length, nat_eq, slice_index_or, IfOk, OnOk, IsErrOf};
 ghost use Rattle.std.specs.List.{AllByRecursion, list_any};
 ghost use Rattle.qs_orders.specs.NamedOrders.{order_of};
 ghost use Rattle.qs_meaning.specs.Serial.{IsLegal};

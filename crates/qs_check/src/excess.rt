@@ -3,7 +3,7 @@
 ghost use Rattle.std.specs.Prelude.{◌≡◌, ◌≤◌, ◌+◌, min, IfOk, IfErr, MatchOption, None, sum_by};
 ghost use Rattle.qs_script.specs.Form.{HasForm};
 ghost use Rattle.qs_program.specs.Limits.{most_steps};
-ghost use Rattle.qs_check.specs.Checked.{excess_of, shape_of};
+ghost use Rattle.qs_check.specs.Checked.{shape_of};
 ghost use Rattle.qs_check.specs.Excess.{counted_by, counted_in, limit_by, IsPassedIn, IsPassedBy, IsFirstExcess, IsExcessOf};
 
 use crate::checker::{Resolved, resolve};

@@ -7,7 +7,7 @@ ghost use Rattle.qs_script.specs.Views.{single as single_text};
 ghost use Rattle.qs_script.specs.Limits.{most_levels};
 ghost use Rattle.qs_program.specs.Limits.{most_objects, most_variables};
 ghost use Rattle.qs_program.specs.Numbering.{found_at};
-ghost use Rattle.qs_check.specs.Resolve.{atom_of, expr_of, test_of, call_of, body_of, block_of, client_of, clients_of, objects_of, lists_of, templates_in};
+ghost use Rattle.qs_check.specs.Resolve.{atom_of, expr_of, test_of, call_of, body_of, block_of, clients_of, objects_of, lists_of, templates_in};
 ghost use Rattle.qs_program.specs.Views.{single};
 
 use crate::start::resolve_started;

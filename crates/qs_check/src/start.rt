@@ -5,7 +5,7 @@ ghost use Rattle.std.specs.List.{AllByRecursion};
 ghost use Rattle.qs_script.specs.Form.{HasForm, IsFormed};
 ghost use Rattle.qs_program.specs.Limits.{most_objects};
 ghost use Rattle.qs_places.specs.Places.{scope_or_fault, start as nothing_known, text_places};
-ghost use Rattle.qs_check.specs.Resolve.{declared_formals, own_client, started_of, template_called, templates_in};
+ghost use Rattle.qs_check.specs.Resolve.{declared_formals, started_of, template_called, templates_in};
 
 use crate::resolve::{resolve_blocks, resolve_list};
 use qs_binding::bind_blocks;

@@ -1,15 +1,10 @@
 //! The next act of a client in a block, and what comes to it.
 
-ghost use Rattle.std.specs.Prelude.{◌≡◌, ◌<◌, [], ℕ, None, length};
-ghost use Rattle.qs_program.specs.Limits.{most_handlers};
+ghost use Rattle.std.specs.Prelude.{◌≡◌, ◌<◌, [], ℕ, length};
 ghost use Rattle.qs_chunk.specs.Batch.{batch};
-ghost use Rattle.qs_chunk.specs.declared.parcel.Parcel.TheVariants as parcels;
-ghost use Rattle.qs_graph.specs.Walk.{move};
 ghost use Rattle.qs_syncset.specs.Codes.{code_at};
-ghost use Rattle.qs_client_run.specs.NextActs.{HasActed, IsInside, Wants, act_by, first_parcel, send_full, send_or, holdings_by, with_holdings, without};
+ghost use Rattle.qs_client_run.specs.NextActs.{HasActed, IsInside, Wants};
 ghost use Rattle.qs_client_run.specs.Client.{Settings};
-ghost use Rattle.qs_client_run.specs.Holdings.{chunk_at, held_at, with_chunk};
-ghost use Rattle.qs_client_run.specs.Running.{IsLoud};
 ghost use Rattle.qs_client_run.specs.BetweenActs.{HasGot, HasTaken, IsStanding, outgoing_of};
 
 use crate::act::Act;

@@ -1,6 +1,6 @@
 //! What a run of the optimised machine has shown, read off its clients and handlers.
 
-ghost use Rattle.std.specs.Prelude.{◌≡◌, ◌≤◌, ◌<◌, ◌&&◌, IfOk, length, map, sum_by, slice_index_or, [], IsSome, Some, option_copied};
+ghost use Rattle.std.specs.Prelude.{◌≡◌, ◌≤◌, ◌<◌, ◌&&◌, IfOk, length, map, sum_by, [], IsSome, Some, option_copied};
 ghost use Rattle.std.specs.List.{range_with_len};
 ghost use Rattle.qs_objects.specs.declared.held.Ticket.{Ticket as TicketShape};
 ghost use Rattle.qs_program.specs.Limits.{most_clients, most_handlers};

@@ -1,6 +1,6 @@
 //! A client of the optimised machine.
 
-ghost use Rattle.std.specs.Prelude.{◌≡◌, ◌<◌, [], false, ◌&&◌, ◌++◌, ◌∷◌, ℕ, length, nat_eq, replicate, slice_index_or, slice_set, IfOk, option_copied};
+ghost use Rattle.std.specs.Prelude.{◌≡◌, ◌<◌, [], false, ◌&&◌, length, nat_eq, replicate, IfOk, option_copied};
 ghost use Rattle.std.specs.Bool.{OnTrue};
 ghost use Rattle.qs_program.specs.Limits.{most_handlers};
 ghost use Rattle.qs_client.specs.ClientModel.{mind_after_begin, fresh_mind, is_between};

@@ -1,6 +1,6 @@
 //! Lanes.
 
-ghost use Rattle.std.specs.Prelude.{◌≡◌, ◌<◌, ◌∷◌, ◌++◌, [], IfOk, MatchOption, None, Some, length, not, nat_lt, nat_eq, option_copied, List};
+ghost use Rattle.std.specs.Prelude.{◌≡◌, ◌<◌, ◌∷◌, ◌++◌, [], IfOk, MatchOption, None, Some, length, nat_lt, nat_eq, option_copied, List};
 ghost use Rattle.qs_chunk.specs.declared.parcel.Parcel.{Parcel as ParcelShape};
 ghost use Rattle.qs_chunk.specs.Limits.{lane_room, spare_room};
 ghost use Rattle.qs_core_parts.specs.CarriedRequests.{first_requests};

@@ -1,6 +1,6 @@
 //! The desk.
 
-ghost use Rattle.std.specs.Prelude.{◌≡◌, ℕ, ◌+◌, ◌<◌, ◌≤◌, false, true, List, [], ◌∷◌, ◌++◌, length, vec_len, vec_capacity, map, replicate};
+ghost use Rattle.std.specs.Prelude.{◌≡◌, ℕ, ◌+◌, ◌<◌, ◌≤◌, false, true, List, [], ◌∷◌, ◌++◌, length, vec_capacity, map, replicate};
 ghost use Rattle.qs_program.specs.Limits.{most_clients};
 ghost use Rattle.qs_program.specs.Program.{blocks_of};
 ghost use Rattle.qs_meaning.specs.Serial.{IsLegal};

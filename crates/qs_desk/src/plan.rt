@@ -1,6 +1,6 @@
 //! Which handlers each block reserves.
 
-ghost use Rattle.std.specs.Prelude.{◌≡◌, ◌<◌, length, map, IfOk, slice_index_or, []};
+ghost use Rattle.std.specs.Prelude.{◌≡◌, ◌<◌, length, IfOk, slice_index_or, []};
 ghost use Rattle.qs_meaning.specs.Following.{reserves};
 ghost use Rattle.qs_program.specs.Program.{ProgramShape, blocks_of, client_at, block_at};
 ghost use Rattle.qs_program.specs.Sound.{is_in};

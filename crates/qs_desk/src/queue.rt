@@ -1,6 +1,6 @@
 //! A handler's queue of tickets.
 
-ghost use Rattle.std.specs.Prelude.{◌≡◌, ◌<◌, [], ◌∷◌, ◌++◌, length, IfOk};
+ghost use Rattle.std.specs.Prelude.{◌≡◌, ◌<◌, [], ◌∷◌, ◌++◌, IfOk};
 ghost use Rattle.qs_desk.specs.Tickets.{IsFor};
 ghost use Rattle.qs_desk.specs.TicketQueues.{owner, new_queue, new_end, IsEndOf};
 

@@ -1,6 +1,6 @@
 //! A desk that has no name yet.
 
-ghost use Rattle.std.specs.Prelude.{◌≡◌, ℕ, ◌<◌, ◌≤◌, length, vec_len, vec_capacity, map, false, [], ◌∷◌, IfOk, None, slice_index_or};
+ghost use Rattle.std.specs.Prelude.{◌≡◌, ℕ, ◌<◌, ◌≤◌, length, vec_capacity, map, false, [], IfOk, None};
 ghost use Rattle.qs_program.specs.Sound.{IsSound};
 ghost use Rattle.qs_desk.specs.TicketQueues.{queue_at, queue_name, IsNewQueue, end_at, tickets_at};
 ghost use Rattle.qs_desk.specs.Places.{places, share_at};

@@ -1,6 +1,6 @@
 //! What a client has booked, as it knows and as the desk knows.
 
-ghost use Rattle.std.specs.Prelude.{◌≡◌, ◌+◌, ◌<◌, ◌∷◌, [], slice_index, slice_set, replicate, nat_lt, length, map};
+ghost use Rattle.std.specs.Prelude.{◌≡◌, ◌+◌, ◌<◌, ◌∷◌, [], slice_index, slice_set, replicate, nat_lt, map};
 ghost use Rattle.qs_program.specs.Limits.{most_blocks, most_clients};
 ghost use Rattle.qs_program.specs.Program.{blocks_of};
 ghost use Rattle.qs_desk.specs.Places.{client_of, parts_of, amount_of, share_at, places};

@@ -6,7 +6,6 @@ ghost use Rattle.qs_program.specs.Limits.{most_handlers};
 ghost use Rattle.qs_graph.specs.Nodes.{place_at};
 ghost use Rattle.qs_report.specs.Texts.{texts_up_to};
 ghost use Rattle.qs_syncset.specs.Table.{has};
-ghost use Rattle.qs_dot.specs.Written.{written};
 ghost use Rattle.qs_dot.specs.DotText.{edge_line, edge_text, head_text, held_text, line_text, node_line, node_name, node_text, nodes_text, outline_text, place_text};
 
 use crate::written::put_written;

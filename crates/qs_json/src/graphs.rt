@@ -5,7 +5,7 @@ ghost use Rattle.std.specs.List.{AllByRecursion, filter, join_by};
 ghost use Rattle.qs_program.specs.Limits.{most_handlers};
 ghost use Rattle.qs_program.specs.Program.{blocks_of};
 ghost use Rattle.qs_graph.specs.Nodes.{place_at};
-ghost use Rattle.qs_report.specs.GraphText.{IsAdded, name_of};
+ghost use Rattle.qs_report.specs.GraphText.{IsAdded};
 ghost use Rattle.qs_report.specs.Texts.{texts_up_to};
 ghost use Rattle.qs_syncset.specs.Table.{has};
 ghost use Rattle.qs_json.specs.Pieces.{Puts, array, element};

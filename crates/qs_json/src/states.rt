@@ -1,6 +1,6 @@
 // The states of objects.
 
-ghost use Rattle.std.specs.Prelude.{◌≡◌, ◌<◌, ◌++◌, OnOk, codes, length, pos, slice_index_or};
+ghost use Rattle.std.specs.Prelude.{◌<◌, ◌++◌, OnOk, codes, length, pos, slice_index_or};
 ghost use Rattle.std.specs.Fmt.{signed_decimal};
 ghost use Rattle.std.specs.List.{join_by};
 ghost use Rattle.qs_objects.specs.Objects.{kind_of, values_of};

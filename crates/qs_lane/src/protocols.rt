@@ -1,7 +1,5 @@
 //! What the queues of a lane may carry.
 
-ghost use Rattle.std.specs.Prelude.{◌≡◌};
-
 use qs_chunk::{Chunk, ChunkSize, Parcel};
 use qs_objects::{Held, Request};
 use qs_queue::{Key, Protocol};

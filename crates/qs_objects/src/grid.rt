@@ -1,6 +1,6 @@
 // Grids: rows of cells, kept one after another.
 
-ghost use Rattle.std.specs.Prelude.{◌≡◌, ℕ, ◌+◌, ◌*◌, ◌<◌, ◌≤◌, length, take, drop, IfSome, Some, None, if◌then◌else◌, pos, ◌+ℤ◌};
+ghost use Rattle.std.specs.Prelude.{◌≡◌, ◌+◌, ◌*◌, ◌<◌, ◌≤◌, length, take, drop, IfSome, Some, None, if◌then◌else◌, pos, ◌+ℤ◌};
 ghost use Rattle.qs_objects.specs.Objects.{IsFull, grid_state};
 ghost use Rattle.qs_objects.specs.Act.{grid_act, outside, below, place as cell_place, size_of, exact_sum, clamp_to_word};
 ghost use Rattle.qs_objects.specs.Limits.{most_lines};

@@ -1,6 +1,6 @@
 //! Rows of values in one list.
 
-ghost use Rattle.std.specs.Prelude.{◌≡◌, ◌<◌, ◌≤◌, ◌+◌, ◌-◌, ℕ, [], ◌∷◌, ◌++◌, IfOk, IsErr, drop, length, replicate, slice_index_or, slice_set, take};
+ghost use Rattle.std.specs.Prelude.{◌≡◌, ◌<◌, ◌≤◌, ◌+◌, ◌-◌, [], ◌∷◌, ◌++◌, IfOk, IsErr, drop, length, replicate, slice_index_or, slice_set, take};
 ghost use Rattle.qs_objects.specs.Rows.{IsLast, join_rows, rows_state};
 
 use std::alloc::{AllocError, Global};

@@ -4,7 +4,7 @@ ghost use Rattle.std.specs.Prelude.{◌≡◌, ◌<◌, ℕ, IfOk, if◌then◌e
 ghost use Rattle.std.specs.List.{AllByRecursion, list_any};
 ghost use Rattle.qs_program.specs.Limits.{most_objects};
 ghost use Rattle.qs_program.specs.Sound.{is_in};
-ghost use Rattle.qs_meaning.specs.Reduced.{comes_in, first_smallest, goes_on, group_of, many_below, smaller, still_reserves, wider};
+ghost use Rattle.qs_meaning.specs.Reduced.{goes_on, group_of, many_below, smaller, still_reserves, wider};
 ghost use Rattle.qs_outcomes.specs.Going.{AreComers, AreLast, IsGrown, IsLast, counts_in, in_byte};
 
 use qs_program::{MOST_CLIENTS, MOST_OBJECTS, Program};

@@ -1,9 +1,7 @@
 //! What is known at a place of a script, and the faults of each place.
 
 ghost use Rattle.std.specs.Prelude.{◌≡◌, [], ◌∷◌, ◌++◌, OnOk, IfOk, slice_index_or, pos};
-ghost use Rattle.qs_program.specs.Numbering.{found_at};
-ghost use Rattle.qs_places.specs.Operators.{op_or_refused};
-ghost use Rattle.qs_places.specs.Places.{Scope as Known, Meets, scope_or_fault, step, start, op_at, object, number, client, separate, listed, target, operation_places, request_places, variable, without_variables, template, text, starts, given, kind_in, formals_at, formal_kind, formal_kinds};
+ghost use Rattle.qs_places.specs.Places.{Scope as Known, Meets, scope_or_fault, step, start, op_at, object, number, client, separate, listed, target, operation_places, request_places, variable, without_variables, template, starts, given, formals_at, formal_kind, formal_kinds};
 
 use crate::fault::CheckFault;
 use crate::operators::find_op;

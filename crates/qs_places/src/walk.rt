@@ -2,7 +2,7 @@
 
 ghost use Rattle.std.specs.Prelude.{◌≡◌, OnOk};
 ghost use Rattle.qs_script.specs.Views.{single};
-ghost use Rattle.qs_places.specs.Places.{Scope as Known, Meets, scope_or_fault, places, call_places, atom_places, atoms_places, expr_places, test_places, listed_places, block_places, blocks_places, item_places, kind_of, kind_places, step, text, start, fault_of_text, text_places, formals_places, given_places};
+ghost use Rattle.qs_places.specs.Places.{Scope as Known, Meets, scope_or_fault, places, call_places, atom_places, atoms_places, expr_places, test_places, listed_places, block_places, blocks_places, item_places, kind_of, kind_places, step, text, fault_of_text, text_places, formals_places, given_places};
 ghost use Rattle.qs_places.specs.Variables.{variables_of};
 
 use crate::fault::CheckFault;

@@ -1,9 +1,7 @@
 //! Handlers under the plain rules.
 
 ghost use Rattle.std.specs.Prelude.{◌≡◌, ◌-◌, ◌<◌, [], ◌∷◌, ◌++◌, IfOk, map, nat_eq, length};
-ghost use Rattle.qs_objects.specs.Journals.{run_one};
 ghost use Rattle.qs_plain.specs.Served.{HandlerState as State, ServesFirst, after_put, IsLoggable};
-ghost use Rattle.qs_plain_client.specs.Queues.{queue_state};
 ghost use Rattle.qs_plain.specs.Deeds.{deed_of_queues, reply_in, unanswered};
 ghost use Rattle.qs_plain_client.specs.Queues.{QueueState};
 ghost use Rattle.qs_plain_laws.specs.declared.item.QueueItem.TheVariants as items;

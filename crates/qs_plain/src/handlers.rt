@@ -1,8 +1,7 @@
 //! The handlers, side by side.
 
-ghost use Rattle.std.specs.Prelude.{◌≡◌, ◌<◌, ◌≤◌, ℕ, IfOk, length, map, vec_len};
+ghost use Rattle.std.specs.Prelude.{◌≡◌, ◌<◌, ℕ, IfOk, length, map, vec_len};
 ghost use Rattle.qs_plain.specs.Beginning.{AreIdle, idle};
-ghost use Rattle.qs_played.specs.JournalRooms.{room_in, room_of};
 ghost use Rattle.qs_plain_laws.specs.Plain.{fresh_handler};
 ghost use Rattle.qs_plain.specs.Handlers.{CanEnterAll, CanLog, CanLogAll, entered_all, logged_all, logged_at};
 ghost use Rattle.qs_plain_client.specs.Queues.{QueueState};

@@ -5,8 +5,7 @@ ghost use Rattle.qs_meaning.specs.Serial.{IsLegal};
 ghost use Rattle.qs_played.specs.Isolation.{IsIsolated};
 ghost use Rattle.qs_plain_laws.specs.PlainIsolation.{commands_in_queue};
 ghost use Rattle.qs_plain_laws.specs.PlainSyncSums.{AreQueriesCounted};
-ghost use Rattle.qs_played.specs.Schedule.{actors_of, all_named, names_actor, rounds_of};
-ghost use Rattle.qs_plain_laws.specs.PlainSchedule.{IsPlayed, played_of, plays, scheduled};
+ghost use Rattle.qs_plain_laws.specs.PlainSchedule.{IsPlayed, played_of, scheduled};
 
 use crate::machine::Machine;
 use qs_played::{Actor, MOST_ROUNDS, PlayFault, Played, are_named};

@@ -1,6 +1,6 @@
 //! What a run has shown, read off when it is over.
 
-ghost use Rattle.std.specs.Prelude.{◌≡◌, ◌≤◌, ◌∷◌, IfOk, length, map, sum_by};
+ghost use Rattle.std.specs.Prelude.{◌≡◌, ◌≤◌, IfOk, length, map, sum_by};
 ghost use Rattle.qs_objects.specs.declared.held.Ticket.{Ticket as TicketShape};
 ghost use Rattle.qs_program.specs.Program.{ProgramShape};
 ghost use Rattle.qs_program.specs.Limits.{most_clients};

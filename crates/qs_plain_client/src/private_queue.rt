@@ -1,9 +1,8 @@
 //! Private queues.
 
-ghost use Rattle.std.specs.Prelude.{◌≡◌, ◌+◌, ◌-◌, ◌<◌, [], ◌∷◌, ◌++◌, List, IfOk, IfNone, IfSome, MatchOption, if◌then◌else◌, true, false};
+ghost use Rattle.std.specs.Prelude.{◌≡◌, ◌+◌, ◌-◌, ◌<◌, [], ◌∷◌, List, IfOk, MatchOption, if◌then◌else◌, true};
 ghost use Rattle.qs_objects.specs.Parts.{same as same_ticket};
-ghost use Rattle.qs_played.specs.Played.{ticket as the_ticket};
-ghost use Rattle.qs_plain_laws.specs.Plain.{Private, put_item};
+ghost use Rattle.qs_plain_laws.specs.Plain.{put_item};
 ghost use Rattle.qs_plain_client.specs.Queues.{queue_state};
 ghost use Rattle.qs_plain_laws.specs.declared.item.QueueItem.{QueueItem as ItemShape};
 ghost use Rattle.qs_plain_laws.specs.declared.item.QueueItem.TheVariants as items;

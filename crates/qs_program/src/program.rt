@@ -43,7 +43,6 @@ impl Drop for Block {
 }
 
 impl Model for Block {
-    ghost use Rattle.qs_program.specs.StatementsCode.{statements_code};
     ghost use Rattle.qs_program.specs.Shapes.{block_code};
     ghost use Rattle.qs_program.specs.Program.{BlockShape};
 

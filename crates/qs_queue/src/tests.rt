@@ -1,7 +1,6 @@
 //! A queue that is full and empty, and values from thread to thread through a queue of one.
 
 ghost use Rattle.std.specs.Prelude.{◌≡◌, ◌<◌, IfOk, ⊤};
-ghost use Rattle.atomic_table.specs.Seated.{TableId};
 
 use crate::{Key, Protocol, Sender, Taker, make_ends};
 use std::alloc::{AllocError, Global};

@@ -1,6 +1,6 @@
 // Single tokens.
 
-ghost use Rattle.std.specs.Prelude.{◌≡◌, ◌<◌, length, IfOk, IfSome};
+ghost use Rattle.std.specs.Prelude.{◌<◌, length, IfOk, IfSome};
 ghost use Rattle.qs_script.specs.Reading.{Gives, Finds, name_at, open_brace_at, close_brace_at, close_paren_at};
 
 use crate::fault::Fault;

@@ -1,7 +1,7 @@
 // Items: objects, and clients with their blocks.
 
-ghost use Rattle.std.specs.Prelude.{◌≡◌, ◌<◌, ◌≤◌, [], ◌∷◌, length, IfOk, IfSome};
-ghost use Rattle.qs_script.specs.Reading.{Gives, Finds, after, run, names_loop, block_at, separate_at, blocks_loop, object_at, object_called_at, client_at, client_called_at, own_blocks_at, item_at, items_loop};
+ghost use Rattle.std.specs.Prelude.{◌<◌, [], ◌∷◌, length, IfOk};
+ghost use Rattle.qs_script.specs.Reading.{Gives, after, run, names_loop, block_at, separate_at, blocks_loop, object_at, object_called_at, client_at, client_called_at, own_blocks_at, item_at, items_loop};
 
 use crate::expect::{name, past_close_brace, past_open_brace};
 use crate::fault::Fault;

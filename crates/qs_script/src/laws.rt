@@ -1,6 +1,6 @@
 // Laws of the language's definitions.
 
-ghost use Rattle.std.specs.Prelude.{◌≡◌, ◌≤◌, ◌<◌, ℕ, List, length};
+ghost use Rattle.std.specs.Prelude.{◌≡◌, ◌<◌, ℕ, List, length};
 ghost use Rattle.qs_tokens.specs.declared.token.Token.{Token};
 ghost use Rattle.qs_script.specs.declared.tree.Item.{Item};
 ghost use Rattle.qs_script.specs.declared.fault.ReadFault.{ReadFault};

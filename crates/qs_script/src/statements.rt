@@ -1,6 +1,6 @@
 // Statements.
 
-ghost use Rattle.std.specs.Prelude.{◌≡◌, ◌<◌, ◌≤◌, length, IfOk};
+ghost use Rattle.std.specs.Prelude.{◌<◌, ◌≤◌, length, IfOk};
 ghost use Rattle.qs_script.specs.Views.{single};
 ghost use Rattle.qs_script.specs.Reading.{Gives, run, body_loop, stmt_in, stmt_at, choice_at, other_at, repeat_at, braced_at, named_at, command_at, assigned_at, ended_at};
 

@@ -1,6 +1,6 @@
 // Templates, and clients of templates.
 
-ghost use Rattle.std.specs.Prelude.{◌≡◌, ◌<◌, ◌≤◌, [], ◌∷◌, length, IfOk};
+ghost use Rattle.std.specs.Prelude.{◌<◌, [], ◌∷◌, length, IfOk};
 ghost use Rattle.qs_script.specs.Reading.{Gives, after, run, formal_at, further_formal_at, formals_loop, further_name_at, given_loop, template_at, template_called_at, template_blocks_at, started_at, started_with_at};
 
 use crate::expect::{name as expect_name, past_close_paren};

@@ -1,7 +1,7 @@
 // Values, expressions and requests.
 
-ghost use Rattle.std.specs.Prelude.{◌≡◌, ◌<◌, ◌≤◌, [], ◌∷◌, length, IfOk, IfSome};
-ghost use Rattle.qs_script.specs.Reading.{Gives, Finds, after, run, atom_at, further_at, more_loop, args_at, call_at, call_of, operator_at, relation_at, expr_at, test_at};
+ghost use Rattle.std.specs.Prelude.{◌<◌, [], ◌∷◌, length, IfOk, IfSome};
+ghost use Rattle.qs_script.specs.Reading.{Gives, Finds, after, run, atom_at, further_at, more_loop, args_at, call_at, operator_at, relation_at, expr_at, test_at};
 
 use crate::expect::past_close_paren;
 use crate::fault::Fault;

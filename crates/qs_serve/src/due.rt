@@ -4,7 +4,7 @@ ghost use Rattle.std.specs.Prelude.{◌≡◌, ◌+◌, ◌≤◌, ◌⊎◌, []
 ghost use Rattle.qs_report.specs.declared.faults.Fault.TheVariants as fault;
 ghost use Rattle.qs_line.specs.declared.line.GraphFormat.TheVariants as graph_format;
 ghost use Rattle.qs_line.specs.Line.{asks, check, graph, line_in, outcomes, request_by, request_of, run};
-ghost use Rattle.qs_serve.specs.Due.{AreLinesFor, HasAsked, IsDue, IsDueAfter, IsDueOfList, IsDueOfProgram, IsDueOfText, IsFormat, IsRefusedBy, IsListOf, IsReportOf, IsTextOf, IsOutOfMemory, due_status, listed_as, longest};
+ghost use Rattle.qs_serve.specs.Due.{AreLinesFor, HasAsked, IsDue, IsDueAfter, IsDueOfList, IsDueOfProgram, IsDueOfText, IsFormat, IsRefusedBy, IsListOf, IsTextOf, IsOutOfMemory, due_status, listed_as, longest};
 ghost use Rattle.qs_node_lines.specs.NodeLines.{node_lines};
 ghost use Rattle.qs_script.specs.Limits.{longest_text};
 ghost use Rattle.std.specs.List.{AllByRecursion};

@@ -1,6 +1,6 @@
 // What is said on standard error of a run that was refused.
 
-ghost use Rattle.std.specs.Prelude.{◌≡◌, IsTrue};
+ghost use Rattle.std.specs.Prelude.{IsTrue};
 ghost use Rattle.std.specs.Io.KnownBytes.{Keeps};
 ghost use Rattle.qs_serve.specs.Due.{IsSomeText};
 

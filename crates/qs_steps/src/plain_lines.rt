@@ -1,6 +1,6 @@
 //! The line of a step under the plain rules.
 
-ghost use Rattle.std.specs.Prelude.{◌≡◌, ◌++◌, OnOk, codes};
+ghost use Rattle.std.specs.Prelude.{◌≡◌, ◌++◌, OnOk};
 ghost use Rattle.qs_report.specs.Report.{reply_text, request_text};
 ghost use Rattle.qs_steps.specs.PlainSteps.{deed_text};
 ghost use Rattle.qs_steps.specs.Telling.{plain_line};

@@ -1,7 +1,6 @@
 // What is read off a run: its tickets, and how many entries and synchronisations there are.
 
-ghost use Rattle.std.specs.Prelude.{◌≡◌, ◌<◌, ◌≤◌, [], length, map, slice_index_or};
-ghost use Rattle.qs_sync_counts.specs.SyncRows.{object_of};
+ghost use Rattle.std.specs.Prelude.{◌≡◌, ◌<◌, ◌≤◌, [], length, slice_index_or};
 ghost use Rattle.qs_svg.specs.Stretches as stretches;
 
 use qs_objects::{Entry, Ticket};

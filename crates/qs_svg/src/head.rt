@@ -1,6 +1,6 @@
 // The beginning of a picture: its size, its title, its description and its style.
 
-ghost use Rattle.std.specs.Prelude.{◌≡◌, ◌<◌, ◌≤◌, ◌++◌, OnOk, codes, length, if◌then◌else◌};
+ghost use Rattle.std.specs.Prelude.{◌≡◌, ◌<◌, ◌≤◌, OnOk, length};
 ghost use Rattle.qs_report.specs.Texts.{texts_up_to};
 ghost use Rattle.qs_svg.specs.Shapes.{Puts};
 ghost use Rattle.qs_svg.specs.Stretches.{all_columns as columns_in_all};

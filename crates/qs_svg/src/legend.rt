@@ -1,6 +1,6 @@
 // What a picture says of its colours and signs.
 
-ghost use Rattle.std.specs.Prelude.{◌≡◌, OnOk, length};
+ghost use Rattle.std.specs.Prelude.{OnOk, length};
 ghost use Rattle.qs_svg.specs.Shapes.{Draws, Puts, shapes_up_to};
 ghost use Rattle.qs_svg.specs.Legend.{client_shapes, client_square, sign_shapes, style};
 

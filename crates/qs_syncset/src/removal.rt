@@ -1,6 +1,6 @@
 //! Static coalescing of synchronisations.
 
-ghost use Rattle.std.specs.Prelude.{◌≡◌, length};
+ghost use Rattle.std.specs.Prelude.{◌≡◌};
 ghost use Rattle.qs_syncset.specs.Coalesced.{IsCoalesced};
 ghost use Rattle.qs_syncset.specs.Table.{AreSetsOf};
 

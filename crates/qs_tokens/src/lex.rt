@@ -1,11 +1,9 @@
 //! From bytes to tokens.
 
-ghost use Rattle.std.specs.Prelude.{◌≡◌, ◌-◌, drop, ℕ, ◌<◌, ◌≤◌, ◌≢◌, length, take, slice_index, IsTrue, IfOk, All, false, if◌then◌else◌};
+ghost use Rattle.std.specs.Prelude.{◌≡◌, ◌-◌, drop, ◌<◌, ◌≤◌, ◌≢◌, length, slice_index, IsTrue, IfOk, All, false};
 ghost use Rattle.qs_tokens.specs.Limits.{most_digits};
-ghost use Rattle.qs_tokens.specs.Tokens.{is_digit as digit, is_letter as letter, is_space as space, at, signs, equals_signs, value_of, word_token, tokens_of, tokens_from, going_on, same, single_sign, sign};
+ghost use Rattle.qs_tokens.specs.Tokens.{is_digit as digit, is_letter as letter, is_space as space, at, equals_signs, value_of, word_token, tokens_of, same};
 ghost use Rattle.qs_tokens.specs.Cutting.{Cuts, in_run, run_of, or_name, with_equals, alone};
-ghost use Rattle.qs_tokens.specs.Limits.{longest_name};
-ghost use Rattle.qs_tokens.specs.declared.token.Token.TheVariants.{Name as name};
 
 use crate::limits::{LONGEST_NAME, MOST_DIGITS};
 use crate::name::Name;

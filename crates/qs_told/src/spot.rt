@@ -1,7 +1,7 @@
 // Lines and columns.
 
 ghost use Rattle.std.specs.Prelude.{◌≡◌, ◌≤◌, ◌<◌, ◌+◌, ◌^◌, ◌-◌, length};
-ghost use Rattle.qs_told.specs.Spots.{begin, moved, spot_at, line_end_at};
+ghost use Rattle.qs_told.specs.Spots.{moved, spot_at, line_end_at};
 
 /// Where a byte of a text stands: its line and its column, both from 1 on.
 #[derive(Clone, Copy, Debug, PartialEq, Eq)]

@@ -1,7 +1,7 @@
 // A diagnosis as lines of text.
 
 ghost use Rattle.std.specs.Prelude.{◌≡◌, ◌≤◌, ◌++◌, IfOk, OnOk, length};
-ghost use Rattle.std.specs.Prelude.{◌+◌, ◌<◌, ◌-◌, slice_range};
+ghost use Rattle.std.specs.Prelude.{◌+◌, ◌<◌, ◌-◌};
 ghost use Rattle.qs_told.specs.Told.{IsExcerpt, IsPut, IsTold, IsWarned, excerpt_text, excerpt_in, token_of, cause_text, help_text, dots_if, blank, label_text, marks_text, place_text, source_text, under_text};
 
 use crate::bytes::{blanks, marks, put, put_all, shown_bytes};

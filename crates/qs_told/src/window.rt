@@ -1,7 +1,7 @@
 // The part of a line that is shown: all of it, or where it is long, what stands around a place of it.
 
 ghost use Rattle.std.specs.Prelude.{◌≡◌, ◌≤◌, ◌<◌, ◌+◌, ◌-◌};
-ghost use Rattle.qs_told.specs.Excerpts.{longest_line, window_of};
+ghost use Rattle.qs_told.specs.Excerpts.{window_of};
 
 /// Bytes of a line that are shown.
 const LONGEST_LINE: usize = 100;

@@ -1,10 +1,10 @@
 //! Texts compared name by name, with the values of the variables that they name.
 
-ghost use Rattle.std.specs.Prelude.{◌≡◌, [], map, slice_index_or};
+ghost use Rattle.std.specs.Prelude.{◌≡◌, [], slice_index_or};
 ghost use Rattle.std.specs.Bool.{Decides};
 ghost use Rattle.std.specs.List.{AllZip};
 ghost use Rattle.qs_program.specs.Views.{single};
-ghost use Rattle.qs_meaning.specs.Alike.{SameAtom, SameCall, SameExpr, SameStatements, SameTest, object_name as name_of_object, value_at};
+ghost use Rattle.qs_meaning.specs.Alike.{SameAtom, SameCall, SameExpr, SameStatements, SameTest, object_name as name_of_object};
 ghost use Rattle.qs_twin.specs.Twins.{SameObjects, SameVariables};
 
 use qs_program::{Atom, Body, Call, Expr, Locals, Names, Program, Stmt, Test};
