@@ -42,7 +42,7 @@ fn meet(alloc: Global, scope: &mut Scope, anchor: &Anchor) -> Result<(), CheckFa
         Anchor::Object(name, kind) => scope.object(name, *kind),
         Anchor::Range(low, high, number) => check_number(*low, *high, *number),
         Anchor::Client(name) => scope.client(alloc, name),
-        Anchor::Separate => scope.separate(alloc),
+        Anchor::Separate => scope.separate(),
         Anchor::Listed(name) => scope.listed(name),
         Anchor::Target(name) => scope.target(name),
         Anchor::Operation(asks, object, word, count) => {

@@ -7,7 +7,7 @@ ghost use Rattle.qs_program.specs.Binding.{bound as object_of, bound_call, bound
 ghost use Rattle.qs_program.specs.Sound.{is_in, levels_of};
 ghost use Rattle.qs_program.specs.Views.{single};
 
-use qs_program::{Atom, Atoms, Block, Body, Call, Stmt};
+use qs_program::{Block, Body, Call, Stmt};
 use std::alloc::{AllocError, Global};
 
 // The object that a name stands for.
@@ -106,20 +106,10 @@ fn bind_stmt(alloc: Global, binding: &[u8], stmt: &Stmt) -> Result<Stmt, AllocEr
 fn bind_call(alloc: Global, binding: &[u8], call: &Call) -> Result<Call, AllocError>
     ensures call { IfOk result (λ c. c ≡ bound_call binding.now call.now) }
 {
-    let args = copied(alloc, call.args.as_slice())?;
+    let args = call.args.copied(alloc)?;
     Ok(Call {
         object: bound(binding, call.object),
         op: call.op,
         args,
     })
-}
-
-fn copied(alloc: Global, atoms: &[Atom]) -> Result<Atoms, AllocError>
-    ensures atoms { IfOk result (λ v. v ≡ atoms.now) }
-{
-    let mut args = Atoms::new(alloc);
-    for atom in atoms {
-        args.push(*atom)?;
-    }
-    Ok(args)
 }

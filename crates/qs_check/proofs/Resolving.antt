@@ -11,10 +11,8 @@ use Rattle.qs_script.specs.declared.tree.Stmt.TheVariants as t
 use Rattle.qs_script.specs.Views as views
 use Rattle.qs_script.proofs.Sizes.{drop_past}
 use Rattle.qs_program.specs.Numbering.{Name}
-use Rattle.qs_program.specs.declared.code.Stmt.{Stmt}
 use Rattle.qs_program.specs.Sound.{levels_of}
 use Rattle.qs_program.specs.Statements.{Statements, join_statements}
-use Rattle.qs_program.specs.Views.{single}
 use Rattle.qs_program.proofs.StatementLists.{joined_assoc, joined-end}
 use Rattle.qs_check.specs.Resolve.{body_of}
 
@@ -70,13 +68,13 @@ module _ (os : List Name) (ks : List Kind) (vs : List Name) where
 
   module _ (xs : List text.Stmt) (i : ℕ) (code : Statements)
       (so_far : body_of os ks vs (views.stmts_of xs) ≡ join_statements code (body_of os ks vs (views.stmts_of (drop i xs)))) where
-    pub goes_on : (item : text.Stmt) (new : Statements) (s : Stmt) → i < length xs → item ≡ get_or xs i item → single s ≡ body_of os ks vs (views.single item) → new ≡ join_statements code (single s) → body_of os ks vs (views.stmts_of xs) ≡ join_statements new (body_of os ks vs (views.stmts_of (drop (i + 1) xs)))
-    goes_on item new s within item_is same new_is =
+    pub goes_on : (item : text.Stmt) (new : Statements) → i < length xs → item ≡ get_or xs i item → new ≡ join_statements code (body_of os ks vs (views.single item)) → body_of os ks vs (views.stmts_of xs) ≡ join_statements new (body_of os ks vs (views.stmts_of (drop (i + 1) xs)))
+    goes_on item new within item_is new_is =
         let later : Statements = body_of os ks vs (views.stmts_of (drop (i + 1) xs)) in
         so_far
         ∙ ap (join_statements code) (body_of-drop xs i item within ∙ ap (λ x. join_statements (body_of os ks vs (views.single x)) later) (sym item_is))
         ∙ sym (joined_assoc code (body_of os ks vs (views.single item)) later)
-        ∙ ap (λ x. join_statements x later) (sym (new_is ∙ ap (join_statements code) same))
+        ∙ ap (λ x. join_statements x later) (sym new_is)
 
     pub all_done : length xs ≤ i → code ≡ body_of os ks vs (views.stmts_of xs)
     all_done past = sym (so_far ∙ rw (drop_past xs i past) (joined-end code))

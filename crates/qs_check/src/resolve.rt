@@ -1,6 +1,6 @@
 //! From names to numbers.
 
-ghost use Rattle.std.specs.Prelude.{◌≡◌, ◌≤◌, ◌<◌, IfOk, length, map, None};
+ghost use Rattle.std.specs.Prelude.{◌≡◌, ◌≤◌, ◌<◌, IfOk, OnOk, length, map, true, false, None, pos, slice_index_or};
 ghost use Rattle.std.specs.List.{AllByRecursion};
 ghost use Rattle.qs_script.specs.Form.{levels_of, IsFormed, HasForm};
 ghost use Rattle.qs_script.specs.Views.{single as single_text};
@@ -8,7 +8,8 @@ ghost use Rattle.qs_script.specs.Limits.{most_levels};
 ghost use Rattle.qs_program.specs.Limits.{most_objects, most_variables};
 ghost use Rattle.qs_program.specs.Numbering.{found_at};
 ghost use Rattle.qs_check.specs.Resolve.{atom_of, expr_of, test_of, call_of, body_of, block_of, clients_of, objects_of, lists_of, templates_in};
-ghost use Rattle.qs_program.specs.Views.{single};
+ghost use Rattle.qs_program.specs.Sound.{levels_of as nested_in};
+ghost use Rattle.qs_program.specs.Statements.{end, command, query, assign, choose, again, leave, join_statements};
 
 use crate::start::resolve_started;
 use qs_objects::{Kind, Op};
@@ -158,54 +159,219 @@ fn resolve_body(
     let stmts = body.as_slice();
     let mut code = Body::with_capacity(alloc, stmts.len())?;
     for stmt in stmts {
-        code.push(resolve_stmt(alloc, objects, kinds, variables, stmt)?)?;
+        resolve_stmt(alloc, objects, kinds, variables, stmt, &mut code)?;
     }
     Ok(code)
 }
 
+// Adds a statement. What each kind of statement needs stands in a function of its own, so that no memory is cleared for the others.
 #[cycle(resolve)]
+#[inline(always)]
 fn resolve_stmt(
     alloc: Global,
     objects: &Names,
     kinds: &[Kind],
     variables: &Names,
     stmt: &qs_script::Stmt,
-) -> Result<Stmt, AllocError>
+    code: &mut Body,
+) -> Result<(), AllocError>
     requires levels { levels_of (single_text stmt.now) ≤ most_levels }
     requires objects { length objects.now ≤ most_objects }
     requires variables { length variables.now ≤ most_variables }
-    ensures stmt { IfOk result (λ code. single code ≡ body_of objects.now kinds.now variables.now (single_text stmt.now)) }
+    ensures added { OnOk result (code.new ≡ join_statements code.old (body_of objects.now kinds.now variables.now (single_text stmt.now))) }
 {
     match stmt {
-        qs_script::Stmt::Command(call) => Ok(Stmt::Command(resolve_call(
-            alloc, objects, kinds, variables, false, call,
-        )?)),
-        qs_script::Stmt::Query(variable, call) => Ok(Stmt::Query(
-            variables.number_of(variable) as u8,
-            resolve_call(alloc, objects, kinds, variables, true, call)?,
-        )),
-        qs_script::Stmt::Assign(variable, expr) => Ok(Stmt::Assign(
-            variables.number_of(variable) as u8,
-            resolve_expr(variables, expr),
-        )),
-        qs_script::Stmt::If(test, first) => Ok(Stmt::If {
-            test: resolve_test(variables, test),
-            has_else: false,
-            first: resolve_body(alloc, objects, kinds, variables, first)?,
-            other: Body::new(alloc),
-        }),
-        qs_script::Stmt::IfElse(test, first, other) => Ok(Stmt::If {
-            test: resolve_test(variables, test),
-            has_else: true,
-            first: resolve_body(alloc, objects, kinds, variables, first)?,
-            other: resolve_body(alloc, objects, kinds, variables, other)?,
-        }),
-        qs_script::Stmt::Repeat(count, body) => Ok(Stmt::Repeat(
-            count.count(),
-            resolve_body(alloc, objects, kinds, variables, body)?,
-        )),
-        qs_script::Stmt::Leave => Ok(Stmt::Leave),
+        qs_script::Stmt::Command(call) => {
+            add_command(alloc, objects, kinds, variables, call, code)
+        }
+        qs_script::Stmt::Query(variable, call) => {
+            add_query(alloc, objects, kinds, variables, variable, call, code)
+        }
+        qs_script::Stmt::Assign(variable, expr) => add_assign(variables, variable, expr, code),
+        qs_script::Stmt::If(test, first) => {
+            let first = resolve_body(alloc, objects, kinds, variables, first)?;
+            add_choice(variables, test, false, first, Body::new(alloc), code)
+        }
+        qs_script::Stmt::IfElse(test, first, other) => {
+            let first = resolve_body(alloc, objects, kinds, variables, first)?;
+            let other = resolve_body(alloc, objects, kinds, variables, other)?;
+            add_choice(variables, test, true, first, other, code)
+        }
+        qs_script::Stmt::Repeat(count, body) => {
+            let body = resolve_body(alloc, objects, kinds, variables, body)?;
+            add_repeat(count.count(), body, code)
+        }
+        qs_script::Stmt::Leave => add_leave(code),
     }
+}
+
+#[inline(never)]
+fn add_command(
+    alloc: Global,
+    objects: &Names,
+    kinds: &[Kind],
+    variables: &Names,
+    call: &qs_script::Call,
+    code: &mut Body,
+) -> Result<(), AllocError>
+    requires objects { length objects.now ≤ most_objects }
+    requires variables { length variables.now ≤ most_variables }
+    ensures added { OnOk result (code.new ≡ join_statements code.old (command (call_of objects.now kinds.now variables.now false call.now) end)) }
+{
+    if call.args.as_slice().len() > 1 {
+        return add_long_command(alloc, objects, kinds, variables, call, code);
+    }
+    let call = resolve_short(alloc, objects, kinds, variables, false, call);
+    code.push(Stmt::Command(call))
+}
+
+// The same, with any number of arguments.
+#[inline(never)]
+fn add_long_command(
+    alloc: Global,
+    objects: &Names,
+    kinds: &[Kind],
+    variables: &Names,
+    call: &qs_script::Call,
+    code: &mut Body,
+) -> Result<(), AllocError>
+    requires objects { length objects.now ≤ most_objects }
+    requires variables { length variables.now ≤ most_variables }
+    ensures added { OnOk result (code.new ≡ join_statements code.old (command (call_of objects.now kinds.now variables.now false call.now) end)) }
+{
+    let call = resolve_call(alloc, objects, kinds, variables, false, call)?;
+    code.push(Stmt::Command(call))
+}
+
+#[inline(never)]
+fn add_query(
+    alloc: Global,
+    objects: &Names,
+    kinds: &[Kind],
+    variables: &Names,
+    variable: &Name,
+    call: &qs_script::Call,
+    code: &mut Body,
+) -> Result<(), AllocError>
+    requires objects { length objects.now ≤ most_objects }
+    requires variables { length variables.now ≤ most_variables }
+    ensures added { OnOk result (code.new ≡ join_statements code.old (query (found_at variables.now variable.now) (call_of objects.now kinds.now variables.now true call.now) end)) }
+{
+    if call.args.as_slice().len() > 1 {
+        return add_long_query(alloc, objects, kinds, variables, variable, call, code);
+    }
+    let call = resolve_short(alloc, objects, kinds, variables, true, call);
+    code.push(Stmt::Query(variables.number_of(variable) as u8, call))
+}
+
+// The same, with any number of arguments.
+#[inline(never)]
+fn add_long_query(
+    alloc: Global,
+    objects: &Names,
+    kinds: &[Kind],
+    variables: &Names,
+    variable: &Name,
+    call: &qs_script::Call,
+    code: &mut Body,
+) -> Result<(), AllocError>
+    requires objects { length objects.now ≤ most_objects }
+    requires variables { length variables.now ≤ most_variables }
+    ensures added { OnOk result (code.new ≡ join_statements code.old (query (found_at variables.now variable.now) (call_of objects.now kinds.now variables.now true call.now) end)) }
+{
+    let call = resolve_call(alloc, objects, kinds, variables, true, call)?;
+    code.push(Stmt::Query(variables.number_of(variable) as u8, call))
+}
+
+#[inline(never)]
+fn add_assign(
+    variables: &Names,
+    variable: &Name,
+    expr: &qs_script::Expr,
+    code: &mut Body,
+) -> Result<(), AllocError>
+    requires variables { length variables.now ≤ most_variables }
+    ensures added { OnOk result (code.new ≡ join_statements code.old (assign (found_at variables.now variable.now) (expr_of variables.now expr.now) end)) }
+{
+    code.push(Stmt::Assign(
+        variables.number_of(variable) as u8,
+        resolve_expr(variables, expr),
+    ))
+}
+
+#[inline(never)]
+fn add_choice(
+    variables: &Names,
+    test: &qs_script::Test,
+    has_else: bool,
+    first: Body,
+    other: Body,
+    code: &mut Body,
+) -> Result<(), AllocError>
+    requires variables { length variables.now ≤ most_variables }
+    requires levels { nested_in (choose (test_of variables.now test.now) has_else first other end) ≤ most_levels }
+    ensures added { OnOk result (code.new ≡ join_statements code.old (choose (test_of variables.now test.now) has_else first other end)) }
+{
+    code.push(Stmt::If {
+        test: resolve_test(variables, test),
+        has_else,
+        first,
+        other,
+    })
+}
+
+#[inline(never)]
+fn add_repeat(count: u64, body: Body, code: &mut Body) -> Result<(), AllocError>
+    requires levels { nested_in (again count body end) ≤ most_levels }
+    ensures added { OnOk result (code.new ≡ join_statements code.old (again count body end)) }
+{
+    code.push(Stmt::Repeat(count, body))
+}
+
+#[inline(never)]
+fn add_leave(code: &mut Body) -> Result<(), AllocError>
+    ensures added { OnOk result (code.new ≡ join_statements code.old (leave end)) }
+{
+    code.push(Stmt::Leave)
+}
+
+// A request of at most one argument; takes no memory.
+#[inline(always)]
+fn resolve_short(
+    alloc: Global,
+    objects: &Names,
+    kinds: &[Kind],
+    variables: &Names,
+    asks: bool,
+    call: &qs_script::Call,
+) -> Call
+    requires objects { length objects.now ≤ most_objects }
+    requires variables { length variables.now ≤ most_variables }
+    requires short { length call.now.args ≤ 1 }
+    ensures call { result ≡ call_of objects.now kinds.now variables.now asks call.now }
+{
+    let number = objects.number_of(&call.object);
+    let op = find_op(asks, kind_at(kinds, number), &call.op).unwrap_or(Op::Refused);
+    Call {
+        object: number as u8,
+        op,
+        args: resolve_one(alloc, variables, call.args.as_slice()),
+    }
+}
+
+// At most one argument.
+#[inline(always)]
+fn resolve_one(alloc: Global, variables: &Names, atoms: &[qs_script::Atom]) -> Atoms
+    requires variables { length variables.now ≤ most_variables }
+    requires short { length atoms.now ≤ 1 }
+    ensures atoms { result ≡ map (atom_of variables.now) atoms.now }
+{
+    let first = resolve_at(variables, atoms, 0);
+    Atoms::few(
+        alloc,
+        [first, Atom::Number(0), Atom::Number(0)],
+        atoms.len(),
+    )
 }
 
 #[inline(always)]
@@ -240,11 +406,44 @@ fn resolve_atoms(
     requires variables { length variables.now ≤ most_variables }
     ensures atoms { IfOk result (λ v. v ≡ map (atom_of variables.now) atoms.now) }
 {
+    if atoms.len() > 3 {
+        return resolve_many(alloc, variables, atoms);
+    }
+    let few = [
+        resolve_at(variables, atoms, 0),
+        resolve_at(variables, atoms, 1),
+        resolve_at(variables, atoms, 2),
+    ];
+    Ok(Atoms::few(alloc, few, atoms.len()))
+}
+
+#[inline(never)]
+fn resolve_many(
+    alloc: Global,
+    variables: &Names,
+    atoms: &[qs_script::Atom],
+) -> Result<Atoms, AllocError>
+    requires variables { length variables.now ≤ most_variables }
+    ensures atoms { IfOk result (λ v. v ≡ map (atom_of variables.now) atoms.now) }
+{
     let mut args = Atoms::with_capacity(alloc, atoms.len())?;
     for atom in atoms {
         args.push(resolve_atom(variables, atom))?;
     }
     Ok(args)
+}
+
+// The argument at a place, or the number 0 where there is none.
+#[inline(always)]
+fn resolve_at(variables: &Names, atoms: &[qs_script::Atom], place: usize) -> Atom
+    requires variables { length variables.now ≤ most_variables }
+    ensures atom { result ≡ slice_index_or (map (atom_of variables.now) atoms.now) place (Atom.Number (pos 0)) }
+{
+    if place < atoms.len() {
+        resolve_atom(variables, &atoms[place])
+    } else {
+        Atom::Number(0)
+    }
 }
 
 fn resolve_atom(variables: &Names, atom: &qs_script::Atom) -> Atom

@@ -5,7 +5,7 @@ ghost use Rattle.qs_chunk.specs.Batch.{batch};
 ghost use Rattle.qs_chunk.specs.Limits.{largest_chunk};
 
 use crate::cells::{Room, make};
-use crate::places::place_on;
+use crate::places::{place_after, place_on};
 use crate::size::ChunkSize;
 use std::alloc::{AllocError, Global};
 use std::marker::Model;
@@ -108,7 +108,7 @@ impl<T> Chunk<T> {
             return None;
         }
         let front = self.start;
-        self.start = place_on(front, 1, self.capacity);
+        self.start = place_after(front, self.capacity);
         self.count -= 1;
         Some(self.room.read(front))
     }

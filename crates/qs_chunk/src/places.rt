@@ -16,3 +16,13 @@ pub(crate) fn place_on(start: usize, steps: usize, capacity: usize) -> usize
         place - capacity
     }
 }
+
+/// The place after another one. Behind the last place lies place 0.
+#[inline(always)]
+pub(crate) fn place_after(place: usize, capacity: usize) -> usize
+    requires { (place < capacity) × (capacity ≤ largest_chunk) }
+    ensures { IsOn place 1 capacity result }
+{
+    let next = place + 1;
+    if next == capacity { 0 } else { next }
+}

@@ -35,7 +35,8 @@ use Rattle.qs_client_run.specs.BetweenActs.{HasCome, IsStanding}
 use Rattle.qs_objects.specs.Traces.{AreEmptyAfter, TraceState, trace_at, trace_state}
 use Rattle.qs_program.specs.Limits.{most_handlers, most_objects}
 use Rattle.qs_client_run.specs.RunState.{RunState}
-use Rattle.qs_client_run.proofs.CodeBounds.{longest_covers, reserved_below_eight}
+use Rattle.qs_client.proofs.ReservedLists.{reserved_below_eight}
+use Rattle.qs_client_run.proofs.CodeBounds.{longest_covers}
 use Rattle.qs_client_run.proofs.ArrivalRefinement.{reserves_here}
 use Rattle.qs_client_run.proofs.StepRefinement.{standing_of}
 use Rattle.qs_client_run.specs.declared.act.Act.TheVariants as acts

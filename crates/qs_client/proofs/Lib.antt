@@ -2,3 +2,4 @@ pub mod BlockBeginnings
 pub mod FreshMinds
 pub mod MindRefinement
 pub mod LaneSends
+pub mod ReservedLists

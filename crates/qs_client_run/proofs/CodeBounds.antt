@@ -1,21 +1,18 @@
--- What a client relies on in its code: a block reserves at most 8 handlers, each among the 8, a client has few blocks, and no graph is longer
--- than the longest. The code needs it for its indexes and its room. The idea: a code is that of a sound program (`IsCode`), whose checks say it.
-use Rattle.std.proofs.Common.{◌≡◌, inl, inr, ℕ, zero, suc, ◌<◌, ◌≤◌, true, false, ◌==◌, ◌||◌, List, [], ◌∷◌, length, get_or, sym, ap, ◌∙◌, subst, arith, ⊎_elim}
+-- What a client relies on in its code: a handler of a block's list is one of 8, blocks are few, and no graph is longer than the longest. The code
+-- needs it for its indexes and its room. The idea: a code is that of a sound program (`IsCode`), whose checks say it.
+use Rattle.std.proofs.Common.{◌≡◌, inl, inr, ℕ, zero, suc, ◌<◌, ◌≤◌, List, [], ◌∷◌, length, get_or, ap, arith}
 use Rattle.std.proofs.lemmas.Bool.{cases_lt}
 use Rattle.std.proofs.lemmas.List.{get_or_past}
-use Rattle.std.specs.List.{AllByRecursion}
-use Rattle.qs_objects.proofs.Choices.{num_cases}
 use Rattle.qs_objects.proofs.Elements.{AllByRecursion-get_or}
 use Rattle.qs_program.specs.Program.{ProgramShape, block_at, blocks_of, client_at, no_client}
-use Rattle.qs_program.specs.Sound.{IsSound, IsSoundBlock, IsSoundClient, is_in}
+use Rattle.qs_program.specs.Sound.{IsSoundBlock, IsSoundClient}
 use Rattle.qs_program.proofs.Bounds.{sound_block}
 use Rattle.qs_program.specs.Limits.{most_blocks, most_handlers}
-use Rattle.qs_syncset.proofs.ShortLists.{few_reserved}
 use Rattle.qs_syncset.specs.Codes.{BlockCode, ClientCode, IsCode, code_at, no_code}
 use Rattle.qs_client_run.specs.BlockSizes.{longest}
 
 -- a client that has blocks is a client of the program
-client_inside : (p : ProgramShape) (c k : ℕ) → k < blocks_of p c → c < length p.clients
+pub client_inside : (p : ProgramShape) (c k : ℕ) → k < blocks_of p c → c < length p.clients
 client_inside p c k inside = elim (cases_lt c (length p.clients)) [
   | inl lt ↦ lt
   | inr le ↦ absurd (omega (arith, inside, ap (λ (d : _). length d.blocks) (get_or_past p.clients c no_client le)))
@@ -32,21 +29,6 @@ below_eight code k i w inside at =
     AllByRecursion-get_or (λ h. h < length p.objects) (block_at p w.client k).reserved i 0 block.reserved (omega (arith, at, ap length same)) in
     omega (arith, below, w.sound.objects, ap (λ hs. get_or hs i 0) same)
 
-in_each : (P : ℕ → Type 0) (xs : List ℕ) (x : ℕ) → is_in xs x ≡ true → AllByRecursion P xs → P x
-in_each P [] x member each = cc
-in_each P (y ∷ ys) x member each =
-    ⊎_elim
-    (λ (is : y ≡ x). subst P is each.0)
-    (λ (other : (y == x) ≡ false). in_each P ys x (ap (λ b. b || is_in ys x) (sym other) ∙ member) each.1)
-    (num_cases y x)
-
--- a handler of a block's list is one of 8
-pub reserved_below_eight : (p : ProgramShape) (c k : ℕ) → IsSound p → k < blocks_of p c → (h : ℕ) → is_in (block_at p c k).reserved h ≡ true → h < most_handlers
-reserved_below_eight p c k sound inside h member =
-    let block : IsSoundBlock p.objects (block_at p c k) = sound_block p c k sound (client_inside p c k inside) inside in
-    let below : h < length p.objects = in_each (λ o. o < length p.objects) (block_at p c k).reserved h member block.reserved in
-    omega (arith, below, sound.objects)
-
 pub few_blocks : (code : ClientCode) → IsCode code → length code.blocks ≤ most_blocks
 few_blocks code w = elim (cases_lt 0 (length code.blocks)) [
   | inl lt ↦
@@ -57,15 +39,6 @@ few_blocks code w = elim (cases_lt 0 (length code.blocks)) [
       omega (arith, client.blocks, w.of.count)
   | inr le ↦ omega (arith, le)
 ]
-
--- a block reserves at most 8 objects
-pub few_objects : (code : ClientCode) (k : ℕ) → IsCode code → k < length code.blocks → length (code_at code k).reserved ≤ most_handlers
-few_objects code k w inside =
-    let p = w.program in
-    let here : k < blocks_of p w.client = omega (arith, inside, w.of.count) in
-    let few = few_reserved p w.client k w.sound (client_inside p w.client k here) here in
-    let same = ap (λ (hs : List ℕ). length hs) (w.of.blocks k here).reserved in
-    omega (arith, few, same)
 
 -- each graph is as long as the longest at most
 pub longest_covers : (bs : List BlockCode) (k : ℕ) → length (get_or bs k no_code).graph ≤ longest bs

@@ -1,8 +1,8 @@
 -- Quiet work of the data is quiet work of the client. The contracts of `settle` and of all that resumes need it (`HasSettled`).
 -- The idea: one step either goes on, and then what remains of the block's tree makes the same of the client and its trace, or it stops, and
 -- then nothing remains to be done (`IsAfterStep`); each kind of move is a case, and what holds within a block is kept by each (`IsInBlock`).
--- The loop of `settle` joins steps by `goes_on` and `stops`, and ends since each step is a node nearer to the block's end.
-use Rattle.std.proofs.Common.{◌≡◌, ℕ, zero, suc, ◌+◌, ◌<◌, ◌≤◌, Bool, true, false, not, ◌==◌, ◌&&◌, if◌then◌else◌, List, [], ◌∷◌, ◌++◌, ℤ, Option, Some, None, is_some, length, get_or, refl, sym, ap, ◌∙◌, subst, arith, append-nil, append_assoc, ⊎_elim, length-append, length-set}
+-- The loop of `settle` joins steps by `goes_on` and `stops`, and ends since each step leaves one move less (`moves_fall`).
+use Rattle.std.proofs.Common.{◌≡◌, ℕ, zero, suc, ◌<◌, ◌≤◌, Bool, true, false, not, ◌==◌, ◌&&◌, if◌then◌else◌, List, [], ◌∷◌, ◌++◌, ℤ, Option, Some, None, is_some, length, get_or, refl, sym, ap, ◌∙◌, subst, arith, append-nil, append_assoc, ⊎_elim, length-append, length-set}
 use Rattle.std.proofs.lemmas.List.{get_or-set_same, get_or-set_other}
 use Rattle.qs_objects.specs.Journals.{HeldState, run_one}
 use Rattle.qs_objects.specs.Parts.{command_event}
@@ -174,6 +174,19 @@ stopped_up g reserved size k a b s (stages.Full x) h w = (w.0, omega (arith, h, 
 stopped_up g reserved size k a b s (stages.Awaits x) h w = w
 stopped_up g reserved size k a b s (stages.Leaves i) h w = w
 stopped_up g reserved size k a b s stages.Between h w = w
+
+abbrev one_more : (RunState → ℕ) → RunState × Bool → ℕ
+one_more left (t, true) = suc (left t)
+one_more left (t, false) = 0
+
+-- how many quiet moves are left, counted up to a number
+abbrev pub moves_left : List GraphNode → BlockContext → List ℕ → ℕ → RunState → ℕ
+moves_left g context reserved zero s = 0
+moves_left g context reserved (suc most) s = one_more (moves_left g context reserved most) (step g context reserved s)
+
+more_on : (left : RunState → ℕ) (r : RunState × Bool) → r.1 ≡ true → one_more left r ≡ suc (left r.0)
+more_on left (t, true) e = refl
+more_on left (t, false) e = absurd (cc)
 
 module _ (g : List GraphNode) (settings : Settings) (context : BlockContext) (reserved : List ℕ) (begun : ℕ) (p : clients.ClientStage) where
   -- what holds after a quiet move: the client goes on with the rest of the tree, or it has come to its next act
@@ -438,22 +451,47 @@ module _ (g : List GraphNode) (settings : Settings) (context : BlockContext) (re
   leaves_off n tree s (t, false) e w = w
 
   -- the client went on from s to t
-  pub record HasGoneOn (m turn : ℕ) (s t : RunState) : Type 0 where
+  pub record HasGoneOn (m : ℕ) (s t : RunState) : Type 0 where
     pub stands : t.stage ≡ stages.Runs
     pub left : ℕ
-    pub few : left + turn ≤ limit
     pub fewer : left ≤ m
     pub rows : KeepsRows context.ticket.index s.traces t.traces
     pub counts : length t.position.counts ≡ length s.position.counts
     pub running : IsRunning g settings.size context.ticket.index left t
     pub same : progress_through settings context.ticket reserved begun p (walk g m s.position) s ≡ progress_through settings context.ticket reserved begun p (walk g left t.position) t
 
-  pub goes_on : (m turn : ℕ) (s t : RunState) → IsGraph g → settings.dynamic ≡ context.dynamic → s.stage ≡ stages.Runs → IsRunning g settings.size context.ticket.index m s
-      → m + turn ≤ limit → t ≡ (step g context reserved s).0 → (step g context reserved s).1 ≡ true → HasGoneOn m (turn + 1) s t
-  goes_on zero turn s t ok dynamic stands w few new on = absurd w.within
-  goes_on (suc m) turn s t ok dynamic stands w few new on =
+  pub goes_on : (m : ℕ) (s t : RunState) → IsGraph g → settings.dynamic ≡ context.dynamic → s.stage ≡ stages.Runs → IsRunning g settings.size context.ticket.index m s
+      → t ≡ (step g context reserved s).0 → (step g context reserved s).1 ≡ true → HasGoneOn m s t
+  goes_on zero s t ok dynamic stands w new on = absurd w.within
+  goes_on (suc m) s t ok dynamic stands w new on =
       let done = leaves_on m (walk g (suc m) s.position) s (step g context reserved s) on (quiet m s ok dynamic stands w) in
-      subst (λ u. HasGoneOn (suc m) (turn + 1) s u) (sym new) (record { stands = done.1 ∙ stands; left = m; few = omega (arith, few); fewer = omega arith; rows = rows_kept g context reserved s; counts = all_counts g context reserved s; running = done.0; same = done.2 })
+      subst (λ u. HasGoneOn (suc m) s u) (sym new) (record { stands = done.1 ∙ stands; left = m; fewer = omega arith; rows = rows_kept g context reserved s; counts = all_counts g context reserved s; running = done.0; same = done.2 })
+
+  same_after : (m most : ℕ) (tree : Synced) (s : RunState) (r : RunState × Bool) → IsAfterStep m tree s r
+      → ((t : RunState) → t.stage ≡ s.stage → IsRunning g settings.size context.ticket.index m t → moves_left g context reserved most t ≡ moves_left g context reserved m t)
+      → one_more (moves_left g context reserved most) r ≡ one_more (moves_left g context reserved m) r
+  same_after m most tree s (t, true) w next = ap suc (next t w.1 w.0)
+  same_after m most tree s (t, false) w next = refl
+
+  -- counted up to any number that is large enough, there are as many moves left
+  moves_same : (m most : ℕ) (s : RunState) → IsGraph g → settings.dynamic ≡ context.dynamic → s.stage ≡ stages.Runs → IsRunning g settings.size context.ticket.index m s
+      → m ≤ most → moves_left g context reserved most s ≡ moves_left g context reserved m s
+  moves_same zero most s ok dynamic stands w few = absurd w.within
+  moves_same (suc m) zero s ok dynamic stands w few = absurd (omega (arith, few))
+  moves_same (suc m) (suc most) s ok dynamic stands w few =
+      same_after m most (walk g (suc m) s.position) s (step g context reserved s) (quiet m s ok dynamic stands w)
+      (λ t stays on. moves_same m most t ok dynamic (stays ∙ stands) on (omega (arith, few)))
+
+  -- after a step that goes on there is one move less
+  pub moves_fall : (m : ℕ) (s t : RunState) → IsGraph g → settings.dynamic ≡ context.dynamic → s.stage ≡ stages.Runs → IsRunning g settings.size context.ticket.index m s
+      → t ≡ (step g context reserved s).0 → (step g context reserved s).1 ≡ true → moves_left g context reserved limit t < moves_left g context reserved limit s
+  moves_fall zero s t ok dynamic stands w new on = absurd w.within
+  moves_fall (suc m) s t ok dynamic stands w new on =
+      let u = (step g context reserved s).0 in
+      let done = leaves_on m (walk g (suc m) s.position) s (step g context reserved s) on (quiet m s ok dynamic stands w) in
+      let before = moves_same (suc m) limit s ok dynamic stands w w.few ∙ more_on (moves_left g context reserved m) (step g context reserved s) on in
+      let after = ap (moves_left g context reserved limit) new ∙ moves_same m limit u ok dynamic (done.1 ∙ stands) done.0 (omega (arith, w.few)) in
+      omega (arith, before, after)
 
   pub stops : (m : ℕ) (s t : RunState) → IsGraph g → settings.dynamic ≡ context.dynamic → s.stage ≡ stages.Runs → IsRunning g settings.size context.ticket.index m s
       → t ≡ (step g context reserved s).0 → (step g context reserved s).1 ≡ false → HasSettled g settings context.ticket reserved begun p m s t

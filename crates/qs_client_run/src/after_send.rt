@@ -31,6 +31,7 @@ impl Run {
     }
 
     /// The client goes on, once the object or the chunk that was in its way has gone.
+    #[inline(always)]
     pub(crate) fn resume(&mut self, code: &Code, ticket: Ticket)
         requires block { ticket.index < length code.now.blocks }
         requires running { (size : ℕ) × (n : ℕ) × IsRunning (code_at code.now ticket.index).graph size ticket.index n self.old }

@@ -1,6 +1,6 @@
 //! The position of a client in the graph of a block.
 
-ghost use Rattle.std.specs.Prelude.{◌≡◌, ◌<◌, ◌≤◌, length};
+ghost use Rattle.std.specs.Prelude.{◌≡◌, ◌<◌, ◌≤◌, ℕ, if◌then◌else◌, length};
 ghost use Rattle.qs_program.specs.Values.{request_of};
 ghost use Rattle.qs_graph.specs.Walk.{after_local, at_node, after_branch, with_value};
 ghost use Rattle.qs_client_run.specs.Beginning.{restart};
@@ -11,20 +11,11 @@ use qs_program::{Call, Locals};
 use std::marker::Model;
 
 /// A node, the client's variables, and for each node the count of the repeat whose branch it is.
+#[derive(Drop)]
 pub struct Position {
     node: usize,
     locals: Locals,
     counts: Vec<u64>,
-}
-
-impl Drop for Position {
-    fn drop(self) {
-        let Position {
-            node: _,
-            locals: _,
-            counts: _,
-        } = self;
-    }
 }
 
 impl Model for Position {
@@ -112,27 +103,20 @@ impl Position {
         self.node = next;
     }
 
-    /// By a branch to one of two nodes.
-    pub fn choose(&mut self, choice: Choice, first: usize, second: usize)
+    /// Whether a branch goes to the first of its two nodes. A repeat counts then.
+    pub fn chooses(&mut self, choice: Choice) -> bool
         requires counted { self.old.node < length self.old.counts }
-        ensures chosen { self.new ≡ after_branch choice self.old first second }
+        ensures chosen { (first second : ℕ) → at_node self.new (if result then first else second) ≡ after_branch choice self.old first second }
     {
         match choice {
-            Choice::If(test) => {
-                self.node = if test.is_met(&self.locals) {
-                    first
-                } else {
-                    second
-                };
-            }
+            Choice::If(test) => test.is_met(&self.locals),
             Choice::Repeat => {
                 let count = self.counts[self.node];
                 if count == 0 {
-                    self.node = second;
-                } else {
-                    self.counts[self.node] = count - 1;
-                    self.node = first;
+                    return false;
                 }
+                self.counts[self.node] = count - 1;
+                true
             }
         }
     }

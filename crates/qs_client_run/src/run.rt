@@ -20,22 +20,12 @@ use qs_program::{Call, Locals};
 use std::marker::Model;
 
 /// A client's position in its block's graph, the objects that it holds and its open chunks, its traces, and its stage.
+#[derive(Drop)]
 pub struct Run {
     pub(crate) position: Position,
     pub(crate) holdings: Holdings,
     pub(crate) traces: Traces,
     pub(crate) stage: Stage,
-}
-
-impl Drop for Run {
-    fn drop(self) {
-        let Run {
-            position: _,
-            holdings: _,
-            traces: _,
-            stage: _,
-        } = self;
-    }
 }
 
 impl Model for Run {
@@ -45,9 +35,6 @@ impl Model for Run {
 
     ghost view = { λ r. record { position = r.position; holdings = r.holdings; traces = r.traces; stage = r.stage } };
 }
-
-// No walk through a block of a checked program takes more nodes.
-const LIMIT: u32 = 3_000_002;
 
 /// What a client goes by in a block: whether it tests what it holds as it comes to a synchronisation, and the block's ticket.
 #[derive(Clone, Copy)]
@@ -205,14 +192,18 @@ impl Run {
                 true
             }
             Node::Branch(choice) => {
-                self.position
-                    .choose(*choice, next, graph.second_target(node));
+                if self.position.chooses(*choice) {
+                    self.position.go_to(next);
+                    return true;
+                }
+                self.position.go_to(graph.second_target(node));
                 true
             }
         }
     }
 
     /// All quiet moves, up to the next act.
+    #[inline(never)]
     pub(crate) fn settle(&mut self, graph: &Graph, reserved: &[u8], context: BlockContext)
         requires stands { self.old.stage ≡ stages.Runs }
         requires running { (size : ℕ) × (n : ℕ) × IsRunning graph.now.nodes size context.ticket.index n self.old }
@@ -221,11 +212,10 @@ impl Run {
             → HasSettled graph.now.nodes settings context.ticket reserved.now begun p n self.old self.new }
     {
         graph.is_graph();
-        for _turn in 0..LIMIT {
+        'moves: loop {
             if !self.step(graph, reserved, context) {
                 return;
             }
         }
-        unreachable!()
     }
 }

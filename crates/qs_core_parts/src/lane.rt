@@ -156,6 +156,7 @@ impl Lane {
     }
 
     /// Takes an empty chunk.
+    #[inline(always)]
     pub fn take_chunk(&mut self) -> Option<Chunk<Request>>
         ensures cases { MatchOption result ((self.old.spare ≡ []) × (self.new ≡ self.old))
             (λ chunk. self.old ≡ with_spare self.new (chunk ∷ self.new.spare)) }

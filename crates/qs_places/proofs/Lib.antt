@@ -3,3 +3,4 @@ pub mod Steps
 pub mod Inner
 pub mod ScopesInBlocks
 pub mod FinePlaces
+pub mod ListedNames

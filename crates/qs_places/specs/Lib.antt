@@ -1,3 +1,4 @@
+pub mod Listed
 pub mod Operators
 pub mod Places
 pub mod Variables

@@ -2,6 +2,7 @@
 #![tactic(auto)]
 
 mod fault;
+mod listed;
 mod operators;
 mod scope;
 mod walk;

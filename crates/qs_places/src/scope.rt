@@ -1,9 +1,11 @@
 //! What is known at a place of a script, and the faults of each place.
 
-ghost use Rattle.std.specs.Prelude.{◌≡◌, [], ◌∷◌, ◌++◌, OnOk, IfOk, slice_index_or, pos};
+ghost use Rattle.std.specs.Prelude.{◌≡◌, [], ◌∷◌, ◌++◌, OnOk, IfOk, IfSome, is_some, slice_index_or, pos};
+ghost use Rattle.qs_program.specs.Numbering.{is_among, found_at};
 ghost use Rattle.qs_places.specs.Places.{Scope as Known, Meets, scope_or_fault, step, start, op_at, object, number, client, separate, listed, target, operation_places, request_places, variable, without_variables, template, starts, given, formals_at, formal_kind, formal_kinds};
 
 use crate::fault::CheckFault;
+use crate::listed::Listed;
 use crate::operators::find_op;
 use qs_objects::{Kind, Op};
 use qs_program::{MOST_BLOCKS, MOST_CLIENTS, MOST_OBJECTS, MOST_VARIABLES, Names, same_kind};
@@ -48,15 +50,18 @@ pub struct Scope {
     formals: Vec<Kinds>,
     blocks: usize,
     variables: Names,
-    reserved: Names,
+    listed: Listed,
 }
 
 impl Model for Scope {
     ghost use Rattle.qs_places.specs.Places.{Scope as Known};
+    ghost use Rattle.qs_places.specs.Listed.{names_at, AreFirst};
 
     ghost Value = { Known };
 
-    ghost view = { λ s. record { objects = s.objects; kinds = s.kinds.items; clients = s.clients; templates = s.templates; formals = s.formals.items; blocks = s.blocks; variables = s.variables; reserved = s.reserved } };
+    ghost view = { λ s. record { objects = s.objects; kinds = s.kinds.items; clients = s.clients; templates = s.templates; formals = s.formals.items; blocks = s.blocks; variables = s.variables; reserved = names_at s.objects s.listed } };
+
+    ghost invariant = { λ s. AreFirst s.objects s.listed };
 }
 
 impl Scope {
@@ -72,11 +77,12 @@ impl Scope {
             formals: Vec::new(alloc),
             blocks: 0,
             variables: Names::new(alloc),
-            reserved: Names::new(alloc),
+            listed: Listed::new(alloc),
         }
     }
 
     /// An object's name.
+    #[tactic(auto, using(crate::proofs::ListedNames::are_first_append, crate::proofs::ListedNames::names_append))]
     pub fn object(&mut self, name: &Name, kind: Kind) -> Result<(), CheckFault>
         ensures meets { Meets result (step self.old (object name.now kind)) self.new }
     {
@@ -104,7 +110,7 @@ impl Scope {
         self.clients.number(name.copied())?;
         self.blocks = 0;
         forget(alloc, &mut self.variables);
-        forget(alloc, &mut self.reserved);
+        self.listed.clear();
         Ok(())
     }
 
@@ -166,28 +172,41 @@ impl Scope {
     }
 
     /// A block's beginning.
-    pub fn separate(&mut self, alloc: Global) -> Result<(), CheckFault>
+    pub fn separate(&mut self) -> Result<(), CheckFault>
         ensures meets { Meets result (step self.old separate) self.new }
     {
         if self.blocks >= MOST_BLOCKS {
             return Err(CheckFault::Limit);
         }
         self.blocks += 1;
-        forget(alloc, &mut self.reserved);
+        self.listed.clear();
         Ok(())
     }
 
+    // The number of a declared object, and whether the block's list has it.
+    #[inline(always)]
+    #[tactic(auto, using(crate::proofs::ListedNames::among_names))]
+    fn place(&self, name: &Name) -> Option<(usize, bool)>
+        ensures declared { is_some result ≡ is_among self.now.objects name.now }
+        ensures number { IfSome result (λ found. found.0 ≡ found_at self.now.objects name.now) }
+        ensures listed { IfSome result (λ found. found.1 ≡ is_among self.now.reserved name.now) }
+    {
+        let number = self.objects.find(name)?;
+        Some((number, self.listed.contains(number)))
+    }
+
     /// A name of a block's list.
+    #[tactic(auto, using(crate::proofs::ListedNames::are_first_more, crate::proofs::ListedNames::names_more))]
     pub fn listed(&mut self, name: &Name) -> Result<(), CheckFault>
         ensures meets { Meets result (step self.old (listed name.now)) self.new }
     {
-        if !self.objects.contains(name) {
+        let Some((number, is_listed)) = self.place(name) else {
             return Err(CheckFault::UnknownObject);
-        }
-        if self.reserved.contains(name) {
+        };
+        if is_listed {
             return Err(CheckFault::ReservedTwice);
         }
-        self.reserved.number(name.copied())?;
+        self.listed.push(number)?;
         Ok(())
     }
 
@@ -195,10 +214,10 @@ impl Scope {
     pub fn target(&self, name: &Name) -> Result<(), CheckFault>
         ensures meets { Meets result (step self.now (target name.now)) self.now }
     {
-        if !self.objects.contains(name) {
+        let Some((_, is_listed)) = self.place(name) else {
             return Err(CheckFault::UnknownObject);
-        }
-        if !self.reserved.contains(name) {
+        };
+        if !is_listed {
             return Err(CheckFault::NotReserved);
         }
         Ok(())
@@ -233,10 +252,10 @@ impl Scope {
     ) -> Result<(), CheckFault>
         ensures meets { Meets result (scope_or_fault self.now (request_places asks name.now word.now count)) self.now }
     {
-        let Some(number) = self.objects.find(name) else {
+        let Some((number, is_listed)) = self.place(name) else {
             return Err(CheckFault::UnknownObject);
         };
-        if !self.reserved.contains(name) {
+        if !is_listed {
             return Err(CheckFault::NotReserved);
         }
         let Some(op) = find_op(asks, kind_at(self.kinds.as_slice(), number), word) else {

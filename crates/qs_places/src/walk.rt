@@ -120,7 +120,7 @@ fn check_list(scope: &mut Scope, names: &[Name]) -> Result<(), CheckFault>
 fn check_block(alloc: Global, scope: &mut Scope, block: &Block) -> Result<(), CheckFault>
     ensures meets { Meets result (scope_or_fault scope.old (block_places block.now)) scope.new }
 {
-    scope.separate(alloc)?;
+    scope.separate()?;
     check_list(scope, block.reserved.as_slice())?;
     check_body(scope, false, &block.body)
 }

@@ -3,11 +3,14 @@
 -- by induction on the list of names.
 use Rattle.std.proofs.Common.{◌≡◌, ◌≢◌, ℕ, suc, ◌+◌, ◌<◌, ◌≤◌, Bool, true, false, not, ◌||◌, ◌==◌, cond, nat_lt, List, [], ◌∷◌, ◌++◌, length, get_or, Some, None, unwrap_or, refl, ap, sym, ◌∙◌, arith}
 use Rattle.std.proofs.lemmas.Bool.Decides.{nat_tests}
+use Rattle.std.proofs.Math.ListN.{get_or-append}
+use Rattle.std.proofs.Math.Seq.{get_or-append_seam}
+use Rattle.std.proofs.lemmas.List.{length-append}
 use Rattle.std.proofs.lemmas.List.Folds.{list_any-append}
 use Rattle.std.proofs.lemmas.List.Sums.{prefix_len_stops}
 use Rattle.std.specs.Cmp.Lexicographic.{same_text, other_text}
 use Rattle.std.specs.List.{list_any, position, position_or_len}
-use Rattle.qs_program.specs.Numbering.{Name, same_name, is_among, found_at, with_name}
+use Rattle.qs_program.specs.Numbering.{Name, same_name, is_among, found_at, with_name, IsEachFirst}
 use Rattle.qs_program.specs.Limits.{most_variables}
 
 within_cons : (b : Bool) (i n : ℕ) (later : Bool) → (later ≡ true → i < n) → (b || later) ≡ true → cond (not b) (1 + i) 0 < suc n
@@ -124,3 +127,32 @@ with_known xs o h = rw (among_place xs o, less (position_or_len (same_name o) xs
 
 pub with_new : (xs : List Name) (o : Name) → length xs ≤ position_or_len (same_name o) xs → with_name xs o ≡ xs ++ o ∷ []
 with_new xs o h = let e : nat_lt (position_or_len (same_name o) xs) (length xs) ≡ false = grind (arith, nat_tests) in rw (among_place xs o, e) refl
+
+-- ---- names of which none stands twice
+
+last_cons : (b : Bool) (i n later : ℕ) → (n ≤ i → later ≡ n) → suc n ≤ cond (not b) (1 + i) 0 → cond (not b) (1 + later) 0 ≡ suc n
+last_cons true i n later f h = absurd (omega arith)
+last_cons false i n later f h = omega (arith, f (omega arith))
+
+-- a new name stands at the end
+pub place_last : (xs : List Name) (o : Name) → length xs ≤ position_or_len (same_name o) xs → position_or_len (same_name o) (xs ++ o ∷ []) ≡ length xs
+place_last [] o h = rw (same_name-refl o) refl
+place_last (x ∷ xs) o h = last_cons (same_name o x) (position_or_len (same_name o) xs) (length xs) (position_or_len (same_name o) (xs ++ o ∷ [])) (place_last xs o) h
+
+pub first_place : (xs : List Name) (o : Name) (i : ℕ) → IsEachFirst xs → i < length xs → same_name o (get_or xs i []) ≡ true → position_or_len (same_name o) xs ≡ i
+first_place xs o i each within h = ap (λ x. position_or_len (same_name x) xs) (same_text o (get_or xs i []) (sym h)) ∙ each i within
+
+pub each_first_more : (xs : List Name) (o : Name) → IsEachFirst xs → length xs ≤ position_or_len (same_name o) xs → IsEachFirst (xs ++ o ∷ [])
+each_first_more xs o each new i within = by_test (nat_lt i (length xs)) refl
+  where
+    by_test : (b : Bool) → nat_lt i (length xs) ≡ b → position_or_len (same_name (get_or (xs ++ o ∷ []) i [])) (xs ++ o ∷ []) ≡ i
+    by_test true e =
+        let lt : i < length xs = grind (arith, nat_tests) in
+        let here : get_or (xs ++ o ∷ []) i [] ≡ get_or xs i [] = get_or-append xs (o ∷ []) [] i lt in
+        let first : position_or_len (same_name (get_or xs i [])) xs ≡ i = each i lt in
+        let among : is_among xs (get_or xs i []) ≡ true = among_within xs (get_or xs i []) (rw first lt) in
+        rw here (place_append (same_name (get_or xs i [])) xs (o ∷ []) among ∙ first)
+    by_test false e =
+        let last : i ≡ length xs = grind (arith, nat_tests, length-append xs (o ∷ [])) in
+        let here : get_or (xs ++ o ∷ []) i [] ≡ o = ap (λ j. get_or (xs ++ o ∷ []) j []) last ∙ get_or-append_seam xs o [] [] in
+        rw here (place_last xs o new) ∙ sym last

@@ -34,3 +34,18 @@ weight_of_drop xs i d within = rw (drop-cons xs i d within, add-one) (weight_of-
 pub min_mul : (n x top : ℕ) → min (n * min x top) top ≡ min (n * x) top
 min_mul zero x top = omega arith
 min_mul (suc n) x top = grind arith
+
+-- counts that are capped may be added one after another
+pub add_capped : (l t a b c top : ℕ) → c ≡ a + b → min (min (l + t * a) top + t * b) top ≡ min (l + t * c) top
+add_capped l t a b c top e = let parts : t * c ≡ t * a + t * b = rw e (omega arith) in grind (arith, parts)
+
+-- a cap commutes with a product, where more is added
+pub min_add : (l n x top : ℕ) → min (l + min n top * x) top ≡ min (l + n * x) top
+min_add l n x top =
+    let capped : min (x * min n top) top ≡ min (x * n) top = min_mul x n top in
+    let left : min n top * x ≡ x * min n top = omega arith in
+    let right : n * x ≡ x * n = omega arith in
+    omega (arith, capped, left, right)
+
+pub times_again : (t n x : ℕ) → t * n * x ≡ t * (n * x + 0)
+times_again t n x = grind arith

@@ -1,6 +1,7 @@
 pub mod Statements
 pub mod StatementsCode
 pub mod Views
+pub mod Arguments
 pub mod SizeDecreases
 pub mod Values
 pub mod Loads

@@ -1,5 +1,6 @@
 -- How many requests a list of statements can make on an object, and how many steps it can take.
-use Rattle.std.specs.Prelude.{ℕ, ◌+◌, ◌*◌, max, ◌==◌, if◌then◌else◌}
+use Rattle.std.specs.Prelude.{ℕ, ◌≡◌, ◌<◌, ◌+◌, ◌*◌, max, min, ◌==◌, if◌then◌else◌, List, slice_index_or}
+use Rattle.qs_program.specs.Limits.{most_objects, most_requests}
 use Rattle.qs_program.specs.Statements.{Statements, end, command, query, assign, choose, again, leave}
 
 abbrev pub load_of : Statements → ℕ → ℕ
@@ -20,3 +21,7 @@ weight_of (assign x e rest) = 1 + weight_of rest
 weight_of (choose t has_else first other rest) = 1 + max (weight_of first) (weight_of other) + weight_of rest
 weight_of (again n body rest) = 1 + n * max 1 (weight_of body) + weight_of rest
 weight_of (leave rest) = 1 + weight_of rest
+
+-- the requests on each of 8 objects, counted to one past their limit
+abbrev pub AreLoads : Statements → List ℕ → Type 0
+AreLoads body loads = (h : ℕ) → h < most_objects → slice_index_or loads h 0 ≡ min (load_of body h) (most_requests + 1)

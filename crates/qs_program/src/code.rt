@@ -1,14 +1,14 @@
 //! Statements with each name replaced by its number.
 
-ghost use Rattle.std.specs.Prelude.{◌≡◌, ◌≤◌, ◌+◌, [], ◌∷◌, ◌++◌, OnOk, OnErr, IfOk, min};
+ghost use Rattle.std.specs.Prelude.{◌≡◌, ◌≤◌, ◌<◌, ◌+◌, ◌*◌, ℕ, [], ◌∷◌, ◌++◌, OnOk, OnErr, IfOk, max, min, slice_index_or, take, if◌then◌else◌, ◌==◌};
 ghost use Rattle.qs_script.specs.Limits.{most_levels};
-ghost use Rattle.qs_program.specs.Limits.{most_requests, most_steps};
-ghost use Rattle.qs_program.specs.Loads.{load_of, weight_of};
+ghost use Rattle.qs_program.specs.Limits.{most_objects, most_requests, most_steps};
+ghost use Rattle.qs_program.specs.Loads.{load_of, weight_of, AreLoads};
 ghost use Rattle.qs_program.specs.Sound.{levels_of};
 ghost use Rattle.qs_program.specs.Statements.{end, join_statements};
 ghost use Rattle.qs_program.specs.Views.{single, statements_of};
 
-use crate::limits::{PAST_REQUESTS, PAST_STEPS};
+use crate::limits::{MOST_OBJECTS, PAST_REQUESTS, PAST_STEPS};
 use qs_objects::Op;
 use qs_script::{Operator, Relation};
 use std::alloc::{AllocError, Global};
@@ -36,10 +36,28 @@ pub struct Test {
     pub right: Atom,
 }
 
+// As many arguments as a request has at most.
+pub(crate) const FEW: usize = 3;
+
+// The first arguments of an array.
+#[derive(Drop)]
+pub(crate) struct FewAtoms {
+    pub(crate) atoms: [Atom; FEW],
+    pub(crate) count: usize,
+    alloc: Global,
+}
+
+// Where arguments lie: at most three of them in place, and more in memory of their own.
+#[derive(Drop)]
+pub(crate) enum Kept {
+    Few(FewAtoms),
+    Many(Vec<Atom>),
+}
+
 /// The arguments of a request as they are written.
 #[derive(Drop)]
 pub struct Atoms {
-    atoms: Vec<Atom>,
+    pub(crate) kept: Kept,
 }
 
 impl Model for Atoms {
@@ -48,7 +66,11 @@ impl Model for Atoms {
 
     ghost Value = { List Atom };
 
-    ghost view = { λ a. a.atoms.items };
+    ghost use Rattle.qs_program.specs.Arguments.{arguments_of, IsCounted};
+
+    ghost view = { λ a. arguments_of a.kept };
+
+    ghost invariant = { λ a. IsCounted a.kept };
 }
 
 impl Atoms {
@@ -57,17 +79,34 @@ impl Atoms {
         ensures empty { result ≡ [] }
     {
         Atoms {
-            atoms: Vec::new(alloc),
+            kept: Kept::Few(FewAtoms {
+                atoms: [Atom::Number(0); FEW],
+                count: 0,
+                alloc,
+            }),
         }
     }
 
-    /// No arguments; takes memory for so many at once.
-    pub fn with_capacity(alloc: Global, count: usize) -> Result<Atoms, AllocError>
+    /// At most three arguments: the first ones of an array. Takes no memory.
+    #[inline(always)]
+    pub fn few(alloc: Global, atoms: [Atom; FEW], count: usize) -> Atoms
+        requires few { count ≤ 3 }
+        ensures value { result ≡ take count atoms }
+    {
+        Atoms {
+            kept: Kept::Few(FewAtoms {
+                atoms,
+                count,
+                alloc,
+            }),
+        }
+    }
+
+    /// No arguments; memory for more than three is taken as they come.
+    pub fn with_capacity(alloc: Global, _count: usize) -> Result<Atoms, AllocError>
         ensures empty { IfOk result (λ atoms. atoms ≡ []) }
     {
-        Ok(Atoms {
-            atoms: Vec::with_capacity(alloc, count)?,
-        })
+        Ok(Atoms::new(alloc))
     }
 
     /// Adds an argument at the end. An error means out of memory, and leaves the arguments as they were.
@@ -75,15 +114,51 @@ impl Atoms {
         ensures ok { OnOk result (self.new ≡ self.old ++ atom ∷ []) }
         ensures kept { OnErr result (self.new ≡ self.old) }
     {
-        self.atoms.push(atom)?;
-        Ok(())
+        match &mut self.kept {
+            Kept::Few(few) => {
+                let count = few.count;
+                if count < FEW {
+                    few.atoms[count] = atom;
+                    few.count = count + 1;
+                    return Ok(());
+                }
+                let [first, second, third] = few.atoms;
+                let many = Vec::from_array(few.alloc, [first, second, third, atom])?;
+                self.kept = Kept::Many(many);
+                Ok(())
+            }
+            Kept::Many(many) => {
+                many.push(atom)?;
+                Ok(())
+            }
+        }
+    }
+
+    /// The same arguments once more; takes memory only for more than three.
+    pub fn copied(&self, alloc: Global) -> Result<Atoms, AllocError>
+        ensures same { IfOk result (λ atoms. atoms ≡ self.now) }
+    {
+        match &self.kept {
+            Kept::Few(few) => Ok(Atoms::few(alloc, few.atoms, few.count)),
+            Kept::Many(many) => {
+                let mut copy = Vec::with_capacity(alloc, many.len())?;
+                copy.extend_from_slice(many.as_slice())?;
+                Ok(Atoms {
+                    kept: Kept::Many(copy),
+                })
+            }
+        }
     }
 
     /// The arguments in order.
+    #[inline(always)]
     pub fn as_slice(&self) -> &[Atom]
         ensures value { result.now ≡ self.now }
     {
-        self.atoms.as_slice()
+        match &self.kept {
+            Kept::Few(few) => &few.atoms[..few.count],
+            Kept::Many(many) => many.as_slice(),
+        }
     }
 }
 
@@ -188,6 +263,28 @@ impl Body {
         load
     }
 
+    // The most requests that it can make on each of 8 objects, counted to one past their limit.
+    pub(crate) fn loads(&self) -> Loads
+        ensures capped { AreLoads self.now result }
+    {
+        let mut loads = [0; MOST_OBJECTS];
+        self.add_loads(1, &mut loads);
+        loads
+    }
+
+    // Adds the requests of so many turns.
+    #[cycle(loads)]
+    fn add_loads(&self, turns: u64, loads: &mut Loads)
+        requires turns { turns ≤ most_requests + 1 }
+        requires small { (h : ℕ) → h < most_objects → slice_index_or loads.old h 0 ≤ most_requests + 1 }
+        ensures added { (h : ℕ) → h < most_objects → slice_index_or loads.new h 0 ≡ min (slice_index_or loads.old h 0 + turns * load_of self.now h) (most_requests + 1) }
+        ensures small { (h : ℕ) → h < most_objects → slice_index_or loads.new h 0 ≤ most_requests + 1 }
+    {
+        for stmt in &self.stmts {
+            stmt.add_loads(turns, loads);
+        }
+    }
+
     /// The most steps that it can take, counted to one past their limit.
     #[cycle(weight)]
     pub fn weight(&self) -> u64
@@ -217,6 +314,30 @@ impl Stmt {
         }
     }
 
+    // Adds the requests of so many turns.
+    #[cycle(loads)]
+    #[inline(always)]
+    fn add_loads(&self, turns: u64, loads: &mut Loads)
+        requires turns { turns ≤ most_requests + 1 }
+        requires small { (h : ℕ) → h < most_objects → slice_index_or loads.old h 0 ≤ most_requests + 1 }
+        ensures added { (h : ℕ) → h < most_objects → slice_index_or loads.new h 0 ≡ min (slice_index_or loads.old h 0 + turns * load_of (single self.now) h) (most_requests + 1) }
+        ensures small { (h : ℕ) → h < most_objects → slice_index_or loads.new h 0 ≤ most_requests + 1 }
+    {
+        match self {
+            Stmt::Command(call) | Stmt::Query(_, call) => add_load(loads, call.object, turns),
+            Stmt::If { first, other, .. } => {
+                let mut others = *loads;
+                first.add_loads(turns, loads);
+                other.add_loads(turns, &mut others);
+                raise(loads, &others);
+            }
+            Stmt::Repeat(count, body) => {
+                body.add_loads(turns.saturating_mul(*count).min(PAST_REQUESTS), loads)
+            }
+            Stmt::Assign(_, _) | Stmt::Leave => {}
+        }
+    }
+
     #[cycle(weight)]
     fn weight(&self) -> u64
         ensures capped { result ≡ min (weight_of (single self.now)) (most_steps + 1) }
@@ -230,5 +351,32 @@ impl Stmt {
             }
             Stmt::Command(_) | Stmt::Query(_, _) | Stmt::Assign(_, _) | Stmt::Leave => 1,
         }
+    }
+}
+
+// Counts of requests, one for each of 8 objects.
+pub(crate) type Loads = [u64; MOST_OBJECTS];
+
+// Counts so many requests on an object.
+#[inline(always)]
+fn add_load(loads: &mut Loads, object: u8, turns: u64)
+    requires turns { turns ≤ most_requests + 1 }
+    requires small { (h : ℕ) → h < most_objects → slice_index_or loads.old h 0 ≤ most_requests + 1 }
+    ensures added { (h : ℕ) → h < most_objects → slice_index_or loads.new h 0 ≡ min (slice_index_or loads.old h 0 + turns * (if object == h then 1 else 0)) (most_requests + 1) }
+    ensures small { (h : ℕ) → h < most_objects → slice_index_or loads.new h 0 ≤ most_requests + 1 }
+{
+    let place = usize::from(object);
+    if place < MOST_OBJECTS {
+        loads[place] = (loads[place] + turns).min(PAST_REQUESTS);
+    }
+}
+
+// The greater of two counts, for each object.
+#[inline(always)]
+fn raise(loads: &mut Loads, others: &Loads)
+    ensures each { (h : ℕ) → h < most_objects → slice_index_or loads.new h 0 ≡ max (slice_index_or loads.old h 0) (slice_index_or others.now h 0) }
+{
+    for object in 0..MOST_OBJECTS {
+        loads[object] = loads[object].max(others[object]);
     }
 }

@@ -1,6 +1,6 @@
 //! Names, numbered in the order of their first appearance.
 
-ghost use Rattle.std.specs.Prelude.{◌≡◌, ◌≢◌, ◌≤◌, false, [], OnOk, OnErr, IfOk, IfSome, is_some, length, IsTrue, slice_get, option_copied};
+ghost use Rattle.std.specs.Prelude.{◌≡◌, ◌≢◌, ◌<◌, ◌≤◌, false, [], OnOk, OnErr, IfOk, IfSome, is_some, length, IsTrue, slice_get, option_copied};
 ghost use Rattle.std.specs.List.{position_or_len};
 ghost use Rattle.qs_program.specs.Numbering.{same_name, with_name, number_of, found_at, is_among};
 
@@ -8,10 +8,15 @@ use qs_script::Name;
 use std::alloc::{AllocError, Global};
 use std::marker::Model;
 
-/// Names by number, from 0. They are few, so a name is looked for one by one.
+// How many guesses are kept.
+const GUESSES: usize = 64;
+
+/// Names by number, from 0. For names of one length and one last byte the number of the latest is kept as a guess; where it is
+/// wrong, a name is looked for one by one, as names are few.
 #[derive(Drop)]
 pub struct Names {
     names: Vec<Name>,
+    guesses: [u8; GUESSES],
 }
 
 impl Model for Names {
@@ -20,6 +25,23 @@ impl Model for Names {
     ghost Value = { List (List ℕ) };
 
     ghost view = { λ n. n.names.items };
+
+    ghost use Rattle.qs_program.specs.Numbering.{IsEachFirst};
+
+    ghost invariant = { λ n. IsEachFirst n.names.items };
+}
+
+// Where the guess of a name is kept.
+#[inline(always)]
+fn guess_place(name: &Name) -> usize
+    ensures within { result < 64 }
+{
+    let text = name.as_slice();
+    let count = text.len();
+    if count == 0 {
+        return 0;
+    }
+    (usize::from(text[count - 1]) + 7 * count) % GUESSES
 }
 
 // Whether two texts are as long and end alike. Most names that differ do so here.
@@ -55,6 +77,20 @@ fn are_same(one: &[u8], other: &[u8]) -> bool
     true
 }
 
+// The first place of a name, or past the last where it is none of them: looked for one by one.
+#[inline(never)]
+fn place_among(names: &[Name], name: &Name) -> usize
+    ensures place { result ≡ position_or_len (same_name name.now) names.now }
+    ensures within { result ≤ length names.now }
+{
+    for (place, other) in names.iter().enumerate() {
+        if is_same(name, other) {
+            return place;
+        }
+    }
+    names.len()
+}
+
 impl Names {
     /// No names; takes no memory.
     pub fn new(alloc: Global) -> Names
@@ -62,6 +98,7 @@ impl Names {
     {
         Names {
             names: Vec::new(alloc),
+            guesses: [0; GUESSES],
         }
     }
 
@@ -71,12 +108,11 @@ impl Names {
         ensures place { result ≡ position_or_len (same_name name.now) self.now }
         ensures within { result ≤ length self.now }
     {
-        for (place, other) in self.names.iter().enumerate() {
-            if is_same(name, other) {
-                return place;
-            }
+        let guess = usize::from(self.guesses[guess_place(name)]);
+        if guess < self.names.len() && is_same(name, &self.names[guess]) {
+            return guess;
         }
-        self.len()
+        place_among(self.names.as_slice(), name)
     }
 
     /// The number of a name, which is added at the end if it is new. An error leaves the names as they were.
@@ -89,7 +125,9 @@ impl Names {
         if number < self.len() {
             drop(name);
         } else {
+            let place = guess_place(&name);
             self.names.push(name)?;
+            self.guesses[place] = (number % 256) as u8;
         }
         Ok(number)
     }

@@ -1,6 +1,6 @@
 //! Checked programs.
 
-ghost use Rattle.std.specs.Prelude.{◌≡◌, ◌<◌, ◌≤◌, length, slice_index_or, sum_by};
+ghost use Rattle.std.specs.Prelude.{◌≡◌, ◌<◌, ◌≤◌, ◌+◌, length, min, slice_index_or, sum_by};
 ghost use Rattle.qs_program.specs.Limits.{most_requests, most_steps};
 ghost use Rattle.qs_program.specs.Loads.{load_of};
 ghost use Rattle.std.specs.Prelude.{Some, None};
@@ -9,7 +9,8 @@ ghost use Rattle.qs_program.specs.Program.{binding_of, declarations_of, declared
 ghost use Rattle.qs_program.specs.Program.{client_at, block_at, object_at, no_block, blocks_of, program_of, whole_load, whole_weight};
 ghost use Rattle.qs_program.specs.Sound.{IsSound};
 
-use crate::code::Body;
+use crate::code::{Body, Loads};
+use crate::limits::MOST_OBJECTS;
 use crate::names::Names;
 use qs_objects::Kind;
 use qs_script::Name;
@@ -27,10 +28,11 @@ impl Drop for Declared {
     }
 }
 
-/// A separate block: the objects that it reserves, and its statements.
+/// A separate block: the objects that it reserves, its statements, and how many requests these can make on each of 8 objects.
 pub struct Block {
     reserved: Vec<u8>,
     body: Body,
+    loads: Loads,
 }
 
 impl Drop for Block {
@@ -38,6 +40,7 @@ impl Drop for Block {
         let Block {
             reserved: _,
             body: _,
+            loads: _,
         } = self;
     }
 }
@@ -51,6 +54,10 @@ impl Model for Block {
     ghost coded = { block_code };
 
     ghost view = { λ b. record { reserved = b.reserved.items; body = b.body } };
+
+    ghost use Rattle.qs_program.specs.Loads.{AreLoads};
+
+    ghost invariant = { λ b. AreLoads b.body b.loads };
 }
 
 impl Block {
@@ -58,7 +65,12 @@ impl Block {
     pub fn new(reserved: Vec<u8>, body: Body) -> Block
         ensures value { result ≡ record { reserved = reserved.items; body = body } }
     {
-        Block { reserved, body }
+        let loads = body.loads();
+        Block {
+            reserved,
+            body,
+            loads,
+        }
     }
 
     /// The objects that it reserves, in the order of its list.
@@ -66,6 +78,19 @@ impl Block {
         ensures value { result.now ≡ self.now.reserved }
     {
         self.reserved.as_slice()
+    }
+
+    // How many requests it can make on an object, counted to one past their limit.
+    pub(crate) fn load(&self, object: u8) -> u64
+        ensures capped { result ≡ min (load_of self.now.body object) (most_requests + 1) }
+    {
+        let loads = &self.loads;
+        let place = usize::from(object);
+        if place < MOST_OBJECTS {
+            loads[place]
+        } else {
+            self.body.load(object)
+        }
     }
 
     /// Its statements.
@@ -324,7 +349,7 @@ impl Program {
         ensures limit { result ≤ most_requests }
     {
         let _ = &self.load;
-        self.block(client, block).body.load(object)
+        self.block(client, block).load(object)
     }
 
     /// The weight: how many steps there can be at most, over all blocks; at most 1,000,000.

@@ -33,10 +33,9 @@ fn blocks_load(blocks: &[Block]) -> u64
 pub fn block_load(block: &Block) -> u64
     ensures capped { result ≡ min (block_load_of block.now) (most_requests + 1) }
 {
-    let body = block.body();
     let mut load = 0;
     for object in block.reserved() {
-        load = (load + body.load(*object)).min(PAST_REQUESTS);
+        load = (load + block.load(*object)).min(PAST_REQUESTS);
     }
     load
 }

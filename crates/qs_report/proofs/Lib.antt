@@ -1,5 +1,7 @@
 pub mod Fronts
 pub mod Joined
+pub mod Digits
+pub mod Quick
 pub mod SyncLines
 pub mod Added
 pub mod UniqueTexts

@@ -1,6 +1,7 @@
 pub mod Texts
 pub mod Watched
 pub mod Report
+pub mod Lines
 pub mod GraphText
 pub mod OutcomesText
 pub mod Faults

@@ -6,6 +6,7 @@ mod counts;
 mod faults;
 mod graphs;
 pub mod laws;
+mod lines;
 mod names;
 mod outcomes;
 mod runs;

@@ -1,6 +1,6 @@
 // The names of a program by number; a number past the last has none.
 
-ghost use Rattle.std.specs.Prelude.{◌≡◌, ◌<◌, [], length, slice_index_or};
+ghost use Rattle.std.specs.Prelude.{◌≡◌, ◌<◌, ◌≤◌, [], length, slice_index_or};
 ghost use Rattle.qs_program.specs.Program.{object_at, client_at, declared_as};
 
 use qs_program::{Names, Program};
@@ -8,6 +8,15 @@ use qs_program::{Names, Program};
 /// An object's name.
 pub fn object_name(program: &Program, object: usize) -> &[u8]
     ensures name { result.now ≡ (object_at program.now object).name }
+{
+    short_name(program, object)
+}
+
+/// An object's name, which has at most 16 bytes.
+#[inline(always)]
+pub(crate) fn short_name(program: &Program, object: usize) -> &[u8]
+    ensures name { result.now ≡ (object_at program.now object).name }
+    ensures short { length result.now ≤ 16 }
 {
     program.is_sound();
     if object < program.objects() {

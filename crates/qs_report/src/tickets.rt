@@ -6,6 +6,7 @@ ghost use Rattle.qs_sync_counts.specs.SyncRows.{sync_count};
 ghost use Rattle.qs_report.specs.Report.{op_text, args_text, request_text, reply_text, event_line, ended_text, ticket_line, ticket_text, sync_line, sync_lines, shown_ticket, order_text};
 
 use crate::bytes::{put, put_all, put_count, put_number, put_short};
+use crate::lines::put_lines;
 use crate::names::{client_name, object_name};
 use itoa::Buffer;
 use qs_objects::{Event, Op, Request, Ticket};
@@ -151,12 +152,17 @@ fn put_ticket_line(
     put_all(out, &[b" ", index, b" ", word, b"\n"])
 }
 
-// The lines of a trace.
+// The lines of a trace. Those that `put_lines` leaves are few.
 fn put_trace(out: &mut Vec<u8>, program: &Program, trace: &[Event]) -> Result<(), AllocError>
     ensures ok { OnOk result (out.new.items ≡ out.old.items ++ flat_map (event_line program.now) trace.now) }
 {
-    for event in trace {
-        put_event(out, program, event)?;
+    let mut done = 0;
+    while done < trace.len() {
+        done += put_lines(out, program, &trace[done..]);
+        if done < trace.len() {
+            put_event(out, program, &trace[done])?;
+            done += 1;
+        }
     }
     Ok(())
 }

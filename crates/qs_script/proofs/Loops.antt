@@ -5,7 +5,8 @@ use Rattle.std.proofs.Common.{◌≡◌, ℕ, zero, suc, ◌<◌, List, [], ◌�
 use Rattle.qs_tokens.specs.declared.token.Token.{Token}
 use Rattle.qs_script.specs.declared.fault.Fault.{Fault}
 use Rattle.qs_script.specs.declared.fault.Fault.TheVariants.{Form, Memory}
-use Rattle.qs_script.specs.Reading.{Loop, Read, after, many_at, run, Fails, body_loop, list_loop, one, end_at}
+use Rattle.qs_script.specs.Reading.{Loop, onto, stmt_in, close_brace_at, Read, after, many_at, run, Fails, body_loop, list_loop, one, end_at}
+use Rattle.qs_script.specs.Tree.{Stmts, join_statements}
 use Rattle.qs_script.proofs.Trees.{joined_assoc, joined-end}
 
 -- what a list of tokens is read as, in enough steps
@@ -123,3 +124,25 @@ before_end (x ∷ ts) h = refl
 pub at_end : (ts : List Token) → length ts ≡ 0 → end_at ts ≡ Some []
 at_end [] h = refl
 at_end (x ∷ ts) h = absurd (omega arith)
+
+abbrev read_or : Stmts × List Token → Read Stmts → Stmts × List Token
+read_or other None = other
+read_or other (Some x) = x
+
+same_read : (x y : Stmts × List Token) → Some x ≡ Some y → x ≡ y
+same_read x y e = ap (read_or y) e
+
+-- a statement that was added to those of before
+put_read : (levels : ℕ) (start : Stmts) (tokens rest left : List Token) (done new : Stmts) (read : Read Stmts) → stmt_in levels rest ≡ read → Continues (body_loop levels) start tokens rest done → close_brace_at rest ≡ None
+    → onto done read ≡ Some (new, left) → length left < length rest → Continues (body_loop levels) start tokens left new
+put_read levels start tokens rest left done new None e h stop is less = cc
+put_read levels start tokens rest left done new (Some x) e h stop is less =
+    let pair : (join_statements done x.0, x.1) ≡ (new, left) = same_read (join_statements done x.0, x.1) (new, left) is in
+    let news : join_statements done x.0 ≡ new = ap (λ p. p.0) pair in
+    let lefts : x.1 ≡ left = ap (λ p. p.1) pair in
+    rw (← news, ← lefts) (goes_on (body_loop levels) (body_lawful levels) start tokens rest done x h stop e (rw lefts less))
+
+pub puts_on : (levels : ℕ) (start : Stmts) (tokens rest left : List Token) (done new : Stmts) → Continues (body_loop levels) start tokens rest done → close_brace_at rest ≡ None
+    → onto done (stmt_in levels rest) ≡ Some (new, left) → length left < length rest → Continues (body_loop levels) start tokens left new
+puts_on levels start tokens rest left done new h stop is less =
+    put_read levels start tokens rest left done new (stmt_in levels rest) refl h stop is less

@@ -1,5 +1,6 @@
 pub mod Limits
 pub mod Tree
+pub mod Kept
 pub mod TreeCode
 pub mod Views
 pub mod Form

@@ -1,4 +1,5 @@
 -- What the parser makes of a list of tokens: a tree and the tokens after it, or nothing.
+use Rattle.std.specs.Borrow.{Bor}
 use Rattle.std.specs.Prelude.{◌≡◌, ℕ, zero, suc, length, List, [], ◌∷◌, ◌++◌, Option, Some, None, option_and_then, Result, Ok, Err, pos}
 use Rattle.std.proofs.Common.{neg_ℤ}
 use Rattle.qs_tokens.specs.declared.token.Token.{Token}
@@ -43,6 +44,16 @@ Fails Memory read = Unit {0}
 abbrev pub Gives : {X Y : Type 0} → (X → Y) → Result X Fault → Option Y → Type 0
 Gives view (Ok x) read = read ≡ Some (view x)
 Gives view (Err f) read = Fails f read
+
+-- these statements before what is read
+abbrev pub onto : Stmts → Read Stmts → Read Stmts
+onto xs None = None
+onto xs (Some p) = Some (join_statements xs p.0, p.1)
+
+-- what is read is added to the statements of before, and the code's result is what is left
+abbrev pub Puts : Stmts → Stmts → Result (Bor (List Token)) Fault → Read Stmts → Type 0
+Puts old new (Ok rest) read = onto old read ≡ Some (new, rest.now)
+Puts old new (Err f) read = Fails f read
 
 -- the code finds what is read
 abbrev pub Finds : {X Y : Type 0} → (X → Y) → Option X → Option Y → Type 0
@@ -190,6 +201,10 @@ query_at v object ts = call_at object ts >>= λ c. ended_at (query v c.0 end) c.
 
 abbrev pub assign_at : List ℕ → List Token → Read Stmts
 assign_at v ts = expr_at ts >>= λ e. ended_at (assign v e.0 end) e.1
+
+-- the rest of an assignment of what two values make, from the second on
+abbrev pub computed_at : List ℕ → Atom → Operator → List Token → Read Stmts
+computed_at v a op ts = atom_at ts >>= λ b. ended_at (assign v (Binary a op b.0) end) b.1
 
 abbrev pub assigned_at : List ℕ → List Token → Read Stmts
 assigned_at v (t.Name object ∷ t.Dot ∷ ts) = query_at v object ts

@@ -1,14 +1,15 @@
-// Statements.
+// Statements. Each is added to its body as soon as it is read.
 
-ghost use Rattle.std.specs.Prelude.{◌<◌, ◌≤◌, length, IfOk};
+ghost use Rattle.std.specs.Prelude.{◌≡◌, ◌<◌, ◌≤◌, length, Some, IfOk};
 ghost use Rattle.qs_script.specs.Views.{single};
-ghost use Rattle.qs_script.specs.Reading.{Gives, run, body_loop, stmt_in, stmt_at, choice_at, other_at, repeat_at, braced_at, named_at, command_at, assigned_at, ended_at};
+ghost use Rattle.qs_script.specs.Reading.{Gives, Puts, run, body_loop, stmt_in, stmt_at, choice_at, other_at, repeat_at, braced_at, named_at, command_at, assigned_at, query_at, assign_at, computed_at, semicolon_at, ended_at};
+ghost use Rattle.qs_script.specs.Tree.{end, leave};
 
 use crate::expect::past_close_brace;
 use crate::fault::Fault;
 use crate::limits::MOST_LEVELS;
-use crate::tree::{Body, Stmt};
-use crate::values::{call, expr, test};
+use crate::tree::{Atom, Body, Call, Expr, Operator, Stmt};
+use crate::values::{atom, operator, request, test};
 use qs_tokens::{Name, Token};
 use std::alloc::Global;
 
@@ -29,51 +30,76 @@ pub(crate) fn body(alloc: Global, levels: u8, tokens: &[Token]) -> Result<(Body,
         if let Some(after) = past_close_brace(rest) {
             return Ok((stmts, after));
         }
-        let (stmt, after) = statement(alloc, levels, rest)?;
-        stmts.push(stmt)?;
-        rest = after;
+        rest = statement(alloc, levels, &mut stmts, rest)?;
     }
 }
 
-// A statement, where at most `levels` may stand one inside another.
+// Adds a statement, where at most `levels` may stand one inside another, and gives the tokens after it.
 #[cycle(body)]
-fn statement(alloc: Global, levels: u8, tokens: &[Token]) -> Result<(Stmt, &[Token]), Fault>
-    ensures exact { Gives (λ x. (single x.0, x.1.now)) result (stmt_in levels tokens.now) }
-    ensures shorter { IfOk result (λ x. length x.1.now < length tokens.now) }
+#[inline(always)]
+fn statement<'t>(
+    alloc: Global,
+    levels: u8,
+    stmts: &mut Body,
+    tokens: &'t [Token],
+) -> Result<&'t [Token], Fault>
+    ensures exact { Puts stmts.old stmts.new result (stmt_in levels tokens.now) }
+    ensures shorter { IfOk result (λ rest. length rest.now < length tokens.now) }
 {
     if levels == 0 {
         return Err(Fault::Form(tokens.len()));
     }
-    statement_over(alloc, levels - 1, tokens)
+    statement_over(alloc, levels - 1, stmts, tokens)
 }
 
-// A statement, where at most `levels` may stand one inside another in its bodies.
+// Adds a statement, where at most `levels` may stand one inside another in its bodies.
 #[cycle(body)]
-fn statement_over(alloc: Global, levels: u8, tokens: &[Token]) -> Result<(Stmt, &[Token]), Fault>
-    ensures exact { Gives (λ x. (single x.0, x.1.now)) result (stmt_at (run (body_loop levels)) tokens.now) }
-    ensures shorter { IfOk result (λ x. length x.1.now < length tokens.now) }
+#[inline(always)]
+fn statement_over<'t>(
+    alloc: Global,
+    levels: u8,
+    stmts: &mut Body,
+    tokens: &'t [Token],
+) -> Result<&'t [Token], Fault>
+    ensures exact { Puts stmts.old stmts.new result (stmt_at (run (body_loop levels)) tokens.now) }
+    ensures shorter { IfOk result (λ rest. length rest.now < length tokens.now) }
 {
     match tokens {
-        [Token::Leave, rest @ ..] => ended(Stmt::Leave, rest),
-        [Token::If, rest @ ..] => choice(alloc, levels, rest),
-        [Token::Repeat, rest @ ..] => repeat(alloc, levels, rest),
-        [Token::Name(name), rest @ ..] => named(alloc, name.copied(), rest),
+        [Token::Leave, rest @ ..] => left(stmts, rest),
+        [Token::If, rest @ ..] => choice(alloc, levels, stmts, rest),
+        [Token::Repeat, rest @ ..] => repeat(alloc, levels, stmts, rest),
+        [Token::Name(name), rest @ ..] => named(alloc, name, stmts, rest),
         _ => Err(Fault::Form(tokens.len())),
     }
 }
 
-// An if, after that word.
+// Adds a leave, after that word.
+#[inline(always)]
+fn left<'t>(stmts: &mut Body, tokens: &'t [Token]) -> Result<&'t [Token], Fault>
+    ensures exact { Puts stmts.old stmts.new result (ended_at (leave end) tokens.now) }
+    ensures shorter { IfOk result (λ rest. length rest.now < length tokens.now) }
+{
+    let rest = past_semicolon(tokens)?;
+    put(stmts, Stmt::Leave, rest)
+}
+
+// Adds an if, after that word.
 #[cycle(body)]
-fn choice(alloc: Global, levels: u8, tokens: &[Token]) -> Result<(Stmt, &[Token]), Fault>
-    ensures exact { Gives (λ x. (single x.0, x.1.now)) result (choice_at (run (body_loop levels)) tokens.now) }
-    ensures shorter { IfOk result (λ x. length x.1.now < length tokens.now) }
+fn choice<'t>(
+    alloc: Global,
+    levels: u8,
+    stmts: &mut Body,
+    tokens: &'t [Token],
+) -> Result<&'t [Token], Fault>
+    ensures exact { Puts stmts.old stmts.new result (choice_at (run (body_loop levels)) tokens.now) }
+    ensures shorter { IfOk result (λ rest. length rest.now < length tokens.now) }
 {
     let (test, rest) = test(tokens)?;
     let (first, rest) = braced(alloc, levels, rest)?;
     let (other, rest) = other(alloc, levels, rest)?;
     match other {
-        Some(other) => Ok((Stmt::IfElse(test, first, other), rest)),
-        None => Ok((Stmt::If(test, first), rest)),
+        Some(other) => put(stmts, Stmt::IfElse(test, first, other), rest),
+        None => put(stmts, Stmt::If(test, first), rest),
     }
 }
 
@@ -92,16 +118,21 @@ fn other(alloc: Global, levels: u8, tokens: &[Token]) -> Result<(Option<Body>, &
     }
 }
 
-// A repeat, after that word.
+// Adds a repeat, after that word.
 #[cycle(body)]
-fn repeat(alloc: Global, levels: u8, tokens: &[Token]) -> Result<(Stmt, &[Token]), Fault>
-    ensures exact { Gives (λ x. (single x.0, x.1.now)) result (repeat_at (run (body_loop levels)) tokens.now) }
-    ensures shorter { IfOk result (λ x. length x.1.now < length tokens.now) }
+fn repeat<'t>(
+    alloc: Global,
+    levels: u8,
+    stmts: &mut Body,
+    tokens: &'t [Token],
+) -> Result<&'t [Token], Fault>
+    ensures exact { Puts stmts.old stmts.new result (repeat_at (run (body_loop levels)) tokens.now) }
+    ensures shorter { IfOk result (λ rest. length rest.now < length tokens.now) }
 {
     match tokens {
         [Token::Number(count), rest @ ..] => {
             let (body, rest) = braced(alloc, levels, rest)?;
-            Ok((Stmt::Repeat(*count, body), rest))
+            put(stmts, Stmt::Repeat(*count, body), rest)
         }
         _ => Err(Fault::Form(tokens.len())),
     }
@@ -119,54 +150,145 @@ fn braced(alloc: Global, levels: u8, tokens: &[Token]) -> Result<(Body, &[Token]
     }
 }
 
-// A statement that begins with a name, after that name.
-fn named(alloc: Global, name: Name, tokens: &[Token]) -> Result<(Stmt, &[Token]), Fault>
-    ensures exact { Gives (λ x. (single x.0, x.1.now)) result (named_at name tokens.now) }
-    ensures shorter { IfOk result (λ x. length x.1.now < length tokens.now) }
+// Adds a statement that begins with a name, after that name.
+#[inline(always)]
+fn named<'t>(
+    alloc: Global,
+    name: &Name,
+    stmts: &mut Body,
+    tokens: &'t [Token],
+) -> Result<&'t [Token], Fault>
+    ensures exact { Puts stmts.old stmts.new result (named_at name.now tokens.now) }
+    ensures shorter { IfOk result (λ rest. length rest.now < length tokens.now) }
 {
     match tokens {
-        [Token::Dot, rest @ ..] => command(alloc, name, rest),
-        [Token::Assign, rest @ ..] => assigned(alloc, name, rest),
+        [Token::Dot, rest @ ..] => command(alloc, name, stmts, rest),
+        [Token::Assign, rest @ ..] => assigned(alloc, name, stmts, rest),
         _ => Err(Fault::Form(tokens.len())),
     }
 }
 
-// A command on an object, after its dot.
-fn command(alloc: Global, object: Name, tokens: &[Token]) -> Result<(Stmt, &[Token]), Fault>
-    ensures exact { Gives (λ x. (single x.0, x.1.now)) result (command_at object tokens.now) }
-    ensures shorter { IfOk result (λ x. length x.1.now < length tokens.now) }
+// Adds a command on an object, after its dot.
+#[inline(never)]
+fn command<'t>(
+    alloc: Global,
+    object: &Name,
+    stmts: &mut Body,
+    tokens: &'t [Token],
+) -> Result<&'t [Token], Fault>
+    ensures exact { Puts stmts.old stmts.new result (command_at object.now tokens.now) }
+    ensures shorter { IfOk result (λ rest. length rest.now < length tokens.now) }
 {
-    let (call, rest) = call(alloc, object, tokens)?;
-    ended(Stmt::Command(call), rest)
+    let (op, args, rest) = request(alloc, tokens)?;
+    let rest = past_semicolon(rest)?;
+    let object = object.copied();
+    let op = op.copied();
+    put(stmts, Stmt::Command(Call { object, op, args }), rest)
 }
 
-// What a variable gets: a request's reply, or an expression's value.
-fn assigned(alloc: Global, variable: Name, tokens: &[Token]) -> Result<(Stmt, &[Token]), Fault>
-    ensures exact { Gives (λ x. (single x.0, x.1.now)) result (assigned_at variable tokens.now) }
-    ensures shorter { IfOk result (λ x. length x.1.now < length tokens.now) }
+// Adds what gives a variable its value, after the =: a request's reply, or an expression's value.
+#[inline(always)]
+fn assigned<'t>(
+    alloc: Global,
+    variable: &Name,
+    stmts: &mut Body,
+    tokens: &'t [Token],
+) -> Result<&'t [Token], Fault>
+    ensures exact { Puts stmts.old stmts.new result (assigned_at variable.now tokens.now) }
+    ensures shorter { IfOk result (λ rest. length rest.now < length tokens.now) }
 {
     match tokens {
         [Token::Name(object), Token::Dot, rest @ ..] => {
-            let (call, rest) = call(alloc, object.copied(), rest)?;
-            ended(Stmt::Query(variable, call), rest)
+            query(alloc, variable, object, stmts, rest)
         }
-        _ => {
-            let (expr, rest) = expr(tokens)?;
-            ended(Stmt::Assign(variable, expr), rest)
+        _ => assignment(variable, stmts, tokens),
+    }
+}
+
+// Adds a query whose reply the variable gets, after the object's dot.
+#[inline(never)]
+fn query<'t>(
+    alloc: Global,
+    variable: &Name,
+    object: &Name,
+    stmts: &mut Body,
+    tokens: &'t [Token],
+) -> Result<&'t [Token], Fault>
+    ensures exact { Puts stmts.old stmts.new result (query_at variable.now object.now tokens.now) }
+    ensures shorter { IfOk result (λ rest. length rest.now < length tokens.now) }
+{
+    let (op, args, rest) = request(alloc, tokens)?;
+    let rest = past_semicolon(rest)?;
+    let variable = variable.copied();
+    let object = object.copied();
+    let op = op.copied();
+    put(
+        stmts,
+        Stmt::Query(variable, Call { object, op, args }),
+        rest,
+    )
+}
+
+// Adds an assignment of an expression's value, after the =.
+#[inline(never)]
+fn assignment<'t>(
+    variable: &Name,
+    stmts: &mut Body,
+    tokens: &'t [Token],
+) -> Result<&'t [Token], Fault>
+    ensures exact { Puts stmts.old stmts.new result (assign_at variable.now tokens.now) }
+    ensures shorter { IfOk result (λ rest. length rest.now < length tokens.now) }
+{
+    let (first, rest) = atom(tokens)?;
+    match operator(rest) {
+        Some((operator, after)) => computation(variable, first, operator, stmts, after),
+        None => {
+            let rest = past_semicolon(rest)?;
+            put(
+                stmts,
+                Stmt::Assign(variable.copied(), Expr::Plain(first)),
+                rest,
+            )
         }
     }
 }
 
-// The statement, where a semicolon ends it.
-fn ended(stmt: Stmt, tokens: &[Token]) -> Result<(Stmt, &[Token]), Fault>
-    ensures exact { Gives (λ x. (single x.0, x.1.now)) result (ended_at (single stmt) tokens.now) }
-    ensures shorter { IfOk result (λ x. length x.1.now < length tokens.now) }
+// Adds an assignment of what two values make, from the second on.
+#[inline(always)]
+fn computation<'t>(
+    variable: &Name,
+    first: Atom,
+    operator: Operator,
+    stmts: &mut Body,
+    tokens: &'t [Token],
+) -> Result<&'t [Token], Fault>
+    ensures exact { Puts stmts.old stmts.new result (computed_at variable.now first operator tokens.now) }
+    ensures shorter { IfOk result (λ rest. length rest.now < length tokens.now) }
+{
+    let (second, rest) = atom(tokens)?;
+    let rest = past_semicolon(rest)?;
+    let expr = Expr::Binary(first, operator, second);
+    put(stmts, Stmt::Assign(variable.copied(), expr), rest)
+}
+
+// What comes after a semicolon.
+#[inline(always)]
+fn past_semicolon(tokens: &[Token]) -> Result<&[Token], Fault>
+    ensures exact { Gives (λ rest. rest.now) result (semicolon_at tokens.now) }
+    ensures shorter { IfOk result (λ rest. length rest.now < length tokens.now) }
 {
     match tokens {
-        [Token::Semicolon, rest @ ..] => Ok((stmt, rest)),
-        _ => {
-            drop(stmt);
-            Err(Fault::Form(tokens.len()))
-        }
+        [Token::Semicolon, rest @ ..] => Ok(rest),
+        _ => Err(Fault::Form(tokens.len())),
     }
+}
+
+// Adds the statement, and gives the tokens after it back.
+#[inline(always)]
+fn put<'t>(stmts: &mut Body, stmt: Stmt, rest: &'t [Token]) -> Result<&'t [Token], Fault>
+    ensures exact { Puts stmts.old stmts.new result (Some (single stmt, rest.now)) }
+    ensures same { IfOk result (λ left. left.now ≡ rest.now) }
+{
+    stmts.push(stmt)?;
+    Ok(rest)
 }

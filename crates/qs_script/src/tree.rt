@@ -1,6 +1,6 @@
 // Syntax trees.
 
-ghost use Rattle.std.specs.Prelude.{◌≡◌, OnOk, OnErr, IfOk};
+ghost use Rattle.std.specs.Prelude.{◌≡◌, [], ◌∷◌, OnOk, OnErr, IfOk};
 ghost use Rattle.qs_script.specs.Tree.{end, join_statements};
 ghost use Rattle.qs_script.specs.Views.{single, stmts_of};
 ghost use Rattle.qs_script.specs.Form.{HasForm};
@@ -53,7 +53,15 @@ pub struct Test {
 /// The arguments of a request, as they are written. Contracts see them as a list.
 #[derive(Drop)]
 pub struct Args {
-    pub(crate) atoms: Vec<Atom>,
+    kept: Kept,
+}
+
+// Where arguments are kept: up to one takes no memory.
+#[derive(Drop)]
+enum Kept {
+    Nothing,
+    One([Atom; 1]),
+    More(Vec<Atom>),
 }
 
 impl Model for Args {
@@ -62,15 +70,51 @@ impl Model for Args {
 
     ghost Value = { List Atom };
 
-    ghost view = { λ a. a.atoms.items };
+    ghost use Rattle.qs_script.specs.Kept.{atoms_of};
+
+    ghost view = { λ a. atoms_of a.kept };
 }
 
 impl Args {
+    // No arguments.
+    #[inline(always)]
+    pub(crate) fn none() -> Args
+        ensures { result ≡ [] }
+    {
+        Args {
+            kept: Kept::Nothing,
+        }
+    }
+
+    // One argument.
+    #[inline(always)]
+    pub(crate) fn one(atom: Atom) -> Args
+        ensures { result ≡ atom ∷ [] }
+    {
+        Args {
+            kept: Kept::One([atom]),
+        }
+    }
+
+    // These arguments.
+    #[inline(always)]
+    pub(crate) fn more(atoms: Vec<Atom>) -> Args
+        ensures { result ≡ atoms.items }
+    {
+        Args {
+            kept: Kept::More(atoms),
+        }
+    }
+
     /// The arguments in order.
     pub fn as_slice(&self) -> &[Atom]
         ensures same { result.now ≡ self.now }
     {
-        self.atoms.as_slice()
+        match &self.kept {
+            Kept::Nothing => &[],
+            Kept::One(one) => one.as_slice(),
+            Kept::More(atoms) => atoms.as_slice(),
+        }
     }
 }
 
@@ -132,6 +176,7 @@ impl Body {
     }
 
     // Adds a statement at the end. An error means out of memory, and leaves the list as it was.
+    #[inline(always)]
     pub(crate) fn push(&mut self, stmt: Stmt) -> Result<(), AllocError>
         ensures added { OnOk result (self.new ≡ join_statements self.old (single stmt)) }
         ensures kept { OnErr result (self.new ≡ self.old) }

@@ -1,17 +1,17 @@
 // Values, expressions and requests.
 
-ghost use Rattle.std.specs.Prelude.{◌<◌, [], ◌∷◌, length, IfOk, IfSome};
-ghost use Rattle.qs_script.specs.Reading.{Gives, Finds, after, run, atom_at, further_at, more_loop, args_at, call_at, operator_at, relation_at, expr_at, test_at};
+ghost use Rattle.std.specs.Prelude.{◌<◌, [], ◌∷◌, length, ℕ, List, IfOk, IfSome};
+ghost use Rattle.qs_script.specs.Reading.{Gives, Finds, after, run, atom_at, further_at, more_loop, args_at, call_of, call_at, operator_at, relation_at, test_at};
 
 use crate::expect::past_close_paren;
 use crate::fault::Fault;
 use crate::lists::add;
-use crate::tree::{Args, Atom, Call, Expr, Operator, Relation, Test};
+use crate::tree::{Args, Atom, Operator, Relation, Test};
 use qs_tokens::{Name, Token};
 use std::alloc::Global;
 
 #[inline(always)]
-fn atom(tokens: &[Token]) -> Result<(Atom, &[Token]), Fault>
+pub(crate) fn atom(tokens: &[Token]) -> Result<(Atom, &[Token]), Fault>
     ensures exact { Gives (λ x. (x.0, x.1.now)) result (atom_at tokens.now) }
     ensures shorter { IfOk result (λ x. length x.1.now < length tokens.now) }
 {
@@ -38,7 +38,20 @@ fn further(tokens: &[Token]) -> Result<(Atom, &[Token]), Fault>
 }
 
 // The arguments after the first, and the bracket that closes them.
+#[inline(always)]
 fn more(alloc: Global, first: Atom, tokens: &[Token]) -> Result<(Args, &[Token]), Fault>
+    ensures exact { Gives (λ x. (x.0, x.1.now)) result (after more_loop (first ∷ []) (run more_loop tokens.now)) }
+    ensures shorter { IfOk result (λ x. length x.1.now < length tokens.now) }
+{
+    if let Some(rest) = past_close_paren(tokens) {
+        return Ok((Args::one(first), rest));
+    }
+    several(alloc, first, tokens)
+}
+
+// The same, where more than one may come.
+#[inline(never)]
+fn several(alloc: Global, first: Atom, tokens: &[Token]) -> Result<(Args, &[Token]), Fault>
     ensures exact { Gives (λ x. (x.0, x.1.now)) result (after more_loop (first ∷ []) (run more_loop tokens.now)) }
     ensures shorter { IfOk result (λ x. length x.1.now < length tokens.now) }
 {
@@ -47,7 +60,7 @@ fn more(alloc: Global, first: Atom, tokens: &[Token]) -> Result<(Args, &[Token])
     let mut rest = tokens;
     'each: loop {
         if let Some(after) = past_close_paren(rest) {
-            return Ok((Args { atoms }, after));
+            return Ok((Args::more(atoms), after));
         }
         let (atom, after) = further(rest)?;
         add(&mut atoms, atom)?;
@@ -56,36 +69,36 @@ fn more(alloc: Global, first: Atom, tokens: &[Token]) -> Result<(Args, &[Token])
 }
 
 // The arguments, and the bracket that closes them.
+#[inline(always)]
 fn args(alloc: Global, tokens: &[Token]) -> Result<(Args, &[Token]), Fault>
     ensures exact { Gives (λ x. (x.0, x.1.now)) result (args_at tokens.now) }
     ensures shorter { IfOk result (λ x. length x.1.now < length tokens.now) }
 {
     if let Some(rest) = past_close_paren(tokens) {
-        let atoms = Vec::new(alloc);
-        return Ok((Args { atoms }, rest));
+        return Ok((Args::none(), rest));
     }
     let (first, rest) = atom(tokens)?;
     more(alloc, first, rest)
 }
 
-// A request on the object, after its dot.
+// A request's operation and arguments, after the dot.
 #[inline(always)]
-pub(crate) fn call(alloc: Global, object: Name, tokens: &[Token]) -> Result<(Call, &[Token]), Fault>
-    ensures exact { Gives (λ x. (x.0, x.1.now)) result (call_at object tokens.now) }
-    ensures shorter { IfOk result (λ x. length x.1.now < length tokens.now) }
+pub(crate) fn request(alloc: Global, tokens: &[Token]) -> Result<(&Name, Args, &[Token]), Fault>
+    ensures exact { (object : List ℕ) → Gives (λ x. (call_of object x.0.now x.1, x.2.now)) result (call_at object tokens.now) }
+    ensures shorter { IfOk result (λ x. length x.2.now < length tokens.now) }
 {
     match tokens {
         [Token::Name(op), Token::OpenParen, rest @ ..] => {
             let (args, rest) = args(alloc, rest)?;
-            let op = op.copied();
-            Ok((Call { object, op, args }, rest))
+            Ok((op, args, rest))
         }
         [Token::Name(_), rest @ ..] => Err(Fault::Form(rest.len())),
         _ => Err(Fault::Form(tokens.len())),
     }
 }
 
-fn operator(tokens: &[Token]) -> Option<(Operator, &[Token])>
+#[inline(always)]
+pub(crate) fn operator(tokens: &[Token]) -> Option<(Operator, &[Token])>
     ensures exact { Finds (λ x. (x.0, x.1.now)) result (operator_at tokens.now) }
     ensures shorter { IfSome result (λ x. length x.1.now < length tokens.now) }
 {
@@ -109,20 +122,6 @@ fn relation(tokens: &[Token]) -> Result<(Relation, &[Token]), Fault>
         [Token::Greater, rest @ ..] => Ok((Relation::Greater, rest)),
         [Token::AtLeast, rest @ ..] => Ok((Relation::AtLeast, rest)),
         _ => Err(Fault::Form(tokens.len())),
-    }
-}
-
-pub(crate) fn expr(tokens: &[Token]) -> Result<(Expr, &[Token]), Fault>
-    ensures exact { Gives (λ x. (x.0, x.1.now)) result (expr_at tokens.now) }
-    ensures shorter { IfOk result (λ x. length x.1.now < length tokens.now) }
-{
-    let (first, rest) = atom(tokens)?;
-    match operator(rest) {
-        Some((operator, after)) => {
-            let (second, after) = atom(after)?;
-            Ok((Expr::Binary(first, operator, second), after))
-        }
-        None => Ok((Expr::Plain(first), rest)),
     }
 }
 

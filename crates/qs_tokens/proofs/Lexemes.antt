@@ -1,7 +1,7 @@
 -- The first token of a text is what stands at its front, a name, digits, a comment or a sign, and the other tokens are those of
 -- the rest of the text. The functions that cut off one token, such as `front_word` and `front_number`, stand on it. The
 -- definition goes byte by byte, so the proof goes by induction on the bytes that belong to the token.
-use Rattle.std.proofs.Common.{◌≡◌, ◌≢◌, ℕ, ◌+◌, ◌<◌, get_or, ◌||◌, nat_eq, not, ◌≤◌, Bool, true, false, if◌then◌else◌, List, [], ◌∷◌, ◌++◌, length, take, drop, refl, ap, sym, ◌∙◌, append_assoc, append-nil, one-add, All, IsTrue, Option, Some, None, Result, Ok, Err, arith}
+use Rattle.std.proofs.Common.{◌≡◌, ◌≢◌, ℕ, ◌+◌, ◌<◌, get_or, ◌||◌, nat_eq, not, ◌≤◌, min, zero, suc, Bool, true, false, if◌then◌else◌, List, [], ◌∷◌, ◌++◌, length, take, drop, refl, ap, sym, ◌∙◌, append_assoc, append-nil, one-add, All, IsTrue, Option, Some, None, Result, Ok, Err, arith}
 use Rattle.std.proofs.lemmas.List.{length-take-le}
 use Rattle.std.proofs.lemmas.List.Elements.{All-cons, All-nil}
 use Rattle.qs_tokens.specs.declared.token.Token.{Token}
@@ -209,3 +209,38 @@ pub few_digits : (text rest : List ℕ) (n value : ℕ) → 0 < length text → 
 few_digits text rest n value some not_letter digit run within short erest is =
     front_digits text (take n text) rest n some not_letter digit run refl erest
     ∙ digits_short (take n text) rest (rw (length-take-le n text within) short) ∙ rw is refl
+
+-- a run that is looked for in the first bytes alone
+run_take_step : (test : ℕ → Bool) (n : ℕ) (b : ℕ) (bs : List ℕ) (passes : Bool) → run_of test (take n bs) ≡ min n (run_of test bs)
+    → (if passes then 1 + run_of test (take n bs) else 0) ≡ min (suc n) (if passes then 1 + run_of test bs else 0)
+run_take_step test n b bs true h = rw h (omega arith)
+run_take_step test n b bs false h = omega arith
+
+pub run_take : (test : ℕ → Bool) (n : ℕ) (bs : List ℕ) → run_of test (take n bs) ≡ min n (run_of test bs)
+run_take test zero bs = omega arith
+run_take test (suc n) [] = omega arith
+run_take test (suc n) (b ∷ bs) = run_take_step test n b bs (test b) (run_take test n bs)
+
+run_within_step : (passes : Bool) (n m : ℕ) → n ≤ m → (if passes then 1 + n else 0) ≤ suc m
+run_within_step true n m h = omega arith
+run_within_step false n m h = omega arith
+
+run_within : (test : ℕ → Bool) (bs : List ℕ) → run_of test bs ≤ length bs
+run_within test [] = omega arith
+run_within test (b ∷ bs) = run_within_step (test b) (run_of test bs) (length bs) (run_within test bs)
+
+-- a name of which seventeen bytes were looked at
+long_run : (n r : ℕ) → n ≡ min 17 r → 16 < n → 16 < r
+long_run n r e long = omega arith
+
+pub cut_word : (text : List ℕ) (n : ℕ) → 0 < length text → is_letter (get_or text 0 0) ≡ true → n ≡ min 17 (run_of is_name_byte text) → 16 < n → tokens_of text ≡ Err Name
+cut_word text n some letter e long =
+    long_word text (run_of is_name_byte text) some letter refl (run_within is_name_byte text) (long_run n (run_of is_name_byte text) e long)
+
+pub short_run : (n r : ℕ) → n ≡ min 17 r → n ≤ 16 → n ≡ r
+short_run n r e short = omega arith
+
+-- a sign that no = may follow
+pub front_plain : (text : List ℕ) (token : Token) → 0 < length text → first_byte (get_or text 0 0) ≡ Ok (token ∷ [], nothing) → tokens_of text ≡ after (token ∷ []) (tokens_of (drop 1 text))
+front_plain [] token some e = absurd (omega arith)
+front_plain (b ∷ bs) token some e = rw e refl

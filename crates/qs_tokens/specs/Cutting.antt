@@ -1,6 +1,6 @@
 -- What the tokenizer cuts off at the front of a text.
 use Rattle.std.specs.Borrow.{Bor}
-use Rattle.std.specs.Prelude.{◌≡◌, ℕ, ◌+◌, Bool, not, nat_eq, if◌then◌else◌, List, [], ◌∷◌, Option, Some, None, Result, Ok, Err}
+use Rattle.std.specs.Prelude.{◌≡◌, ℕ, ◌+◌, Bool, not, nat_eq, if◌then◌else◌, List, [], ◌∷◌, drop, Option, Some, None, Result, Ok, Err}
 use Rattle.qs_tokens.specs.declared.token.Token.{Token}
 use Rattle.qs_tokens.specs.declared.token.Token.TheVariants as t
 use Rattle.qs_tokens.specs.declared.lex.TokenFault.{TokenFault}
@@ -33,11 +33,11 @@ abbrev pub Cuts : Result (Piece × Bor (List ℕ)) TokenFault → Result (List T
 Cuts (Ok x) all = all ≡ after (tokens_in x.0) (tokens_of x.1.now)
 Cuts (Err e) all = all ≡ Err e
 
--- what goes on after the tokens of a list: those that were added come first, then those of the rest; or the first fault
-abbrev pub Adds : List Token → List Token → Result (Bor (List ℕ)) ListFault → Result (List Token) TokenFault → Type 0
-Adds old new (Ok rest) all = after old all ≡ after new (tokens_of rest.now)
-Adds old new (Err (l.Token e)) all = all ≡ Err e
-Adds old new (Err l.Memory) all = Unit {0}
+-- what goes on after the tokens of a list, where so many bytes are passed over: those that were added come first, then those of the
+-- bytes after these; or the first fault
+abbrev pub Adds : List Token → List Token → Result ℕ TokenFault → List ℕ → Type 0
+Adds old new (Ok n) text = after old (tokens_of text) ≡ after new (tokens_of (drop n text))
+Adds old new (Err e) text = tokens_of text ≡ Err e
 
 -- the first fault of a text, unless memory ran out
 abbrev pub IsFirstFault : Result (List Token) TokenFault → ListFault → Type 0

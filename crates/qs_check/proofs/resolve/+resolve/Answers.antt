@@ -2,8 +2,8 @@ use Rattle.std.proofs.Common.{ap, arith, ◌∙◌, sym}
 use Rattle.qs_script.specs.Form as form
 use Rattle.qs_script.specs.Views as views
 use Rattle.qs_script.proofs.Sizes.{size_at}
-use Rattle.qs_program.specs.Sound.{levels_of}
 use Rattle.qs_check.specs.Resolve.{body_of}
+use Rattle.qs_program.specs.Sound.{levels_of}
 use Rattle.qs_check.proofs.Resolving.{goes_on, all_done, levels_at, levels_same}
 use Rattle.qs_check.proofs.resolve.+resolve.Goals as goal
 
@@ -16,27 +16,50 @@ resolve_body-resolve_stmt-requires t c = (
   ),
 )
 
-pub resolve_body-push-requires : goal.resolve_body-push-requires
-resolve_body-push-requires t c = record {
-  shallow =
-      omega (
-        arith,
-        ap levels_of c.in_ok-resolve_stmt.ensures.stmt,
-        levels_same c.args.objects.now c.args.kinds.now c.args.variables.now (views.single c.stmt-item.result),
-        levels_at c.as_slice-stmts.result.now c.loop-stmt.stmt-index c.stmt-item.result c.loop-stmt-test.true,
-        ap form.levels_of c.as_slice-stmts.ensures.same,
-        ap (λ s. form.levels_of (views.single s)) c.stmt-item.is,
-        c.requires.levels,
-      );
-}
-
 pub resolve_body-loop-stmt-preserved : goal.resolve_body-loop-stmt-preserved
 resolve_body-loop-stmt-preserved t c =
-    goes_on c.args.objects.now c.args.kinds.now c.args.variables.now c.as_slice-stmts.result.now c.loop-stmt.stmt-index c.loop-stmt.code c.loop-stmt.invariant c.stmt-item.result c.push.new.self c.in_ok-resolve_stmt.field-0 c.loop-stmt-test.true c.stmt-item.is c.in_ok-resolve_stmt.ensures.stmt c.in_ok-push.ensures.ok
+    goes_on c.args.objects.now c.args.kinds.now c.args.variables.now c.as_slice-stmts.result.now c.loop-stmt.stmt-index c.loop-stmt.code c.loop-stmt.invariant c.stmt-item.result c.resolve_stmt.new.code c.loop-stmt-test.true c.stmt-item.is c.in_ok-resolve_stmt.ensures.added
 
 pub resolve_body-returns : goal.resolve_body-returns
 resolve_body-returns t c = record {
   body =
       all_done c.args.objects.now c.args.kinds.now c.args.variables.now c.as_slice-stmts.result.now c.loop-stmt.stmt-index c.loop-stmt.code c.loop-stmt.invariant c.loop-stmt-test.false
       ∙ ap (body_of c.args.objects.now c.args.kinds.now c.args.variables.now) (sym c.as_slice-stmts.ensures.same);
+}
+
+pub resolve_stmt-add_choice-requires-clause-levels :
+    goal.resolve_stmt-add_choice-requires-clause-levels
+resolve_stmt-add_choice-requires-clause-levels t c =
+    omega (
+      arith,
+      ap levels_of c.in_ok-first-in-If.ensures.body,
+      levels_same c.args.objects.now c.args.kinds.now c.args.variables.now c.in-If.first,
+      ap levels_of c.new.ensures.empty,
+      ap (λ s. form.levels_of (views.single s)) c.in-If.is,
+      c.requires.levels,
+    )
+
+pub resolve_stmt-add_choice-requires-in-IfElse-clause-levels :
+    goal.resolve_stmt-add_choice-requires-in-IfElse-clause-levels
+resolve_stmt-add_choice-requires-in-IfElse-clause-levels t c =
+    omega (
+      arith,
+      ap levels_of c.in_ok-first-in-IfElse.ensures.body,
+      levels_same c.args.objects.now c.args.kinds.now c.args.variables.now c.in-IfElse.first,
+      ap levels_of c.in_ok-other-in-IfElse.ensures.body,
+      levels_same c.args.objects.now c.args.kinds.now c.args.variables.now c.in-IfElse.other,
+      ap (λ s. form.levels_of (views.single s)) c.in-IfElse.is,
+      c.requires.levels,
+    )
+
+pub resolve_stmt-add_repeat-requires : goal.resolve_stmt-add_repeat-requires
+resolve_stmt-add_repeat-requires t c = record {
+  levels =
+      omega (
+        arith,
+        ap levels_of c.in_ok-body-in-Repeat.ensures.body,
+        levels_same c.args.objects.now c.args.kinds.now c.args.variables.now c.in-Repeat.body,
+        ap (λ s. form.levels_of (views.single s)) c.in-Repeat.is,
+        c.requires.levels,
+      );
 }

@@ -4,4 +4,4 @@ use Rattle.qs_program.specs.Loads.{load_of}
 use Rattle.qs_program.proofs.totals.block_load.Given as goal
 
 abbrev pub invariant-loop-object : goal.invariant-loop-object
-invariant-loop-object l = l.load ≡ min (sum_by (load_of l.body) (take l.object-index l.object-items)) (most_requests + 1)
+invariant-loop-object l = l.load ≡ min (sum_by (load_of l.block.body) (take l.object-index l.object-items)) (most_requests + 1)

@@ -1,5 +1,4 @@
 use Rattle.std.proofs.Common.{◌∙◌, refl, arith}
-use Rattle.std.proofs.lemmas.List.{take_rest}
 use Rattle.qs_tokens.proofs.Lexemes.{front_passes, many_digits, few_digits}
 use Rattle.qs_tokens.proofs.Lists.{adds}
 use Rattle.qs_tokens.proofs.listing.add_number.Goals as goal
@@ -13,6 +12,6 @@ number_of-requires-clause-digits c = front_passes c.args.text.now _ c.run_end-en
 
 pub returns-clause-exact : goal.returns-clause-exact
 returns-clause-exact c =
-    adds _ _ _ _ c.put.result _ c.put.ensures.added c.put.ensures.rest c.put.ensures.memory
+    adds _ _ _ _ _ c.put.result c.put.ensures.same c.put.ensures.added
     (few_digits c.args.text.now _ c.run_end-end.result _ c.requires.some c.requires.not_letter c.requires.digit c.run_end-end.ensures.run c.run_end-end.ensures.within (omega arith)
-    (take_rest c.args.text.now c.run_end-end.result) (c.new-number.ensures.same ∙ c.number_of.ensures.value))
+    refl (c.new-number.ensures.same ∙ c.number_of.ensures.value))

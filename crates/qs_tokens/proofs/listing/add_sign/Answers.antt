@@ -1,6 +1,6 @@
-use Rattle.std.proofs.Common.{◌≡◌, ◌<◌, ◌-◌, ◌∙◌, None, length, get_or, take, drop, sym, refl, arith}
+use Rattle.std.proofs.Common.{◌≡◌, ◌<◌, ◌-◌, ◌∙◌, None, [], ◌∷◌, length, get_or, take, drop, sym, refl, ap, arith}
 use Rattle.std.proofs.lemmas.List.{take_rest}
-use Rattle.qs_tokens.specs.Tokens.{at, equals_signs}
+use Rattle.qs_tokens.specs.Tokens.{at, equals_signs, tokens_of, after}
 use Rattle.qs_tokens.specs.Cutting.{with_equals}
 use Rattle.qs_tokens.proofs.Lexemes.{front_one}
 use Rattle.qs_tokens.proofs.Lists.{adds}
@@ -18,5 +18,6 @@ returns-in-Some-sign_alone-clause-exact c =
         | else-not-is_empty-via-else-not-is_empty w' ↦ λ some. grind arith
       ]
     ] in
-    adds _ _ _ _ c.put-in-Some-sign_alone.result _ c.put-in-Some-sign_alone.ensures.added c.put-in-Some-sign_alone.ensures.rest c.put-in-Some-sign_alone.ensures.memory
-    (front_one c.args.text.now rest (get_or c.args.text.now 0 0) _ c.requires.some refl (take_rest c.args.text.now 1) c.requires.not_letter c.requires.not_digit c.requires.not_space c.requires.not_comment unfollowed c.in-Some-sign_alone.ensures)
+    adds _ _ _ _ _ c.put-in-Some-sign_alone.result c.put-in-Some-sign_alone.ensures.same c.put-in-Some-sign_alone.ensures.added
+    (front_one c.args.text.now rest (get_or c.args.text.now 0 0) _ c.requires.some refl (take_rest c.args.text.now 1) c.requires.not_letter c.requires.not_digit c.requires.not_space c.requires.not_comment unfollowed c.in-Some-sign_alone.ensures
+    ∙ ap (λ x. after (c.in-Some-sign_alone.token ∷ []) (tokens_of x)) (take_rest c.args.text.now 1))

@@ -1,4 +1,4 @@
-use Rattle.std.proofs.Common.{refl, sym, ap, ◌∙◌, Bool}
+use Rattle.std.proofs.Common.{refl, sym, ap, ◌∙◌, Bool, if◌then◌else◌}
 use Rattle.qs_program.specs.Values.{request_of}
 use Rattle.qs_graph.specs.Nodes.{place_at, second_target}
 use Rattle.qs_graph.specs.Walk.{at_node, with_value}
@@ -119,17 +119,38 @@ returns-in-Local-clause-on c =
     ap (λ (p : RunState × Bool). p.1) (step_at c.args.graph.now.nodes c.args.context c.args.reserved.now s c.node-node.result c.first_target-next.result (second_target (place_at c.args.graph.now.nodes c.node-node.result)) (v.Local c.in-Local.action) c.node-node.ensures.value c.first_target-next.ensures.value refl (sym c.node.ensures.value ∙ c.in-Local.is))
     )
 
-pub returns-in-Branch-clause-new : goal.returns-in-Branch-clause-new
-returns-in-Branch-clause-new c =
+pub returns-then-chooses-clause-new : goal.returns-then-chooses-clause-new
+returns-then-chooses-clause-new c =
     rw (← c.self.view_is)
     (
     let s : RunState = the_view c.self.inside in
-    ap (λ w. record s { position = w }) c.choose.ensures.chosen ∙
-    ap (λ (p : RunState × Bool). p.0) (step_at c.args.graph.now.nodes c.args.context c.args.reserved.now s c.node-node.result c.first_target-next.result c.second_target.result (v.Branch c.in-Branch.choice) c.node-node.ensures.value c.first_target-next.ensures.value c.second_target.ensures.value (sym c.node.ensures.value ∙ c.in-Branch.is))
+    let first = c.first_target-next.result in
+    let second = second_target (place_at c.args.graph.now.nodes c.node-node.result) in
+    ap (λ w. record s { position = w }) (c.go_to-then-chooses.ensures.value ∙ ap (λ b. at_node c.chooses.new.self (if b then first else second)) (sym c.if-chooses.true) ∙ c.chooses.ensures.chosen first second) ∙
+    ap (λ (p : RunState × Bool). p.0) (step_at c.args.graph.now.nodes c.args.context c.args.reserved.now s c.node-node.result first second (v.Branch c.in-Branch.choice) c.node-node.ensures.value c.first_target-next.ensures.value refl (sym c.node.ensures.value ∙ c.in-Branch.is))
     )
 
-pub returns-in-Branch-clause-on : goal.returns-in-Branch-clause-on
-returns-in-Branch-clause-on c =
+pub returns-then-chooses-clause-on : goal.returns-then-chooses-clause-on
+returns-then-chooses-clause-on c =
+    rw (← c.self.view_is)
+    (
+    let s : RunState = the_view c.self.inside in
+    ap (λ (p : RunState × Bool). p.1) (step_at c.args.graph.now.nodes c.args.context c.args.reserved.now s c.node-node.result c.first_target-next.result (second_target (place_at c.args.graph.now.nodes c.node-node.result)) (v.Branch c.in-Branch.choice) c.node-node.ensures.value c.first_target-next.ensures.value refl (sym c.node.ensures.value ∙ c.in-Branch.is))
+    )
+
+pub returns-else-chooses-clause-new : goal.returns-else-chooses-clause-new
+returns-else-chooses-clause-new c =
+    rw (← c.self.view_is)
+    (
+    let s : RunState = the_view c.self.inside in
+    let first = c.first_target-next.result in
+    let second = c.second_target.result in
+    ap (λ w. record s { position = w }) (c.go_to-in-Branch.ensures.value ∙ ap (λ b. at_node c.chooses.new.self (if b then first else second)) (sym c.if-chooses.false) ∙ c.chooses.ensures.chosen first second) ∙
+    ap (λ (p : RunState × Bool). p.0) (step_at c.args.graph.now.nodes c.args.context c.args.reserved.now s c.node-node.result first second (v.Branch c.in-Branch.choice) c.node-node.ensures.value c.first_target-next.ensures.value c.second_target.ensures.value (sym c.node.ensures.value ∙ c.in-Branch.is))
+    )
+
+pub returns-else-chooses-clause-on : goal.returns-else-chooses-clause-on
+returns-else-chooses-clause-on c =
     rw (← c.self.view_is)
     (
     let s : RunState = the_view c.self.inside in

@@ -1,4 +1,4 @@
-use Rattle.std.proofs.Common.{arith, ap, subst, ◌∙◌}
+use Rattle.std.proofs.Common.{arith, ap, subst}
 use Rattle.qs_program.specs.Loads.{load_of}
 use Rattle.qs_program.specs.Program.{BlockShape}
 use Rattle.qs_program.specs.Sound.{IsSound}
@@ -13,7 +13,7 @@ returns-clause-value c =
       load_of-whole c.args.self.now c.args.client c.args.block c.args.object sound c.requires.client c.requires.block,
       sound.load,
       c.load.ensures.capped,
-      ap (λ (b : BlockShape). load_of b.body c.args.object) (c.behind-self.view_is ∙ c.block.ensures.value),
+      ap (λ (b : BlockShape). load_of b.body c.args.object) (c.block.ensures.value),
     )
 
 pub returns-clause-limit : goal.returns-clause-limit
@@ -24,5 +24,5 @@ returns-clause-limit c =
       load_of-whole c.args.self.now c.args.client c.args.block c.args.object sound c.requires.client c.requires.block,
       sound.load,
       c.load.ensures.capped,
-      ap (λ (b : BlockShape). load_of b.body c.args.object) (c.behind-self.view_is ∙ c.block.ensures.value),
+      ap (λ (b : BlockShape). load_of b.body c.args.object) (c.block.ensures.value),
     )

@@ -1,7 +1,7 @@
 use Rattle.std.proofs.Common.{◌≤◌, length, [], ◌∷◌}
 use Rattle.qs_script.specs.Reading.{more_loop}
 use Rattle.qs_script.proofs.Loops.{Continues}
-use Rattle.qs_script.proofs.values.more.Given as goal
+use Rattle.qs_script.proofs.values.several.Given as goal
 
 abbrev pub invariant-each : goal.invariant-each
 invariant-each l = record {

@@ -1,0 +1,17 @@
+-- A block's list by the numbers of its objects.
+use Rattle.std.specs.Prelude.{◌≡◌, ◌<◌, ℕ, true, List, [], length, map, slice_index_or}
+use Rattle.std.specs.List.{AllByRecursion}
+use Rattle.qs_program.specs.Numbering.{Name, is_among, found_at}
+
+-- the names of numbers
+abbrev pub names_at : List Name → List ℕ → List Name
+names_at objects numbers = map (λ i. slice_index_or objects i []) numbers
+
+-- a number under which its own name is found
+pub record IsFirst (objects : List Name) (i : ℕ) : Type 0 where
+  pub within : i < length objects
+  pub among : is_among objects (slice_index_or objects i []) ≡ true
+  pub first : found_at objects (slice_index_or objects i []) ≡ i
+
+abbrev pub AreFirst : List Name → List ℕ → Type 0
+AreFirst objects numbers = AllByRecursion (IsFirst objects) numbers

@@ -1,0 +1,82 @@
+-- A line that is put piece by piece, and lines behind lines. What is written without asking for room stands on it.
+use Rattle.std.proofs.Common.{◌≡◌, List, [], ◌∷◌, ◌++◌, codes, length, ℕ, zero, suc, ◌+◌, ◌-◌, take, drop, flat_map, ℤ, get_or, pos, refl, sym, ap, ◌∙◌, append_assoc, append-nil, length-drop, arith, Option, Some}
+use Rattle.std.proofs.lemmas.List.{take_all}
+use Rattle.std.specs.Fmt.{signed_decimal}
+use Rattle.qs_objects.specs.declared.Request.{Request}
+use Rattle.qs_program.specs.Program.{ProgramShape, object_at}
+use Rattle.qs_report.specs.Report.{args_text, op_text, reply_text}
+use Rattle.qs_report.specs.Lines.{line_text}
+
+no_argument : (xs : List ℤ) → length xs ≡ 0 → args_text xs ≡ []
+no_argument [] empty = refl
+no_argument (x ∷ xs) empty = absurd (omega (arith, empty))
+
+one_argument : (xs : List ℤ) → length xs ≡ 1 → args_text xs ≡ signed_decimal (get_or xs 0 (pos 0))
+one_argument [] one = absurd (omega (arith, one))
+one_argument (x ∷ []) one = append-nil (signed_decimal x)
+one_argument (x ∷ y ∷ ys) one = absurd (omega (arith, one))
+
+-- five texts behind another one
+five_behind : (old a b d e x : List ℕ) → old ++ a ++ b ++ d ++ e ++ x ≡ old ++ (a ++ b ++ d ++ e ++ x)
+five_behind old a b d e x =
+    let two = append_assoc old a b in
+    let three = ap (λ t. t ++ d) two ∙ append_assoc old (a ++ b) d in
+    let four = ap (λ t. t ++ e) three ∙ append_assoc old (a ++ b ++ d) e in
+    ap (λ t. t ++ x) four ∙ append_assoc old (a ++ b ++ d ++ e) x
+
+-- a line, put in three pieces
+line_shown : (p : ProgramShape) (r : Request) (reply : Option ℤ) (old first second last : List ℕ)
+    → first ≡ old ++ (object_at p r.object).name ++ codes "." ++ op_text r.op ++ codes "(" → second ≡ first ++ args_text r.args
+    → last ≡ second ++ (codes ")" ++ (reply_text reply ++ codes "\n")) → last ≡ old ++ line_text p r reply
+line_shown p r reply old first second last f s l =
+    let front = (object_at p r.object).name ++ codes "." ++ op_text r.op ++ codes "(" ++ args_text r.args in
+    let rest = reply_text reply ++ codes "\n" in
+    l ∙ ap (λ t. t ++ (codes ")" ++ rest)) (s ∙ ap (λ t. t ++ args_text r.args) f ∙ five_behind old (object_at p r.object).name (codes ".") (op_text r.op) (codes "(") (args_text r.args))
+    ∙ append_assoc old front (codes ")" ++ rest)
+    ∙ ap (λ t. old ++ t) (sym (append_assoc (front ++ codes ")") (reply_text reply) (codes "\n") ∙ append_assoc front (codes ")") rest))
+
+-- a line with no argument, put in two pieces
+pub line_without : (p : ProgramShape) (r : Request) (reply : Option ℤ) (old first last : List ℕ) → length r.args ≡ 0
+    → first ≡ old ++ (object_at p r.object).name ++ codes "." ++ op_text r.op ++ codes "("
+    → last ≡ first ++ (codes ")" ++ (reply_text reply ++ codes "\n")) → last ≡ old ++ line_text p r reply
+line_without p r reply old first last empty f l =
+    line_shown p r reply old first first last f (sym (ap (λ t. first ++ t) (no_argument r.args empty) ∙ append-nil first)) l
+
+-- a line with one argument, put in three pieces
+pub line_with_one : (p : ProgramShape) (r : Request) (reply : Option ℤ) (old first second last : List ℕ) → length r.args ≡ 1
+    → first ≡ old ++ (object_at p r.object).name ++ codes "." ++ op_text r.op ++ codes "("
+    → second ≡ first ++ signed_decimal (get_or r.args 0 (pos 0))
+    → last ≡ second ++ (codes ")" ++ (reply_text reply ++ codes "\n")) → last ≡ old ++ line_text p r reply
+line_with_one p r reply old first second last one f s l = line_shown p r reply old first second last f (s ∙ ap (λ t. first ++ t) (sym (one_argument r.args one))) l
+
+-- a reply, put in three pieces
+pub reply_behind : (second : List ℕ) (reply : ℤ) → second ++ codes ") = " ++ signed_decimal reply ++ codes "\n" ≡ second ++ (codes ")" ++ (reply_text (Some reply) ++ codes "\n"))
+reply_behind second reply =
+    ap (λ t. t ++ codes "\n") (append_assoc second (codes ") = ") (signed_decimal reply)) ∙ append_assoc second (codes ") = " ++ signed_decimal reply) (codes "\n")
+
+none : {X : Type 0} (n : ℕ) → take {A = X} n [] ≡ []
+none zero = refl
+none (suc n) = refl
+
+same : (k : ℕ) → k ≡ zero + k
+same k = omega arith
+
+next : (i k : ℕ) → suc (i + k) ≡ suc i + k
+next i k = omega arith
+
+-- the texts of the first items, and of those behind them
+taken_both : {X : Type 0} (text : X → List ℕ) (i k : ℕ) (xs : List X) → flat_map text (take i xs) ++ flat_map text (take k (drop i xs)) ≡ flat_map text (take (i + k) xs)
+taken_both text zero k xs = ap (λ n. flat_map text (take n xs)) (same k)
+taken_both text (suc i) k [] = ap (flat_map text) (none k ∙ sym (none (suc i + k)))
+taken_both text (suc i) k (x ∷ xs) =
+    append_assoc (text x) (flat_map text (take i xs)) (flat_map text (take k (drop i xs)))
+    ∙ ap (λ l. text x ++ l) (taken_both text i k xs)
+    ∙ ap (λ n. flat_map text (take n (x ∷ xs))) (next i k)
+
+-- some more items are there
+pub items_more : {X : Type 0} (text : X → List ℕ) (xs : List X) (i k : ℕ) (old mid new : List ℕ) → mid ≡ old ++ flat_map text (take i xs)
+    → new ≡ mid ++ flat_map text (take k (take (length xs - i) (drop i xs))) → new ≡ old ++ flat_map text (take (i + k) xs)
+items_more text xs i k old mid new e h =
+    h ∙ ap (λ l. mid ++ flat_map text (take k l)) (take_all (length xs - i) (drop i xs) (omega (arith, length-drop i xs)))
+    ∙ ap (λ l. l ++ flat_map text (take k (drop i xs))) e ∙ append_assoc old (flat_map text (take i xs)) (flat_map text (take k (drop i xs)))
+    ∙ ap (λ l. old ++ l) (taken_both text i k xs)

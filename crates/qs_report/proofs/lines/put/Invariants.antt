@@ -1,0 +1,10 @@
+-- The bytes before this one are there.
+use Rattle.std.proofs.Common.{◌≡◌, ◌+◌, ◌++◌, take, vec_len, vec_capacity}
+use Rattle.qs_report.proofs.lines.put.Given as goal
+
+abbrev pub invariant-loop-byte : goal.invariant-loop-byte
+invariant-loop-byte l = record {
+  items : l.out.items ≡ l.initial.out.items ++ take l.byte-index l.text;
+  len : vec_len l.out ≡ vec_len l.initial.out + l.byte-index;
+  capacity : vec_capacity l.out ≡ vec_capacity l.initial.out;
+}
