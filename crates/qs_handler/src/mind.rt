@@ -70,7 +70,7 @@ fn run_all(ticket: Ticket, held: &mut Held, chunk: &mut Chunk<Request>)
     ensures chunk { chunk.new ≡ batch [] chunk.old.capacity }
 {
     while let Some(request) = chunk.take_front() {
-        held.run(ticket, request.copied());
+        held.run(ticket, request);
     }
 }
 
