@@ -1,13 +1,12 @@
 -- The traces of a client's blocks, stored as rows of events and a list of rooms, are what contracts see of them: each block's
 -- events, and how many more it may have. The functions of `Traces` stand on these lemmas. They go by induction on the rows and
 -- the rooms together.
-use Rattle.std.proofs.Common.{◌≡◌, ◌<◌, ◌≤◌, ℕ, zero, suc, ◌-◌, List, [], ◌∷◌, ◌++◌, length, get_or, set, map, replicate, refl, sym, ap, ◌∙◌, arith}
-use Rattle.std.proofs.lemmas.List.{get_or-set_other, length-set}
+use Rattle.std.proofs.Common.{◌≡◌, ◌<◌, ◌≤◌, ℕ, zero, suc, ◌+◌, ◌-◌, List, [], ◌∷◌, ◌++◌, length, get_or, set, map, replicate, refl, sym, ap, ◌∙◌, arith}
+use Rattle.std.proofs.lemmas.List.{get_or-set_other, length-append, length-set}
 use Rattle.qs_objects.specs.Rows.{IsLast}
 use Rattle.qs_objects.specs.Sums.{total}
-use Rattle.qs_objects.specs.Traces.{AreEmptyAfter, HaveRoom, TraceState, empty_trace, events_of, with_last_event, noted_at, trace_at, trace_state, with_rooms}
+use Rattle.qs_objects.specs.Traces.{AreEmptyAfter, HaveRoom, TraceState, empty_trace, events_of, with_last_event, noted_at, rooms_left, trace_at, trace_state, with_rooms}
 use Rattle.qs_objects.specs.declared.held.Event.{Event}
-use Rattle.qs_objects.proofs.Cuts.{total_front, total_set}
 
 pub length_rooms : (rows : List (List Event)) (rooms : List ℕ) → length rooms ≡ length rows → length (with_rooms rows rooms) ≡ length rooms
 length_rooms [] [] same = refl
@@ -17,7 +16,7 @@ length_rooms (es ∷ rows) (n ∷ rooms) same = ap suc (length_rooms rows rooms 
 
 -- a block's trace is its row with its room
 pub trace_of_rooms : (rows : List (List Event)) (rooms : List ℕ) (k : ℕ) → length rooms ≡ length rows
-    → trace_at (with_rooms rows rooms) k ≡ trace_state (get_or rows k []) (get_or rooms k 0)
+    → trace_at (with_rooms rows rooms) k ≡ trace_state (get_or rows k []) (get_or rooms k 0 - length (get_or rows k []))
 trace_of_rooms [] [] k same = refl
 trace_of_rooms [] (n ∷ rooms) k same = absurd (omega (arith, same))
 trace_of_rooms (es ∷ rows) [] k same = absurd (omega (arith, same))
@@ -34,22 +33,41 @@ pub last_of_rooms : (rows : List (List Event)) (rooms : List ℕ) (k : ℕ) → 
 last_of_rooms rows rooms k same none j after =
     sym (ap (λ (t : TraceState). t.events) (trace_of_rooms rows rooms j same)) ∙ none j after
 
+-- with an event more in a row, less is left of its room by one
 pub note_rooms : (rows : List (List Event)) (rooms : List ℕ) (k : ℕ) (e : Event) → length rooms ≡ length rows → k < length rows
-    → with_rooms (set rows k (get_or rows k [] ++ e ∷ [])) (set rooms k (get_or rooms k 0 - 1)) ≡ noted_at (with_rooms rows rooms) k e
+    → with_rooms (set rows k (get_or rows k [] ++ e ∷ [])) rooms ≡ noted_at (with_rooms rows rooms) k e
 note_rooms [] rooms k e same inside = absurd (omega (arith, inside))
 note_rooms (es ∷ rows) [] k e same inside = absurd (omega (arith, same))
-note_rooms (es ∷ rows) (n ∷ rooms) zero e same inside = refl
+note_rooms (es ∷ rows) (n ∷ rooms) zero e same inside =
+    let long = length-append es (e ∷ []) in
+    let one_less : n - length (es ++ e ∷ []) ≡ n - length es - 1 = omega (arith, long) in
+    ap (λ left. trace_state (es ++ e ∷ []) left ∷ with_rooms rows rooms) one_less
 note_rooms (es ∷ rows) (n ∷ rooms) (suc k) e same inside =
-    ap (λ rest. trace_state es n ∷ rest) (note_rooms rows rooms k e (omega (arith, same)) (omega (arith, inside)))
+    ap (λ rest. trace_state es (n - length es) ∷ rest) (note_rooms rows rooms k e (omega (arith, same)) (omega (arith, inside)))
 
 -- empty traces
 pub fresh_rooms : (rooms : List ℕ) → with_rooms (replicate (length rooms) []) rooms ≡ map empty_trace rooms
 fresh_rooms [] = refl
-fresh_rooms (n ∷ rooms) = ap (λ rest. empty_trace n ∷ rest) (fresh_rooms rooms)
+fresh_rooms (n ∷ rooms) =
+    let all : n - 0 ≡ n = omega arith in
+    ap (λ left. trace_state [] left ∷ with_rooms (replicate (length rooms) []) rooms) all ∙ ap (λ rest. empty_trace n ∷ rest) (fresh_rooms rooms)
 
--- a room is within all rooms together
-pub room_within : (rooms : List ℕ) (k : ℕ) → get_or rooms k 0 ≤ total rooms
-room_within rooms k = let front = total_front k rooms in omega (arith, front)
+pub fresh_left : (rooms : List ℕ) → rooms_left (map empty_trace rooms) ≡ rooms
+fresh_left [] = refl
+fresh_left (n ∷ rooms) = ap (λ rest. n ∷ rest) (fresh_left rooms)
+
+-- what is left of a room is within what is left of all
+pub room_within : (ts : List TraceState) (k : ℕ) → (trace_at ts k).room ≤ total (rooms_left ts)
+room_within [] k = omega arith
+room_within (t ∷ ts) zero = omega arith
+room_within (t ∷ ts) (suc k) = let rest = room_within ts k in omega (arith, rest)
+
+-- an event takes one of what is left
+left_note : (ts : List TraceState) (k : ℕ) (e : Event) → k < length ts → 0 < (trace_at ts k).room
+    → total (rooms_left (noted_at ts k e)) + 1 ≡ total (rooms_left ts)
+left_note [] k e inside some = absurd (omega (arith, inside))
+left_note (t ∷ ts) zero e inside some = omega (arith, some)
+left_note (t ∷ ts) (suc k) e inside some = let rest = left_note ts k e (omega (arith, inside)) some in omega (arith, rest)
 
 -- a block has its row
 pub within : (rows : List (List Event)) (rooms : List ℕ) (room k : ℕ) → HaveRoom rows rooms room → k < length (with_rooms rows rooms) → k < length rows
@@ -59,15 +77,18 @@ within rows rooms room k have inside =
     omega (arith, many, same, inside)
 
 -- an event takes one room
-pub note_room : (rows : List (List Event)) (rooms : List ℕ) (room k n : ℕ) (e : Event) → HaveRoom rows rooms room → k < length rows → n ≡ get_or rooms k 0
-    → 0 < get_or rooms k 0 → HaveRoom (set rows k (get_or rows k [] ++ e ∷ [])) (set rooms k (n - 1)) (room - 1)
-note_room rows rooms room k n e have inside is some =
+pub note_room : (rows : List (List Event)) (rooms : List ℕ) (room k : ℕ) (e : Event) → HaveRoom rows rooms room → k < length rows
+    → 0 < (trace_at (with_rooms rows rooms) k).room → HaveRoom (set rows k (get_or rows k [] ++ e ∷ [])) rooms (room - 1)
+note_room rows rooms room k e have inside some =
     let many = have.many in
     let whole = have.whole in
-    let new = length-set rows k (get_or rows k [] ++ e ∷ []) in
-    let old = length-set rooms k (n - 1) in
-    let sum = total_set k rooms (n - 1) (omega (arith, inside, many)) in
-    record { many = omega (arith, many, new, old); whole = omega (arith, whole, sum, is, some) }
+    let long = length_rooms rows rooms many in
+    let noted = ap (λ ts. total (rooms_left ts)) (note_rooms rows rooms k e many inside) in
+    let less = left_note (with_rooms rows rooms) k e (omega (arith, inside, many, long)) some in
+    record {
+      many = many ∙ sym (length-set rows k (get_or rows k [] ++ e ∷ []));
+      whole = omega (arith, whole, noted, less);
+    }
 
 -- with an event more in a block's trace, later blocks have none still
 pub empty_after_note : (ts : List TraceState) (k : ℕ) (e : Event) → AreEmptyAfter ts k → AreEmptyAfter (noted_at ts k e) k

@@ -1,7 +1,9 @@
 -- What an object of the code shows, and which objects there are at the start.
-use Rattle.std.specs.Prelude.{◌≡◌, ℕ, ◌≤◌, ◌*◌, ◌&&◌, [], ◌∷◌, replicate, nat_le, if◌then◌else◌, Bool, true, false, Option, Some, None, List, length, Vec, vec_len, vec_capacity}
+use Rattle.std.specs.Prelude.{◌≡◌, ℕ, ◌≤◌, ◌*◌, ◌&&◌, [], ◌∷◌, replicate, nat_le, if◌then◌else◌, Bool, true, false, Option, Some, None, List, length, Vec, vec_len}
 use Rattle.std.specs.Prelude.{ℤ, pos, negsuc, ◌≤ℤ◌}
 use Rattle.std.specs.Global.{Global}
+use Rattle.std.specs.VecDeque.{deque_capacity}
+use Rattle.std.specs.declared.collections.VecDeque.{VecDeque}
 use Rattle.qs_objects.specs.Act.{State, Content, account, buffer, grid, greatest_balance, size_of}
 use Rattle.qs_objects.specs.declared.object.Kind.{Kind}
 use Rattle.qs_objects.specs.declared.object.Kind.TheVariants as kinds
@@ -11,7 +13,7 @@ use Rattle.qs_objects.specs.Limits.{most_lines, most_values}
 
 abbrev pub state_of : code.Content → ℤ → State
 state_of (Account b) n = record { content = account b; refused = n }
-state_of (Buffer k v) n = record { content = buffer k v.items; refused = n }
+state_of (Buffer v) n = record { content = buffer (deque_capacity v) v.items; refused = n }
 state_of (Grid r c v) n = record { content = grid r c v.items; refused = n }
 
 -- a balance in its range
@@ -21,9 +23,9 @@ IsBalance b = (pos 0 ≤ℤ b) × (b ≤ℤ greatest_balance)
 abbrev pub account_state : ℤ → ℤ → State
 account_state b n = record { content = account b; refused = n }
 
--- room for all of a buffer, from 1 to 1024 values
-abbrev pub IsRoomy : ℕ → Vec ℤ Global → Type 0
-IsRoomy k v = (vec_len v ≤ k) × (k ≤ vec_capacity v) × (1 ≤ k) × (k ≤ most_values)
+-- a buffer's values lie in a ring whose size is its capacity, from 1 to 1024 values
+abbrev pub IsRoomy : VecDeque ℤ Global → Type 0
+IsRoomy v = (1 ≤ deque_capacity v) × (deque_capacity v ≤ most_values)
 
 abbrev pub buffer_state : ℕ → List ℤ → ℤ → State
 buffer_state k xs n = record { content = buffer k xs; refused = n }
@@ -38,7 +40,7 @@ grid_state r c cells n = record { content = grid r c cells; refused = n }
 -- what the code keeps true of what it holds
 abbrev pub IsKept : code.Content → Type 0
 IsKept (Account b) = IsBalance b
-IsKept (Buffer k v) = IsRoomy k v
+IsKept (Buffer v) = IsRoomy v
 IsKept (Grid r c v) = IsFull r c v
 
 -- a number from low to high

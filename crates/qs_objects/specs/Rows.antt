@@ -1,5 +1,5 @@
 -- Rows of values that lie one after another in one list.
-use Rattle.std.specs.Prelude.{◌≡◌, ◌<◌, ◌≤◌, ℕ, ◌+◌, List, [], ◌∷◌, ◌++◌, length, take, drop, slice_index_or, refl}
+use Rattle.std.specs.Prelude.{◌≡◌, ◌<◌, ◌≤◌, ℕ, ◌+◌, ◌-◌, List, [], ◌∷◌, ◌++◌, length, take, drop, slice_index_or, refl}
 use Rattle.std.specs.Coded.{Coded, code_by, coded×, coded_list, coded_ℕ}
 use Rattle.qs_objects.specs.Sums.{total}
 
@@ -29,6 +29,10 @@ module _ {X : Type 0} where
 
   abbrev pub rows_code : Coded X → Coded (RowsState X)
   rows_code c = code_by (List (List X) × ℕ) (coded× (coded_list (coded_list c)) coded_ℕ) (λ s. (s.rows, s.room)) (λ p. rows_state p.0 p.1) (λ _. refl)
+
+  -- how many values more there may be, of `room` in all
+  abbrev pub room_left : ℕ → List X → ℕ
+  room_left room xs = room - length xs
 
   -- a list cut into rows of these lengths
   abbrev pub rows_of_lengths : List ℕ → List X → List (List X)

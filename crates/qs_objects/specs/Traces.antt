@@ -31,13 +31,17 @@ noted_at ts k e = slice_set ts k (with_last_event (trace_at ts k) e)
 abbrev pub AreEmptyAfter : List TraceState → ℕ → Type 0
 AreEmptyAfter ts k = (j : ℕ) → k < j → (trace_at ts j).events ≡ []
 
--- rows of events, each with its room
+-- rows of events, each with what is left of its room
 abbrev pub with_rooms : List (List Event) → List ℕ → List TraceState
 with_rooms [] rooms = []
 with_rooms (es ∷ rows) [] = []
-with_rooms (es ∷ rows) (n ∷ rooms) = trace_state es n ∷ with_rooms rows rooms
+with_rooms (es ∷ rows) (n ∷ rooms) = trace_state es (n - length es) ∷ with_rooms rows rooms
 
--- each row has a room, and all rooms together are there
+-- how many events more there may be in each trace
+abbrev pub rooms_left : List TraceState → List ℕ
+rooms_left ts = map (λ (t : TraceState). t.room) ts
+
+-- each row has a room, and what is left of all rooms together is there
 pub record HaveRoom (rows : List (List Event)) (rooms : List ℕ) (room : ℕ) : Type 0 where
   pub many : length rooms ≡ length rows
-  pub whole : total rooms ≤ room
+  pub whole : total (rooms_left (with_rooms rows rooms)) ≤ room

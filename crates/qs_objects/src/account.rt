@@ -32,8 +32,19 @@ pub(crate) fn apply(balance: &mut i64, refused: &mut i64, op: Op, args: &[i64]) 
             }
             None
         }
-        (Op::Balance, []) => Some(*balance),
-        (Op::Refused, []) => Some(*refused),
+        _ => ask(*balance, *refused, op, args),
+    }
+}
+
+// Answers what is no command that fits: a query, or None where the request fits nothing. A function of its own, so that `apply`
+// looks at commands first.
+#[inline(never)]
+fn ask(balance: i64, refused: i64, op: Op, args: &[i64]) -> Option<i64>
+    ensures answers { result ≡ (account_act (account_state balance refused) balance op args.now).1 }
+{
+    match (op, args) {
+        (Op::Balance, []) => Some(balance),
+        (Op::Refused, []) => Some(refused),
         _ => None,
     }
 }

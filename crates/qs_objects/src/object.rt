@@ -1,12 +1,14 @@
 // Objects: accounts, buffers and grids.
 
-ghost use Rattle.std.specs.Prelude.{◌≡◌, ◌↔◌, ◌≤◌, length, Some, None, IfOk, IsErr, IsErrOf, IsSome, IsTrue, slice_get, pos, ◌+ℤ◌, ℤ, vec_capacity};
+ghost use Rattle.std.specs.Prelude.{◌≡◌, ◌↔◌, ◌≤◌, ◌+◌, ◌++◌, length, Some, None, IfOk, IsErr, IsErrOf, IsSome, IsTrue, slice_get, pos, ◌+ℤ◌, ℤ};
+ghost use Rattle.std.specs.VecDeque.{deque_capacity, deque_len};
 ghost use Rattle.qs_objects.specs.Objects.{IsKept, starts, has_memory, needs_memory, kind_of, state_of, values_of};
 ghost use Rattle.qs_objects.specs.Act.{act, clamp_to_word};
 ghost use Rattle.qs_objects.specs.Limits.{most_values};
 
 use crate::{Request, account, buffer, grid};
 use std::alloc::{AllocError, Global};
+use std::collections::VecDeque;
 use std::marker::Model;
 use thiserror::Error;
 
@@ -36,8 +38,7 @@ enum Content {
         balance: i64,
     },
     Buffer {
-        capacity: usize,
-        values: Vec<i64>,
+        values: VecDeque<i64>,
     },
     Grid {
         rows: usize,
@@ -46,13 +47,35 @@ enum Content {
     },
 }
 
-// Numbers once more, in a vector with room for so many.
-fn copied(alloc: Global, numbers: &[i64], room: usize) -> Result<Vec<i64>, AllocError>
-    ensures same { IfOk result (λ copy. copy.items ≡ numbers.now) }
-    ensures room { IfOk result (λ copy. room ≤ vec_capacity copy) }
+// Cells once more.
+fn copied_cells(alloc: Global, cells: &[i64]) -> Result<Vec<i64>, AllocError>
+    ensures same { IfOk result (λ copy. copy.items ≡ cells.now) }
 {
-    let mut copy = Vec::with_capacity(alloc, room)?;
-    copy.extend_from_slice(numbers)?;
+    let mut copy = Vec::with_capacity(alloc, cells.len())?;
+    copy.extend_from_slice(cells)?;
+    Ok(copy)
+}
+
+// Adds values at the end of a queue that has room for them.
+fn append(queue: &mut VecDeque<i64>, values: &[i64])
+    requires room { deque_len queue.old + length values.now ≤ deque_capacity queue.old }
+    ensures items { queue.new.items ≡ queue.old.items ++ values.now }
+    ensures capacity { deque_capacity queue.new ≡ deque_capacity queue.old }
+{
+    for value in values {
+        queue.push_back_reserved(*value);
+    }
+}
+
+// A buffer's values once more, in a queue of the same capacity.
+fn copied_queue(alloc: Global, values: &VecDeque<i64>) -> Result<VecDeque<i64>, AllocError>
+    ensures same { IfOk result (λ copy. copy.items ≡ values.now.items) }
+    ensures capacity { IfOk result (λ copy. deque_capacity copy ≡ deque_capacity values.now) }
+{
+    let mut copy = VecDeque::with_capacity(alloc, values.capacity())?;
+    let (front, back) = values.as_slices();
+    append(&mut copy, front);
+    append(&mut copy, back);
     Ok(copy)
 }
 
@@ -65,9 +88,8 @@ impl Content {
     {
         match self {
             Content::Account { balance } => Ok(Content::Account { balance: *balance }),
-            Content::Buffer { capacity, values } => Ok(Content::Buffer {
-                capacity: *capacity,
-                values: copied(alloc, values.as_slice(), *capacity)?,
+            Content::Buffer { values } => Ok(Content::Buffer {
+                values: copied_queue(alloc, values)?,
             }),
             Content::Grid {
                 rows,
@@ -76,7 +98,7 @@ impl Content {
             } => Ok(Content::Grid {
                 rows: *rows,
                 columns: *columns,
-                cells: copied(alloc, cells.as_slice(), cells.len())?,
+                cells: copied_cells(alloc, cells.as_slice())?,
             }),
         }
     }
@@ -138,9 +160,10 @@ impl Object {
                 if capacity < 1 || capacity > MOST_VALUES {
                     return Err(ObjectFault::Range);
                 }
-                let capacity = capacity as usize;
-                let values = Vec::with_capacity(alloc, capacity).map_err(|_| ObjectFault::Memory)?;
-                Content::Buffer { capacity, values }
+                let values = VecDeque::with_capacity(alloc, capacity as usize).map_err(
+                    |_| ObjectFault::Memory,
+                )?;
+                Content::Buffer { values }
             }
             Kind::Grid { rows, columns } => {
                 if rows < 1 || rows > MOST_LINES || columns < 1 || columns > MOST_LINES {
@@ -188,7 +211,7 @@ impl Object {
     {
         match &self.content {
             Content::Account { .. } => 1,
-            Content::Buffer { values, .. } => values.len(),
+            Content::Buffer { values } => values.len(),
             Content::Grid { cells, .. } => cells.len(),
         }
     }
@@ -199,7 +222,7 @@ impl Object {
     {
         match &self.content {
             Content::Account { balance } => (i == 0).then_some(*balance),
-            Content::Buffer { values, .. } => values.get(i).copied(),
+            Content::Buffer { values } => values.get(i).copied(),
             Content::Grid { cells, .. } => cells.get(i).copied(),
         }
     }
@@ -211,8 +234,8 @@ impl Object {
     {
         match &self.content {
             Content::Account { balance } => Kind::Account { balance: *balance },
-            Content::Buffer { capacity, .. } => Kind::Buffer {
-                capacity: *capacity as i64,
+            Content::Buffer { values } => Kind::Buffer {
+                capacity: values.capacity() as i64,
             },
             Content::Grid { rows, columns, .. } => Kind::Grid {
                 rows: *rows as i64,
@@ -233,9 +256,7 @@ impl Object {
         let refused = &mut self.refused;
         match &mut self.content {
             Content::Account { balance } => account::apply(balance, refused, op, args),
-            Content::Buffer { capacity, values } => {
-                buffer::apply(*capacity, values, refused, op, args)
-            }
+            Content::Buffer { values } => buffer::apply(values, refused, op, args),
             Content::Grid {
                 rows,
                 columns,

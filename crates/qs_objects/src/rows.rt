@@ -6,7 +6,7 @@ ghost use Rattle.qs_objects.specs.Rows.{IsLast, join_rows, rows_state};
 use std::alloc::{AllocError, Global};
 use std::marker::Model;
 
-/// Rows of values, which lie one row after another in one list. Memory is taken in `new` alone.
+/// Rows of values, which lie one row after another in one list. Memory is taken in `new` alone; `room` says for how many values in all.
 pub struct Rows<T> {
     items: Vec<T>,
     starts: Vec<usize>,
@@ -27,15 +27,15 @@ impl<T: Drop> Drop for Rows<T> {
 
 impl<T> Model for Rows<T> {
     ghost use Rattle.std.specs.Prelude.{length, vec_capacity};
-    ghost use Rattle.qs_objects.specs.Rows.{FillList, RowsState, rows_of_lengths, rows_code, rows_state};
+    ghost use Rattle.qs_objects.specs.Rows.{FillList, RowsState, room_left, rows_of_lengths, rows_code, rows_state};
 
     ghost Value = { RowsState T };
 
     ghost coded = { rows_code T.code };
 
-    ghost view = { λ r. rows_state (rows_of_lengths r.lengths.items r.items.items) r.room };
+    ghost view = { λ r. rows_state (rows_of_lengths r.lengths.items r.items.items) (room_left r.room r.items.items) };
 
-    ghost invariant = { λ r. FillList r.starts.items r.lengths.items (length r.items.items) r.room (vec_capacity r.items) };
+    ghost invariant = { λ r. FillList r.starts.items r.lengths.items (length r.items.items) (room_left r.room r.items.items) (vec_capacity r.items) };
 }
 
 // So many values of a list, from a place on.
@@ -107,7 +107,6 @@ impl<T> Rows<T> {
         self.starts[row] = self.items.len() - count;
         self.items.push_reserved(item);
         self.lengths[row] = count + 1;
-        self.room -= 1;
     }
 }
 

@@ -10,7 +10,7 @@ use crate::rows::Rows;
 use std::alloc::{AllocError, Global};
 use std::marker::Model;
 
-/// For each block of a client its trace so far, and how many events more there may be. The events of all blocks lie in one row, since a
+/// For each block of a client its trace so far, and how many events there may be. The events of all blocks lie in one row, since a
 /// client's blocks run one after another. Memory is taken in `new` alone.
 pub struct Traces {
     rows: Rows<Event>,
@@ -76,6 +76,5 @@ impl Traces {
         ensures noted { self.new ≡ noted_at self.old block event }
     {
         self.rows.push(block, event);
-        self.rooms[block] -= 1;
     }
 }

@@ -1,7 +1,7 @@
-use Rattle.std.proofs.Common.{◌<◌, ◌+◌, ◌-◌, List, [], ◌∷◌, ◌++◌, length, get_or, set, refl, sym, ap, ◌∙◌, subst, arith}
-use Rattle.std.proofs.lemmas.List.{get_or_default}
+use Rattle.std.proofs.Common.{◌≡◌, ℕ, ◌<◌, ◌+◌, ◌-◌, List, [], ◌∷◌, ◌++◌, length, get_or, set, refl, sym, ap, ◌∙◌, subst, arith}
+use Rattle.std.proofs.lemmas.List.{get_or_default, length-append}
 use Rattle.std.specs.Prelude.{vec_capacity}
-use Rattle.qs_objects.specs.Rows.{FillList, IsLast, RowsState, rows_of_lengths, rows_state}
+use Rattle.qs_objects.specs.Rows.{FillList, IsLast, RowsState, room_left, rows_of_lengths, rows_state}
 use Rattle.qs_objects.proofs.Cuts.{fill_push, row_inside, row_within, rows_push, start_inside}
 use Rattle.qs_objects.proofs.rows.Rows.push.Goals as goal
 
@@ -38,21 +38,28 @@ index_mut-requires-2 g c =
     let count = c.self.inside.lengths.ok.0 in
     omega (arith, own, count)
 
+-- with a value more there is room for one less
+one_less : {X : Type 0} (room : ℕ) (xs : List X) (x : X) → room_left room xs - 1 ≡ room_left room (xs ++ x ∷ [])
+one_less room xs x = let long = length-append xs (x ∷ []) in omega (arith, long)
+
 pub invariant_of-self : goal.invariant_of-self
 invariant_of-self g c =
     let row = (subst (λ (s : RowsState g.row.T.Denot). c.args.row < length s.rows) (sym c.self.view_is) c.requires.row) in
     let count = c.index-count.ensures ∙ get_or_default _ c.args.row _ 0 (row_inside _ _ _ _ _ c.self.invariant c.args.row row) in
     let last : IsLast (rows_of_lengths c.self.inside.lengths.items c.self.inside.items.items) c.args.row =
     subst (λ (s : RowsState g.row.T.Denot). IsLast s.rows c.args.row) (sym c.self.view_is) c.requires.last in
-    let room : 0 < c.self.inside.room = subst (λ (s : RowsState g.row.T.Denot). 0 < s.room) (sym c.self.view_is) c.requires.room in
+    let old = c.self.inside.items.items in
+    let room : 0 < room_left c.self.inside.room old = subst (λ (s : RowsState g.row.T.Denot). 0 < s.room) (sym c.self.view_is) c.requires.room in
     let len = c.len.ensures ∙ c.self.inside.items.ok.0 in
-    subst (λ n. FillList (set c.self.inside.starts.items c.args.row (c.len.result - c.index-count.result.now))
-    (set c.self.inside.lengths.items c.args.row (c.index-count.result.now + 1)) (length c.push_reserved.new.self.items) (c.self.inside.room - 1) n)
+    let starts = set c.self.inside.starts.items c.args.row (c.len.result - c.index-count.result.now) in
+    let lengths = set c.self.inside.lengths.items c.args.row (c.index-count.result.now + 1) in
+    let new = old ++ c.args.item ∷ [] in
+    subst (λ n. FillList starts lengths (length c.push_reserved.new.self.items) (room_left c.self.inside.room c.push_reserved.new.self.items) n)
     (sym c.push_reserved.ensures.capacity)
-    (subst (λ (xs : List g.row.T.Denot). FillList (set c.self.inside.starts.items c.args.row (c.len.result - c.index-count.result.now))
-    (set c.self.inside.lengths.items c.args.row (c.index-count.result.now + 1)) (length xs) (c.self.inside.room - 1) (vec_capacity c.self.inside.items))
+    (subst (λ (xs : List g.row.T.Denot). FillList starts lengths (length xs) (room_left c.self.inside.room xs) (vec_capacity c.self.inside.items))
     (sym c.push_reserved.ensures.items)
-    (fill_push _ _ _ _ _ c.self.invariant c.args.row c.args.item row last room _ _ count len))
+    (subst (λ n. FillList starts lengths (length new) n (vec_capacity c.self.inside.items)) (one_less c.self.inside.room old c.args.item)
+    (fill_push _ _ _ _ _ c.self.invariant c.args.row c.args.item row last room _ _ count len)))
 
 pub returns : goal.returns
 returns g c =
@@ -60,11 +67,13 @@ returns g c =
     let count = c.index-count.ensures ∙ get_or_default _ c.args.row _ 0 (row_inside _ _ _ _ _ c.self.invariant c.args.row row) in
     let last : IsLast (rows_of_lengths c.self.inside.lengths.items c.self.inside.items.items) c.args.row =
     subst (λ (s : RowsState g.row.T.Denot). IsLast s.rows c.args.row) (sym c.self.view_is) c.requires.last in
-    let room : 0 < c.self.inside.room = subst (λ (s : RowsState g.row.T.Denot). 0 < s.room) (sym c.self.view_is) c.requires.room in
+    let old = c.self.inside.items.items in
+    let room : 0 < room_left c.self.inside.room old = subst (λ (s : RowsState g.row.T.Denot). 0 < s.room) (sym c.self.view_is) c.requires.room in
+    let lengths = set c.self.inside.lengths.items c.args.row (c.index-count.result.now + 1) in
     record {
-      pushed = ap (λ xs. rows_state (rows_of_lengths (set c.self.inside.lengths.items c.args.row (c.index-count.result.now + 1)) xs) (c.self.inside.room - 1))
-          c.push_reserved.ensures.items
-          ∙ (ap (λ rows. rows_state rows (c.self.inside.room - 1))
+      pushed = ap (λ xs. rows_state (rows_of_lengths lengths xs) (room_left c.self.inside.room xs)) c.push_reserved.ensures.items
+          ∙ (ap (λ n. rows_state (rows_of_lengths lengths (old ++ c.args.item ∷ [])) n) (sym (one_less c.self.inside.room old c.args.item))
+          ∙ (ap (λ rows. rows_state rows (room_left c.self.inside.room old - 1))
           (rows_push _ _ _ _ _ c.self.invariant c.args.row c.args.item row last room _ count)
-          ∙ ap (λ (s : RowsState g.row.T.Denot). rows_state (set s.rows c.args.row (get_or s.rows c.args.row [] ++ c.args.item ∷ [])) (s.room - 1)) c.self.view_is);
+          ∙ ap (λ (s : RowsState g.row.T.Denot). rows_state (set s.rows c.args.row (get_or s.rows c.args.row [] ++ c.args.item ∷ [])) (s.room - 1)) c.self.view_is));
     }

@@ -1,6 +1,6 @@
-use Rattle.std.proofs.Common.{◌<◌, [], length, get_or, set, sym, ap, ◌∙◌, subst, arith}
-use Rattle.std.proofs.lemmas.List.{get_or_default}
-use Rattle.qs_objects.specs.Rows.{RowsState, rows_state}
+use Rattle.std.proofs.Common.{◌<◌, ◌+◌, ◌-◌, [], length, get_or, set, sym, ap, ◌∙◌, subst, arith}
+use Rattle.std.proofs.lemmas.List.{get_or_default, length-set}
+use Rattle.qs_objects.specs.Rows.{RowsState, room_left, rows_of_lengths, rows_state}
 use Rattle.qs_objects.proofs.Cuts.{place_within, rows_set, start_inside}
 use Rattle.qs_objects.proofs.rows.Rows.set.Goals as goal
 
@@ -32,6 +32,8 @@ returns g c =
     let start = c.index-start.ensures ∙ get_or_default _ c.args.row _ 0 (start_inside _ _ _ _ _ c.self.invariant c.args.row row) in
     let place = subst (λ (s : RowsState g.row.T.Denot). c.args.place < length (get_or s.rows c.args.row [])) (sym c.self.view_is) c.requires.place in
     record {
-      value = ap (λ rows. rows_state rows c.self.inside.room) (rows_set _ _ _ _ _ c.self.invariant c.args.row c.args.place _ c.args.item row place start)
+      value = ap (λ n. rows_state (rows_of_lengths c.self.inside.lengths.items (set c.self.inside.items.items (c.index-start.result.now + c.args.place) c.args.item)) (c.self.inside.room - n))
+          (length-set c.self.inside.items.items (c.index-start.result.now + c.args.place) c.args.item)
+          ∙ ap (λ rows. rows_state rows (room_left c.self.inside.room c.self.inside.items.items)) (rows_set _ _ _ _ _ c.self.invariant c.args.row c.args.place _ c.args.item row place start)
           ∙ ap (λ (s : RowsState g.row.T.Denot). rows_state (set s.rows c.args.row (set (get_or s.rows c.args.row []) c.args.place c.args.item)) s.room) c.self.view_is;
     }
