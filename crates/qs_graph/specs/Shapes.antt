@@ -1,15 +1,14 @@
--- How a proof tells places apart.
-use Rattle.std.specs.Prelude.{ℕ, List, [], refl}
+-- How a proof tells places apart, and how a place's edges are kept.
+use Rattle.std.specs.Prelude.{◌≡◌, ◌≤◌, ℕ, List, length, refl, slice_index_or, take}
 use Rattle.std.specs.Coded.{Coded, code_by, coded×, coded_list, coded_ℕ, codes}
 use Rattle.qs_graph.specs.declared.node.Node.{Node}
-use Rattle.qs_graph.specs.declared.graphs.Targets.{Targets}
-use Rattle.qs_graph.specs.declared.graphs.Targets.TheVariants.{None, One, Two}
 use Rattle.qs_graph.specs.Nodes.{GraphNode}
 
-abbrev pub edges_of : Targets → List ℕ
-edges_of None = []
-edges_of (One targets) = targets
-edges_of (Two targets) = targets
+-- so many of two targets are edges, and those behind them are 0: so a target is what the edge of its place is, and 0 where there is none
+pub record AreEdges (count : ℕ) (targets : List ℕ) : Type 0 where
+  pub within : (count ≤ 2) × (length targets ≡ 2)
+  pub first : slice_index_or (take count targets) 0 0 ≡ slice_index_or targets 0 0
+  pub second : slice_index_or (take count targets) 1 0 ≡ slice_index_or targets 1 0
 
 pub node_code : Coded Node
 node_code = hlevel codes

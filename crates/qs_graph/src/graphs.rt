@@ -17,30 +17,26 @@ use qs_program::{Program, same_kind};
 use std::marker::Model;
 use std::mem;
 
-/// The numbers of the nodes that a node leads to.
-#[derive(Clone, Copy)]
-pub(crate) enum Targets {
-    None,
-    One([usize; 1]),
-    Two([usize; 2]),
-}
-
-/// A node and where it leads.
+/// A node and where it leads: the first `count` of `targets`, and zeros behind them.
 #[derive(Drop)]
 pub(crate) struct GraphNode {
     pub(crate) node: Node,
-    targets: Targets,
+    targets: [usize; 2],
+    count: usize,
 }
 
 impl Model for GraphNode {
+    ghost use Rattle.std.specs.Prelude.{take};
     ghost use Rattle.qs_graph.specs.Nodes as nodes;
-    ghost use Rattle.qs_graph.specs.Shapes.{place_code, edges_of};
+    ghost use Rattle.qs_graph.specs.Shapes.{place_code, AreEdges};
 
     ghost Value = { nodes.GraphNode };
 
     ghost coded = { place_code };
 
-    ghost view = { λ p. record { node = p.node; edges = edges_of p.targets } };
+    ghost view = { λ p. record { node = p.node; edges = take p.count p.targets } };
+
+    ghost invariant = { λ p. AreEdges p.count p.targets };
 }
 
 impl GraphNode {
@@ -50,7 +46,8 @@ impl GraphNode {
     {
         GraphNode {
             node,
-            targets: Targets::One([next]),
+            targets: [next, 0],
+            count: 1,
         }
     }
 
@@ -60,7 +57,8 @@ impl GraphNode {
     {
         GraphNode {
             node,
-            targets: Targets::Two([first, second]),
+            targets: [first, second],
+            count: 2,
         }
     }
 
@@ -70,18 +68,27 @@ impl GraphNode {
     {
         GraphNode {
             node: Node::Exit,
-            targets: Targets::None,
+            targets: [0, 0],
+            count: 0,
         }
     }
 
     fn edges(&self) -> &[usize]
         ensures value { result.now ≡ self.now.edges }
     {
-        match &self.targets {
-            Targets::None => &[],
-            Targets::One(targets) => targets,
-            Targets::Two(targets) => targets,
-        }
+        &self.targets[..self.count]
+    }
+
+    fn first_target(&self) -> usize
+        ensures value { result ≡ first_target self.now }
+    {
+        self.targets[0]
+    }
+
+    fn second_target(&self) -> usize
+        ensures value { result ≡ second_target self.now }
+    {
+        self.targets[1]
     }
 }
 
@@ -209,7 +216,7 @@ impl Graph {
         requires in_range { n < length self.now.nodes }
         ensures value { result ≡ first_target (place_at self.now.nodes n) }
     {
-        self.edges(n).first().copied().unwrap_or(0)
+        self.places[n].first_target()
     }
 
     /// The second node that a branch leads to, or 0 where a node leads to fewer than two.
@@ -217,7 +224,7 @@ impl Graph {
         requires in_range { n < length self.now.nodes }
         ensures value { result ≡ second_target (place_at self.now.nodes n) }
     {
-        self.edges(n).get(1).copied().unwrap_or(0)
+        self.places[n].second_target()
     }
 
     /// Removes a synchronisation: the node does nothing from now on, and leads where it led.
