@@ -1,6 +1,6 @@
 //! From names to numbers.
 
-ghost use Rattle.std.specs.Prelude.{◌≡◌, ◌≤◌, ◌<◌, IfOk, OnOk, length, map, true, false, None, pos, slice_index_or};
+ghost use Rattle.std.specs.Prelude.{◌≡◌, ◌≤◌, ◌<◌, ◌+◌, IfOk, OnOk, length, map, true, false, None, pos, slice_index_or};
 ghost use Rattle.std.specs.List.{AllByRecursion};
 ghost use Rattle.qs_script.specs.Form.{levels_of, IsFormed, HasForm};
 ghost use Rattle.qs_script.specs.Views.{single as single_text};
@@ -15,7 +15,7 @@ use crate::start::resolve_started;
 use qs_objects::{Kind, Op};
 use qs_places::{find_op, kind_at, kind_value};
 use qs_program::{Atom, Atoms, Block, Body, Call, Client, Declared, Expr, Names, Stmt, Test};
-use qs_script::{ClientItem, Item, Name};
+use qs_script::{ClientItem, Item, Name, Number};
 use std::alloc::{AllocError, Global};
 use std::collections::VecDeque;
 
@@ -164,7 +164,7 @@ fn resolve_body(
     Ok(code)
 }
 
-// Adds a statement. What each kind of statement needs stands in a function of its own, so that no memory is cleared for the others.
+// Adds a statement. What a statement with bodies needs stands in a function of its own, so that no memory is cleared for the others.
 #[cycle(resolve)]
 #[inline(always)]
 fn resolve_stmt(
@@ -189,23 +189,82 @@ fn resolve_stmt(
         }
         qs_script::Stmt::Assign(variable, expr) => add_assign(variables, variable, expr, code),
         qs_script::Stmt::If(test, first) => {
-            let first = resolve_body(alloc, objects, kinds, variables, first)?;
-            add_choice(variables, test, false, first, Body::new(alloc), code)
+            add_if(alloc, objects, kinds, variables, test, first, code)
         }
         qs_script::Stmt::IfElse(test, first, other) => {
-            let first = resolve_body(alloc, objects, kinds, variables, first)?;
-            let other = resolve_body(alloc, objects, kinds, variables, other)?;
-            add_choice(variables, test, true, first, other, code)
+            add_if_else(alloc, objects, kinds, variables, test, first, other, code)
         }
         qs_script::Stmt::Repeat(count, body) => {
-            let body = resolve_body(alloc, objects, kinds, variables, body)?;
-            add_repeat(count.count(), body, code)
+            add_repeat(alloc, objects, kinds, variables, *count, body, code)
         }
         qs_script::Stmt::Leave => add_leave(code),
     }
 }
 
+#[cycle(resolve)]
 #[inline(never)]
+fn add_if(
+    alloc: Global,
+    objects: &Names,
+    kinds: &[Kind],
+    variables: &Names,
+    test: &qs_script::Test,
+    first: &qs_script::Body,
+    code: &mut Body,
+) -> Result<(), AllocError>
+    requires levels { levels_of first.now + 1 ≤ most_levels }
+    requires objects { length objects.now ≤ most_objects }
+    requires variables { length variables.now ≤ most_variables }
+    ensures added { OnOk result (code.new ≡ join_statements code.old (choose (test_of variables.now test.now) false (body_of objects.now kinds.now variables.now first.now) end end)) }
+{
+    let first = resolve_body(alloc, objects, kinds, variables, first)?;
+    add_choice(variables, test, false, first, Body::new(alloc), code)
+}
+
+#[cycle(resolve)]
+#[inline(never)]
+fn add_if_else(
+    alloc: Global,
+    objects: &Names,
+    kinds: &[Kind],
+    variables: &Names,
+    test: &qs_script::Test,
+    first: &qs_script::Body,
+    other: &qs_script::Body,
+    code: &mut Body,
+) -> Result<(), AllocError>
+    requires first_levels { levels_of first.now + 1 ≤ most_levels }
+    requires other_levels { levels_of other.now + 1 ≤ most_levels }
+    requires objects { length objects.now ≤ most_objects }
+    requires variables { length variables.now ≤ most_variables }
+    ensures added { OnOk result (code.new ≡ join_statements code.old (choose (test_of variables.now test.now) true (body_of objects.now kinds.now variables.now first.now) (body_of objects.now kinds.now variables.now other.now) end)) }
+{
+    let first = resolve_body(alloc, objects, kinds, variables, first)?;
+    let other = resolve_body(alloc, objects, kinds, variables, other)?;
+    add_choice(variables, test, true, first, other, code)
+}
+
+#[cycle(resolve)]
+#[inline(never)]
+fn add_repeat(
+    alloc: Global,
+    objects: &Names,
+    kinds: &[Kind],
+    variables: &Names,
+    count: Number,
+    body: &qs_script::Body,
+    code: &mut Body,
+) -> Result<(), AllocError>
+    requires levels { levels_of body.now + 1 ≤ most_levels }
+    requires objects { length objects.now ≤ most_objects }
+    requires variables { length variables.now ≤ most_variables }
+    ensures added { OnOk result (code.new ≡ join_statements code.old (again count (body_of objects.now kinds.now variables.now body.now) end)) }
+{
+    let body = resolve_body(alloc, objects, kinds, variables, body)?;
+    add_turns(count.count(), body, code)
+}
+
+#[inline(always)]
 fn add_command(
     alloc: Global,
     objects: &Names,
@@ -243,7 +302,7 @@ fn add_long_command(
     code.push(Stmt::Command(call))
 }
 
-#[inline(never)]
+#[inline(always)]
 fn add_query(
     alloc: Global,
     objects: &Names,
@@ -283,7 +342,7 @@ fn add_long_query(
     code.push(Stmt::Query(variables.number_of(variable) as u8, call))
 }
 
-#[inline(never)]
+#[inline(always)]
 fn add_assign(
     variables: &Names,
     variable: &Name,
@@ -299,7 +358,7 @@ fn add_assign(
     ))
 }
 
-#[inline(never)]
+#[inline(always)]
 fn add_choice(
     variables: &Names,
     test: &qs_script::Test,
@@ -320,8 +379,8 @@ fn add_choice(
     })
 }
 
-#[inline(never)]
-fn add_repeat(count: u64, body: Body, code: &mut Body) -> Result<(), AllocError>
+#[inline(always)]
+fn add_turns(count: u64, body: Body, code: &mut Body) -> Result<(), AllocError>
     requires levels { nested_in (again count body end) ≤ most_levels }
     ensures added { OnOk result (code.new ≡ join_statements code.old (again count body end)) }
 {

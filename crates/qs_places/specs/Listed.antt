@@ -1,6 +1,7 @@
 -- A block's list by the numbers of its objects.
-use Rattle.std.specs.Prelude.{◌≡◌, ◌<◌, ℕ, true, List, [], length, map, slice_index_or}
-use Rattle.std.specs.List.{AllByRecursion}
+use Rattle.std.specs.Prelude.{◌≡◌, ◌<◌, ◌==◌, ℕ, Bool, true, false, List, [], length, map, slice_index_or}
+use Rattle.std.specs.List.{AllByRecursion, list_any}
+use Rattle.qs_program.specs.Limits.{most_objects}
 use Rattle.qs_program.specs.Numbering.{Name, is_among, found_at}
 
 -- the names of numbers
@@ -15,3 +16,7 @@ pub record IsFirst (objects : List Name) (i : ℕ) : Type 0 where
 
 abbrev pub AreFirst : List Name → List ℕ → Type 0
 AreFirst objects numbers = AllByRecursion (IsFirst objects) numbers
+
+-- flags that tell of each number of 8 objects whether it is in a list
+abbrev pub DoFlag : List Bool → List ℕ → Type 0
+DoFlag flags numbers = (n : ℕ) → n < most_objects → slice_index_or flags n false ≡ list_any (λ m. n == m) numbers

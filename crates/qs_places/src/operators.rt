@@ -1,6 +1,7 @@
 //! The words of the operations.
 
-ghost use Rattle.std.specs.Prelude.{◌≡◌};
+ghost use Rattle.std.specs.Prelude.{◌≡◌, length};
+ghost use Rattle.qs_program.specs.Numbering.{same_name};
 ghost use Rattle.qs_places.specs.Operators.{op_of as operation_of, account_command as account_command_of, account_query as account_query_of, buffer_command as buffer_command_of, buffer_query as buffer_query_of, grid_command as grid_command_of, grid_query as grid_query_of};
 
 use qs_objects::{Kind, Op};
@@ -22,13 +23,34 @@ pub fn find_op(asks: bool, kind: Kind, name: &Name) -> Option<Op>
     }
 }
 
+// Whether a word is a known one. Both are short, so they are compared byte by byte, which the compiler writes out for each.
+#[inline(always)]
+fn is_word(word: &[u8], known: &[u8]) -> bool
+    ensures value { result ≡ same_name word.now known.now }
+{
+    word.len() == known.len() && are_same(word, known)
+}
+
+#[inline(always)]
+fn are_same(word: &[u8], known: &[u8]) -> bool
+    requires long { length word.now ≡ length known.now }
+    ensures value { result ≡ same_name word.now known.now }
+{
+    for i in 0..known.len() {
+        if word[i] != known[i] {
+            return false;
+        }
+    }
+    true
+}
+
 fn account_command(word: &[u8]) -> Option<Op>
     ensures op { result ≡ account_command_of word.now }
 {
-    if word == b"deposit".as_slice() {
+    if is_word(word, b"deposit") {
         return Some(Op::Deposit);
     }
-    if word == b"withdraw".as_slice() {
+    if is_word(word, b"withdraw") {
         return Some(Op::Withdraw);
     }
     None
@@ -37,10 +59,10 @@ fn account_command(word: &[u8]) -> Option<Op>
 fn account_query(word: &[u8]) -> Option<Op>
     ensures op { result ≡ account_query_of word.now }
 {
-    if word == b"balance".as_slice() {
+    if is_word(word, b"balance") {
         return Some(Op::Balance);
     }
-    if word == b"refused".as_slice() {
+    if is_word(word, b"refused") {
         return Some(Op::Refused);
     }
     None
@@ -49,10 +71,10 @@ fn account_query(word: &[u8]) -> Option<Op>
 fn buffer_command(word: &[u8]) -> Option<Op>
     ensures op { result ≡ buffer_command_of word.now }
 {
-    if word == b"put".as_slice() {
+    if is_word(word, b"put") {
         return Some(Op::Put);
     }
-    if word == b"drop".as_slice() {
+    if is_word(word, b"drop") {
         return Some(Op::DropFirst);
     }
     None
@@ -61,16 +83,16 @@ fn buffer_command(word: &[u8]) -> Option<Op>
 fn buffer_query(word: &[u8]) -> Option<Op>
     ensures op { result ≡ buffer_query_of word.now }
 {
-    if word == b"take".as_slice() {
+    if is_word(word, b"take") {
         return Some(Op::TakeFirst);
     }
-    if word == b"front".as_slice() {
+    if is_word(word, b"front") {
         return Some(Op::First);
     }
-    if word == b"size".as_slice() {
+    if is_word(word, b"size") {
         return Some(Op::Size);
     }
-    if word == b"refused".as_slice() {
+    if is_word(word, b"refused") {
         return Some(Op::Refused);
     }
     None
@@ -79,13 +101,13 @@ fn buffer_query(word: &[u8]) -> Option<Op>
 fn grid_command(word: &[u8]) -> Option<Op>
     ensures op { result ≡ grid_command_of word.now }
 {
-    if word == b"set".as_slice() {
+    if is_word(word, b"set") {
         return Some(Op::SetCell);
     }
-    if word == b"add".as_slice() {
+    if is_word(word, b"add") {
         return Some(Op::AddCell);
     }
-    if word == b"fill".as_slice() {
+    if is_word(word, b"fill") {
         return Some(Op::Fill);
     }
     None
@@ -94,13 +116,13 @@ fn grid_command(word: &[u8]) -> Option<Op>
 fn grid_query(word: &[u8]) -> Option<Op>
     ensures op { result ≡ grid_query_of word.now }
 {
-    if word == b"get".as_slice() {
+    if is_word(word, b"get") {
         return Some(Op::GetCell);
     }
-    if word == b"row".as_slice() {
+    if is_word(word, b"row") {
         return Some(Op::RowSum);
     }
-    if word == b"refused".as_slice() {
+    if is_word(word, b"refused") {
         return Some(Op::Refused);
     }
     None

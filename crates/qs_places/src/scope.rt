@@ -243,6 +243,7 @@ impl Scope {
     }
 
     // A request's object, its operation, and the number of its arguments.
+    #[inline(always)]
     pub(crate) fn request(
         &self,
         asks: bool,
@@ -275,7 +276,19 @@ impl Scope {
     }
 
     /// A variable that is assigned or read.
+    #[inline(always)]
     pub fn variable(&mut self, name: &Name) -> Result<(), CheckFault>
+        ensures meets { Meets result (step self.old (variable name.now)) self.new }
+    {
+        if self.variables.guessed(name).is_some() {
+            return Ok(());
+        }
+        self.slow_variable(name)
+    }
+
+    // The same, of a variable that was not found at once.
+    #[inline(never)]
+    fn slow_variable(&mut self, name: &Name) -> Result<(), CheckFault>
         ensures meets { Meets result (step self.old (variable name.now)) self.new }
     {
         if self.variables.contains(name) {

@@ -62,6 +62,7 @@ fn check_stmt(scope: &mut Scope, inside: bool, stmt: &Stmt) -> Result<(), CheckF
     }
 }
 
+#[inline(always)]
 fn check_call(scope: &mut Scope, asks: bool, call: &Call) -> Result<(), CheckFault>
     ensures meets { Meets result (scope_or_fault scope.old (call_places asks call.now)) scope.new }
 {

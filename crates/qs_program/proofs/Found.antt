@@ -115,6 +115,16 @@ pub among_place : (xs : List Name) (o : Name) → is_among xs o ≡ nat_lt (posi
 among_place [] o = refl
 among_place (x ∷ xs) o = among_cons (same_name o x) (position_or_len (same_name o) xs) (length xs) (is_among xs o) (among_place xs o)
 
+unlisted : (b : Bool) (i : ℕ) → b ≡ false → unwrap_or (cond b (Some i) None) 0 ≡ 0
+unlisted true i h = cc
+unlisted false i h = refl
+
+-- a name that is not among them has the number 0
+pub found_none : (xs : List Name) (o : Name) → is_among xs o ≡ false → found_at xs o ≡ 0
+found_none xs o h =
+    let place = position_or_len (same_name o) xs in
+    unlisted (nat_lt place (length xs)) place (sym (among_place xs o) ∙ h)
+
 pub among_within : (xs : List Name) (o : Name) → position_or_len (same_name o) xs < length xs → is_among xs o ≡ true
 among_within xs o h = among_place xs o ∙ less (position_or_len (same_name o) xs) (length xs) h
 

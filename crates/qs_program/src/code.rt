@@ -172,7 +172,6 @@ pub struct Call {
 
 /// A statement. An `If` without `else` has an empty second body and `has_else` false.
 #[cycle(code)]
-#[derive(Drop)]
 pub enum Stmt {
     Command(Call),
     Query(u8, Call),
@@ -187,12 +186,42 @@ pub enum Stmt {
     Leave,
 }
 
+impl Drop for Stmt {
+    // In place, so that a statement is not copied to be dropped.
+    #[cycle(drops)]
+    #[inline(always)]
+    fn drop(self) {
+        match self {
+            Stmt::Command(call) | Stmt::Query(_, call) => drop(call),
+            Stmt::If {
+                test: _,
+                has_else: _,
+                first,
+                other,
+            } => {
+                drop(first);
+                drop(other);
+            }
+            Stmt::Repeat(_, body) => drop(body),
+            Stmt::Assign(_, _) | Stmt::Leave => {}
+        }
+    }
+}
+
 /// A list of statements, in which a statement stands inside at most eight others: `push` adds no other, so that no call on it, nor its
 /// drop, goes deep.
 #[cycle(code)]
-#[derive(Drop)]
 pub struct Body {
     stmts: Vec<Stmt>,
+}
+
+impl Drop for Body {
+    // By itself, so that the drop of a statement that has no body is short.
+    #[cycle(drops)]
+    #[inline(never)]
+    fn drop(self) {
+        let Body { stmts: _ } = self;
+    }
 }
 
 impl Model for Body {
@@ -247,6 +276,20 @@ impl Body {
         ensures ok { OnOk result (self.new ≡ join_statements self.old (single stmt)) }
         ensures kept { OnErr result (self.new ≡ self.old) }
     {
+        if self.stmts.len() < self.stmts.capacity() {
+            self.stmts.push_reserved(stmt);
+            return Ok(());
+        }
+        self.push_more(stmt)
+    }
+
+    // The same, where more memory is taken.
+    #[inline(never)]
+    fn push_more(&mut self, stmt: Stmt) -> Result<(), AllocError>
+        requires shallow { levels_of (single stmt) ≤ most_levels }
+        ensures ok { OnOk result (self.new ≡ join_statements self.old (single stmt)) }
+        ensures kept { OnErr result (self.new ≡ self.old) }
+    {
         self.stmts.push(stmt)?;
         Ok(())
     }
@@ -263,26 +306,31 @@ impl Body {
         load
     }
 
-    // The most requests that it can make on each of 8 objects, counted to one past their limit.
-    pub(crate) fn loads(&self) -> Loads
-        ensures capped { AreLoads self.now result }
+    // The most requests that it can make on each of 8 objects, and the most steps that it can take, both counted to one past their
+    // limit.
+    pub(crate) fn loads(&self) -> (Loads, u64)
+        ensures capped { AreLoads self.now result.0 }
+        ensures weight { result.1 ≡ min (weight_of self.now) (most_steps + 1) }
     {
         let mut loads = [0; MOST_OBJECTS];
-        self.add_loads(1, &mut loads);
-        loads
+        let weight = self.add_loads(1, &mut loads);
+        (loads, weight)
     }
 
-    // Adds the requests of so many turns.
+    // Adds the requests of so many turns, and tells the steps of one turn.
     #[cycle(loads)]
-    fn add_loads(&self, turns: u64, loads: &mut Loads)
+    fn add_loads(&self, turns: u64, loads: &mut Loads) -> u64
         requires turns { turns ≤ most_requests + 1 }
         requires small { (h : ℕ) → h < most_objects → slice_index_or loads.old h 0 ≤ most_requests + 1 }
         ensures added { (h : ℕ) → h < most_objects → slice_index_or loads.new h 0 ≡ min (slice_index_or loads.old h 0 + turns * load_of self.now h) (most_requests + 1) }
         ensures small { (h : ℕ) → h < most_objects → slice_index_or loads.new h 0 ≤ most_requests + 1 }
+        ensures weight { result ≡ min (weight_of self.now) (most_steps + 1) }
     {
+        let mut weight = 0;
         for stmt in &self.stmts {
-            stmt.add_loads(turns, loads);
+            weight = (weight + stmt.add_loads(turns, loads)).min(PAST_STEPS);
         }
+        weight
     }
 
     /// The most steps that it can take, counted to one past their limit.
@@ -314,27 +362,31 @@ impl Stmt {
         }
     }
 
-    // Adds the requests of so many turns.
+    // Adds the requests of so many turns, and tells the steps of one turn.
     #[cycle(loads)]
     #[inline(always)]
-    fn add_loads(&self, turns: u64, loads: &mut Loads)
+    fn add_loads(&self, turns: u64, loads: &mut Loads) -> u64
         requires turns { turns ≤ most_requests + 1 }
         requires small { (h : ℕ) → h < most_objects → slice_index_or loads.old h 0 ≤ most_requests + 1 }
         ensures added { (h : ℕ) → h < most_objects → slice_index_or loads.new h 0 ≡ min (slice_index_or loads.old h 0 + turns * load_of (single self.now) h) (most_requests + 1) }
         ensures small { (h : ℕ) → h < most_objects → slice_index_or loads.new h 0 ≤ most_requests + 1 }
+        ensures weight { result ≡ min (weight_of (single self.now)) (most_steps + 1) }
     {
         match self {
-            Stmt::Command(call) | Stmt::Query(_, call) => add_load(loads, call.object, turns),
+            Stmt::Command(call) | Stmt::Query(_, call) => {
+                add_load(loads, call.object, turns);
+                1
+            }
             Stmt::If { first, other, .. } => {
-                let mut others = *loads;
-                first.add_loads(turns, loads);
-                other.add_loads(turns, &mut others);
-                raise(loads, &others);
+                let weight = add_greater_loads(first, other, turns, loads);
+                (weight + 1).min(PAST_STEPS)
             }
             Stmt::Repeat(count, body) => {
-                body.add_loads(turns.saturating_mul(*count).min(PAST_REQUESTS), loads)
+                let all = turns.saturating_mul(*count).min(PAST_REQUESTS);
+                let weight = body.add_loads(all, loads);
+                (weight.max(1).saturating_mul(*count).min(PAST_STEPS) + 1).min(PAST_STEPS)
             }
-            Stmt::Assign(_, _) | Stmt::Leave => {}
+            Stmt::Assign(_, _) | Stmt::Leave => 1,
         }
     }
 
@@ -352,6 +404,24 @@ impl Stmt {
             Stmt::Command(_) | Stmt::Query(_, _) | Stmt::Assign(_, _) | Stmt::Leave => 1,
         }
     }
+}
+
+// Adds for each object the greater of two bodies' requests, and tells the greater of their steps. It stands by itself, so that no
+// memory is cleared for other statements.
+#[cycle(loads)]
+#[inline(never)]
+fn add_greater_loads(first: &Body, other: &Body, turns: u64, loads: &mut Loads) -> u64
+    requires turns { turns ≤ most_requests + 1 }
+    requires small { (h : ℕ) → h < most_objects → slice_index_or loads.old h 0 ≤ most_requests + 1 }
+    ensures added { (h : ℕ) → h < most_objects → slice_index_or loads.new h 0 ≡ min (slice_index_or loads.old h 0 + turns * max (load_of first.now h) (load_of other.now h)) (most_requests + 1) }
+    ensures small { (h : ℕ) → h < most_objects → slice_index_or loads.new h 0 ≤ most_requests + 1 }
+    ensures weight { result ≡ min (max (weight_of first.now) (weight_of other.now)) (most_steps + 1) }
+{
+    let mut others = *loads;
+    let one = first.add_loads(turns, loads);
+    let two = other.add_loads(turns, &mut others);
+    raise(loads, &others);
+    one.max(two)
 }
 
 // Counts of requests, one for each of 8 objects.

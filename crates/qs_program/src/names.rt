@@ -1,6 +1,6 @@
 //! Names, numbered in the order of their first appearance.
 
-ghost use Rattle.std.specs.Prelude.{◌≡◌, ◌≢◌, ◌<◌, ◌≤◌, false, [], OnOk, OnErr, IfOk, IfSome, is_some, length, IsTrue, slice_get, option_copied};
+ghost use Rattle.std.specs.Prelude.{◌≡◌, ◌<◌, ◌≤◌, true, [], OnOk, OnErr, IfOk, IfSome, is_some, length, slice_get, option_copied};
 ghost use Rattle.std.specs.List.{position_or_len};
 ghost use Rattle.qs_program.specs.Numbering.{same_name, with_name, number_of, found_at, is_among};
 
@@ -9,9 +9,9 @@ use std::alloc::{AllocError, Global};
 use std::marker::Model;
 
 // How many guesses are kept.
-const GUESSES: usize = 64;
+const GUESSES: usize = 128;
 
-/// Names by number, from 0. For names of one length and one last byte the number of the latest is kept as a guess; where it is
+/// Names by number, from 0. For names of one first and one last byte the number of the latest is kept as a guess; where it is
 /// wrong, a name is looked for one by one, as names are few.
 #[derive(Drop)]
 pub struct Names {
@@ -33,44 +33,38 @@ impl Model for Names {
 
 // Where the guess of a name is kept.
 #[inline(always)]
-fn guess_place(name: &Name) -> usize
-    ensures within { result < 64 }
+fn guess_place(text: &[u8]) -> usize
+    ensures within { result < 128 }
 {
-    let text = name.as_slice();
     let count = text.len();
     if count == 0 {
         return 0;
     }
-    (usize::from(text[count - 1]) + 7 * count) % GUESSES
-}
-
-// Whether two texts are as long and end alike. Most names that differ do so here.
-#[inline(always)]
-fn ends_alike(one: &[u8], other: &[u8]) -> bool
-    ensures long { IsTrue result → length one.now ≡ length other.now }
-    ensures differ { result ≡ false → one.now ≢ other.now }
-{
-    let count = one.len();
-    count == other.len() && (count == 0 || one[count - 1] == other[count - 1])
+    (4 * usize::from(text[0]) + usize::from(text[count - 1])) % GUESSES
 }
 
 #[inline(always)]
-fn is_same(one: &Name, other: &Name) -> bool
+fn is_same(one: &[u8], other: &[u8]) -> bool
     ensures value { result ≡ same_name one.now other.now }
 {
-    let one = one.as_slice();
-    let other = other.as_slice();
-    ends_alike(one, other) && are_same(one, other)
+    let count = one.len();
+    count == other.len() && (count == 0 || are_same(one, other))
 }
 
-// Whether two texts of one length have the same bytes. They are short, so they are compared one by one.
+// Whether two texts of one length have the same bytes. They are short, so they are compared one by one, but first at their ends,
+// where most names that differ do so.
 #[inline(always)]
 fn are_same(one: &[u8], other: &[u8]) -> bool
     requires long { length one.now ≡ length other.now }
+    requires some { 0 < length one.now }
     ensures value { result ≡ same_name one.now other.now }
 {
-    for (i, byte) in one.iter().enumerate() {
-        if *byte != other[i] {
+    let last = one.len() - 1;
+    if one[0] != other[0] || one[last] != other[last] {
+        return false;
+    }
+    for i in 1..last {
+        if one[i] != other[i] {
             return false;
         }
     }
@@ -83,8 +77,9 @@ fn place_among(names: &[Name], name: &Name) -> usize
     ensures place { result ≡ position_or_len (same_name name.now) names.now }
     ensures within { result ≤ length names.now }
 {
+    let text = name.as_slice();
     for (place, other) in names.iter().enumerate() {
-        if is_same(name, other) {
+        if is_same(text, other.as_slice()) {
             return place;
         }
     }
@@ -102,17 +97,34 @@ impl Names {
         }
     }
 
+    // The place of a name, where the guess for it is right.
+    #[inline(always)]
+    fn guess(&self, name: &Name) -> Option<usize>
+        ensures place { IfSome result (λ place. place ≡ position_or_len (same_name name.now) self.now) }
+        ensures within { IfSome result (λ place. place < length self.now) }
+        ensures among { IfSome result (λ _. is_among self.now name.now ≡ true) }
+    {
+        let text = name.as_slice();
+        if text.len() == 0 {
+            return None;
+        }
+        let guess = usize::from(self.guesses[guess_place(text)]);
+        if guess < self.names.len() && is_same(text, self.names[guess].as_slice()) {
+            return Some(guess);
+        }
+        None
+    }
+
     // The first place of a name, or past the last where it is none of them.
     #[inline(always)]
     fn place(&self, name: &Name) -> usize
         ensures place { result ≡ position_or_len (same_name name.now) self.now }
         ensures within { result ≤ length self.now }
     {
-        let guess = usize::from(self.guesses[guess_place(name)]);
-        if guess < self.names.len() && is_same(name, &self.names[guess]) {
-            return guess;
+        match self.guess(name) {
+            Some(place) => place,
+            None => place_among(self.names.as_slice(), name),
         }
-        place_among(self.names.as_slice(), name)
     }
 
     /// The number of a name, which is added at the end if it is new. An error leaves the names as they were.
@@ -125,7 +137,7 @@ impl Names {
         if number < self.len() {
             drop(name);
         } else {
-            let place = guess_place(&name);
+            let place = guess_place(name.as_slice());
             self.names.push(name)?;
             self.guesses[place] = (number % 256) as u8;
         }
@@ -153,21 +165,45 @@ impl Names {
         ensures among { is_some result ≡ is_among self.now name.now }
         ensures number { IfSome result (λ number. number ≡ found_at self.now name.now) }
     {
-        let place = self.place(name);
-        if place < self.len() {
+        match self.guess(name) {
+            Some(place) => Some(place),
+            None => self.find_among(name),
+        }
+    }
+
+    // The same, looked for one by one.
+    #[inline(never)]
+    fn find_among(&self, name: &Name) -> Option<usize>
+        ensures among { is_some result ≡ is_among self.now name.now }
+        ensures number { IfSome result (λ number. number ≡ found_at self.now name.now) }
+    {
+        let place = place_among(self.names.as_slice(), name);
+        if place < self.names.len() {
             Some(place)
         } else {
             None
         }
     }
 
+    /// The number of a name, if it is found at once; where it is not, nothing is said.
+    #[inline(always)]
+    pub fn guessed(&self, name: &Name) -> Option<usize>
+        ensures among { IfSome result (λ _. is_among self.now name.now ≡ true) }
+        ensures number { IfSome result (λ number. number ≡ found_at self.now name.now) }
+    {
+        self.guess(name)
+    }
+
     /// The number of a name, or 0 where it is none of them.
-    #[inline(never)]
+    #[inline(always)]
+    #[tactic(auto, using(crate::proofs::Found::found_none))]
     pub fn number_of(&self, name: &Name) -> usize
         ensures value { result ≡ found_at self.now name.now }
     {
-        let place = self.place(name);
-        if place < self.len() { place } else { 0 }
+        match self.find(name) {
+            Some(number) => number,
+            None => 0,
+        }
     }
 
     /// The name of a number; None past the last.

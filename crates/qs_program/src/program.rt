@@ -2,7 +2,7 @@
 
 ghost use Rattle.std.specs.Prelude.{◌≡◌, ◌<◌, ◌≤◌, ◌+◌, length, min, slice_index_or, sum_by};
 ghost use Rattle.qs_program.specs.Limits.{most_requests, most_steps};
-ghost use Rattle.qs_program.specs.Loads.{load_of};
+ghost use Rattle.qs_program.specs.Loads.{load_of, weight_of};
 ghost use Rattle.std.specs.Prelude.{Some, None};
 ghost use Rattle.qs_program.specs.Binding.{bound};
 ghost use Rattle.qs_program.specs.Program.{binding_of, declarations_of, declared_as, is_started, own_block, no_object};
@@ -28,11 +28,13 @@ impl Drop for Declared {
     }
 }
 
-/// A separate block: the objects that it reserves, its statements, and how many requests these can make on each of 8 objects.
+/// A separate block: the objects that it reserves, its statements, how many requests these can make on each of 8 objects, and how
+/// many steps they can take.
 pub struct Block {
     reserved: Vec<u8>,
     body: Body,
     loads: Loads,
+    steps: u64,
 }
 
 impl Drop for Block {
@@ -41,6 +43,7 @@ impl Drop for Block {
             reserved: _,
             body: _,
             loads: _,
+            steps: _,
         } = self;
     }
 }
@@ -55,9 +58,11 @@ impl Model for Block {
 
     ghost view = { λ b. record { reserved = b.reserved.items; body = b.body } };
 
-    ghost use Rattle.qs_program.specs.Loads.{AreLoads};
+    ghost use Rattle.std.specs.Prelude.{◌≡◌, ◌+◌, min};
+    ghost use Rattle.qs_program.specs.Limits.{most_steps};
+    ghost use Rattle.qs_program.specs.Loads.{AreLoads, weight_of};
 
-    ghost invariant = { λ b. AreLoads b.body b.loads };
+    ghost invariant = { λ b. AreLoads b.body b.loads × (b.steps ≡ min (weight_of b.body) (most_steps + 1)) };
 }
 
 impl Block {
@@ -65,11 +70,12 @@ impl Block {
     pub fn new(reserved: Vec<u8>, body: Body) -> Block
         ensures value { result ≡ record { reserved = reserved.items; body = body } }
     {
-        let loads = body.loads();
+        let (loads, steps) = body.loads();
         Block {
             reserved,
             body,
             loads,
+            steps,
         }
     }
 
@@ -91,6 +97,13 @@ impl Block {
         } else {
             self.body.load(object)
         }
+    }
+
+    // How many steps it can take, counted to one past their limit.
+    pub(crate) fn weight(&self) -> u64
+        ensures capped { result ≡ min (weight_of self.now.body) (most_steps + 1) }
+    {
+        self.steps
     }
 
     /// Its statements.

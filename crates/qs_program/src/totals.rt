@@ -56,7 +56,7 @@ fn blocks_weight(blocks: &[Block]) -> u64
 {
     let mut weight = 0;
     for block in blocks {
-        weight = (weight + block.body().weight()).min(PAST_STEPS);
+        weight = (weight + block.weight()).min(PAST_STEPS);
     }
     weight
 }

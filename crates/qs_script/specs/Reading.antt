@@ -210,6 +210,11 @@ abbrev pub assigned_at : List ℕ → List Token → Read Stmts
 assigned_at v (t.Name object ∷ t.Dot ∷ ts) = query_at v object ts
 assigned_at v ts = assign_at v ts
 
+-- a command with these arguments
+abbrev pub with_args : List ℕ → List ℕ → Read (List Atom) → Read Stmts
+with_args object op args =
+    (args >>= λ (as' : List Atom × List Token). Some (call_of object op as'.0, as'.1)) >>= λ (c : Call × List Token). ended_at (command c.0 end) c.1
+
 abbrev pub command_at : List ℕ → List Token → Read Stmts
 command_at object ts = call_at object ts >>= λ c. ended_at (command c.0 end) c.1
 

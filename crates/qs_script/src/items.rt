@@ -13,12 +13,15 @@ use crate::tree::{Block, Blocks, ClientItem, Item, KindText, NameList, ObjectIte
 use qs_tokens::{Name, Token};
 use std::alloc::Global;
 
+// How many objects a block may well reserve.
+const USUAL_NAMES: usize = 8;
+
 // The names after the first, and the brace that opens after them.
 fn names(alloc: Global, first: Name, tokens: &[Token]) -> Result<(NameList, &[Token]), Fault>
     ensures exact { Gives (λ x. (x.0, x.1.now)) result (after names_loop (first ∷ []) (run names_loop tokens.now)) }
     ensures shorter { IfOk result (λ x. length x.1.now < length tokens.now) }
 {
-    let mut names = Vec::new(alloc);
+    let mut names = Vec::with_capacity(alloc, USUAL_NAMES)?;
     add(&mut names, first)?;
     let mut rest = tokens;
     'each: loop {

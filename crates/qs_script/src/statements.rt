@@ -1,15 +1,15 @@
 // Statements. Each is added to its body as soon as it is read.
 
-ghost use Rattle.std.specs.Prelude.{◌≡◌, ◌<◌, ◌≤◌, length, Some, IfOk};
+ghost use Rattle.std.specs.Prelude.{◌≡◌, ◌<◌, ◌≤◌, [], ◌∷◌, length, Some, IfOk};
 ghost use Rattle.qs_script.specs.Views.{single};
-ghost use Rattle.qs_script.specs.Reading.{Gives, Puts, run, body_loop, stmt_in, stmt_at, choice_at, other_at, repeat_at, braced_at, named_at, command_at, assigned_at, query_at, assign_at, computed_at, semicolon_at, ended_at};
-ghost use Rattle.qs_script.specs.Tree.{end, leave};
+ghost use Rattle.qs_script.specs.Reading.{Gives, Puts, run, body_loop, stmt_in, stmt_at, choice_at, other_at, repeat_at, braced_at, named_at, command_at, call_of, with_args, args_at, after, more_loop, assigned_at, query_at, assign_at, computed_at, semicolon_at, ended_at};
+ghost use Rattle.qs_script.specs.Tree.{end, leave, command};
 
-use crate::expect::past_close_brace;
+use crate::expect::{past_close_brace, past_close_paren};
 use crate::fault::Fault;
 use crate::limits::MOST_LEVELS;
-use crate::tree::{Atom, Body, Call, Expr, Operator, Stmt};
-use crate::values::{atom, operator, request, test};
+use crate::tree::{Args, Atom, Body, Expr, Operator, Stmt};
+use crate::values::{args, atom, operator, request, several, test};
 use qs_tokens::{Name, Token};
 use std::alloc::Global;
 
@@ -179,11 +179,82 @@ fn command<'t>(
     ensures exact { Puts stmts.old stmts.new result (command_at object.now tokens.now) }
     ensures shorter { IfOk result (λ rest. length rest.now < length tokens.now) }
 {
-    let (op, args, rest) = request(alloc, tokens)?;
-    let rest = past_semicolon(rest)?;
-    let object = object.copied();
-    let op = op.copied();
-    put(stmts, Stmt::Command(Call { object, op, args }), rest)
+    match tokens {
+        [Token::Name(op), Token::OpenParen, rest @ ..] => called(alloc, object, op, stmts, rest),
+        [Token::Name(_), rest @ ..] => Err(Fault::Form(rest.len())),
+        _ => Err(Fault::Form(tokens.len())),
+    }
+}
+
+// Adds a command, after the bracket that opens its arguments. A first argument is not read by `atom`, so that a number and a name
+// are each written where they are seen.
+#[inline(always)]
+fn called<'t>(
+    alloc: Global,
+    object: &Name,
+    op: &Name,
+    stmts: &mut Body,
+    tokens: &'t [Token],
+) -> Result<&'t [Token], Fault>
+    ensures exact { Puts stmts.old stmts.new result (with_args object.now op.now (args_at tokens.now)) }
+    ensures shorter { IfOk result (λ rest. length rest.now < length tokens.now) }
+{
+    match tokens {
+        [Token::Number(number), rest @ ..] => {
+            called_with(alloc, object, op, Atom::Number(number.value()), stmts, rest)
+        }
+        [Token::Name(name), rest @ ..] => {
+            called_with(
+                alloc,
+                object,
+                op,
+                Atom::Variable(name.copied()),
+                stmts,
+                rest,
+            )
+        }
+        _ => {
+            let (args, rest) = args(alloc, tokens)?;
+            put_command(object, op, args, stmts, rest)
+        }
+    }
+}
+
+// Adds a command, after its first argument.
+#[inline(always)]
+fn called_with<'t>(
+    alloc: Global,
+    object: &Name,
+    op: &Name,
+    first: Atom,
+    stmts: &mut Body,
+    tokens: &'t [Token],
+) -> Result<&'t [Token], Fault>
+    ensures exact { Puts stmts.old stmts.new result (with_args object.now op.now (after more_loop (first ∷ []) (run more_loop tokens.now))) }
+    ensures shorter { IfOk result (λ rest. length rest.now < length tokens.now) }
+{
+    if let Some(rest) = past_close_paren(tokens) {
+        return put_command(object, op, Args::one(first), stmts, rest);
+    }
+    let (args, rest) = several(alloc, first, tokens)?;
+    put_command(object, op, args, stmts, rest)
+}
+
+// Adds the command, after its arguments.
+#[inline(always)]
+fn put_command<'t>(
+    object: &Name,
+    op: &Name,
+    args: Args,
+    stmts: &mut Body,
+    tokens: &'t [Token],
+) -> Result<&'t [Token], Fault>
+    ensures exact { Puts stmts.old stmts.new result (ended_at (command (call_of object.now op.now args) end) tokens.now) }
+    ensures shorter { IfOk result (λ rest. length rest.now < length tokens.now) }
+{
+    let rest = past_semicolon(tokens)?;
+    stmts.push_command(object, op, args)?;
+    Ok(rest)
 }
 
 // Adds what gives a variable its value, after the =: a request's reply, or an expression's value.
@@ -219,14 +290,8 @@ fn query<'t>(
 {
     let (op, args, rest) = request(alloc, tokens)?;
     let rest = past_semicolon(rest)?;
-    let variable = variable.copied();
-    let object = object.copied();
-    let op = op.copied();
-    put(
-        stmts,
-        Stmt::Query(variable, Call { object, op, args }),
-        rest,
-    )
+    stmts.push_query(variable, object, op, args)?;
+    Ok(rest)
 }
 
 // Adds an assignment of an expression's value, after the =.
@@ -244,11 +309,8 @@ fn assignment<'t>(
         Some((operator, after)) => computation(variable, first, operator, stmts, after),
         None => {
             let rest = past_semicolon(rest)?;
-            put(
-                stmts,
-                Stmt::Assign(variable.copied(), Expr::Plain(first)),
-                rest,
-            )
+            stmts.push_assign(variable, Expr::Plain(first))?;
+            Ok(rest)
         }
     }
 }
@@ -267,8 +329,8 @@ fn computation<'t>(
 {
     let (second, rest) = atom(tokens)?;
     let rest = past_semicolon(rest)?;
-    let expr = Expr::Binary(first, operator, second);
-    put(stmts, Stmt::Assign(variable.copied(), expr), rest)
+    stmts.push_assign(variable, Expr::Binary(first, operator, second))?;
+    Ok(rest)
 }
 
 // What comes after a semicolon.

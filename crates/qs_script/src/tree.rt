@@ -1,10 +1,12 @@
 // Syntax trees.
 
 ghost use Rattle.std.specs.Prelude.{◌≡◌, [], ◌∷◌, OnOk, OnErr, IfOk};
-ghost use Rattle.qs_script.specs.Tree.{end, join_statements};
+ghost use Rattle.qs_script.specs.Tree.{end, command, query, assign, join_statements};
+ghost use Rattle.qs_script.specs.Reading.{call_of};
 ghost use Rattle.qs_script.specs.Views.{single, stmts_of};
 ghost use Rattle.qs_script.specs.Form.{HasForm};
 
+use crate::lists::make_room;
 use qs_tokens::{Name, Number};
 use std::alloc::{AllocError, Global};
 use std::marker::Model;
@@ -128,7 +130,6 @@ pub struct Call {
 
 /// A statement. An `if` without `else` and one with an empty `else` are different statements.
 #[cycle(tree)]
-#[derive(Drop)]
 pub enum Stmt {
     Command(Call),
     Query(Name, Call),
@@ -139,11 +140,30 @@ pub enum Stmt {
     Leave,
 }
 
+// It stands within the loop over the statements of a body, which so moves none of them.
+impl Drop for Stmt {
+    #[cycle(drop)]
+    #[inline(always)]
+    fn drop(self) {
+        match self {
+            Stmt::Command(_) | Stmt::Query(_, _) | Stmt::Assign(_, _) => {}
+            Stmt::If(_, _) | Stmt::IfElse(_, _, _) | Stmt::Repeat(_, _) | Stmt::Leave => {}
+        }
+    }
+}
+
 /// A list of statements. Contracts see it as a tree without places in memory.
 #[cycle(tree)]
-#[derive(Drop)]
 pub struct Body {
     stmts: Vec<Stmt>,
+}
+
+impl Drop for Body {
+    #[cycle(drop)]
+    #[inline(never)]
+    fn drop(self) {
+        let Body { stmts: _ } = self;
+    }
 }
 
 impl Model for Body {
@@ -181,7 +201,60 @@ impl Body {
         ensures added { OnOk result (self.new ≡ join_statements self.old (single stmt)) }
         ensures kept { OnErr result (self.new ≡ self.old) }
     {
-        self.stmts.push(stmt)?;
+        make_room(&mut self.stmts)?;
+        self.stmts.push_reserved(stmt);
+        Ok(())
+    }
+
+    // Adds a command at the end. Room is made before the statement is written, here and below.
+    #[inline(always)]
+    pub(crate) fn push_command(
+        &mut self,
+        object: &Name,
+        op: &Name,
+        args: Args,
+    ) -> Result<(), AllocError>
+        ensures added { OnOk result (self.new ≡ join_statements self.old (command (call_of object.now op.now args) end)) }
+        ensures kept { OnErr result (self.new ≡ self.old) }
+    {
+        make_room(&mut self.stmts)?;
+        let object = object.copied();
+        let op = op.copied();
+        let call = Call { object, op, args };
+        self.stmts.push_reserved(Stmt::Command(call));
+        Ok(())
+    }
+
+    // Adds a query at the end.
+    #[inline(always)]
+    pub(crate) fn push_query(
+        &mut self,
+        variable: &Name,
+        object: &Name,
+        op: &Name,
+        args: Args,
+    ) -> Result<(), AllocError>
+        ensures added { OnOk result (self.new ≡ join_statements self.old (query variable.now (call_of object.now op.now args) end)) }
+        ensures kept { OnErr result (self.new ≡ self.old) }
+    {
+        make_room(&mut self.stmts)?;
+        let variable = variable.copied();
+        let object = object.copied();
+        let op = op.copied();
+        let call = Call { object, op, args };
+        self.stmts.push_reserved(Stmt::Query(variable, call));
+        Ok(())
+    }
+
+    // Adds an assignment at the end.
+    #[inline(always)]
+    pub(crate) fn push_assign(&mut self, variable: &Name, expr: Expr) -> Result<(), AllocError>
+        ensures added { OnOk result (self.new ≡ join_statements self.old (assign variable.now expr end)) }
+        ensures kept { OnErr result (self.new ≡ self.old) }
+    {
+        make_room(&mut self.stmts)?;
+        let variable = variable.copied();
+        self.stmts.push_reserved(Stmt::Assign(variable, expr));
         Ok(())
     }
 

@@ -51,7 +51,11 @@ fn more(alloc: Global, first: Atom, tokens: &[Token]) -> Result<(Args, &[Token])
 
 // The same, where more than one may come.
 #[inline(never)]
-fn several(alloc: Global, first: Atom, tokens: &[Token]) -> Result<(Args, &[Token]), Fault>
+pub(crate) fn several(
+    alloc: Global,
+    first: Atom,
+    tokens: &[Token],
+) -> Result<(Args, &[Token]), Fault>
     ensures exact { Gives (λ x. (x.0, x.1.now)) result (after more_loop (first ∷ []) (run more_loop tokens.now)) }
     ensures shorter { IfOk result (λ x. length x.1.now < length tokens.now) }
 {
@@ -70,7 +74,7 @@ fn several(alloc: Global, first: Atom, tokens: &[Token]) -> Result<(Args, &[Toke
 
 // The arguments, and the bracket that closes them.
 #[inline(always)]
-fn args(alloc: Global, tokens: &[Token]) -> Result<(Args, &[Token]), Fault>
+pub(crate) fn args(alloc: Global, tokens: &[Token]) -> Result<(Args, &[Token]), Fault>
     ensures exact { Gives (λ x. (x.0, x.1.now)) result (args_at tokens.now) }
     ensures shorter { IfOk result (λ x. length x.1.now < length tokens.now) }
 {

@@ -244,3 +244,30 @@ short_run n r e short = omega arith
 pub front_plain : (text : List ℕ) (token : Token) → 0 < length text → first_byte (get_or text 0 0) ≡ Ok (token ∷ [], nothing) → tokens_of text ≡ after (token ∷ []) (tokens_of (drop 1 text))
 front_plain [] token some e = absurd (omega arith)
 front_plain (b ∷ bs) token some e = rw e refl
+
+-- a name has a byte at least, so what is said of words with its first byte is said of it
+word_some : (b : ℕ) (bs : List ℕ) (end : ℕ) → is_letter b ≡ true → end ≡ min 17 (run_of is_name_byte (b ∷ bs)) → 0 < end
+word_some b bs end letter is =
+    let one : run_of is_name_byte (b ∷ bs) ≡ 1 + run_of is_name_byte bs = rw (or_left (is_letter b) (is_digit b) (nat_eq b 95) letter) refl in
+    omega (arith, one, is)
+
+pub word_begins : (text : List ℕ) (end : ℕ) → 0 < length text → is_letter (get_or text 0 0) ≡ true → end ≡ min 17 (run_of is_name_byte text)
+    → (token : List ℕ → Token) → ((bs : List ℕ) → word_token (get_or text 0 0 ∷ bs) ≡ token (get_or text 0 0 ∷ bs)) → word_token (take end text) ≡ token (take end text)
+word_begins [] end some letter is token all = absurd (omega arith)
+word_begins (b ∷ bs) zero some letter is token all = let some : 0 < 0 = word_some b bs zero letter is in absurd (omega arith)
+word_begins (b ∷ bs) (suc m) some letter is token all = all (take m bs)
+
+-- a sign without the = that may follow it
+pub sign_alone : (text : List ℕ) (alone both : Token) → 1 < length text → first_byte (get_or text 0 0) ≡ Ok ([], sign (Some alone) both) → get_or text 1 0 ≢ 61
+    → tokens_of text ≡ after (alone ∷ []) (tokens_of (drop 1 text))
+sign_alone [] alone both some is other = absurd (omega arith)
+sign_alone (b ∷ bs) alone both some is other =
+    ap (λ s. going_on s (λ q. tokens_from q bs)) is ∙ after-nil (tokens_from (sign (Some alone) both) bs) ∙ without_equals (Some alone) both bs (λ more. other)
+
+-- a number of which nineteen digits were looked at
+pub short_number : (text : List ℕ) (n : ℕ) → n ≡ run_of is_digit (take 19 text) → n ≤ 18 → n ≡ run_of is_digit text
+short_number text n is short = omega (arith, is, run_take is_digit 19 text)
+
+pub cut_number : (text : List ℕ) (n : ℕ) → 0 < length text → is_letter (get_or text 0 0) ≡ false → is_digit (get_or text 0 0) ≡ true → n ≡ run_of is_digit (take 19 text) → 18 < n → tokens_of text ≡ Err Number
+cut_number text n some not_letter digit is long =
+    many_digits text (run_of is_digit text) some not_letter digit refl (run_within is_digit text) (omega (arith, is, run_take is_digit 19 text))

@@ -10,7 +10,7 @@ use Rattle.qs_tokens.specs.declared.lex.Piece.{Piece}
 use Rattle.qs_tokens.specs.declared.lex.Piece.TheVariants as p
 use Rattle.qs_tokens.specs.declared.listing.ListFault.{ListFault}
 use Rattle.qs_tokens.specs.declared.listing.ListFault.TheVariants as l
-use Rattle.qs_tokens.specs.Tokens.{is_name_byte, is_digit, tokens_of, after, at, signs}
+use Rattle.qs_tokens.specs.Tokens.{is_name_byte, is_digit, tokens_of, after, at, signs, same, word_token}
 
 -- whether a byte goes on with the run
 abbrev pub in_run : Run → ℕ → Bool
@@ -39,6 +39,16 @@ abbrev pub Adds : List Token → List Token → Result ℕ TokenFault → List �
 Adds old new (Ok n) text = after old (tokens_of text) ≡ after new (tokens_of (drop n text))
 Adds old new (Err e) text = tokens_of text ≡ Err e
 
+-- the same, with the bytes that are left
+abbrev pub AddsMost : List Token → List Token → Result (Bor (List ℕ)) TokenFault → List ℕ → Type 0
+AddsMost old new (Ok rest) text = after old (tokens_of text) ≡ after new (tokens_of rest.now)
+AddsMost old new (Err e) text = tokens_of text ≡ Err e
+
+-- the same, where all the bytes are passed over
+abbrev pub AddsAll : List Token → List Token → Result (Unit {0}) TokenFault → List ℕ → Type 0
+AddsAll old new (Ok u) text = after old (tokens_of text) ≡ Ok new
+AddsAll old new (Err e) text = tokens_of text ≡ Err e
+
 -- the first fault of a text, unless memory ran out
 abbrev pub IsFirstFault : Result (List Token) TokenFault → ListFault → Type 0
 IsFirstFault all (l.Token e) = all ≡ Err e
@@ -48,6 +58,14 @@ IsFirstFault all l.Memory = Unit {0}
 abbrev pub or_name : List ℕ → Option Token → Token
 or_name word None = t.Name word
 or_name word (Some token) = token
+
+-- the word is the only reserved one with this first byte
+abbrev pub IsOnlyWith : ℕ → List ℕ → Token → Type 0
+IsOnlyWith first word token = (bs : List ℕ) → word_token (first ∷ bs) ≡ (if same (first ∷ bs) word then token else t.Name (first ∷ bs))
+
+-- no reserved word has this first byte
+abbrev pub BeginsNone : ℕ → Type 0
+BeginsNone first = (bs : List ℕ) → word_token (first ∷ bs) ≡ t.Name (first ∷ bs)
 
 -- a sign with = after it, and the sign of a byte alone, if these are signs
 abbrev pub with_equals : Option (Option Token × Token) → Option Token

@@ -1,8 +1,8 @@
 //! From bytes to tokens.
 
-ghost use Rattle.std.specs.Prelude.{◌≡◌, ◌-◌, drop, ◌<◌, ◌≤◌, ◌≢◌, length, slice_index, IsTrue, IfOk, All, false};
+ghost use Rattle.std.specs.Prelude.{◌≡◌, ◌-◌, ◌+◌, ◌^◌, drop, take, ◌<◌, ◌≤◌, ◌≢◌, length, slice_index, IsTrue, IfOk, All, false};
 ghost use Rattle.qs_tokens.specs.Limits.{most_digits};
-ghost use Rattle.qs_tokens.specs.Tokens.{is_digit as digit, is_letter as letter, is_space as space, at, equals_signs, value_of, word_token, tokens_of, same};
+ghost use Rattle.qs_tokens.specs.Tokens.{is_digit as digit, is_letter as letter, is_space as space, is_name_byte, at, equals_signs, value_of, word_token, tokens_of, same};
 ghost use Rattle.qs_tokens.specs.Cutting.{Cuts, in_run, run_of, or_name, with_equals, alone};
 
 use crate::limits::{LONGEST_NAME, MOST_DIGITS};
@@ -34,12 +34,30 @@ pub(crate) enum Run {
     Comment,
 }
 
+// For each byte an n where it may stand in a name, else a dot.
+static NAME_BYTES: [u8; 256] = *b"\
+    ................................\
+    ................nnnnnnnnnn......\
+    ...............................n\
+    .nnnnnnnnnnnnnnnnnnnnnnnnnn.....\
+    ................................\
+    ................................\
+    ................................\
+    ................................";
+
+#[inline(always)]
+fn in_name(b: u8) -> bool
+    ensures { result ≡ is_name_byte b }
+{
+    NAME_BYTES[b as usize] == b'n'
+}
+
 #[inline(always)]
 fn belongs(run: Run, b: u8) -> bool
     ensures { result ≡ in_run run b }
 {
     match run {
-        Run::Name => b.is_ascii_lowercase() || b.is_ascii_digit() || b == b'_',
+        Run::Name => in_name(b),
         Run::Digits => b.is_ascii_digit(),
         Run::Comment => b != b'\n',
     }
@@ -127,7 +145,7 @@ pub(crate) fn reserved(word: &[u8]) -> Option<Token>
 
 // Whether the word is this one.
 #[inline(always)]
-fn is(word: &[u8], reserved: &[u8]) -> bool
+pub(crate) fn is(word: &[u8], reserved: &[u8]) -> bool
     ensures { result ≡ same word.now reserved.now }
 {
     word == reserved
@@ -212,6 +230,25 @@ pub(crate) fn sign_alone(b: u8) -> Option<Token>
         b'>' => Some(Token::Greater),
         _ => None,
     }
+}
+
+// The number that the digits at the front write, and where they end. Nineteen digits fit.
+#[inline(always)]
+pub(crate) fn leading_number(text: &[u8]) -> (u64, usize)
+    requires short { length text.now ≤ most_digits + 1 }
+    ensures end { result.1 ≡ run_of digit text.now }
+    ensures within { result.1 ≤ length text.now }
+    ensures value { result.0 ≡ value_of (take result.1 text.now) }
+    ensures small { result.0 < 10 ^ result.1 }
+{
+    let mut value: u64 = 0;
+    for (i, b) in text.iter().enumerate() {
+        if !b.is_ascii_digit() {
+            return (value, i);
+        }
+        value = value * 10 + u64::from(*b - b'0');
+    }
+    (value, text.len())
 }
 
 // The number that at most eighteen digits write.

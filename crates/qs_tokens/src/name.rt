@@ -56,15 +56,12 @@ impl Name {
         requires short { end ≤ longest_name }
         ensures same { result ≡ take end text.now }
     {
-        let mut bytes = [0; LONGEST_NAME];
-        if text.len() < LONGEST_NAME {
-            bytes[..end].copy_from_slice(&text[..end]);
-        } else {
-            bytes.copy_from_slice(&text[..LONGEST_NAME]);
-        }
-        Name {
-            bytes,
-            len: end as u8,
+        match text.first_chunk::<LONGEST_NAME>() {
+            Some(bytes) => Name {
+                bytes: *bytes,
+                len: end as u8,
+            },
+            None => Name::new(&text[..end]),
         }
     }
 

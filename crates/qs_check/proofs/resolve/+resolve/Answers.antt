@@ -27,39 +27,36 @@ resolve_body-returns t c = record {
       ∙ ap (body_of c.args.objects.now c.args.kinds.now c.args.variables.now) (sym c.as_slice-stmts.ensures.same);
 }
 
-pub resolve_stmt-add_choice-requires-clause-levels :
-    goal.resolve_stmt-add_choice-requires-clause-levels
-resolve_stmt-add_choice-requires-clause-levels t c =
-    omega (
-      arith,
-      ap levels_of c.in_ok-first-in-If.ensures.body,
-      levels_same c.args.objects.now c.args.kinds.now c.args.variables.now c.in-If.first,
-      ap levels_of c.new.ensures.empty,
-      ap (λ s. form.levels_of (views.single s)) c.in-If.is,
-      c.requires.levels,
-    )
+pub resolve_stmt-add_if-requires : goal.resolve_stmt-add_if-requires
+resolve_stmt-add_if-requires t c = (
+  omega (arith, ap (λ s. views.size_of (views.single s)) c.in-If.is, c.decreases),
+  (omega (arith, ap (λ s. form.levels_of (views.single s)) c.in-If.is, c.requires.levels), (c.requires.objects, c.requires.variables)),
+)
 
-pub resolve_stmt-add_choice-requires-in-IfElse-clause-levels :
-    goal.resolve_stmt-add_choice-requires-in-IfElse-clause-levels
-resolve_stmt-add_choice-requires-in-IfElse-clause-levels t c =
-    omega (
-      arith,
-      ap levels_of c.in_ok-first-in-IfElse.ensures.body,
-      levels_same c.args.objects.now c.args.kinds.now c.args.variables.now c.in-IfElse.first,
-      ap levels_of c.in_ok-other-in-IfElse.ensures.body,
-      levels_same c.args.objects.now c.args.kinds.now c.args.variables.now c.in-IfElse.other,
-      ap (λ s. form.levels_of (views.single s)) c.in-IfElse.is,
-      c.requires.levels,
+pub resolve_stmt-add_if_else-requires : goal.resolve_stmt-add_if_else-requires
+resolve_stmt-add_if_else-requires t c =
+    let levels = ap (λ s. form.levels_of (views.single s)) c.in-IfElse.is in (
+      omega (arith, ap (λ s. views.size_of (views.single s)) c.in-IfElse.is, c.decreases),
+      (omega (arith, levels, c.requires.levels), (omega (arith, levels, c.requires.levels), (c.requires.objects, c.requires.variables))),
     )
 
 pub resolve_stmt-add_repeat-requires : goal.resolve_stmt-add_repeat-requires
-resolve_stmt-add_repeat-requires t c = record {
+resolve_stmt-add_repeat-requires t c = (
+  omega (arith, ap (λ s. views.size_of (views.single s)) c.in-Repeat.is, c.decreases),
+  (omega (arith, ap (λ s. form.levels_of (views.single s)) c.in-Repeat.is, c.requires.levels), (c.requires.objects, c.requires.variables)),
+)
+
+pub add_if-add_choice-requires-clause-levels : goal.add_if-add_choice-requires-clause-levels
+add_if-add_choice-requires-clause-levels t c =
+    omega (arith, ap levels_of c.in_ok-first.ensures.body, levels_same c.args.objects.now c.args.kinds.now c.args.variables.now c.args.first.now, ap levels_of c.new.ensures.empty, c.requires.levels)
+
+pub add_if_else-add_choice-requires-clause-levels :
+    goal.add_if_else-add_choice-requires-clause-levels
+add_if_else-add_choice-requires-clause-levels t c =
+    omega (arith, ap levels_of c.in_ok-first.ensures.body, levels_same c.args.objects.now c.args.kinds.now c.args.variables.now c.args.first.now, ap levels_of c.in_ok-other.ensures.body, levels_same c.args.objects.now c.args.kinds.now c.args.variables.now c.args.other.now, c.requires.first_levels, c.requires.other_levels)
+
+pub add_repeat-add_turns-requires : goal.add_repeat-add_turns-requires
+add_repeat-add_turns-requires t c = record {
   levels =
-      omega (
-        arith,
-        ap levels_of c.in_ok-body-in-Repeat.ensures.body,
-        levels_same c.args.objects.now c.args.kinds.now c.args.variables.now c.in-Repeat.body,
-        ap (λ s. form.levels_of (views.single s)) c.in-Repeat.is,
-        c.requires.levels,
-      );
+      omega (arith, ap levels_of c.in_ok-body.ensures.body, levels_same c.args.objects.now c.args.kinds.now c.args.variables.now c.args.body.now, c.requires.levels);
 }

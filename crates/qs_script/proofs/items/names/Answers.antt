@@ -6,7 +6,7 @@ use Rattle.qs_script.proofs.items.names.Goals as goal
 
 pub each-init : goal.each-init
 each-init c = record {
-  whole = rw (c.in_ok-add.ensures.added, c.new-names.ensures.items) (list_begins open_brace_at name_at (c.args.first ∷ []) c.args.tokens.now);
+  whole = rw (c.in_ok-add.ensures.added, c.in_ok-names.ensures.items) (list_begins open_brace_at name_at (c.args.first ∷ []) c.args.tokens.now);
   shorter = omega arith;
 }
 

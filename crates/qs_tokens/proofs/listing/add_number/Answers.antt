@@ -1,17 +1,26 @@
-use Rattle.std.proofs.Common.{◌∙◌, refl, arith}
-use Rattle.qs_tokens.proofs.Lexemes.{front_passes, many_digits, few_digits}
-use Rattle.qs_tokens.proofs.Lists.{adds}
+use Rattle.std.proofs.Common.{◌≡◌, ◌≤◌, ◌∙◌, ℕ, List, take, ap, arith}
+use Rattle.std.proofs.lemmas.List.{take-take}
+use Rattle.qs_tokens.specs.Tokens.{value_of}
+use Rattle.qs_tokens.proofs.Lexemes.{cut_number, short_number}
+use Rattle.qs_tokens.proofs.Lists.{adds_number}
+use Rattle.qs_tokens.proofs.Powers.{ten_mono}
 use Rattle.qs_tokens.proofs.listing.add_number.Goals as goal
+
+-- the digits stand within the bytes that are looked at
+taken : (text : List ℕ) (end : ℕ) → end ≤ 19 → value_of (take end (take 19 text)) ≡ value_of (take end text)
+taken text end within = ap value_of (take-take end 19 text within)
 
 pub returns-then-end-gt-MOST_DIGITS-clause-exact : goal.returns-then-end-gt-MOST_DIGITS-clause-exact
 returns-then-end-gt-MOST_DIGITS-clause-exact c =
-    many_digits c.args.text.now c.run_end-end.result c.requires.some c.requires.not_letter c.requires.digit c.run_end-end.ensures.run c.run_end-end.ensures.within (omega arith)
+    cut_number c.args.text.now c.leading_number-value.result.1 (omega arith) c.requires.not_letter c.requires.digit c.leading_number-value.ensures.end (omega arith)
 
-pub number_of-requires-clause-digits : goal.number_of-requires-clause-digits
-number_of-requires-clause-digits c = front_passes c.args.text.now _ c.run_end-end.result c.run_end-end.ensures.run refl
+pub new-requires : goal.new-requires
+new-requires c = record {
+  small = omega (arith, c.leading_number-value.ensures.small, ten_mono c.leading_number-value.result.1 18 (omega arith));
+}
 
 pub returns-clause-exact : goal.returns-clause-exact
 returns-clause-exact c =
-    adds _ _ _ _ _ c.put.result c.put.ensures.same c.put.ensures.added
-    (few_digits c.args.text.now _ c.run_end-end.result _ c.requires.some c.requires.not_letter c.requires.digit c.run_end-end.ensures.run c.run_end-end.ensures.within (omega arith)
-    refl (c.new-number.ensures.same ∙ c.number_of.ensures.value))
+    adds_number _ _ _ c.args.text.now c.leading_number-value.result.1 _ c.put.result c.put.ensures.same c.put.ensures.added c.with_space.ensures.same (omega arith) c.requires.not_letter c.requires.digit
+    (short_number c.args.text.now c.leading_number-value.result.1 c.leading_number-value.ensures.end (omega arith)) (omega arith) (omega arith)
+    (c.new.ensures.same ∙ c.leading_number-value.ensures.value ∙ taken c.args.text.now c.leading_number-value.result.1 (omega arith))

@@ -1,5 +1,5 @@
 use Rattle.qs_program.proofs.StatementLists.{statements_of-append}
 use Rattle.qs_program.proofs.code.Body.push.Goals as goal
 
-pub returns-clause-ok : goal.returns-clause-ok
-returns-clause-ok c = rw (c.in_ok-push.ensures.items, ← c.self.view_is) (statements_of-append c.self.inside.stmts.items c.args.stmt)
+pub returns-then-len-capacity-clause-ok : goal.returns-then-len-capacity-clause-ok
+returns-then-len-capacity-clause-ok c = rw (c.push_reserved.ensures.items, ← c.self.view_is) (statements_of-append c.self.inside.stmts.items c.args.stmt)

@@ -1,10 +1,10 @@
 use Rattle.std.proofs.Common.{◌≡◌, ◌≤◌, ◌+◌, length, vec_len, vec_capacity}
 use Rattle.qs_tokens.specs.Tokens.{tokens_of, after}
-use Rattle.qs_tokens.proofs.listing.list_tokens.Given as goal
+use Rattle.qs_tokens.proofs.listing.add_most.Given as goal
 
 abbrev pub invariant-each : goal.invariant-each
 invariant-each l = record {
-  so_far : tokens_of l.text ≡ after l.tokens.items (tokens_of l.rest);
+  so_far : after l.fn.tokens.items (tokens_of l.text) ≡ after l.tokens.items (tokens_of l.rest);
   room : vec_len l.tokens + length l.rest ≤ vec_capacity l.tokens;
 }
 
