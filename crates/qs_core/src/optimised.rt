@@ -68,6 +68,7 @@ impl<'p> Core<'p> {
 
     /// One step of an actor: true where it has one, and else false, with nothing changed; also where there is no such actor. What has
     /// run stays isolated, and each Sync that was sent is counted.
+    #[inline(always)]
     pub fn step(&mut self, actor: Actor) -> bool
         ensures steps { OnTrue result (CoreSteps self.old actor self.new) }
         ensures none { result ≡ false → core_step (codes_of self.old) self.old.size (core_of self.old) actor ≡ None }
@@ -126,10 +127,14 @@ impl<'p> Core<'p> {
         let handlers = program.objects() as u8;
         let mut stepped = false;
         for client in 0..clients {
-            stepped |= self.step(Actor::Client(client));
+            if self.step(Actor::Client(client)) {
+                stepped = true;
+            }
         }
         for handler in 0..handlers {
-            stepped |= self.step(Actor::Handler(handler));
+            if self.step(Actor::Handler(handler)) {
+                stepped = true;
+            }
         }
         stepped
     }

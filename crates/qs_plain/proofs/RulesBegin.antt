@@ -1,7 +1,7 @@
 -- As a client begins a block, what the code keeps still holds, and the step is that of the plain rules. The contract of
 -- `separate` promises both. What was prepared for the block has the room that it needs; each handler either got one new private
 -- queue or is as it was, and the blocks still to come are one fewer, so each handler has room for the rest.
-use Rattle.std.proofs.Common.{◌≡◌, ◌<◌, ◌≤◌, ℕ, ◌+◌, ◌-◌, ◌==◌, ◌&&◌, Bool, true, false, ◌⊎◌, inl, inr, List, [], ◌∷◌, ◌++◌, map, length, get_or, ap, sym, subst, ◌∙◌, arith, length-set, add-zero, Some, nat_lt}
+use Rattle.std.proofs.Common.{◌≡◌, ◌≢◌, ◌<◌, ◌≤◌, ℕ, ◌+◌, ◌-◌, ◌==◌, ◌&&◌, Bool, true, false, ◌⊎◌, inl, inr, List, [], ◌∷◌, ◌++◌, map, length, get_or, ap, sym, subst, ◌∙◌, arith, length-set, add-zero, Some, nat_lt}
 use Rattle.std.specs.List.{AllByRecursion, IsDistinct}
 use Rattle.std.proofs.Math.ListN.{set}
 use Rattle.std.proofs.lemmas.List.{length-append, length-map, map-append, map-set}
@@ -21,7 +21,7 @@ use Rattle.qs_plain_client.specs.ClientMoves.{Begins}
 use Rattle.qs_plain_client.specs.Clients.{ClientState, IsClient, IsStaged, IsReady, block_of, client_of, stage_of, absent, client_at}
 use Rattle.qs_plain_client.specs.Frames.{rest, next_of, load_left}
 use Rattle.qs_objects.specs.Traces.{TraceState}
-use Rattle.qs_plain_client.specs.Queues.{QueueState}
+use Rattle.qs_plain_client.specs.Queues.{AreApart, QueueState}
 use Rattle.qs_plain_client.specs.PreparedBlock.{IsReadyQueue}
 use Rattle.qs_plain_client.proofs.FrameMoves.{AllByRecursion-push}
 use Rattle.qs_plain_client.specs.declared.stage.Stage.TheVariants as stage
@@ -29,6 +29,7 @@ use Rattle.qs_plain.specs.Handlers.{handler_at, with_queue, entered_all, CanEnte
 use Rattle.qs_plain.specs.Rules.{RulesState, IsRules, IsOpen, to_come, is_in_block, plain_of}
 use Rattle.qs_plain.specs.Served.{handler_of}
 use Rattle.qs_plain.proofs.HandlersPreserved.{entered_each, length-entered_all}
+use Rattle.qs_plain_client.proofs.OnePlace.{apart_push}
 use Rattle.qs_plain.proofs.RulesPreserved.{set_cases, own_after, same_client}
 use Rattle.qs_plain.proofs.RulesSteps.{IsEmptyOf, plain_client, plain-entered_all}
 
@@ -144,6 +145,7 @@ module _ (r : RulesState) (kept : IsRules r) (sound : IsSound r.program) (c : �
     handlers = length-entered_all r.handlers queues ∙ kept.handlers;
     rooms = λ h less. rooms_after h (rw length-entered_all at less) (entered_each (λ h q. IsReadyQueue c here block (h, q)) r.handlers queues fresh_queues distinct inside h);
     queues = λ h less. queues_after h (rw length-entered_all at less) (entered_each (λ h q. IsReadyQueue c here block (h, q)) r.handlers queues fresh_queues distinct inside h);
+    apart = λ h less. apart_after h (rw length-entered_all at less) (entered_each (λ h q. IsReadyQueue c here block (h, q)) r.handlers queues fresh_queues distinct inside h);
   }
     where
       rooms_after : (h : ℕ) → h < length r.handlers
@@ -151,6 +153,20 @@ module _ (r : RulesState) (kept : IsRules r) (sound : IsSound r.program) (c : �
           → to_come (set r.clients c new) ≤ (handler_at (entered_all r.handlers queues) h).room
       rooms_after h less (inl as_it_was) = rw as_it_was (omega (arith, fewer, kept.rooms h less))
       rooms_after h less (inr (q, fresh, came)) = rw came (omega (arith, fewer, kept.rooms h less))
+
+      -- a block that was begun before has a lower number
+      older : (h : ℕ) (q x : QueueState) → IsReadyQueue c here block (h, q) → IsOpen r.clients h x → x.queue.ticket ≢ q.queue.ticket
+      older h q x fresh opened is =
+          let its_ticket : x.queue.ticket ≡ ticket c here = is ∙ ap (λ p. p.ticket) fresh.0 in
+          absurd (omega (arith, opened.begun c within (ap (λ (t : Ticket). t.client) its_ticket), ap (λ (t : Ticket). t.index) its_ticket))
+
+      apart_after : (h : ℕ) → h < length r.handlers
+          → (handler_at (entered_all r.handlers queues) h ≡ handler_at r.handlers h) ⊎ ((q : QueueState) × IsReadyQueue c here block (h, q) × (handler_at (entered_all r.handlers queues) h ≡ with_queue q (handler_at r.handlers h)))
+          → AreApart (handler_at (entered_all r.handlers queues) h).queues
+      apart_after h less (inl as_it_was) = rw as_it_was (kept.apart h less)
+      apart_after h less (inr (q, fresh, came)) =
+          rw came (apart_push (handler_at r.handlers h).queues q (kept.apart h less)
+          (each_implies (IsOpen r.clients h) (λ (x : QueueState). x.queue.ticket ≢ q.queue.ticket) (handler_at r.handlers h).queues (λ x opened. older h q x fresh opened) (kept.queues h less)))
 
       queues_after : (h : ℕ) → h < length r.handlers
           → (handler_at (entered_all r.handlers queues) h ≡ handler_at r.handlers h) ⊎ ((q : QueueState) × IsReadyQueue c here block (h, q) × (handler_at (entered_all r.handlers queues) h ≡ with_queue q (handler_at r.handlers h)))

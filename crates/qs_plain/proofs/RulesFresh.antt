@@ -52,6 +52,7 @@ module _ (p : ProgramShape) (room : ℕ) (cs : List ClientState) (hs : List Hand
     handlers = still.many;
     rooms = λ h less. rw (still.each h (rw still.many at less)) (omega (arith, fresh_to_come, enough));
     queues = λ h less. rw (still.each h (rw still.many at less)) tt;
+    apart = λ h less. rw (still.each h (rw still.many at less)) tt;
   }
 
   pub fresh_plain : plain_of (fresh_rules []) ≡ begin p

@@ -89,10 +89,13 @@ module _ (r : RulesState) (kept : IsRules r) (sound : IsSound r.program) (c : �
   can_log_at : (h : ℕ) → h < length r.handlers → CanLog now r.handlers h
   can_log_at h less = (
     less,
-    λ i d place mine.
-        let opened : IsOpen r.clients h (get_or (handler_at r.handlers h).queues i d) = AllByRecursion-get_or (IsOpen r.clients h) (handler_at r.handlers h).queues i d (kept.queues h less) place in
-        let in_block : is_in_block old.stage ≡ true = rw stays refl in
-        omega (arith, opened.room c inside in_block mine),
+    (
+      λ i d place mine.
+          let opened : IsOpen r.clients h (get_or (handler_at r.handlers h).queues i d) = AllByRecursion-get_or (IsOpen r.clients h) (handler_at r.handlers h).queues i d (kept.queues h less) place in
+          let in_block : is_in_block old.stage ≡ true = rw stays refl in
+          omega (arith, opened.room c inside in_block mine),
+      kept.apart h less,
+    ),
   )
 
   pub can_log : (h : ℕ) → is_in (current_block old).reserved h ≡ true → CanLog now r.handlers h

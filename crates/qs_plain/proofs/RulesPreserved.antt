@@ -11,11 +11,12 @@ use Rattle.qs_played.specs.Played.{ticket}
 use Rattle.qs_plain_laws.specs.declared.item.QueueItem.{QueueItem}
 use Rattle.qs_plain_client.specs.Clients.{ClientState, absent, client_at}
 use Rattle.qs_plain_client.specs.Frames.{load_left}
-use Rattle.qs_plain_client.specs.Queues.{QueueState}
+use Rattle.qs_plain_client.specs.Queues.{AreApart, QueueState, after_put}
 use Rattle.qs_plain.specs.Handlers.{handler_at, nobody, with_logged_item}
 use Rattle.qs_plain.specs.Rules.{RulesState, IsRules, IsOpen, to_come, is_in_block}
-use Rattle.qs_plain.specs.Served.{HandlerState, after_put}
+use Rattle.qs_plain.specs.Served.{HandlerState}
 use Rattle.qs_plain.proofs.HandlersPreserved.{equal_or_not}
+use Rattle.qs_plain_client.proofs.OnePlace.{apart_put}
 
 -- what holds of each client still holds with another at c
 pub set_cases : (P : ℕ → ClientState → Type 0) (cs : List ClientState) (c : ℕ) (new : ClientState) → c < length cs → P c new → ((k : ℕ) → k ≢ c → k < length cs → P k (client_at cs k))
@@ -110,6 +111,7 @@ module _ (r : RulesState) (kept : IsRules r) where
     handlers = kept.handlers;
     rooms = λ h less. rw (same_to_come r.clients c within new continues) (kept.rooms h less);
     queues = λ h less. all_same r.clients c within new continues h (handler_at r.handlers h).queues (kept.queues h less);
+    apart = kept.apart;
   }
 
   -- an item was logged at some handlers
@@ -124,12 +126,18 @@ module _ (r : RulesState) (kept : IsRules r) where
     handlers = long ∙ kept.handlers;
     rooms = λ h less. rooms_after h (rw long at less) (each h);
     queues = λ h less. queues_after h (rw long at less) (each h);
+    apart = λ h less. apart_after h (rw long at less) (each h);
   }
     where
       rooms_after : (h : ℕ) → h < length r.handlers → (handler_at hs h ≡ handler_at r.handlers h) ⊎ (handler_at hs h ≡ with_logged_item t i (handler_at r.handlers h))
           → to_come (set r.clients c new) ≤ (handler_at hs h).room
       rooms_after h less (inl as_it_was) = rw (as_it_was, same_to_come r.clients c within new continues) (kept.rooms h less)
       rooms_after h less (inr with_item) = rw (with_item, same_to_come r.clients c within new continues) (kept.rooms h less)
+
+      apart_after : (h : ℕ) → h < length r.handlers → (handler_at hs h ≡ handler_at r.handlers h) ⊎ (handler_at hs h ≡ with_logged_item t i (handler_at r.handlers h))
+          → AreApart (handler_at hs h).queues
+      apart_after h less (inl as_it_was) = rw as_it_was (kept.apart h less)
+      apart_after h less (inr with_item) = rw with_item (apart_put t i (handler_at r.handlers h).queues (kept.apart h less))
 
       queues_after : (h : ℕ) → h < length r.handlers → (handler_at hs h ≡ handler_at r.handlers h) ⊎ (handler_at hs h ≡ with_logged_item t i (handler_at r.handlers h))
           → AllByRecursion (IsOpen (set r.clients c new) h) (handler_at hs h).queues
@@ -147,14 +155,15 @@ module _ (r : RulesState) (kept : IsRules r) where
           by_stage false e = put (λ f. cc)
 
   -- the handler's first private queue became shorter, or went away
-  pub served_kept : (h : ℕ) (new : HandlerState) → h < length r.handlers → (handler_at r.handlers h).room ≤ new.room → AllByRecursion (IsOpen r.clients h) new.queues
+  pub served_kept : (h : ℕ) (new : HandlerState) → h < length r.handlers → (handler_at r.handlers h).room ≤ new.room → AllByRecursion (IsOpen r.clients h) new.queues → AreApart new.queues
       → IsRules (record { program = r.program; order = r.order; clients = r.clients; handlers = set r.handlers h new })
-  served_kept h new within room queues = record {
+  served_kept h new within room queues apart = record {
     clients = kept.clients;
     own = kept.own;
     handlers = length-set r.handlers h new ∙ kept.handlers;
     rooms = λ k less. rooms_after k (rw length-set at less) (equal_or_not k h);
     queues = λ k less. queues_after k (rw length-set at less) (equal_or_not k h);
+    apart = λ k less. apart_after k (rw length-set at less) (equal_or_not k h);
   }
     where
       rooms_after : (k : ℕ) → k < length r.handlers → (k ≡ h) ⊎ (k ≢ h) → to_come r.clients ≤ (handler_at (set r.handlers h new) k).room
@@ -168,3 +177,9 @@ module _ (r : RulesState) (kept : IsRules r) where
           subst (λ n. AllByRecursion (IsOpen r.clients n) (handler_at (set r.handlers h new) n).queues) (sym is)
           (subst (λ (x : HandlerState). AllByRecursion (IsOpen r.clients h) x.queues) (sym (get_or-set_same r.handlers h new nobody within)) queues)
       queues_after k less (inr other) = subst (λ (x : HandlerState). AllByRecursion (IsOpen r.clients k) x.queues) (sym (get_or-set_other r.handlers h k new nobody other)) (kept.queues k less)
+
+      apart_after : (k : ℕ) → k < length r.handlers → (k ≡ h) ⊎ (k ≢ h) → AreApart (handler_at (set r.handlers h new) k).queues
+      apart_after k less (inl is) =
+          subst (λ n. AreApart (handler_at (set r.handlers h new) n).queues) (sym is)
+          (subst (λ (x : HandlerState). AreApart x.queues) (sym (get_or-set_same r.handlers h new nobody within)) apart)
+      apart_after k less (inr other) = subst (λ (x : HandlerState). AreApart x.queues) (sym (get_or-set_other r.handlers h k new nobody other)) (kept.apart k less)

@@ -20,7 +20,7 @@ use Rattle.qs_plain_client.specs.ClientMoves.{Replies, RepliesAt}
 use Rattle.qs_plain_client.specs.Clients.{ClientState, IsClient, client_of, stage_of, client_at}
 use Rattle.qs_plain_client.specs.Frames.{next_of}
 use Rattle.qs_plain_client.specs.TraceMoves.{noted_in, last_of, no_trace}
-use Rattle.qs_plain_client.specs.Queues.{QueueState}
+use Rattle.qs_plain_client.specs.Queues.{AreApart, QueueState}
 use Rattle.qs_objects.specs.Traces.{TraceState, trace_state}
 use Rattle.qs_plain_client.specs.declared.stage.Stage.{Stage}
 use Rattle.qs_plain_client.specs.ReplyDelivery.{Hears}
@@ -84,18 +84,21 @@ first_replied : (s : Plain) (h : ℕ) (x new : HandlerState) (qs : List QueueSta
 first_replied s h x new [] t r v sv = let e : Replied t r v ≡ Nothing = sv.0 in cc
 first_replied s h x new (q ∷ qs) t r v sv = item_replied s h x q qs q.queue.items new t r v sv
 
--- what is left of the queues is as open as it was, and the room stays
+-- what is left of the queues is as open as it was, each of another ticket, and the room stays
 module _ (cs : List ClientState) (h : ℕ) (x : HandlerState) where
-  item_open : (q : QueueState) (qs : List QueueState) (items : List QueueItem) (served : Served) (new : HandlerState) → x.queues ≡ q ∷ qs → IsOpen cs h q → AllByRecursion (IsOpen cs h) qs → ServesItem x q qs items served new
-      → (x.room ≤ new.room) × AllByRecursion (IsOpen cs h) new.queues
-  item_open q qs [] served new is first others sv = rw sv.1 (omega arith, rw is (first, others))
-  item_open q qs (item.Command r ∷ items) served new is first others sv = rw sv.1 (omega arith, (record { begun = first.begun; room = first.room }, others))
-  item_open q qs (item.Query r ∷ items) served new is first others sv = rw sv.1 (omega arith, (record { begun = first.begun; room = first.room }, others))
-  item_open q qs (item.EndMark ∷ items) served new is first others sv = rw sv.1 (omega arith, others)
+  abbrev Left : HandlerState → Type 0
+  Left new = (x.room ≤ new.room) × (AllByRecursion (IsOpen cs h) new.queues × AreApart new.queues)
 
-  pub serves_open : (qs : List QueueState) (served : Served) (new : HandlerState) → x.queues ≡ qs → AllByRecursion (IsOpen cs h) qs → ServesFirst x qs served new → (x.room ≤ new.room) × AllByRecursion (IsOpen cs h) new.queues
-  serves_open [] served new is each sv = rw sv.1 (omega arith, rw is tt)
-  serves_open (q ∷ qs) served new is each sv = item_open q qs q.queue.items served new is each.0 each.1 sv
+  item_open : (q : QueueState) (qs : List QueueState) (items : List QueueItem) (served : Served) (new : HandlerState) → x.queues ≡ q ∷ qs → IsOpen cs h q → AllByRecursion (IsOpen cs h) qs → AreApart (q ∷ qs)
+      → ServesItem x q qs items served new → Left new
+  item_open q qs [] served new is first others apart sv = rw sv.1 (omega arith, rw is ((first, others), apart))
+  item_open q qs (item.Command r ∷ items) served new is first others apart sv = rw sv.1 (omega arith, ((record { begun = first.begun; room = first.room }, others), (apart.0, apart.1)))
+  item_open q qs (item.Query r ∷ items) served new is first others apart sv = rw sv.1 (omega arith, ((record { begun = first.begun; room = first.room }, others), (apart.0, apart.1)))
+  item_open q qs (item.EndMark ∷ items) served new is first others apart sv = rw sv.1 (omega arith, (others, apart.1))
+
+  pub serves_open : (qs : List QueueState) (served : Served) (new : HandlerState) → x.queues ≡ qs → AllByRecursion (IsOpen cs h) qs → AreApart qs → ServesFirst x qs served new → Left new
+  serves_open [] served new is each apart sv = rw sv.1 (omega arith, rw is (tt, tt))
+  serves_open (q ∷ qs) served new is each apart sv = item_open q qs q.queue.items served new is each.0 each.1 apart sv
 
 module _ (r : RulesState) (h : ℕ) where
   abbrev old : HandlerState
@@ -199,8 +202,8 @@ below_or_not m n = by_test (nat_lt m n) refl
 module _ (r : RulesState) (kept : IsRules r) (h : ℕ) (inside : h < length r.handlers) (new : HandlerState) where
   pub served_rules : (served : Served) → ServesFirst (handler_at r.handlers h) (handler_at r.handlers h).queues served new → IsRules (record { program = r.program; order = r.order; clients = r.clients; handlers = set r.handlers h new })
   served_rules served sv =
-      let (room, queues) = serves_open r.clients h (handler_at r.handlers h) (handler_at r.handlers h).queues served new refl (kept.queues h inside) sv in
-      served_kept r kept h new inside room queues
+      let (room, (queues, apart)) = serves_open r.clients h (handler_at r.handlers h) (handler_at r.handlers h).queues served new refl (kept.queues h inside) (kept.apart h inside) sv in
+      served_kept r kept h new inside room queues apart
 
   module _ (t : Ticket) (q : Request) (v : Option ℤ) (later : List ClientState) (heard : t.client < length r.clients → Hears r.clients t.client q v later) (unheard : length r.clients ≤ t.client → later ≡ r.clients)
       (sv : ServesFirst (handler_at r.handlers h) (handler_at r.handlers h).queues (Replied t q v) new) where

@@ -10,9 +10,9 @@ use Rattle.qs_plain_laws.specs.declared.item.QueueItem.{QueueItem}
 use Rattle.qs_plain_laws.specs.Plain.{log_in, enter, at_each, at_handler, put_item}
 use Rattle.qs_plain_laws.specs.Plain as plain
 use Rattle.qs_plain_client.specs.Clients.{ClientState, client_of, absent, client_at}
-use Rattle.qs_plain_client.specs.Queues.{QueueState}
+use Rattle.qs_plain_client.specs.Queues.{QueueState, after_put}
 use Rattle.qs_plain.specs.Handlers.{handler_at, nobody, with_logged_item, logged_at, logged_all, with_queue, entered_at, entered_all}
-use Rattle.qs_plain.specs.Served.{HandlerState, handler_of, after_put}
+use Rattle.qs_plain.specs.Served.{HandlerState, handler_of}
 
 pub plain_client : (cs : List ClientState) (c : ℕ) → get_or (map client_of cs) c plain.no_client ≡ client_of (client_at cs c)
 plain_client cs c = get_or-map client_of cs c absent

@@ -4,8 +4,8 @@ use Rattle.std.specs.List.{AllByRecursion, IsDistinct}
 use Rattle.qs_objects.specs.declared.held.Ticket.{Ticket}
 use Rattle.qs_plain_laws.specs.declared.item.QueueItem.{QueueItem}
 use Rattle.qs_plain_laws.specs.Plain.{no_handler}
-use Rattle.qs_plain_client.specs.Queues.{QueueState}
-use Rattle.qs_plain.specs.Served.{HandlerState, after_put, IsLoggable}
+use Rattle.qs_plain_client.specs.Queues.{QueueState, after_put}
+use Rattle.qs_plain.specs.Served.{HandlerState, IsLoggable}
 
 abbrev pub nobody : HandlerState
 nobody = record { queues = []; room = 0; held = no_handler.held }

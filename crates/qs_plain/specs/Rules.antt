@@ -15,7 +15,7 @@ use Rattle.qs_plain_laws.specs.PlainSchedule.{played_of, plays}
 use Rattle.qs_plain_laws.specs.PlainSyncSums.{AreQueriesCounted}
 use Rattle.qs_plain_client.specs.Clients.{ClientState, client_of, client_code, client_at}
 use Rattle.qs_plain_client.specs.Frames.{load_left}
-use Rattle.qs_plain_client.specs.Queues.{QueueState}
+use Rattle.qs_plain_client.specs.Queues.{AreApart, QueueState}
 use Rattle.qs_plain_client.specs.declared.stage.Stage.{Stage}
 use Rattle.qs_plain_client.specs.declared.stage.Stage.TheVariants as stage
 use Rattle.qs_plain.specs.Handlers.{handler_at}
@@ -64,6 +64,7 @@ pub record IsRules (r : RulesState) : Type 0 where
   pub handlers : length r.handlers ≡ length r.program.objects
   pub rooms : (h : ℕ) → h < length r.handlers → to_come r.clients ≤ (handler_at r.handlers h).room
   pub queues : (h : ℕ) → h < length r.handlers → AllByRecursion (IsOpen r.clients h) (handler_at r.handlers h).queues
+  pub apart : (h : ℕ) → h < length r.handlers → AreApart (handler_at r.handlers h).queues
 
 pub ticket_code : Coded Ticket
 ticket_code = hlevel codes

@@ -1,12 +1,12 @@
 -- A handler of the code, and what its step does.
-use Rattle.std.specs.Prelude.{◌≡◌, ◌<◌, ℕ, ◌-◌, true, if◌then◌else◌, List, [], ◌∷◌, map, length, slice_index_or}
+use Rattle.std.specs.Prelude.{◌≡◌, ◌<◌, ℕ, true, List, [], ◌∷◌, map, length, slice_index_or}
 use Rattle.qs_objects.specs.Journals.{HeldState, run_one}
 use Rattle.qs_objects.specs.declared.held.Ticket.{Ticket}
 use Rattle.qs_objects.specs.Parts.{same}
 use Rattle.qs_plain_laws.specs.declared.item.QueueItem.{QueueItem}
-use Rattle.qs_plain_laws.specs.Plain.{Handler, put_item}
+use Rattle.qs_plain_laws.specs.Plain.{Handler}
 use Rattle.qs_plain_laws.specs.declared.item.QueueItem.TheVariants as item
-use Rattle.qs_plain_client.specs.Queues.{QueueState, queue_state}
+use Rattle.qs_plain_client.specs.Queues.{AreApart, QueueState, queue_state}
 use Rattle.qs_plain.specs.declared.handler.Served.{Served}
 use Rattle.qs_plain.specs.declared.handler.Served.TheVariants.{Nothing, Done, Replied}
 
@@ -18,10 +18,6 @@ pub record HandlerState : Type 0 where
 
 abbrev pub handler_of : HandlerState → Handler
 handler_of h = record { queues = map (λ q. q.queue) h.queues; held = h.held }
-
--- a private queue after an item was logged for the ticket
-abbrev pub after_put : Ticket → QueueItem → QueueState → QueueState
-after_put t i q = record { queue = put_item t i q.queue; room = q.room - (if same t q.queue.ticket then 1 else 0) }
 
 abbrev pub with_queues : HandlerState → List QueueState → HeldState → HandlerState
 with_queues h qs held = record { queues = qs; room = h.room; held = held }
@@ -44,5 +40,8 @@ ServesFirst h [] served new = (served ≡ Nothing) × (new ≡ h)
 ServesFirst h (q ∷ qs) served new = ServesItem h q qs q.queue.items served new
 
 -- no room is needed for other tickets, and one place for this
+abbrev pub HasRoom : Ticket → List QueueState → Type 0
+HasRoom t qs = (i : ℕ) (d : QueueState) → i < length qs → same t (slice_index_or qs i d).queue.ticket ≡ true → 0 < (slice_index_or qs i d).room
+
 abbrev pub IsLoggable : Ticket → List QueueState → Type 0
-IsLoggable t qs = (i : ℕ) (d : QueueState) → i < length qs → same t (slice_index_or qs i d).queue.ticket ≡ true → 0 < (slice_index_or qs i d).room
+IsLoggable t qs = HasRoom t qs × AreApart qs

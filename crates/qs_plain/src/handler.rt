@@ -1,16 +1,18 @@
 //! Handlers under the plain rules.
 
 ghost use Rattle.std.specs.Prelude.{◌≡◌, ◌-◌, ◌<◌, [], ◌∷◌, ◌++◌, IfOk, map, nat_eq, length};
-ghost use Rattle.qs_plain.specs.Served.{HandlerState as State, ServesFirst, after_put, IsLoggable};
+ghost use Rattle.std.specs.Bool.{OnTrue};
+ghost use Rattle.qs_plain.specs.Served.{HandlerState as State, ServesFirst, IsLoggable};
 ghost use Rattle.qs_plain.specs.Deeds.{deed_of_queues, reply_in, unanswered};
-ghost use Rattle.qs_plain_client.specs.Queues.{QueueState};
+ghost use Rattle.qs_plain.specs.declared.handler.Served.TheVariants as services;
+ghost use Rattle.qs_plain_client.specs.Queues.{IsPlace, QueueState, after_put};
 ghost use Rattle.qs_plain_laws.specs.declared.item.QueueItem.TheVariants as items;
 
 mod reading;
 
 use crate::deed::Deed;
 use qs_objects::{Held, Request, Ticket};
-use qs_plain_client::PrivateQueue;
+use qs_plain_client::{PrivateQueue, last_place};
 use qs_plain_laws::QueueItem;
 use std::alloc::{AllocError, Global};
 use std::marker::Model;
@@ -23,23 +25,25 @@ pub(crate) enum Served {
     Replied(Ticket, Request, Option<i64>),
 }
 
-/// A handler: its queue of queues, and its object with the journal. It takes memory in `new` alone.
+/// A handler: its queue of queues, and its object with the journal. It takes memory in `new` alone: there is room for each reservation
+/// that may come, so a private queue that it has left stays where it is, before those that wait, and nothing is moved.
 #[derive(Drop)]
 pub(crate) struct HandlerState {
     queues: Vec<PrivateQueue>,
+    left: usize,
     room: usize,
     held: Held,
 }
 
 impl Model for HandlerState {
-    ghost use Rattle.std.specs.Prelude.{◌≤◌, ◌+◌, vec_len, vec_capacity};
+    ghost use Rattle.std.specs.Prelude.{◌≤◌, ◌+◌, drop, vec_len, vec_capacity};
     ghost use Rattle.qs_plain.specs.Served.{HandlerState as State};
 
     ghost Value = { State };
 
-    ghost view = { λ h. record { queues = h.queues.items; room = h.room; held = h.held } };
+    ghost view = { λ h. record { queues = drop h.left h.queues.items; room = h.room; held = h.held } };
 
-    ghost invariant = { λ h. vec_len h.queues + h.room ≤ vec_capacity h.queues };
+    ghost invariant = { λ h. (h.left ≤ vec_len h.queues) × (vec_len h.queues + h.room ≤ vec_capacity h.queues) };
 }
 
 impl HandlerState {
@@ -48,7 +52,12 @@ impl HandlerState {
         ensures fresh { IfOk result (λ h. h ≡ record { queues = []; room = room; held = held }) }
     {
         let queues = Vec::with_capacity(alloc, room)?;
-        Ok(HandlerState { queues, room, held })
+        Ok(HandlerState {
+            queues,
+            left: 0,
+            room,
+            held,
+        })
     }
 
     /// The object with its journal.
@@ -62,7 +71,16 @@ impl HandlerState {
     pub(crate) fn is_idle(&self) -> bool
         ensures value { result ≡ nat_eq (length self.now.queues) 0 }
     {
-        self.queues.is_empty()
+        self.left == self.queues.len()
+    }
+
+    // Whether the private queue that it serves is the ticket's.
+    #[inline(always)]
+    fn serves(&self, ticket: Ticket) -> bool
+        ensures some { OnTrue result (0 < length self.now.queues) }
+        ensures first { OnTrue result (IsPlace ticket self.now.queues 0) }
+    {
+        !self.is_idle() && self.queues[self.left].is_of(ticket)
     }
 
     /// Puts a private queue at the end of the queue of queues.
@@ -79,21 +97,29 @@ impl HandlerState {
         requires { IsLoggable ticket self.old.queues }
         ensures logged { self.new ≡ record { queues = map (after_put ticket item.now) self.old.queues; room = self.old.room; held = self.old.held } }
     {
-        for queue in self.queues.iter_mut() {
-            queue.put(ticket, item);
+        if self.serves(ticket) {
+            self.queues[self.left].put(ticket, item);
+            return;
+        }
+        let place = last_place(self.queues(), ticket);
+        if place < self.queues.len() - self.left {
+            self.queues[self.left + place].put(ticket, item);
         }
     }
 
-    /// Logs a command in the ticket's private queue. Where no other reservation waits, the request itself goes there, and no copy of it.
+    /// Logs a command in the ticket's private queue; the request itself goes there, and no copy of it.
     #[inline(always)]
     pub(crate) fn log_command(&mut self, ticket: Ticket, request: Request)
         requires { IsLoggable ticket self.old.queues }
         ensures logged { self.new ≡ record { queues = map (after_put ticket (items.Command request)) self.old.queues; room = self.old.room; held = self.old.held } }
     {
-        if self.queues.len() == 1 {
-            self.queues[0].put_command(ticket, request);
-        } else {
-            self.log(ticket, &QueueItem::Command(request));
+        if self.serves(ticket) {
+            self.queues[self.left].put_command(ticket, request);
+            return;
+        }
+        let place = last_place(self.queues(), ticket);
+        if place < self.queues.len() - self.left {
+            self.queues[self.left + place].put_command(ticket, request);
         }
     }
 
@@ -104,10 +130,13 @@ impl HandlerState {
         requires { IsLoggable ticket self.old.queues }
         ensures logged { self.new ≡ record { queues = map (after_put ticket (items.Query request)) self.old.queues; room = self.old.room; held = self.old.held } }
     {
-        if self.queues.len() == 1 {
-            self.queues[0].put_query(ticket, request);
-        } else {
-            self.log(ticket, &QueueItem::Query(request));
+        if self.serves(ticket) {
+            self.queues[self.left].put_query(ticket, request);
+            return;
+        }
+        let place = last_place(self.queues(), ticket);
+        if place < self.queues.len() - self.left {
+            self.queues[self.left + place].put_query(ticket, request);
         }
     }
 
@@ -115,7 +144,7 @@ impl HandlerState {
     pub(crate) fn next_deed(&self) -> Option<Deed>
         ensures value { result ≡ unanswered (deed_of_queues self.now.held (map (λ (q : QueueState). q.queue) self.now.queues)) }
     {
-        let queue = match self.queues.first() {
+        let queue = match self.queues().first() {
             None => return None,
             Some(queue) => queue,
         };
@@ -146,15 +175,23 @@ impl HandlerState {
         }
     }
 
+    /// Whether nothing is logged in the private queue that it serves, or none is there.
+    #[inline(always)]
+    pub(crate) fn has_nothing(&self) -> bool
+        ensures nothing { OnTrue result (ServesFirst self.now self.now.queues services.Nothing self.now) }
+    {
+        self.is_idle() || self.queues[self.left].first().is_none()
+    }
+
     /// Takes the first item of the first private queue: a request is run, an end mark takes the private queue away.
     #[inline(always)]
     pub(crate) fn serve(&mut self) -> Served
         ensures serves { ServesFirst self.old self.old.queues result self.new }
     {
-        if self.queues.is_empty() {
+        if self.is_idle() {
             return Served::Nothing;
         }
-        let queue = &mut self.queues[0];
+        let queue = &mut self.queues[self.left];
         let ticket = queue.ticket();
         match queue.pop() {
             None => Served::Nothing,
@@ -168,7 +205,7 @@ impl HandlerState {
                 Served::Replied(ticket, asked, reply)
             }
             Some(QueueItem::EndMark) => {
-                let _ended = self.queues.remove(0);
+                self.left += 1;
                 Served::Done
             }
         }

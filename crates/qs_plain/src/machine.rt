@@ -126,6 +126,7 @@ impl<'p> Machine<'p> {
         }
     }
 
+    #[inline(always)]
     fn step_client(&mut self, number: u8) -> Did<'p>
         requires { number < length self.old.clients }
         ensures steps { OnTrue (has_stepped result) (Steps self.old (actors.Client number) self.new) }
@@ -183,6 +184,7 @@ impl<'p> Machine<'p> {
     }
 
     /// A client reserves the objects of its next block.
+    #[inline(never)]
     fn separate(&mut self, number: u8)
         requires number { number < length self.old.clients }
         requires out { (client_at self.old.clients number).stage ≡ stages.Out }
@@ -202,6 +204,7 @@ impl<'p> Machine<'p> {
     }
 
     /// A client in a block goes on up to its next request, which is logged, or to the block's end.
+    #[inline(never)]
     fn go_on(&mut self, number: u8) -> Did<'p>
         requires number { number < length self.old.clients }
         requires within { (client_at self.old.clients number).stage ≡ stages.Within }
@@ -239,7 +242,23 @@ impl<'p> Machine<'p> {
         }
     }
 
+    /// A handler's step. A first look keeps one that has nothing to do cheap.
+    #[inline(always)]
     fn step_handler(&mut self, number: u8) -> bool
+        requires { number < length self.old.handlers }
+        ensures steps { OnTrue result (Steps self.old (actors.Handler number) self.new) }
+        ensures none { result ≡ false → the_step self.old.program (plain_of self.old) (actors.Handler number) ≡ None }
+        ensures unchanged { result ≡ false → self.new ≡ self.old }
+    {
+        if self.handlers[usize::from(number)].has_nothing() {
+            return false;
+        }
+        self.serve(number)
+    }
+
+    /// A handler takes the first item of the first private queue.
+    #[inline(never)]
+    fn serve(&mut self, number: u8) -> bool
         requires { number < length self.old.handlers }
         ensures steps { OnTrue result (Steps self.old (actors.Handler number) self.new) }
         ensures none { result ≡ false → the_step self.old.program (plain_of self.old) (actors.Handler number) ≡ None }

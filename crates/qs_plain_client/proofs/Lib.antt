@@ -1,4 +1,4 @@
 pub mod ClientPreserved
-pub mod Mapping
+pub mod OnePlace
 pub mod FrameMoves
 pub mod StoredClients

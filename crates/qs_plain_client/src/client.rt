@@ -323,14 +323,15 @@ fn prepare(alloc: Global, program: &Program, number: u8, index: u8) -> Result<Pr
     ensures ready { IfOk result (AreQueues number index (block_at program.now number index)) }
 {
     program.is_sound();
-    let mut queues = VecDeque::new(alloc);
-    for object in program.block(number, index).reserved() {
+    let reserved = program.block(number, index).reserved();
+    let mut queues = VecDeque::with_capacity(alloc, reserved.len())?;
+    for object in reserved {
         let requests = program.load_of(number, index, *object) as usize;
         let ticket = Ticket {
             client: number,
             index,
         };
-        queues.push_back((*object, PrivateQueue::new(alloc, ticket, requests + 1)?))?;
+        queues.push_back_reserved((*object, PrivateQueue::new(alloc, ticket, requests + 1)?));
     }
     Ok(Prepared { queues })
 }

@@ -8,5 +8,5 @@ mod stage;
 
 pub use client::{Asked, ClientState, Prepared, answer, fresh_clients};
 pub use frames::{Ask, Frame, Frames, grow};
-pub use private_queue::PrivateQueue;
+pub use private_queue::{PrivateQueue, last_place};
 pub use stage::Stage;

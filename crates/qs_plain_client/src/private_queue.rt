@@ -3,7 +3,7 @@
 ghost use Rattle.std.specs.Prelude.{◌≡◌, ◌+◌, ◌-◌, ◌<◌, [], ◌∷◌, List, IfOk, MatchOption, if◌then◌else◌, true};
 ghost use Rattle.qs_objects.specs.Parts.{same as same_ticket};
 ghost use Rattle.qs_plain_laws.specs.Plain.{put_item};
-ghost use Rattle.qs_plain_client.specs.Queues.{queue_state};
+ghost use Rattle.qs_plain_client.specs.Queues.{IsPlace, queue_state};
 ghost use Rattle.qs_plain_laws.specs.declared.item.QueueItem.{QueueItem as ItemShape};
 ghost use Rattle.qs_plain_laws.specs.declared.item.QueueItem.TheVariants as items;
 
@@ -64,8 +64,9 @@ impl PrivateQueue {
         self.ticket
     }
 
-    // Whether it is the ticket's.
-    fn is_of(&self, ticket: Ticket) -> bool
+    /// Whether it is the ticket's.
+    #[inline(always)]
+    pub fn is_of(&self, ticket: Ticket) -> bool
         ensures value { result ≡ same_ticket ticket self.now.queue.ticket }
     {
         self.ticket.client == ticket.client && self.ticket.index == ticket.index
@@ -123,4 +124,20 @@ impl PrivateQueue {
     {
         self.items.pop_front()
     }
+}
+
+/// Where the ticket's private queue waits among these, the last of which is looked at first; past all of them where none is the
+/// ticket's.
+#[inline(always)]
+pub fn last_place(queues: &[PrivateQueue], ticket: Ticket) -> usize
+    ensures place { IsPlace ticket queues.now result }
+{
+    let mut place = queues.len();
+    'back: while place > 0 {
+        place -= 1;
+        if queues[place].is_of(ticket) {
+            return place;
+        }
+    }
+    queues.len()
 }

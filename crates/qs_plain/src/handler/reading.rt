@@ -10,6 +10,6 @@ impl HandlerState {
     pub(crate) fn queues(&self) -> &[PrivateQueue]
         ensures value { result.now ≡ self.now.queues }
     {
-        self.queues.as_slice()
+        &self.queues[self.left..]
     }
 }

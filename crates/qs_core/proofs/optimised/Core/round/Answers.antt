@@ -1,31 +1,37 @@
-use Rattle.std.proofs.Common.{◌≡◌, ◌++◌, ap, sym, subst, ◌∙◌, length, map, append_assoc, arith}
+use Rattle.std.proofs.Common.{◌≡◌, ◌++◌, true, false, ap, sym, subst, ◌∙◌, length, map, append_assoc, arith}
 use Rattle.std.specs.List.{range_with_len}
 use Rattle.qs_program.specs.Program.{ProgramShape}
-use Rattle.std.proofs.lemmas.Bool.{or_parts}
 use Rattle.qs_played.specs.declared.schedule.actor.Actor.TheVariants as actors
 use Rattle.qs_core_state.specs.CoreState.{CoreState, IsPlayedOn}
 use Rattle.qs_core.proofs.CorePlaying.{played_more}
 use Rattle.qs_played.proofs.Playing.{row_more}
+use Rattle.qs_core.proofs.optimised.Core.round.Goals.{then-step, else-step, then-step-2, else-step-2}
 use Rattle.qs_core.proofs.optimised.Core.round.Goals as goal
 
 pub loop-client-preserved : goal.loop-client-preserved
 loop-client-preserved c =
-    let it = c.step-stepped in
+    let it = c.step in
     record {
       played = λ p mode size done on.
           subst (λ xs. IsPlayedOn p mode size xs it.new.self) (sym (row_more done (λ n. actors.Client n) c.loop-client.client))
           (played_more p mode size _ c.loop-client.self it.new.self (actors.Client c.loop-client.client) it.result (c.loop-client.invariant.played p mode size done on) it.ensures.steps it.ensures.none it.ensures.unchanged);
-      still = λ none. it.ensures.unchanged (or_parts c.loop-client.stepped it.result none).1 ∙ c.loop-client.invariant.still (or_parts c.loop-client.stepped it.result none).0;
+      still = λ none. elim c.if-step.branch [
+        | then-step w ↦ (let e : true ≡ false = sym w.stepped-is ∙ none in cc)
+        | else-step w ↦ it.ensures.unchanged w.if-step.false ∙ c.loop-client.invariant.still (sym w.stepped-is ∙ none)
+      ];
     }
 
 pub loop-handler-preserved : goal.loop-handler-preserved
 loop-handler-preserved c =
-    let it = c.step-stepped-in-loop-handler in
+    let it = c.step-in-loop-handler in
     record {
       played = λ p mode size done on.
           subst (λ xs. IsPlayedOn p mode size xs it.new.self) (sym (row_more done (λ n. actors.Handler n) c.loop-handler.handler))
           (played_more p mode size _ c.loop-handler.self it.new.self (actors.Handler c.loop-handler.handler) it.result (c.loop-handler.invariant.played p mode size done on) it.ensures.steps it.ensures.none it.ensures.unchanged);
-      still = λ none. it.ensures.unchanged (or_parts c.loop-handler.stepped it.result none).1 ∙ c.loop-handler.invariant.still (or_parts c.loop-handler.stepped it.result none).0;
+      still = λ none. elim c.if-step-2.branch [
+        | then-step-2 w ↦ (let e : true ≡ false = sym w.stepped-is ∙ none in cc)
+        | else-step-2 w ↦ it.ensures.unchanged w.if-step-2.false ∙ c.loop-handler.invariant.still (sym w.stepped-is ∙ none)
+      ];
     }
 
 pub returns-clause-round : goal.returns-clause-round

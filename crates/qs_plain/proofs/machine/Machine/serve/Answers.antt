@@ -5,7 +5,7 @@ use Rattle.qs_plain.specs.Served.{ServesFirst}
 use Rattle.qs_plain.proofs.RulesServe.{done_steps, served_rules, replied_rules, replied_to_come, reply_steps}
 use Rattle.qs_plain.proofs.RulesFieldLemmas.{handlers_within, handler_here, served_at, served_steps}
 use Rattle.qs_plain.specs.declared.handler.Served.TheVariants as served
-use Rattle.qs_plain.proofs.machine.Machine.step_handler.Goals as goal
+use Rattle.qs_plain.proofs.machine.Machine.serve.Goals as goal
 
 pub invariant_of-self-in-Done : goal.invariant_of-self-in-Done
 invariant_of-self-in-Done c =
