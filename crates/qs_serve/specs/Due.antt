@@ -16,6 +16,8 @@ use Rattle.qs_chart.specs.ChartDot.{IsChartDot}
 use Rattle.qs_report.specs.declared.faults.Fault.{Fault}
 use Rattle.qs_report.specs.declared.faults.Fault.TheVariants as fault
 use Rattle.qs_report.specs.Faults.{fault_text, fault_status}
+use Rattle.qs_counts.specs.Counts.{counts_of}
+use Rattle.qs_counts.specs.declared.counts.Counts.{Counts}
 use Rattle.qs_report.specs.Report.{run_text, counts_text}
 use Rattle.qs_report.specs.GraphText.{IsGraphText}
 use Rattle.qs_dot.specs.DotText.{IsDotText}
@@ -94,10 +96,15 @@ abbrev pub IsTextOf : {E : Type 0} → Result (Vec ℕ Global) E → Due → Typ
 IsTextOf (Ok bytes) due = due ≡ Text bytes
 IsTextOf (Err e) due = due ≡ Refused fault.Memory
 
--- a program's counts, as text or as JSON
-abbrev pub counts_in : Format → ProgramShape → List ℕ
-counts_in format.Text p = counts_text p
-counts_in format.Json p = counts_json p
+-- counts, as text or as JSON
+abbrev pub counts_in : Format → Counts → List ℕ
+counts_in format.Text c = counts_text c
+counts_in format.Json c = counts_json c
+
+-- counts that were made, or that an allocation failed
+abbrev pub IsDueOfCounts : Format → Counts → Due → Type 0
+IsDueOfCounts how c (Text bytes) = bytes.items ≡ counts_in how c
+IsDueOfCounts how c (Refused f) = f ≡ fault.Memory
 
 -- the report of what was played, as text or as JSON, with the counts of synchronisations where they are asked for, or as a picture
 abbrev pub report_in : ReportFormat → (counts : Bool) → ProgramShape → Played → List ℕ
@@ -199,7 +206,7 @@ IsTextOfOutcomes graph_format.Dot p limit clients text = IsChartDot p (limit_in 
 -- at most. Each is written in the format that is asked for, and a report with the counts of synchronisations where they are asked for, after
 -- a line for each step where these are, and before what lies where at the end of a run that has not finished.
 abbrev pub IsTextBy : Request → Lines → ProgramShape → List ℕ → Type 0
-IsTextBy (check how) lines p text = text ≡ counts_in how p
+IsTextBy (check how) lines p text = text ≡ counts_in how (counts_of p)
 IsTextBy (graph how) lines p text = IsTextOfGraphs how lines p text
 IsTextBy (rules style plan) lines p text =
     (played : Played) × (steps queues : List ℕ) × IsShownByRules plan p played × AreLinesWhere style.steps (AreStepsOfRules plan p) steps

@@ -1,12 +1,13 @@
 // What a run has to write.
 
-ghost use Rattle.std.specs.Prelude.{◌≡◌, ◌+◌, ◌≤◌, ◌⊎◌, [], false, length, IfOk, None, map};
+ghost use Rattle.std.specs.Prelude.{◌≡◌, ◌+◌, ◌≤◌, ◌⊎◌, ℕ, List, [], false, length, IfOk, None, map};
 ghost use Rattle.qs_report.specs.declared.faults.Fault.TheVariants as fault;
 ghost use Rattle.qs_line.specs.declared.line.GraphFormat.TheVariants as graph_format;
 ghost use Rattle.qs_line.specs.Line.{asks, check, graph, line_in, outcomes, request_by, request_of, run};
-ghost use Rattle.qs_serve.specs.Due.{AreLinesFor, HasAsked, IsDue, IsDueAfter, IsDueOfList, IsDueOfProgram, IsDueOfText, IsFormat, IsRefusedBy, IsListOf, IsTextOf, IsOutOfMemory, due_status, listed_as, longest};
+ghost use Rattle.qs_serve.specs.Due.{AreLinesFor, HasAsked, IsDue, IsDueAfter, IsDueOfCounts, IsDueOfList, IsDueOfProgram, IsDueOfText, IsFormat, IsRefusedBy, IsListOf, IsTextOf, IsOutOfMemory, due_status, listed_as, longest};
 ghost use Rattle.qs_node_lines.specs.NodeLines.{node_lines};
 ghost use Rattle.qs_script.specs.Limits.{longest_text};
+ghost use Rattle.qs_script.specs.Reads.{IsScriptText};
 ghost use Rattle.std.specs.List.{AllByRecursion};
 ghost use Rattle.qs_outcomes.specs.Outcomes.{HasPlaces};
 
@@ -16,6 +17,7 @@ use crate::reports::due_of_outcome;
 use qs_chart::{MOST_PLACES, chart_dot};
 use qs_check::{Program, check};
 use qs_chunk::ChunkSize;
+use qs_counts::{Counts, count};
 use qs_dot::dot_text;
 use qs_json::{counts_json, graph_json, outcomes_json};
 use qs_line::{Format, GraphFormat, LineFault, ReportStyle, Settings, read_line};
@@ -76,13 +78,13 @@ pub(crate) fn due_of_list(fault: ListFault) -> Due
 }
 
 // The counts, in a format.
-fn due_of_counts(alloc: Global, program: &Program, format: Format) -> Due
+fn due_of_counts(alloc: Global, counts: &Counts, format: Format) -> Due
     ensures not_input { ¬ IsRefusedBy fault.Input result }
-    ensures due { IsOutOfMemory result ⊎ IsDueOfProgram (check format) [] program.now result }
+    ensures due { IsDueOfCounts format counts.now result }
 {
     match format {
-        Format::Text => due_of_bytes(check_text(alloc, program)),
-        Format::Json => due_of_bytes(counts_json(alloc, program)),
+        Format::Text => due_of_bytes(check_text(alloc, counts)),
+        Format::Json => due_of_bytes(counts_json(alloc, counts)),
     }
 }
 
@@ -195,6 +197,7 @@ fn due_of_outcomes<P: Watcher>(
 
 // What settings make of a program: a run by the plain rules, in the optimised machine or on threads, all outcomes, the counts, or the
 // graphs.
+#[tactic(auto, using(crate::proofs::Dues::counts_of_program))]
 fn due_of_program<T: Threads + Wait + Sync, P: Watcher>(
     rt: &T,
     alloc: Global,
@@ -222,7 +225,7 @@ fn due_of_program<T: Threads + Wait + Sync, P: Watcher>(
             limit,
             front,
         } => due_of_outcomes(alloc, program, *format, *limit, front.as_slice(), watcher),
-        Settings::Check { format } => due_of_counts(alloc, program, *format),
+        Settings::Check { format } => due_of_counts(alloc, &Counts::of(program), *format),
         Settings::Graph { format } => due_of_graphs(alloc, program, lines, *format),
     }
 }
@@ -260,6 +263,38 @@ fn due_of_script<T: Threads + Wait + Sync, P: Watcher>(
         Ok(script) => script,
         Err(fault) => return Due::Refused(Fault::Read(fault)),
     };
+    match settings {
+        Settings::Check { format } => due_of_check(alloc, *format, script),
+        _ => due_of_checked(rt, alloc, settings, text, script, watcher),
+    }
+}
+
+// The counts of a script, for which no program is made; or its fault.
+#[tactic(auto, using(crate::proofs::Dues::counts_of_text))]
+fn due_of_check(alloc: Global, format: Format, script: Script) -> Due
+    ensures not_input { ¬ IsRefusedBy fault.Input result }
+    ensures due { (text : List ℕ) → IsScriptText text script → IsOutOfMemory result ⊎ IsDueOfText (check format) text result }
+{
+    match count(alloc, script) {
+        Ok(counts) => due_of_counts(alloc, &counts, format),
+        Err(fault) => Due::Refused(Fault::Check(fault)),
+    }
+}
+
+// What settings make of a script.
+fn due_of_checked<T: Threads + Wait + Sync, P: Watcher>(
+    rt: &T,
+    alloc: Global,
+    settings: &Settings,
+    text: &[u8],
+    script: Script,
+    watcher: &mut P,
+) -> Due
+    requires script { IsScriptText text.now script }
+    requires short { length text.now ≤ longest_text }
+    ensures not_input { ¬ IsRefusedBy fault.Input result }
+    ensures due { IsOutOfMemory result ⊎ IsDueOfText (request_of settings.now) text.now result }
+{
     let Ok(lines) = lines_for(alloc, settings, text, &script) else {
         return Due::Refused(Fault::Memory);
     };

@@ -1,0 +1,2 @@
+pub mod TextCounts
+pub mod Limits
