@@ -16,6 +16,7 @@ use crate::graphs::{Graph, GraphNode};
 use crate::node::{Action, Choice, Named, Node};
 use qs_program::{Body, Call as Request, Program, Stmt};
 use std::alloc::{AllocError, Global};
+use std::mem;
 
 /// The control-flow graph of a block in its client's own text: where the client is of a template, its nodes name formals.
 pub fn graph(alloc: Global, program: &Program, client: u8, block: u8) -> Result<Graph, AllocError>
@@ -24,7 +25,24 @@ pub fn graph(alloc: Global, program: &Program, client: u8, block: u8) -> Result<
     ensures graph_of { IfOk result (λ graph. graph ≡ graph_of program.now client block) }
     ensures drawn { IfOk result (λ graph. IsDrawing graph.nodes (own_block program.now client block).body) }
 {
-    let names = block_names(alloc, program, client, block)?;
+    graph_in(alloc, program, client, block, &mut Vec::new(alloc))
+}
+
+/// The same graph. Its names are put where those of another graph were, which `Graph::bound_in` left there.
+pub fn graph_in(
+    alloc: Global,
+    program: &Program,
+    client: u8,
+    block: u8,
+    room: &mut Vec<Named>,
+) -> Result<Graph, AllocError>
+    requires client { client < length program.now.clients }
+    requires block { block < blocks_of program.now client }
+    ensures graph_of { IfOk result (λ graph. graph ≡ graph_of program.now client block) }
+    ensures drawn { IfOk result (λ graph. IsDrawing graph.nodes (own_block program.now client block).body) }
+{
+    let room = mem::replace(room, Vec::new(alloc));
+    let names = block_names(program, client, block, room)?;
     program.is_sound();
     match block_places(alloc, program.own_block(client, block).body()) {
         Ok(places) => Ok(Graph::of(places, names, program.is_started(client))),
@@ -35,19 +53,21 @@ pub fn graph(alloc: Global, program: &Program, client: u8, block: u8) -> Result<
     }
 }
 
-// The names of a block's list, with the kinds that they were declared with.
+// The names of a block's list, with the kinds that they were declared with, put into this room.
 fn block_names(
-    alloc: Global,
     program: &Program,
     client: u8,
     block: u8,
+    room: Vec<Named>,
 ) -> Result<Vec<Named>, AllocError>
     requires client { client < length program.now.clients }
     requires block { block < blocks_of program.now client }
     ensures names { IfOk result (λ names. names.items ≡ names_of program.now client (own_block program.now client block)) }
 {
     let reserved = reserved_by(program, client, block);
-    let mut names = Vec::with_capacity(alloc, reserved.len())?;
+    let mut names = room;
+    names.clear();
+    names.reserve(reserved.len())?;
     for name in reserved {
         names.push_reserved(Named {
             name: *name,

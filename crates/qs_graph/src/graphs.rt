@@ -143,18 +143,30 @@ impl Graph {
         ensures no_names { result.names ≡ [] }
         ensures no_aliases { result.aliases ≡ false }
     {
+        let mut room = Vec::new(*self.names.allocator());
+        self.bound_in(program, client, &mut room)
+    }
+
+    /// The same graph. The room that its names took is left for the names of another graph.
+    pub fn bound_in(self, program: &Program, client: u8, room: &mut Vec<Named>) -> Graph
+        requires client { client < length program.now.clients }
+        ensures value { result.nodes ≡ bound_nodes (binding_of program.now client) self.nodes }
+        ensures no_names { result.names ≡ [] }
+        ensures no_aliases { result.aliases ≡ false }
+    {
         self.is_graph();
         program.is_sound();
         let Graph {
             mut places,
-            mut names,
+            names,
             aliases: _,
         } = self;
-        names.clear();
         bind_places(&mut places, program, client);
+        let none = Vec::new(*names.allocator());
+        *room = names;
         Graph {
             places,
-            names,
+            names: none,
             aliases: false,
         }
     }

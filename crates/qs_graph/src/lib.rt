@@ -9,6 +9,6 @@ mod graphs;
 pub mod laws;
 mod node;
 
-pub use build::graph;
+pub use build::{graph, graph_in};
 pub use graphs::Graph;
 pub use node::{Action, Choice, Named, Node};

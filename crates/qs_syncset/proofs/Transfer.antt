@@ -147,11 +147,10 @@ has_byte sets n h d inside below =
     ap (λ r. get_or r h true) (get_or-map truths sets n d [] inside) ∙ truths_at (get_or sets n d) h below
 
 -- the bit that the code reads
-pub has_bit : (sets : List ℕ) (n h set : ℕ) → n < length (truths_of sets) → h < most_handlers → set ≡ get_or sets n set
-    → (bit_and (set / 2 ^ h) 1 == 1) ≡ has (truths_of sets) n h
-has_bit sets n h set inside below read =
-    let within : n < length sets = omega (arith, inside, length-map sets truths) in
-    ap (λ b. b == 1) (shr_and_one set h) ∙ ap (λ s. in_byte s h) read ∙ sym (has_byte sets n h set within below)
+pub has_bit : (sets : List ℕ) (n h : ℕ) → n < length (truths_of sets) → h < most_handlers
+    → (bit_and (get_or sets n 0 / 2 ^ h) 1 == 1) ≡ has (truths_of sets) n h
+has_bit sets n h inside below =
+    ap (λ b. b == 1) (shr_and_one (get_or sets n 0) h) ∙ sym (has_byte sets n h 0 (omega (arith, inside, length-map sets truths)) below)
 
 -- where everything is passed on, the bytes are the held sets
 pub bytes_are_sets : (g : ControlGraph) (s : State) → length s.sets ≡ length g.nodes → AreWitnessed g (reached_at s) (held_at s)

@@ -11,15 +11,16 @@ ghost use Rattle.qs_syncset.specs.Modes.{is_static};
 use crate::mode::Mode;
 use crate::removal::coalesce;
 use crate::sets::held_sets;
-use qs_graph::{Graph, graph};
+use qs_graph::{Graph, Named, graph_in};
 use qs_program::{MOST_HANDLERS, Program};
+use smallvec::SmallVec;
 use std::alloc::{AllocError, Global};
 use std::marker::Model;
 
 /// A block as a client runs it.
 #[derive(Drop)]
 pub(crate) struct BlockCode {
-    reserved: Vec<u8>,
+    reserved: SmallVec<u8, MOST_HANDLERS>,
     graph: Graph,
     loads: [u64; MOST_HANDLERS],
 }
@@ -153,17 +154,18 @@ fn block_graph_in(
     mode: Mode,
     client: u8,
     block: u8,
+    room: &mut Vec<Named>,
 ) -> Result<Graph, AllocError>
     requires client { client < length program.now.clients }
     requires block { block < blocks_of program.now client }
     ensures graph { IfOk result (λ g. IsBoundGraphOf (is_static mode) (graph_of program.now client block) (binding_of program.now client) g.nodes) }
 {
-    let built = graph(alloc, program, client, block)?;
+    let built = graph_in(alloc, program, client, block, room)?;
     if !mode.is_static() {
-        return Ok(built.bound(program, client));
+        return Ok(built.bound_in(program, client, room));
     }
     let sets = held_sets(alloc, &built)?;
-    Ok(coalesce(built, &sets).bound(program, client))
+    Ok(coalesce(built, &sets).bound_in(program, client, room))
 }
 
 // How many requests a block can make on each of 8 handlers' objects.
@@ -180,29 +182,21 @@ fn loads_of(program: &Program, client: u8, block: u8) -> [u64; MOST_HANDLERS]
     loads
 }
 
-// A copy of a block's list.
-fn copied(alloc: Global, handlers: &[u8]) -> Result<Vec<u8>, AllocError>
-    ensures same { IfOk result (λ copy. copy.items ≡ handlers.now) }
-{
-    let mut copy = Vec::with_capacity(alloc, handlers.len())?;
-    copy.extend_from_slice(handlers)?;
-    Ok(copy)
-}
-
 fn block_code(
     alloc: Global,
     program: &Program,
     mode: Mode,
     client: u8,
     block: u8,
+    room: &mut Vec<Named>,
 ) -> Result<BlockCode, AllocError>
     requires client { client < length program.now.clients }
     requires block { block < blocks_of program.now client }
     ensures code { IfOk result (λ code. IsBlockCode (is_static mode) (block_at program.now client block) (graph_of program.now client block) (binding_of program.now client) code) }
 {
     Ok(BlockCode {
-        reserved: copied(alloc, program.block(client, block).reserved())?,
-        graph: block_graph_in(alloc, program, mode, client, block)?,
+        reserved: SmallVec::from_slice(alloc, program.block(client, block).reserved())?,
+        graph: block_graph_in(alloc, program, mode, client, block, room)?,
         loads: loads_of(program, client, block),
     })
 }
@@ -217,8 +211,9 @@ pub fn compile(alloc: Global, program: &Program, mode: Mode, client: u8) -> Resu
     program.is_sound();
     let count = program.blocks_of(client);
     let mut blocks = Vec::with_capacity(alloc, count)?;
+    let mut room = Vec::new(alloc);
     for block in 0..count {
-        blocks.push_reserved(block_code(alloc, program, mode, client, block as u8)?);
+        blocks.push_reserved(block_code(alloc, program, mode, client, block as u8, &mut room)?);
     }
     Ok(Code {
         dynamic: mode.is_dynamic(),

@@ -34,6 +34,7 @@ fn after(graph: &Graph, node: &Node, set: u8) -> u8
 {
     match node {
         Node::Sync(handler) => set | (1 << *handler),
+        Node::Call(call) if !graph.has_aliases() => set & !(1 << call.object),
         Node::Call(call) => without_called(graph, call.object, set),
         Node::Entry | Node::Local(_) | Node::Branch(_) | Node::Query(_, _) | Node::Exit => set,
     }

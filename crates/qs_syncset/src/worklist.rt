@@ -2,6 +2,7 @@
 
 ghost use Rattle.std.specs.Prelude.{◌≡◌, ◌+◌, ◌<◌, [], ◌∷◌, ◌++◌, IfSome, IfNone, IfOk, OnOk};
 
+use smallvec::SmallVec;
 use std::alloc::{AllocError, Global};
 use std::marker::{Brand, Model};
 use std::mem::size_of;
@@ -50,7 +51,7 @@ impl<L: Ledger> VisitCount<L> {
 /// Nodes by number, the next one last.
 #[derive(Drop)]
 pub(crate) struct Worklist {
-    nodes: Vec<usize>,
+    nodes: SmallVec<usize, 8>,
 }
 
 impl Model for Worklist {
@@ -66,7 +67,7 @@ impl Worklist {
     pub(crate) fn of(alloc: Global, node: usize) -> Result<Worklist, AllocError>
         ensures one { IfOk result (λ list. list ≡ node ∷ []) }
     {
-        let mut nodes = Vec::new(alloc);
+        let mut nodes = SmallVec::new(alloc);
         nodes.push(node)?;
         Ok(Worklist { nodes })
     }

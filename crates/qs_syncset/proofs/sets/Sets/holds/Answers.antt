@@ -3,6 +3,5 @@ use Rattle.qs_syncset.proofs.sets.Sets.holds.Goals as goal
 
 pub returns : goal.returns
 returns c =
-    let bytes = c.self.inside.bytes.items in
     let inside = rw (← c.self.view_is) at c.requires.node in
-    rw (← c.self.view_is) (record { value = has_bit bytes c.args.node c.args.handler c.index.result.now inside c.requires.handler c.index.ensures })
+    rw (← c.self.view_is, c.deref.ensures) (record { value = has_bit c.self.inside.bytes.items c.args.node c.args.handler inside c.requires.handler })

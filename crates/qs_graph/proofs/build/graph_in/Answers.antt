@@ -5,7 +5,7 @@ use Rattle.qs_graph.specs.WellFormed.{IsGraph}
 use Rattle.qs_graph.specs.Graphs.{block_graph}
 use Rattle.qs_graph.proofs.Drawings.{graph_drawn}
 use Rattle.qs_graph.proofs.Ranges.{blocks_have_graphs}
-use Rattle.qs_graph.proofs.build.graph.Goals as goal
+use Rattle.qs_graph.proofs.build.graph_in.Goals as goal
 
 pub of-requires : goal.of-requires
 of-requires c =

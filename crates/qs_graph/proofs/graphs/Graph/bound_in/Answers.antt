@@ -5,7 +5,7 @@ use Rattle.qs_graph.specs.Bound.{bound_nodes, bound_place}
 use Rattle.qs_graph.specs.Nodes.{GraphNode}
 use Rattle.qs_graph.specs.WellFormed.{IsGraph}
 use Rattle.qs_graph.proofs.Bindings.{bound_is_graph, small_binding}
-use Rattle.qs_graph.proofs.graphs.Graph.bound.Goals as goal
+use Rattle.qs_graph.proofs.graphs.Graph.bound_in.Goals as goal
 
 pub invariant_of-result : goal.invariant_of-result
 invariant_of-result c =
