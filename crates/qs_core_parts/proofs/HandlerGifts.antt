@@ -46,10 +46,3 @@ spared_next m acts.TakeTicket c b e f g = cc
 spared_next m (acts.TakeParcel d) c b e f g = cc
 spared_next m (acts.Give d x) c b e f g = cc
 spared_next m acts.Closed c b e f g = cc
-
--- what an act carries is one thing
-pub one_object : (c d : ℕ) (x y : HeldState) (a : Act) → acts.Give c x ≡ a → a ≡ acts.Give d y → x ≡ y
-one_object c d x y a e f = cc
-
-pub one_chunk : (c d : ℕ) (x y : Batch Request) (a : Act) → acts.Spare c x ≡ a → a ≡ acts.Spare d y → x ≡ y
-one_chunk c d x y a e f = cc

@@ -140,7 +140,7 @@ impl CoreClient {
     }
 
     /// The handler to whose lane it turns.
-    fn handler(&self) -> Option<u8>
+    pub fn handler(&self) -> Option<u8>
         ensures value { result ≡ turns_to self.now.act }
     {
         match &self.act {

@@ -3,7 +3,7 @@
 ghost use Rattle.std.specs.Prelude.{true, ◌≡◌, ◌<◌, [], ◌∷◌, List, ℕ, None, false, length, IfOk, MatchOption, option_copied};
 ghost use Rattle.qs_objects.specs.declared.held.Ticket.{Ticket as TicketShape};
 ghost use Rattle.qs_objects.specs.Journals.{HeldState};
-ghost use Rattle.qs_objects.specs.declared.Request.{Request};
+ghost use Rattle.qs_objects.specs.declared.Request.{Request as RequestShape};
 ghost use Rattle.qs_chunk.specs.Batch.{Batch};
 ghost use Rattle.std.specs.Bool.{OnTrue};
 ghost use Rattle.qs_handler.specs.Handler.{free, held_of, serving};
@@ -14,12 +14,13 @@ ghost use Rattle.qs_core_parts.specs.CoreHandlers.{IsCoreHandler, LaneSteps, May
 mod reading;
 
 use crate::lane::Lane;
+use core::mem::replace_with;
+use qs_chunk::Chunk;
 use qs_handler::{Act, Mind};
-use qs_objects::{Held, Next, Ticket};
+use qs_objects::{Held, Next, Request, Ticket};
 use std::alloc::{AllocError, Global};
 use std::collections::VecDeque;
 use std::marker::Model;
-use std::mem;
 
 /// A handler's mind with the act that it handed out last, and the handler's queue of tickets. It takes memory in `new` alone.
 pub struct CoreHandler {
@@ -51,6 +52,28 @@ impl Model for CoreHandler {
 
     ghost invariant = { λ s. IsCoreHandler (record { mind = s.mind; act = s.act; tickets = s.tickets.items; room = s.room })
         × (s.room ≤ deque_capacity s.tickets) };
+}
+
+// The object goes out of an act that gives it. A parcel is taken next.
+fn take_held(act: Act, _nothing: ()) -> (Act, Held)
+    requires gives { (c : ℕ) × (x : HeldState) × (act ≡ acts.Give c x) }
+    ensures taken { (c : ℕ) × (act ≡ acts.Give c result.1) × (result.0 ≡ acts.TakeParcel c) }
+{
+    match act {
+        Act::Give(client, held) => (Act::TakeParcel(client), held),
+        _ => unreachable!(),
+    }
+}
+
+// The chunk goes out of an act that gives it back. A parcel is taken next.
+fn take_spare(act: Act, _nothing: ()) -> (Act, Chunk<Request>)
+    requires spares { (c : ℕ) × (chunk : Batch RequestShape) × (act ≡ acts.Spare c chunk) }
+    ensures taken { (c : ℕ) × (act ≡ acts.Spare c result.1) × (result.0 ≡ acts.TakeParcel c) }
+{
+    match act {
+        Act::Spare(client, chunk) => (Act::TakeParcel(client), chunk),
+        _ => unreachable!(),
+    }
 }
 
 impl CoreHandler {
@@ -119,9 +142,22 @@ impl CoreHandler {
         }
     }
 
-    /// Takes the first ticket of its queue; false where there is none.
-    #[inline(never)]
+    /// Takes the first ticket of its queue; false where there is none. A first look keeps a wait cheap.
     pub fn take_ticket(&mut self) -> bool
+        requires asked { self.old.act ≡ acts.TakeTicket }
+        ensures takes { OnTrue result (TakesTicket self.old self.new) }
+        ensures none { result ≡ false → self.old.tickets ≡ [] }
+        ensures unchanged { result ≡ false → self.new ≡ self.old }
+    {
+        if self.tickets.is_empty() {
+            return false;
+        }
+        self.take_first_ticket()
+    }
+
+    // Takes the first ticket, where there is one.
+    #[inline(never)]
+    fn take_first_ticket(&mut self) -> bool
         requires asked { self.old.act ≡ acts.TakeTicket }
         ensures takes { OnTrue result (TakesTicket self.old self.new) }
         ensures none { result ≡ false → self.old.tickets ≡ [] }
@@ -147,14 +183,8 @@ impl CoreHandler {
     {
         match &self.act {
             Act::TakeParcel(_) => self.take_parcel(lane),
-            Act::Give(client, _) => {
-                let client = *client;
-                self.give(client, lane)
-            }
-            Act::Spare(client, _) => {
-                let client = *client;
-                self.spare(client, lane)
-            }
+            Act::Give(_, _) => self.give(lane),
+            Act::Spare(_, _) => self.spare(lane),
             Act::TakeTicket => false,
             Act::Closed => false,
         }
@@ -194,8 +224,8 @@ impl CoreHandler {
 
     // Gives the object, where none is on its way up. A parcel is taken next.
     #[inline(never)]
-    fn give(&mut self, client: u8, lane: &mut Lane) -> bool
-        requires asked { (x : HeldState) × (self.old.act ≡ acts.Give client x) }
+    fn give(&mut self, lane: &mut Lane) -> bool
+        requires asked { (c : ℕ) × (x : HeldState) × (self.old.act ≡ acts.Give c x) }
         ensures steps { OnTrue result (LaneSteps self.old lane.old self.new lane.new) }
         ensures none { result ≡ false → lane_step (handler_of self.old) self.old.act lane.old ≡ None }
         ensures unchanged { result ≡ false → self.new ≡ self.old }
@@ -204,17 +234,15 @@ impl CoreHandler {
         if lane.object().is_some() {
             return false;
         }
-        let Act::Give(_, held) = mem::replace(&mut self.act, Act::TakeParcel(client)) else {
-            unreachable!();
-        };
+        let held = replace_with(&mut self.act, (), take_held);
         lane.put_object(held);
         true
     }
 
     // Gives an empty chunk back, where there is room for it. A parcel is taken next.
     #[inline(never)]
-    fn spare(&mut self, client: u8, lane: &mut Lane) -> bool
-        requires asked { (chunk : Batch Request) × (self.old.act ≡ acts.Spare client chunk) }
+    fn spare(&mut self, lane: &mut Lane) -> bool
+        requires asked { (c : ℕ) × (chunk : Batch RequestShape) × (self.old.act ≡ acts.Spare c chunk) }
         ensures steps { OnTrue result (LaneSteps self.old lane.old self.new lane.new) }
         ensures none { result ≡ false → lane_step (handler_of self.old) self.old.act lane.old ≡ None }
         ensures unchanged { result ≡ false → self.new ≡ self.old }
@@ -223,9 +251,7 @@ impl CoreHandler {
         if !lane.has_chunk_room() {
             return false;
         }
-        let Act::Spare(_, chunk) = mem::replace(&mut self.act, Act::TakeParcel(client)) else {
-            unreachable!();
-        };
+        let chunk = replace_with(&mut self.act, (), take_spare);
         lane.put_chunk(chunk);
         true
     }

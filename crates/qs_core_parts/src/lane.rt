@@ -16,8 +16,6 @@ use std::collections::VecDeque;
 use std::marker::Model;
 use std::mem;
 
-// How many parcels a lane takes, and how many empty chunks.
-
 /// The lane from a client to a handler: parcels on their way, the object on its way up, and empty chunks. Only `new` and copies of requests take memory.
 pub struct Lane {
     down: VecDeque<Parcel>,
@@ -121,14 +119,14 @@ impl Lane {
         self.up.as_ref()
     }
 
-    /// The object goes up, where none is on its way.
-    pub fn put_object(&mut self, held: Held)
+    /// The object goes up. None is on its way, so that none is to be dropped.
+    pub(crate) fn put_object(&mut self, held: Held)
+        requires none { self.old.up ≡ None }
         ensures put { self.new ≡ with_up self.old (Some held) }
     {
-        if self.up.is_some() {
-            self.up = Some(held);
-        } else {
-            self.up = Some(held);
+        match mem::replace(&mut self.up, Some(held)) {
+            None => {}
+            Some(_) => unreachable!(),
         }
     }
 

@@ -3,9 +3,9 @@ use Rattle.qs_objects.specs.Journals.{HeldState}
 use Rattle.qs_handler.specs.Handler.{act_of, gave}
 use Rattle.qs_handler.specs.declared.mind.Act.{Act}
 use Rattle.qs_core_parts.specs.CoreHandlers.{CoreHandlerState, gives_up, handler_of, lane_step}
-use Rattle.qs_core_parts.specs.LaneStates.{LaneState, with_up}
+use Rattle.qs_core_parts.specs.LaneStates.{LaneState}
 use Rattle.qs_core_parts.specs.contracts.core_handler.CoreHandler.{the_view}
-use Rattle.qs_core_parts.proofs.HandlerGifts.{given_next, given_rests, one_object}
+use Rattle.qs_core_parts.proofs.HandlerGifts.{given_next, given_rests}
 use Rattle.qs_core_parts.proofs.core_handler.CoreHandler.give.Goals as goal
 
 pub returns-clause-steps : goal.returns-clause-steps
@@ -15,17 +15,15 @@ returns-clause-steps c =
     (
     let s : CoreHandlerState = the_view c.self.inside in
     let l = c.args.lane.now in
-    let x = c.requires.asked.0 in
+    let x = c.replace_with-held.result in
     let kept = c.self.invariant.0 in
-    let asked = ap (λ (y : CoreHandlerState). y.act) c.self.view_is ∙ c.requires.asked.1 in
-    let same = one_object c.in-Give.field-0 c.args.client c.in-Give.held x s.act c.in-Give.ensures.value asked in
-    let put = c.put_object.ensures.put ∙ ap (λ (y : HeldState). with_up l (Some y)) same in
-    let mind = given_rests s.mind s.act c.args.client x asked kept.act kept.mind ∙ ap gave kept.mind in
-    let act = c.replace.ensures.after ∙ given_next s.mind s.act c.args.client x asked kept.act kept.mind ∙ ap act_of kept.mind in (
+    let (client, asked, next) = c.replace_with-held.ensures in
+    let mind = given_rests s.mind s.act client x asked kept.act kept.mind ∙ ap gave kept.mind in
+    let act = next ∙ given_next s.mind s.act client x asked kept.act kept.mind ∙ ap act_of kept.mind in (
       gave (handler_of s),
       ap (λ (a : Act). lane_step (handler_of s) a l) asked
           ∙ ap (λ (o : Option HeldState). gives_up (handler_of s) x l o) none
-          ∙ ap (λ (k : LaneState). Some (gave (handler_of s), k)) (sym put),
+          ∙ ap (λ (k : LaneState). Some (gave (handler_of s), k)) (sym c.put_object.ensures.put),
       λ i. record { mind = mind i; act = act i; tickets = s.tickets; room = s.room },
     )
     )

@@ -1,12 +1,10 @@
 use Rattle.std.proofs.Common.{◌≡◌, ◌∷◌, ◌++◌, [], Bool, true, if◌then◌else◌, nat_lt, length, None, Some, rules, ap, sym, ◌∙◌}
-use Rattle.qs_objects.specs.declared.Request.{Request}
-use Rattle.qs_chunk.specs.Batch.{Batch}
 use Rattle.qs_handler.specs.Handler.{act_of, gave}
 use Rattle.qs_handler.specs.declared.mind.Act.{Act}
 use Rattle.qs_core_parts.specs.CoreHandlers.{CoreHandlerState, handler_of, lane_step}
 use Rattle.qs_core_parts.specs.LaneStates.{LaneState, with_spare}
 use Rattle.qs_core_parts.specs.contracts.core_handler.CoreHandler.{the_view}
-use Rattle.qs_core_parts.proofs.HandlerGifts.{spared_next, spared_rests, one_chunk}
+use Rattle.qs_core_parts.proofs.HandlerGifts.{spared_next, spared_rests}
 use Rattle.qs_core_parts.proofs.core_handler.CoreHandler.spare.Goals as goal
 
 pub returns-clause-steps : goal.returns-clause-steps
@@ -16,17 +14,15 @@ returns-clause-steps c =
     (
     let s : CoreHandlerState = the_view c.self.inside in
     let l = c.args.lane.now in
-    let x = c.requires.asked.0 in
+    let x = c.replace_with-chunk.result in
     let kept = c.self.invariant.0 in
-    let asked = ap (λ (y : CoreHandlerState). y.act) c.self.view_is ∙ c.requires.asked.1 in
-    let same = one_chunk c.in-Spare.field-0 c.args.client c.in-Spare.chunk x s.act c.in-Spare.ensures.value asked in
-    let put = c.put_chunk.ensures.put ∙ ap (λ (y : Batch Request). with_spare l (l.spare ++ y ∷ [])) same in
-    let mind = spared_rests s.mind s.act c.args.client x asked kept.act kept.mind ∙ ap gave kept.mind in
-    let act = c.replace.ensures.after ∙ spared_next s.mind s.act c.args.client x asked kept.act kept.mind ∙ ap act_of kept.mind in (
+    let (client, asked, next) = c.replace_with-chunk.ensures in
+    let mind = spared_rests s.mind s.act client x asked kept.act kept.mind ∙ ap gave kept.mind in
+    let act = next ∙ spared_next s.mind s.act client x asked kept.act kept.mind ∙ ap act_of kept.mind in (
       gave (handler_of s),
       ap (λ (a : Act). lane_step (handler_of s) a l) asked
           ∙ ap (λ (b : Bool). if b then Some (gave (handler_of s), with_spare l (l.spare ++ x ∷ [])) else None) room
-          ∙ ap (λ (k : LaneState). Some (gave (handler_of s), k)) (sym put),
+          ∙ ap (λ (k : LaneState). Some (gave (handler_of s), k)) (sym c.put_chunk.ensures.put),
       λ i. record { mind = mind i; act = act i; tickets = s.tickets; room = s.room },
     )
     )
