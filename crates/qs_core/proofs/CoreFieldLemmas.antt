@@ -25,7 +25,7 @@ use Rattle.qs_core_parts.proofs.ClientModels.{IsSeatOf}
 use Rattle.qs_core_state.specs.CoreState.{CoreKeeps, CoreState, CoreSteps, GoesOn, IsCoreState, Side, all_blocks, codes_of, core_of, no_side, side_at, side_of}
 use Rattle.qs_core_state.proofs.CoreLists.{map_here}
 use Rattle.qs_core_state.proofs.CoreMoves.{client_kept, client_rests, client_steps, with_clients}
-use Rattle.qs_core.proofs.CoreBooking as booking
+use Rattle.qs_core_state.proofs.CoreBooking as booking
 
 pub client_here : (cs : List CoreClientState) (c n : ℕ) (d : CoreClientState) → n ≡ c → c < length cs → d ≡ get_or cs n d → side_at cs c ≡ side_of d
 client_here cs c n d number less value = map_here side_of cs c d no_side less ∙ ap side_of (sym (value ∙ ap (λ m. get_or cs m d) number))

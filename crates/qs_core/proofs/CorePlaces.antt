@@ -27,18 +27,22 @@ module _ (s : CoreState) (kept : IsCoreState s) where
     unfolding core_of
     lanes_are = λ h. record { down = refl; up = refl; spare = refl }
 
+    -- a client turns to the lane to a handler of the program
+    turns_inside : CoreKeeps s → (a : Act) → act_at (codes_of s) s.size (core_of s) c ≡ a → (h : ℕ) → turns_to a ≡ Some h → h < length s.program.objects
+    unfolding ReachedCore
+    turns_inside keeps wants.Reserve e h turned = cc
+    turns_inside keeps (wants.Send g p) e h turned = let is : g ≡ h = grind (arith, turned) in subst (λ m. m < length s.program.objects) is (keeps.clients.sends c g p e)
+    turns_inside keeps (wants.Await g) e h turned = let is : g ≡ h = grind (arith, turned) in subst (λ m. m < length s.program.objects) is (keeps.clients.awaits c g e)
+    turns_inside keeps (wants.NeedChunk g) e h turned = let is : g ≡ h = grind (arith, turned) in subst (λ m. m < length s.program.objects) is (keeps.clients.needs c g e)
+    turns_inside keeps wants.Finished e h turned = cc
+
+    pub wanted_inside : CoreKeeps s → (h : ℕ) → turns_to (act_at (codes_of s) s.size (core_of s) c) ≡ Some h → h < length s.program.objects
+    wanted_inside keeps = turns_inside keeps (act_at (codes_of s) s.size (core_of s) c) refl
+
     -- what a client wants next
     module _ (d : CoreClientState) (seat : IsCoreClient d) (mind : whole_of d ≡ (side_at s.clients c).mind) where
       pub wanted_is : d.act ≡ act_at (codes_of s) s.size (core_of s) c
       wanted_is = seat.act ∙ ap act_due mind ∙ sym (act_is s kept c inside)
-
-      turns_inside : CoreKeeps s → (a : Act) → act_at (codes_of s) s.size (core_of s) c ≡ a → (h : ℕ) → turns_to a ≡ Some h → h < length s.program.objects
-      unfolding ReachedCore
-      turns_inside keeps wants.Reserve e h turned = cc
-      turns_inside keeps (wants.Send g p) e h turned = let is : g ≡ h = grind (arith, turned) in subst (λ m. m < length s.program.objects) is (keeps.clients.sends c g p e)
-      turns_inside keeps (wants.Await g) e h turned = let is : g ≡ h = grind (arith, turned) in subst (λ m. m < length s.program.objects) is (keeps.clients.awaits c g e)
-      turns_inside keeps (wants.NeedChunk g) e h turned = let is : g ≡ h = grind (arith, turned) in subst (λ m. m < length s.program.objects) is (keeps.clients.needs c g e)
-      turns_inside keeps wants.Finished e h turned = cc
 
       pub turned_is : CoreKeeps s → (h : ℕ) → turns_to d.act ≡ Some h → h < length s.program.objects
       turned_is keeps = turns_inside keeps d.act (sym wanted_is)

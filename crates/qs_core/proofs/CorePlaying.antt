@@ -40,6 +40,11 @@ played_more p mode size actors old new a false on steps none same =
           ∙ sym (core_plays_more (codes_of old) size actors a (core_begin p));
     })
 
+-- the program stays
+pub program_kept : (old new : CoreState) (a : Actor) (b : Bool) → OnTrue b (CoreSteps old a new) → (b ≡ false → new ≡ old) → new.program ≡ old.program
+program_kept old new a true steps same = steps.program
+program_kept old new a false steps same = ap (λ (s : CoreState). s.program) (same refl)
+
 -- before the first actor
 pub fresh_played : (p : ProgramShape) (mode : Mode) (size : ℕ) (s : CoreState) → IsFreshCore p mode size s → IsPlayedOn p mode size [] s
 fresh_played p mode size s fresh = record { program = fresh.program; size = fresh.size; codes = fresh.codes; played = fresh.begins }

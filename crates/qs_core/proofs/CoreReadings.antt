@@ -73,12 +73,17 @@ begun_in s is keeps i d inside =
 pub lanes_in : (s : CoreState) → IsCoreState s → HaveLanes s.clients s.handlers
 lanes_in s is h inside c here = let lanes = (is.sides c here).lanes in omega (arith, lanes, is.handlers, inside)
 
-pub turns_in : (s : CoreState) → IsCoreState s → CoreKeeps s → TurnTo s.clients s.handlers
+-- the client of the lane that a handler turns to is one of the program
+pub turned_inside : (s : CoreState) → CoreKeeps s → (h c : ℕ) → turns_to (act_of ((core_of s).handler h)) ≡ Some c → c < length s.program.clients
 unfolding core_of ReachedCore
+turned_inside s keeps h c turned =
+    turned_at (length s.program.clients) (act_of (handler_at s.program s.handlers h)) (keeps.handlers.takes h) (keeps.handlers.gives h)
+    (λ d chunk e. (keeps.handlers.spares h d chunk e).0) c turned
+
+pub turns_in : (s : CoreState) → IsCoreState s → CoreKeeps s → TurnTo s.clients s.handlers
+unfolding core_of
 turns_in s is keeps h inside c turned =
-    subst (λ n. c < n) (sym is.clients)
-    (turned_at (length s.program.clients) (act_of (handler_at s.program s.handlers h)) (keeps.handlers.takes h) (keeps.handlers.gives h)
-    (λ d chunk e. (keeps.handlers.spares h d chunk e).0) c (ap (λ x. turns_to (act_of x)) (handler_is s h inside) ∙ turned))
+    subst (λ n. c < n) (sym is.clients) (turned_inside s keeps h c (ap (λ x. turns_to (act_of x)) (handler_is s h inside) ∙ turned))
 
 somewhere_in : (s : CoreState) → CoreKeeps s → AreSomewhere s.clients s.handlers
 unfolding ReachedCore

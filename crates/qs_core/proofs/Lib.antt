@@ -1,4 +1,3 @@
-pub mod CoreBooking
 pub mod CoreCounted
 pub mod CorePlaying
 pub mod CoreReadings

@@ -20,7 +20,7 @@ use Rattle.qs_core_parts.specs.CoreClients.{AreStocked, CoreClientState, Meets, 
 use Rattle.qs_core_parts.specs.CoreHandlers.{CoreHandlerState, IsCoreHandler, MayCome, TakesTicket, handler_of, lane_step, turns_to}
 use Rattle.qs_core_parts.specs.LaneStates.{lane_at}
 use Rattle.qs_core_state.specs.CoreState.{CoreKeeps, CoreState, CoreSteps, IsCoreState, Side, all_blocks, codes_of, core_of, handler_at, side_at, side_of, tickets_at}
-use Rattle.qs_core.proofs.CoreBooking.{ticket_kept, ticket_rests, ticket_steps}
+use Rattle.qs_core_state.proofs.CoreBooking.{ticket_kept, ticket_rests, ticket_steps}
 use Rattle.qs_core_state.proofs.CoreLists.{map_here}
 use Rattle.qs_core_state.proofs.CoreMoves.{handler_kept, handler_rests, handler_steps, with_handlers}
 use Rattle.qs_core.proofs.CoreFieldLemmas.{client_here}

@@ -9,7 +9,9 @@ ghost use Rattle.qs_core_state.specs.CoreState.{AreFreshClients, AreFreshHandler
 ghost use Rattle.qs_core_parts.specs.CoreClients.{CoreClientState};
 ghost use Rattle.qs_core_parts.specs.CoreHandlers.{CanEnterAll, CoreHandlerState, with_ticket_at_all, with_ticket_at, core_handler_at, turns_to};
 ghost use Rattle.qs_client_run.specs.declared.act.Act.TheVariants as wants;
-ghost use Rattle.qs_core.specs.CoreDeeds.{core_deed, core_requests};
+ghost use Rattle.qs_core.specs.CoreDeeds.{act_at, core_deed, core_requests};
+ghost use Rattle.qs_core_parts.specs.CoreClients.{turns_to as lane_wanted};
+ghost use Rattle.qs_handler.specs.Handler.{act_of};
 ghost use Rattle.qs_played.specs.declared.schedule.actor.Actor.TheVariants as actors;
 
 mod reading;
@@ -174,25 +176,31 @@ impl<'p> CoreMachine<'p> {
         self.clients[usize::from(number)].has_ended(index)
     }
 
-    /// One step of an actor: true where it has one, and else false, with nothing changed; also where there is no such actor.
-    pub(crate) fn step(&mut self, actor: Actor) -> bool
-        requires keeps { CoreKeeps self.old }
-        requires on { GoesOn self.old }
-        ensures steps { OnTrue result (CoreSteps self.old actor self.new) }
-        ensures none { result ≡ false → core_step (codes_of self.old) self.old.size (core_of self.old) actor ≡ None }
-        ensures unchanged { result ≡ false → self.new ≡ self.old }
+    /// The handler to whose lane a client turns; none for one that reserves or has finished.
+    #[inline(always)]
+    pub(crate) fn lane_of(&self, number: u8) -> Option<u8>
+        requires { number < length self.now.clients }
+        ensures value { result ≡ lane_wanted (act_at (codes_of self.now) self.now.size (core_of self.now) number) }
     {
-        match actor {
-            Actor::Client(client) => {
-                usize::from(client) < self.clients.len() && self.step_client(client)
-            }
-            Actor::Handler(handler) => {
-                usize::from(handler) < self.handlers.len() && self.step_handler(handler)
-            }
-        }
+        let client = &self.clients[usize::from(number)];
+        client.has_next_act();
+        client.handler()
     }
 
-    fn step_client(&mut self, number: u8) -> bool
+    /// The client to whose lane a handler turns; none for one that waits for a ticket.
+    #[inline(always)]
+    pub(crate) fn client_of(&self, number: u8) -> Option<u8>
+        requires { number < length self.now.handlers }
+        ensures value { result ≡ turns_to (act_of ((core_of self.now).handler number)) }
+    {
+        let handler = &self.handlers[usize::from(number)];
+        handler.has_next_act();
+        handler.client()
+    }
+
+    /// One step of a client: true where it has one, and else false, with nothing changed.
+    #[inline(always)]
+    pub(crate) fn step_client(&mut self, number: u8) -> bool
         requires number { number < length self.old.clients }
         requires keeps { CoreKeeps self.old }
         requires on { GoesOn self.old }
@@ -244,7 +252,9 @@ impl<'p> CoreMachine<'p> {
         client.go_on()
     }
 
-    fn step_handler(&mut self, number: u8) -> bool
+    /// One step of a handler: true where it has one, and else false, with nothing changed.
+    #[inline(always)]
+    pub(crate) fn step_handler(&mut self, number: u8) -> bool
         requires number { number < length self.old.handlers }
         requires keeps { CoreKeeps self.old }
         ensures steps { OnTrue result (CoreSteps self.old (actors.Handler number) self.new) }

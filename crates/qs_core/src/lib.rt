@@ -9,6 +9,7 @@ mod core_schedules;
 mod core_showing;
 pub mod laws;
 mod optimised;
+mod stuck;
 
 pub use core_deed::CoreDeed;
 pub use core_orders::play_in_order;

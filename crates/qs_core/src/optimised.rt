@@ -1,11 +1,12 @@
 //! The optimised machine, from its beginning on.
 
-ghost use Rattle.std.specs.Prelude.{◌≡◌, ◌<◌, ◌++◌, ℕ, List, None, false, IfOk};
+ghost use Rattle.std.specs.Prelude.{◌≡◌, ◌<◌, ◌++◌, ℕ, List, None, false, length, IfOk};
 ghost use Rattle.qs_program.specs.Program.{ProgramShape};
 ghost use Rattle.qs_syncset.specs.declared.mode.Mode.{Mode as ModeShape};
 ghost use Rattle.qs_core_laws.specs.CoreSchedule.{core_played};
 ghost use Rattle.qs_played.specs.Schedule.{actors_of, rounds_of};
 ghost use Rattle.qs_played.specs.declared.schedule.actor.Actor.{Actor as ActorShape};
+ghost use Rattle.qs_played.specs.declared.schedule.actor.Actor.TheVariants as actors;
 ghost use Rattle.std.specs.Bool.{OnTrue};
 ghost use Rattle.qs_core_laws.specs.Core.{core_step};
 ghost use Rattle.qs_core.specs.CoreDeeds.{core_deed, core_requests};
@@ -19,6 +20,7 @@ mod reading;
 
 use crate::core_deed::CoreDeed;
 use crate::core_machine::CoreMachine;
+use crate::stuck::Stuck;
 use qs_chunk::ChunkSize;
 use qs_objects::Request;
 use qs_played::{Actor, Played};
@@ -31,11 +33,15 @@ use std::marker::Model;
 /// runs its queries itself on the objects that come to it. Its steps take no memory.
 pub struct Core<'p> {
     machine: CoreMachine<'p>,
+    stuck: Stuck,
 }
 
 impl Drop for Core<'_> {
     fn drop(self) {
-        let Core { machine: _ } = self;
+        let Core {
+            machine: _,
+            stuck: _,
+        } = self;
     }
 }
 
@@ -48,7 +54,9 @@ impl<'p> Model for Core<'p> {
 
     ghost view = { λ c. c.machine };
 
-    ghost invariant = { λ c. IsReachedCore c.machine };
+    ghost use Rattle.qs_core_state.specs.CoreStuck.{AreStuck};
+
+    ghost invariant = { λ c. IsReachedCore c.machine × AreStuck c.stuck c.machine };
 }
 
 impl<'p> Core<'p> {
@@ -63,7 +71,8 @@ impl<'p> Core<'p> {
         ensures fresh { IfOk result (IsFreshCore program.now mode size) }
     {
         let machine = CoreMachine::new(alloc, program, mode, size)?;
-        Ok(Core { machine })
+        let stuck = Stuck::nobody();
+        Ok(Core { machine, stuck })
     }
 
     /// One step of an actor: true where it has one, and else false, with nothing changed; also where there is no such actor. What has
@@ -78,7 +87,67 @@ impl<'p> Core<'p> {
     {
         self.machine.program().is_sound();
         self.machine.is_machine();
-        self.machine.step(actor)
+        let stepped = match actor {
+            Actor::Client(client) => {
+                usize::from(client) < self.machine.clients().len() && self.step_client(client)
+            }
+            Actor::Handler(handler) => {
+                usize::from(handler) < self.machine.handlers().len() && self.step_handler(handler)
+            }
+        };
+        self.is_isolated();
+        self.is_counted();
+        stepped
+    }
+
+    // One step of a client. One that is known to have none is not asked.
+    #[inline(always)]
+    fn step_client(&mut self, client: u8) -> bool
+        requires { client < length self.old.program.clients }
+        ensures steps { OnTrue result (CoreSteps self.old (actors.Client client) self.new) }
+        ensures none { result ≡ false → core_step (codes_of self.old) self.old.size (core_of self.old) (actors.Client client) ≡ None }
+        ensures unchanged { result ≡ false → self.new ≡ self.old }
+    {
+        self.machine.program().is_sound();
+        self.machine.is_machine();
+        if self.stuck.has_client(client) {
+            return false;
+        }
+        let lane = self.machine.lane_of(client);
+        if !self.machine.step_client(client) {
+            self.stuck.put_client(client, true);
+            return false;
+        }
+        match lane {
+            Some(handler) => self.stuck.put_handler(handler, false),
+            None => self.stuck.wake_handlers(),
+        }
+        true
+    }
+
+    // One step of a handler. One that is known to have none is not asked.
+    #[inline(always)]
+    fn step_handler(&mut self, handler: u8) -> bool
+        requires { handler < length self.old.program.objects }
+        ensures steps { OnTrue result (CoreSteps self.old (actors.Handler handler) self.new) }
+        ensures none { result ≡ false → core_step (codes_of self.old) self.old.size (core_of self.old) (actors.Handler handler) ≡ None }
+        ensures unchanged { result ≡ false → self.new ≡ self.old }
+    {
+        self.machine.program().is_sound();
+        self.machine.is_machine();
+        if self.stuck.has_handler(handler) {
+            return false;
+        }
+        let lane = self.machine.client_of(handler);
+        if !self.machine.step_handler(handler) {
+            self.stuck.put_handler(handler, true);
+            return false;
+        }
+        match lane {
+            Some(woken) => self.stuck.put_client(woken, false),
+            None => {}
+        }
+        true
     }
 
     /// What an actor does next, if it steps; none for an actor that is not there.
@@ -127,12 +196,12 @@ impl<'p> Core<'p> {
         let handlers = program.objects() as u8;
         let mut stepped = false;
         for client in 0..clients {
-            if self.step(Actor::Client(client)) {
+            if self.step_client(client) {
                 stepped = true;
             }
         }
         for handler in 0..handlers {
-            if self.step(Actor::Handler(handler)) {
+            if self.step_handler(handler) {
                 stepped = true;
             }
         }
@@ -190,7 +259,7 @@ impl<'p> Core<'p> {
         ensures isolated { CoreIsIsolated self.entry }
         ensures counted { CoreIsCounted self.entry }
     {
-        let Core { machine } = self;
+        let Core { machine, stuck: _ } = self;
         machine.program().is_sound();
         machine.is_machine();
         machine.into_played(alloc)

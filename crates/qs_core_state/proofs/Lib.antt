@@ -8,3 +8,5 @@ pub mod HandlerFields
 pub mod CoreMoves
 pub mod CoreReserving
 pub mod CoreFresh
+pub mod CoreBooking
+pub mod StuckActors

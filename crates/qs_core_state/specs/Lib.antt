@@ -1,1 +1,2 @@
 pub mod CoreState
+pub mod CoreStuck

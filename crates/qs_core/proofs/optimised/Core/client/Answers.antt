@@ -20,7 +20,7 @@ returns c =
     let mind = c.client_at-client.ensures.mind ∙ (λ k. (side_at (c.clients.ensures.value k) (c.from.ensures k)).mind) in
     let lanes = c.client_at-client.ensures.lanes ∙ (λ k. (side_at (c.clients.ensures.value k) (c.from.ensures k)).lanes) in
     let seat = c.has_next_act.ensures.seat in
-    let keeps = core_keeps s (subst IsSound c.program.ensures.value c.is_sound.ensures.sound) kept c.self.invariant in
+    let keeps = core_keeps s (subst IsSound c.program.ensures.value c.is_sound.ensures.sound) kept c.self.invariant.0 in
     record {
       act = wanted_is s kept n inside d seat mind ∙ ap (λ (x : CoreState). act_at (codes_of x) x.size (core_of x) n) c.self.view_is;
       turned = λ h turned. subst (λ (x : CoreState). h < length x.program.objects) c.self.view_is (turned_is s kept n inside d seat mind keeps h turned);

@@ -6,4 +6,4 @@ use Rattle.qs_core.proofs.optimised.Core.is_counted.Goals as goal
 
 pub returns : goal.returns
 returns c =
-    record { counted = subst CoreIsCounted c.self.view_is (core_is_counted c.self.inside.machine (subst IsSound c.program.ensures.value c.is_sound.ensures.sound) c.self.invariant) }
+    record { counted = subst CoreIsCounted c.self.view_is (core_is_counted c.self.inside.machine (subst IsSound c.program.ensures.value c.is_sound.ensures.sound) c.self.invariant.0) }

@@ -11,6 +11,7 @@ abbrev pub invariant-loop-client : goal.invariant-loop-client
 invariant-loop-client l = record {
   played : (p : ProgramShape) (mode : Mode) (size : ℕ) (actors : List Actor) → IsPlayedOn p mode size actors l.initial.self
       → IsPlayedOn p mode size (actors ++ map actor.Client (range_with_len 0 l.client)) l.self;
+  program : l.self.program ≡ l.fn.self.program;
   still : l.stepped ≡ false → l.self ≡ l.initial.self;
 }
 
@@ -18,5 +19,6 @@ abbrev pub invariant-loop-handler : goal.invariant-loop-handler
 invariant-loop-handler l = record {
   played : (p : ProgramShape) (mode : Mode) (size : ℕ) (actors : List Actor) → IsPlayedOn p mode size actors l.initial.self
       → IsPlayedOn p mode size (actors ++ map actor.Handler (range_with_len 0 l.handler)) l.self;
+  program : l.self.program ≡ l.fn.self.program;
   still : l.stepped ≡ false → l.self ≡ l.fn.self;
 }

@@ -1,24 +1,25 @@
-use Rattle.std.proofs.Common.{subst}
+use Rattle.std.proofs.Common.{◌≤◌, length, ap, arith, sym, subst, ◌∙◌}
 use Rattle.qs_program.specs.Sound.{IsSound}
-use Rattle.qs_core.proofs.CoreCounted.{core_next_counted}
-use Rattle.qs_core_state.proofs.CoreReaching.{core_goes_on, core_keeps, core_next, core_next_isolated}
+use Rattle.qs_core_laws.specs.Core.{core_step}
+use Rattle.qs_core_state.specs.CoreState.{CoreKeeps, codes_of, core_of}
+use Rattle.qs_core_state.proofs.CoreAbsent.{absent_client, absent_handler}
+use Rattle.qs_core_state.proofs.CoreReaching.{core_keeps}
+use Rattle.qs_core.proofs.optimised.Core.step.Goals.{in-Client+then-from-clients, in-Client+else-from-clients, in-Handler+then-from-handlers, in-Handler+else-from-handlers}
 use Rattle.qs_core.proofs.optimised.Core.step.Goals as goal
 
-pub step-requires-clause-keeps : goal.step-requires-clause-keeps
-step-requires-clause-keeps c = core_keeps c.self.inside.machine (subst IsSound c.program.ensures.value c.is_sound.ensures.sound) c.is_machine.ensures.state c.self.invariant
-
-pub step-requires-clause-on : goal.step-requires-clause-on
-step-requires-clause-on c = core_goes_on c.self.inside.machine (subst IsSound c.program.ensures.value c.is_sound.ensures.sound) c.is_machine.ensures.state c.self.invariant
-
-pub invariant_of-self : goal.invariant_of-self
-invariant_of-self c = core_next c.self.inside.machine c.step.new.self c.args.actor c.step.result c.self.invariant c.step.ensures.steps c.step.ensures.unchanged
-
-pub returns-clause-isolated : goal.returns-clause-isolated
-returns-clause-isolated c =
-    core_next_isolated c.self.inside.machine c.step.new.self c.args.actor c.step.result (subst IsSound c.program.ensures.value c.is_sound.ensures.sound) c.is_machine.ensures.state
-    c.self.invariant c.step.ensures.steps c.step.ensures.unchanged
-
-pub returns-clause-counted : goal.returns-clause-counted
-returns-clause-counted c =
-    core_next_counted c.self.inside.machine c.step.new.self c.args.actor c.step.result (subst IsSound c.program.ensures.value c.is_sound.ensures.sound) c.self.invariant
-    c.step.ensures.steps c.step.ensures.unchanged
+pub returns-clause-none : goal.returns-clause-none
+returns-clause-none c = λ none.
+    let r = c.self.inside.machine in
+    let s = c.args.self.now in
+    let kept = c.is_machine.ensures.state in
+    let keeps = subst CoreKeeps c.self.view_is (core_keeps r (subst IsSound c.program.ensures.value c.is_sound.ensures.sound) kept c.self.invariant.0) in
+    elim c.match-actor.branch [
+      | in-Client+then-from-clients w ↦ ap (core_step (codes_of s) s.size (core_of s)) w.in-Client.is ∙ w.step_client.ensures.none (sym w.stepped-is ∙ none)
+      | in-Client+else-from-clients w ↦ (
+          let out : length r.clients ≤ w.in-Client.client = grind (arith, w.if-from-clients.false, w.from.ensures, ap length w.clients.ensures.value) in
+          absent_client r s c.self.view_is kept keeps c.args.actor w.in-Client.client w.in-Client.is out)
+      | in-Handler+then-from-handlers w ↦ ap (core_step (codes_of s) s.size (core_of s)) w.in-Handler.is ∙ w.step_handler.ensures.none (sym w.stepped-is ∙ none)
+      | in-Handler+else-from-handlers w ↦ (
+          let out : length r.handlers ≤ w.in-Handler.handler = grind (arith, w.if-from-handlers.false, w.from-in-Handler.ensures, ap length w.handlers.ensures.value) in
+          absent_handler r s c.self.view_is kept keeps c.args.actor w.in-Handler.handler w.in-Handler.is out)
+    ]
