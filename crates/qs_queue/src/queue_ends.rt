@@ -7,19 +7,39 @@ use crate::protocol::{Key, Protocol};
 use crate::rule::{Agrees, Known, Meets, Opens, Queue, Sends, Takes};
 use crossbeam_queue::Pass;
 use crossbeam_utils::Backoff;
+use crossbeam_utils::sync::EventCount;
 use std::alloc::{AllocError, Global};
+use std::hint;
 use std::marker::Model;
 use std::sync::{Arc, Wait};
 
+// How often the taking end looks, with a pause of one instruction after each look, before it sleeps: some 15 microseconds in all.
+const LOOKS: u32 = 200;
+
+// What both ends have: the queue, and who sleeps until something is sent.
+struct Shared<T, K, P: Protocol<T, K>> {
+    queue: Queue<T, K, P>,
+    sleeper: EventCount,
+}
+
+impl<T: Drop, K, P: Protocol<T, K>> Drop for Shared<T, K, P> {
+    fn drop(self) {
+        let Shared {
+            queue: _,
+            sleeper: _,
+        } = self;
+    }
+}
+
 /// The sending end of a queue.
 pub struct Sender<T, K, P: Protocol<T, K>> {
-    queue: Arc<Queue<T, K, P>, Global>,
+    shared: Arc<Shared<T, K, P>, Global>,
     pass: Pass<T, Known<T, K>>,
 }
 
 impl<T: Drop, K, P: Protocol<T, K>> Drop for Sender<T, K, P> {
     fn drop(self) {
-        let Sender { queue: _, pass: _ } = self;
+        let Sender { shared: _, pass: _ } = self;
     }
 }
 
@@ -33,18 +53,18 @@ impl<T, K, P: Protocol<T, K>> Model for Sender<T, K, P> {
 
     ghost view = { λ s. record {
       name = s.pass.table_id;
-      room = ruled_capacity s.queue.value;
+      room = ruled_capacity s.shared.value.queue;
       key = (known s.pass).key;
       sent = (known s.pass).sent;
     } };
 
-    ghost invariant = { λ s. IsPassOf s.queue.value s.pass × (known s.pass ≡ sending (known s.pass).key (known s.pass).sent) };
+    ghost invariant = { λ s. IsPassOf s.shared.value.queue s.pass × (known s.pass ≡ sending (known s.pass).key (known s.pass).sent) };
 }
 
 /// The taking end of a queue.
 #[derive(Drop)]
 pub struct Taker<T, K, P: Protocol<T, K>> {
-    queue: Arc<Queue<T, K, P>, Global>,
+    shared: Arc<Shared<T, K, P>, Global>,
     pass: Pass<T, Known<T, K>>,
 }
 
@@ -58,7 +78,7 @@ impl<T, K, P: Protocol<T, K>> Model for Taker<T, K, P> {
 
     ghost view = { λ s. record { name = s.pass.table_id; key = (known s.pass).key; received = (known s.pass).received } };
 
-    ghost invariant = { λ s. IsPassOf s.queue.value s.pass × (known s.pass ≡ taking (known s.pass).key (known s.pass).received) };
+    ghost invariant = { λ s. IsPassOf s.shared.value.queue s.pass × (known s.pass ≡ taking (known s.pass).key (known s.pass).received) };
 }
 
 /// The two ends of an empty queue, which has room for so many values, and this key. All its memory is taken here; an error says that it
@@ -73,15 +93,15 @@ pub fn make_ends<T: Drop, K, P: Protocol<T, K>, N: Key<K>>(
 {
     let (queue, mut pass) = Queue::<T, K, P>::ruled(alloc, room)?;
     let theirs = queue.another::<Opens<N>>(&mut pass);
-    let Ok(queue) = Arc::new(alloc, queue) else {
+    let sleeper = EventCount::new();
+    let Ok(shared) = Arc::new(alloc, Shared { queue, sleeper }) else {
         return Err(AllocError);
     };
-    let shared = Arc::try_clone(&queue)?;
     let taker = Taker {
-        queue: shared,
+        shared: Arc::try_clone(&shared)?,
         pass: theirs,
     };
-    Ok((Sender { queue, pass }, taker))
+    Ok((Sender { shared, pass }, taker))
 }
 
 impl<T: Drop, K, P: Protocol<T, K>> Sender<T, K, P> {
@@ -93,7 +113,10 @@ impl<T: Drop, K, P: Protocol<T, K>> Sender<T, K, P> {
         ensures back { IfErr result (λ back. (back ≡ value) × (self.new ≡ self.old)) }
         ensures full { IfErr result (λ _. self.old.room ≤ length self.old.sent) }
     {
-        self.queue.push_as::<Sends, R>(rt, &mut self.pass, value)
+        let shared = &self.shared;
+        shared.queue.push_as::<Sends, R>(rt, &mut self.pass, value)?;
+        shared.sleeper.notify_one();
+        Ok(())
     }
 
     /// Sends a value, where what was sent stays good by it; waits until the queue has room.
@@ -119,9 +142,11 @@ impl<T: Drop, K, P: Protocol<T, K>> Sender<T, K, P> {
         requires room { length self.old.sent < self.old.room }
         ensures sent { self.new ≡ record self.old { sent = self.old.sent ++ value ∷ [] } }
     {
-        let Ok(()) = self.queue.push_as::<Sends, R>(rt, &mut self.pass, value) else {
+        let shared = &self.shared;
+        let Ok(()) = shared.queue.push_as::<Sends, R>(rt, &mut self.pass, value) else {
             unreachable!();
         };
+        shared.sleeper.notify_one();
     }
 
     /// What the two ends of one queue know together: what was received is a front of what was sent, and what was sent is good.
@@ -132,12 +157,12 @@ impl<T: Drop, K, P: Protocol<T, K>> Sender<T, K, P> {
         ensures good { P.good self.old.key self.old.sent }
     {
         let Taker {
-            queue: _queue,
+            shared: _shared,
             pass: theirs,
         } = taker;
-        self.queue.absorb::<Meets<P>>(&mut self.pass, theirs);
-        self.queue.learn_as::<Agrees<P>>(&mut self.pass);
-        let _taker = self.queue.another::<Meets<P>>(&mut self.pass);
+        self.shared.queue.absorb::<Meets<P>>(&mut self.pass, theirs);
+        self.shared.queue.learn_as::<Agrees<P>>(&mut self.pass);
+        let _taker = self.shared.queue.another::<Meets<P>>(&mut self.pass);
     }
 }
 
@@ -148,21 +173,54 @@ impl<T: Drop, K, P: Protocol<T, K>> Taker<T, K, P> {
         ensures some { IfSome result (λ value. self.new ≡ record self.old { received = self.old.received ++ value ∷ [] }) }
         ensures good { IfSome result (λ value. P.good self.old.key (self.old.received ++ value ∷ [])) }
     {
-        self.queue.pop_as::<Takes<P>, R>(rt, &mut self.pass)
+        self.shared.queue.pop_as::<Takes<P>, R>(rt, &mut self.pass)
     }
 
-    /// Takes the next value; what was received is good. Waits until there is one.
+    /// Takes the next value; what was received is good. Waits until there is one: it looks again and again for some microseconds, and
+    /// then sleeps until something is sent.
     pub fn take<R: Wait>(&mut self, rt: &R) -> T
         ensures taken { self.new ≡ record self.old { received = self.old.received ++ result ∷ [] } }
         ensures good { P.good self.old.key (self.old.received ++ result ∷ []) }
     {
-        let backoff = Backoff::new();
+        if let Some(value) = self.look(rt) {
+            return value;
+        }
         for _ in rt.forever() {
-            if let Some(value) = self.try_take(rt) {
+            if let Some(value) = self.take_or_sleep(rt) {
                 return value;
             }
-            backoff.snooze();
         }
         unreachable!()
+    }
+
+    // Looks again and again. It gives no processor away in between: on a busy machine that may take a whole turn of another program.
+    fn look<R: Wait>(&mut self, rt: &R) -> Option<T>
+        ensures none { IfNone result (self.new ≡ self.old) }
+        ensures some { IfSome result (λ value. self.new ≡ record self.old { received = self.old.received ++ value ∷ [] }) }
+        ensures good { IfSome result (λ value. P.good self.old.key (self.old.received ++ value ∷ [])) }
+    {
+        for _look in 0..LOOKS {
+            if let Some(value) = self.try_take(rt) {
+                return Some(value);
+            }
+            hint::spin_loop();
+        }
+        None
+    }
+
+    // Takes the next value, or sleeps until something is sent. It says that it will sleep before it looks, so that nothing is sent unseen.
+    fn take_or_sleep<R: Wait>(&mut self, rt: &R) -> Option<T>
+        ensures none { IfNone result (self.new ≡ self.old) }
+        ensures some { IfSome result (λ value. self.new ≡ record self.old { received = self.old.received ++ value ∷ [] }) }
+        ensures good { IfSome result (λ value. P.good self.old.key (self.old.received ++ value ∷ [])) }
+    {
+        let key = self.shared.sleeper.prepare_wait();
+        match self.shared.queue.pop_as::<Takes<P>, R>(rt, &mut self.pass) {
+            Some(value) => Some(value),
+            None => {
+                key.wait(rt);
+                None
+            }
+        }
     }
 }
