@@ -30,6 +30,15 @@ pub(crate) fn send<R: Wait>(rt: &R, lanes: &mut Lanes, handler: u8, parcel: Parc
     }
 }
 
+/// Wakes each handler that sleeps and may have been left something to do.
+pub(crate) fn wake_all(lanes: &Lanes) {
+    for lane in lanes {
+        if let Some(lane) = lane {
+            lane.wake();
+        }
+    }
+}
+
 /// Takes the next object that a handler gave. Waits until there is one.
 pub(crate) fn get<R: Wait>(rt: &R, lanes: &mut Lanes, handler: u8) -> Held
     requires handler { handler < most_handlers }

@@ -12,7 +12,7 @@ ghost use Rattle.qs_meaning.specs.Following.{reserves};
 ghost use Rattle.qs_syncset.specs.Codes.{IsCodeOf};
 ghost use Rattle.qs_syncset.specs.declared.mode.Mode.{Mode};
 
-use crate::client_lanes::{Lanes, empty, get, send};
+use crate::client_lanes::{Lanes, empty, get, send, wake_all};
 use qs_client::{Act, Mind};
 use qs_desk::{DeskName, Front, Share};
 use std::sync::Wait;
@@ -46,7 +46,10 @@ pub fn run<D: DeskName, R: Wait>(
             Act::Send(handler, parcel) => send(rt, &mut lanes, handler, parcel),
             Act::Await(handler) => mind.got(get(rt, &mut lanes, handler)),
             Act::NeedChunk(handler) => mind.chunk(empty(rt, &mut lanes, handler)),
-            Act::Finished => return (mind, share, lanes),
+            Act::Finished => {
+                wake_all(&lanes);
+                return (mind, share, lanes);
+            }
         }
     }
     unreachable!()

@@ -11,10 +11,10 @@ ghost use Rattle.qs_chunk.specs.Limits.{lane_room};
 use crate::protocols::{AnyObjects, EmptyChunks, InLane, Keyless, KnownSize, SizeKey};
 use qs_chunk::{Chunk, ChunkSize, LANE_ROOM, Parcel};
 use qs_objects::{Held, Request};
-use qs_queue::{Sender, Taker, make_ends};
+use qs_queue::{Bell, Sender, Taker, make_ends};
 use std::alloc::{AllocError, Global};
 use std::marker::{Brand, Model};
-use std::sync::Wait;
+use std::sync::{Arc, Wait};
 
 // The queue of empty chunks.
 type SpareSender = Sender<Chunk<Request>, ChunkSize, EmptyChunks>;
@@ -27,6 +27,7 @@ pub struct LaneOut {
     down: Sender<Parcel, ChunkSize, InLane>,
     up: Taker<Held, (), AnyObjects>,
     spare: SpareTaker,
+    bell: Arc<Bell, Global>,
 }
 
 impl Model for LaneOut {
@@ -54,6 +55,7 @@ pub struct LaneIn {
     down: Taker<Parcel, ChunkSize, InLane>,
     up: Sender<Held, (), AnyObjects>,
     spare: SpareSender,
+    bell: Arc<Bell, Global>,
 }
 
 impl Model for LaneIn {
@@ -118,11 +120,14 @@ fn lane_of<N: KnownSize, R: Wait>(
     rt: &R,
     alloc: Global,
     size: ChunkSize,
+    bell: &Arc<Bell, Global>,
 ) -> Result<(LaneOut, LaneIn), AllocError>
     requires { N.size ≡ size }
     ensures out { IfOk result (λ ends. ends.0 ≡ record { name = ends.1.name; size = size; sent = []; got = []; taken = 0 }) }
     ensures inside { IfOk result (λ ends. ends.1 ≡ record { name = ends.1.name; size = size; received = []; given = []; spared = 4 }) }
 {
+    let clients_bell = Arc::try_clone(bell)?;
+    let handlers_bell = Arc::try_clone(bell)?;
     let (spare_end, spare) = make_spares::<N, R>(rt, alloc, size)?;
     let Ok((up_end, up)) = make_ends::<Held, (), AnyObjects, Keyless>(alloc, 1) else {
         drop(spare_end);
@@ -141,8 +146,23 @@ fn lane_of<N: KnownSize, R: Wait>(
         down: down_end,
         up: up_end,
         spare: spare_end,
+        bell: handlers_bell,
     };
-    Ok((LaneOut { down, up, spare }, inside))
+    let out = LaneOut {
+        down,
+        up,
+        spare,
+        bell: clients_bell,
+    };
+    Ok((out, inside))
+}
+
+/// A bell for the lanes of one handler. An error says that memory was refused.
+pub fn make_bell(alloc: Global) -> Result<Arc<Bell, Global>, AllocError> {
+    let Ok(bell) = Arc::new(alloc, Bell::new()) else {
+        return Err(AllocError);
+    };
+    Ok(bell)
 }
 
 /// The two ends of a lane whose chunks have this size: room for sixteen parcels down and one object up, and four empty chunks. All its
@@ -155,42 +175,106 @@ pub fn lane<R: Wait>(
     ensures out { IfOk result (λ ends. ends.0 ≡ record { name = ends.1.name; size = size; sent = []; got = []; taken = 0 }) }
     ensures inside { IfOk result (λ ends. ends.1 ≡ record { name = ends.1.name; size = size; received = []; given = []; spared = 4 }) }
 {
-    lane_of::<Brand, R>(rt, alloc, size)
+    let bell = make_bell(alloc)?;
+    lane_at(rt, alloc, size, &bell)
+}
+
+/// The same for a handler whose lanes share this bell: it sleeps there, whichever of them it takes from.
+pub fn lane_at<R: Wait>(
+    rt: &R,
+    alloc: Global,
+    size: ChunkSize,
+    bell: &Arc<Bell, Global>,
+) -> Result<(LaneOut, LaneIn), AllocError>
+    ensures out { IfOk result (λ ends. ends.0 ≡ record { name = ends.1.name; size = size; sent = []; got = []; taken = 0 }) }
+    ensures inside { IfOk result (λ ends. ends.1 ≡ record { name = ends.1.name; size = size; received = []; given = []; spared = 4 }) }
+{
+    lane_of::<Brand, R>(rt, alloc, size, bell)
 }
 
 impl LaneOut {
     /// Sends a parcel that may follow what was sent; a chunk in it has the lane's size. The parcel comes back, and nothing changes, only
-    /// where sixteen parcels lie in the lane; so sixteen at least were sent before.
+    /// where sixteen parcels lie in the lane; so sixteen at least were sent before. Wakes the handler.
     pub fn try_send<R: Wait>(&mut self, rt: &R, parcel: Parcel) -> Result<(), Parcel>
         requires follows { MayFollow self.old.size (is_asked false self.old.sent) parcel }
         ensures ok { IfOk result (λ _. self.new ≡ record self.old { sent = self.old.sent ++ parcel ∷ [] }) }
         ensures back { IfErr result (λ back. (back ≡ parcel) × (self.new ≡ self.old)) }
         ensures full { IfErr result (λ _. lane_room ≤ length self.old.sent) }
     {
-        self.down.try_send(rt, parcel)
+        let sent = self.try_put(rt, parcel);
+        self.wake();
+        sent
     }
 
-    /// Sends a parcel that may follow what was sent; a chunk in it has the lane's size. Waits until there is room.
+    // The same, which wakes nobody.
+    fn try_put<R: Wait>(&mut self, rt: &R, parcel: Parcel) -> Result<(), Parcel>
+        requires follows { MayFollow self.old.size (is_asked false self.old.sent) parcel }
+        ensures ok { IfOk result (λ _. self.new ≡ record self.old { sent = self.old.sent ++ parcel ∷ [] }) }
+        ensures back { IfErr result (λ back. (back ≡ parcel) × (self.new ≡ self.old)) }
+        ensures full { IfErr result (λ _. lane_room ≤ length self.old.sent) }
+    {
+        self.down.try_put(rt, parcel)
+    }
+
+    /// Sends a parcel that may follow what was sent; a chunk in it has the lane's size. Waits until there is room. A handler that sleeps
+    /// may sleep on until somebody waits for it, by `get`, `empty` or here, or until `wake`.
     pub fn send<R: Wait>(&mut self, rt: &R, parcel: Parcel)
         requires follows { MayFollow self.old.size (is_asked false self.old.sent) parcel }
         ensures sent { self.new ≡ record self.old { sent = self.old.sent ++ parcel ∷ [] } }
     {
-        self.down.send(rt, parcel);
+        let ends = matches!(parcel, Parcel::End);
+        self.put(rt, parcel);
+        if ends {
+            self.bell.ring_if_awaited();
+        }
     }
 
-    /// Takes the next object that was given. Waits until there is one.
+    // The same, which wakes the handler only where it waits for room.
+    fn put<R: Wait>(&mut self, rt: &R, parcel: Parcel)
+        requires follows { MayFollow self.old.size (is_asked false self.old.sent) parcel }
+        ensures sent { self.new ≡ record self.old { sent = self.old.sent ++ parcel ∷ [] } }
+    {
+        self.down.put(rt, &self.bell, parcel);
+    }
+
+    /// Wakes the handler, where it sleeps until it gets a parcel of its lanes.
+    pub fn wake(&self) {
+        self.bell.ring();
+    }
+
+    /// Takes the next object that was given. Waits until there is one, and wakes the handler.
     pub fn get<R: Wait>(&mut self, rt: &R) -> Held
         ensures got { self.new ≡ record self.old { got = self.old.got ++ result ∷ [] } }
     {
-        self.up.take(rt)
+        self.up.take_from(rt, &self.bell)
     }
 
-    /// Takes an empty chunk of the lane's size. Waits until there is one.
+    /// Takes an empty chunk of the lane's size. Where none lies in the lane it waits until there is one, and wakes the handler.
     pub fn empty<R: Wait>(&mut self, rt: &R) -> Chunk<Request>
         ensures taken { self.new ≡ record self.old { taken = self.old.taken + 1 } }
         ensures empty { result ≡ batch [] self.old.size }
     {
-        self.spare.take(rt)
+        if let Some(chunk) = self.try_empty(rt) {
+            return chunk;
+        }
+        self.wait_empty(rt)
+    }
+
+    // Takes an empty chunk where one lies in the lane.
+    fn try_empty<R: Wait>(&mut self, rt: &R) -> Option<Chunk<Request>>
+        ensures none { IfNone result (self.new ≡ self.old) }
+        ensures taken { IfSome result (λ _. self.new ≡ record self.old { taken = self.old.taken + 1 }) }
+        ensures empty { IfSome result (λ chunk. chunk ≡ batch [] self.old.size) }
+    {
+        self.spare.try_take(rt)
+    }
+
+    // Waits until there is an empty chunk, and wakes the handler.
+    fn wait_empty<R: Wait>(&mut self, rt: &R) -> Chunk<Request>
+        ensures taken { self.new ≡ record self.old { taken = self.old.taken + 1 } }
+        ensures empty { result ≡ batch [] self.old.size }
+    {
+        self.spare.take_from(rt, &self.bell)
     }
 }
 
@@ -204,12 +288,31 @@ impl LaneIn {
         self.down.try_take(rt)
     }
 
-    /// Takes the next parcel, which may follow what was received. Waits until there is one.
+    /// Takes the next parcel, which may follow what was received. Waits until there is one. Before it waits, and at an End, it wakes a client
+    /// that waits for an empty chunk.
     pub fn take<R: Wait>(&mut self, rt: &R) -> Parcel
         ensures taken { self.new ≡ record self.old { received = self.old.received ++ result ∷ [] } }
         ensures follows { MayFollow self.old.size (is_asked false self.old.received) result }
     {
-        self.down.take(rt)
+        let parcel = match self.try_take(rt) {
+            Some(parcel) => parcel,
+            None => {
+                self.spare.wake();
+                self.wait_take(rt)
+            }
+        };
+        if matches!(parcel, Parcel::End) {
+            self.spare.wake();
+        }
+        parcel
+    }
+
+    // Waits until there is a parcel.
+    fn wait_take<R: Wait>(&mut self, rt: &R) -> Parcel
+        ensures taken { self.new ≡ record self.old { received = self.old.received ++ result ∷ [] } }
+        ensures follows { MayFollow self.old.size (is_asked false self.old.received) result }
+    {
+        self.down.take_at(rt, &self.bell)
     }
 
     /// Gives the object to the client, which asked for it by the last parcel. Waits while an object lies in the lane.
@@ -221,12 +324,13 @@ impl LaneIn {
         self.up.send(rt, held);
     }
 
-    /// Gives an empty chunk of the lane's size back: it is put into the lane, or dropped, where four lie there, and nothing changes.
+    /// Gives an empty chunk of the lane's size back: it is put into the lane, or dropped, where four lie there, and nothing changes. A client
+    /// that waits for it is woken by a later `take`.
     pub fn spare<R: Wait>(&mut self, rt: &R, chunk: Chunk<Request>)
         requires empty { chunk ≡ batch [] self.old.size }
         ensures spared { (self.new ≡ record self.old { spared = self.old.spared + 1 }) ⊎ (self.new ≡ self.old) }
     {
-        let _ = self.spare.try_send(rt, chunk);
+        let _ = self.spare.try_put(rt, chunk);
     }
 }
 
@@ -248,11 +352,13 @@ pub fn agree(out: LaneOut, inside: LaneIn)
         mut down,
         up,
         spare,
+        bell: _,
     } = out;
     let LaneIn {
         down: down_end,
         up: mut up_end,
         spare: mut spare_end,
+        bell: _,
     } = inside;
     down.agree(down_end);
     up_end.agree(up);

@@ -7,4 +7,5 @@ mod protocols;
 #[cfg(test)]
 mod tests;
 
-pub use lane_ends::{LaneIn, LaneOut, lane};
+pub use lane_ends::{LaneIn, LaneOut, lane, lane_at, make_bell};
+pub use qs_queue::Bell;

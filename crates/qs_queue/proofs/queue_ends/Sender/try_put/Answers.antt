@@ -2,7 +2,7 @@ use Rattle.std.proofs.Common.{ap, sym, subst, ◌++◌, ◌∷◌, []}
 use Rattle.qs_queue.specs.declared.rule.Known.{Known}
 use Rattle.qs_queue.specs.Views.{SenderView}
 use Rattle.qs_queue.proofs.Steps.{sends, sends_full}
-use Rattle.qs_queue.proofs.queue_ends.Sender.try_send.Goals as goal
+use Rattle.qs_queue.proofs.queue_ends.Sender.try_put.Goals as goal
 
 pub push_as-requires-clause-rule : goal.push_as-requires-clause-rule
 push_as-requires-clause-rule g c =
