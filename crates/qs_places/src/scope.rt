@@ -276,19 +276,7 @@ impl Scope {
     }
 
     /// A variable that is assigned or read.
-    #[inline(always)]
     pub fn variable(&mut self, name: &Name) -> Result<(), CheckFault>
-        ensures meets { Meets result (step self.old (variable name.now)) self.new }
-    {
-        if self.variables.guessed(name).is_some() {
-            return Ok(());
-        }
-        self.slow_variable(name)
-    }
-
-    // The same, of a variable that was not found at once.
-    #[inline(never)]
-    fn slow_variable(&mut self, name: &Name) -> Result<(), CheckFault>
         ensures meets { Meets result (step self.old (variable name.now)) self.new }
     {
         if self.variables.contains(name) {

@@ -3,14 +3,11 @@
 -- by induction on the list of names.
 use Rattle.std.proofs.Common.{◌≡◌, ◌≢◌, ℕ, suc, ◌+◌, ◌<◌, ◌≤◌, Bool, true, false, not, ◌||◌, ◌==◌, cond, nat_lt, List, [], ◌∷◌, ◌++◌, length, get_or, Some, None, unwrap_or, refl, ap, sym, ◌∙◌, arith}
 use Rattle.std.proofs.lemmas.Bool.Decides.{nat_tests}
-use Rattle.std.proofs.Math.ListN.{get_or-append}
-use Rattle.std.proofs.Math.Seq.{get_or-append_seam}
-use Rattle.std.proofs.lemmas.List.{length-append}
 use Rattle.std.proofs.lemmas.List.Folds.{list_any-append}
 use Rattle.std.proofs.lemmas.List.Sums.{prefix_len_stops}
 use Rattle.std.specs.Cmp.Lexicographic.{same_text, other_text}
 use Rattle.std.specs.List.{list_any, position, position_or_len}
-use Rattle.qs_program.specs.Numbering.{Name, same_name, is_among, found_at, with_name, IsEachFirst}
+use Rattle.qs_program.specs.Numbering.{Name, same_name, is_among, found_at}
 use Rattle.qs_program.specs.Limits.{most_variables}
 
 within_cons : (b : Bool) (i n : ℕ) (later : Bool) → (later ≡ true → i < n) → (b || later) ≡ true → cond (not b) (1 + i) 0 < suc n
@@ -97,72 +94,3 @@ or_true false c h = h
 pub is_among-last : (xs : List Name) (o : Name) → is_among (xs ++ o ∷ []) o ≡ true
 is_among-last [] o = ap (λ b. b || false) (same_name-refl o)
 is_among-last (x ∷ xs) o = or_true (same_name o x) (is_among (xs ++ o ∷ []) o) (is_among-last xs o)
-
-different : (b : Bool) → (b ≡ true → ⊥) → b ≡ false
-different true h = absurd (h refl)
-different false h = refl
-
--- two names that differ are not the same
-pub not_same : (a b : Name) → a ≢ b → same_name a b ≡ false
-not_same a b h = different (same_name a b) (λ e. h (same_text a b (sym e)))
-
-among_cons : (b : Bool) (i n : ℕ) (later : Bool) → later ≡ nat_lt i n → (b || later) ≡ nat_lt (cond (not b) (1 + i) 0) (suc n)
-among_cons true i n later h = sym (less 0 (suc n) (omega arith))
-among_cons false i n later h = h ∙ grind (arith, nat_tests)
-
--- a name is among others where its place is in range
-pub among_place : (xs : List Name) (o : Name) → is_among xs o ≡ nat_lt (position_or_len (same_name o) xs) (length xs)
-among_place [] o = refl
-among_place (x ∷ xs) o = among_cons (same_name o x) (position_or_len (same_name o) xs) (length xs) (is_among xs o) (among_place xs o)
-
-unlisted : (b : Bool) (i : ℕ) → b ≡ false → unwrap_or (cond b (Some i) None) 0 ≡ 0
-unlisted true i h = cc
-unlisted false i h = refl
-
--- a name that is not among them has the number 0
-pub found_none : (xs : List Name) (o : Name) → is_among xs o ≡ false → found_at xs o ≡ 0
-found_none xs o h =
-    let place = position_or_len (same_name o) xs in
-    unlisted (nat_lt place (length xs)) place (sym (among_place xs o) ∙ h)
-
-pub among_within : (xs : List Name) (o : Name) → position_or_len (same_name o) xs < length xs → is_among xs o ≡ true
-among_within xs o h = among_place xs o ∙ less (position_or_len (same_name o) xs) (length xs) h
-
-pub among_past : (xs : List Name) (o : Name) → length xs ≤ position_or_len (same_name o) xs → is_among xs o ≡ false
-among_past xs o h = let e : nat_lt (position_or_len (same_name o) xs) (length xs) ≡ false = grind (arith, nat_tests) in among_place xs o ∙ e
-
--- the names with one more, by its place
-pub with_known : (xs : List Name) (o : Name) → position_or_len (same_name o) xs < length xs → with_name xs o ≡ xs
-with_known xs o h = rw (among_place xs o, less (position_or_len (same_name o) xs) (length xs) h) refl
-
-pub with_new : (xs : List Name) (o : Name) → length xs ≤ position_or_len (same_name o) xs → with_name xs o ≡ xs ++ o ∷ []
-with_new xs o h = let e : nat_lt (position_or_len (same_name o) xs) (length xs) ≡ false = grind (arith, nat_tests) in rw (among_place xs o, e) refl
-
--- ---- names of which none stands twice
-
-last_cons : (b : Bool) (i n later : ℕ) → (n ≤ i → later ≡ n) → suc n ≤ cond (not b) (1 + i) 0 → cond (not b) (1 + later) 0 ≡ suc n
-last_cons true i n later f h = absurd (omega arith)
-last_cons false i n later f h = omega (arith, f (omega arith))
-
--- a new name stands at the end
-pub place_last : (xs : List Name) (o : Name) → length xs ≤ position_or_len (same_name o) xs → position_or_len (same_name o) (xs ++ o ∷ []) ≡ length xs
-place_last [] o h = rw (same_name-refl o) refl
-place_last (x ∷ xs) o h = last_cons (same_name o x) (position_or_len (same_name o) xs) (length xs) (position_or_len (same_name o) (xs ++ o ∷ [])) (place_last xs o) h
-
-pub first_place : (xs : List Name) (o : Name) (i : ℕ) → IsEachFirst xs → i < length xs → same_name o (get_or xs i []) ≡ true → position_or_len (same_name o) xs ≡ i
-first_place xs o i each within h = ap (λ x. position_or_len (same_name x) xs) (same_text o (get_or xs i []) (sym h)) ∙ each i within
-
-pub each_first_more : (xs : List Name) (o : Name) → IsEachFirst xs → length xs ≤ position_or_len (same_name o) xs → IsEachFirst (xs ++ o ∷ [])
-each_first_more xs o each new i within = by_test (nat_lt i (length xs)) refl
-  where
-    by_test : (b : Bool) → nat_lt i (length xs) ≡ b → position_or_len (same_name (get_or (xs ++ o ∷ []) i [])) (xs ++ o ∷ []) ≡ i
-    by_test true e =
-        let lt : i < length xs = grind (arith, nat_tests) in
-        let here : get_or (xs ++ o ∷ []) i [] ≡ get_or xs i [] = get_or-append xs (o ∷ []) [] i lt in
-        let first : position_or_len (same_name (get_or xs i [])) xs ≡ i = each i lt in
-        let among : is_among xs (get_or xs i []) ≡ true = among_within xs (get_or xs i []) (rw first lt) in
-        rw here (place_append (same_name (get_or xs i [])) xs (o ∷ []) among ∙ first)
-    by_test false e =
-        let last : i ≡ length xs = grind (arith, nat_tests, length-append xs (o ∷ [])) in
-        let here : get_or (xs ++ o ∷ []) i [] ≡ o = ap (λ j. get_or (xs ++ o ∷ []) j []) last ∙ get_or-append_seam xs o [] [] in
-        rw here (place_last xs o new) ∙ sym last

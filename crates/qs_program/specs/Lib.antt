@@ -1,13 +1,13 @@
 pub mod Statements
 pub mod StatementsCode
 pub mod Views
-pub mod Arguments
 pub mod SizeDecreases
 pub mod Values
 pub mod Loads
 pub mod Limits
 pub mod Kinds
 pub mod Numbering
+pub mod Hashing
 pub mod Program
 pub mod Binding
 pub mod Shapes

@@ -1,5 +1,5 @@
 -- Names by number, in the order of first appearance.
-use Rattle.std.specs.Prelude.{ℕ, Bool, ◌≡◌, ◌<◌, ◌==◌, if◌then◌else◌, unwrap_or, List, [], ◌∷◌, ◌++◌, length, slice_index_or}
+use Rattle.std.specs.Prelude.{ℕ, Bool, ◌==◌, if◌then◌else◌, unwrap_or, List, [], ◌∷◌, ◌++◌}
 use Rattle.std.specs.Cmp.Lexicographic.{pointwise}
 use Rattle.std.specs.List.{list_any, position_or_len, position}
 
@@ -23,7 +23,3 @@ number_of names n = position_or_len (same_name n) names
 -- the number of a name that is among them, and 0 of any other
 abbrev pub found_at : List Name → Name → ℕ
 found_at names n = unwrap_or (position (same_name n) names) 0
-
--- no name stands twice
-abbrev pub IsEachFirst : List Name → Type 0
-IsEachFirst names = (i : ℕ) → i < length names → number_of names (slice_index_or names i []) ≡ i

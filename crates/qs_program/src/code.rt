@@ -11,6 +11,7 @@ ghost use Rattle.qs_program.specs.Views.{single, statements_of};
 use crate::limits::{MOST_OBJECTS, PAST_REQUESTS, PAST_STEPS};
 use qs_objects::Op;
 use qs_script::{Operator, Relation};
+use smallvec::SmallVec;
 use std::alloc::{AllocError, Global};
 use std::marker::Model;
 
@@ -36,28 +37,22 @@ pub struct Test {
     pub right: Atom,
 }
 
-// As many arguments as a request has at most.
-pub(crate) const FEW: usize = 3;
+/// The number 0, as what stands where nothing was written.
+impl Default for Atom {
+    ghost use Rattle.std.specs.Prelude.{◌≡◌, pos};
+    ghost use Rattle.qs_program.specs.declared.code.Atom.TheVariants.{Number};
 
-// The first arguments of an array.
-#[derive(Drop)]
-pub(crate) struct FewAtoms {
-    pub(crate) atoms: [Atom; FEW],
-    pub(crate) count: usize,
-    alloc: Global,
+    ghost is_default = { λ a. a ≡ Number (pos 0) };
+
+    fn default() -> Atom {
+        Atom::Number(0)
+    }
 }
 
-// Where arguments lie: at most three of them in place, and more in memory of their own.
-#[derive(Drop)]
-pub(crate) enum Kept {
-    Few(FewAtoms),
-    Many(Vec<Atom>),
-}
-
-/// The arguments of a request as they are written.
+/// The arguments of a request as they are written: up to three lie in place, and more in memory of their own.
 #[derive(Drop)]
 pub struct Atoms {
-    pub(crate) kept: Kept,
+    atoms: SmallVec<Atom, 3>,
 }
 
 impl Model for Atoms {
@@ -66,11 +61,7 @@ impl Model for Atoms {
 
     ghost Value = { List Atom };
 
-    ghost use Rattle.qs_program.specs.Arguments.{arguments_of, IsCounted};
-
-    ghost view = { λ a. arguments_of a.kept };
-
-    ghost invariant = { λ a. IsCounted a.kept };
+    ghost view = { λ a. a.atoms.items };
 }
 
 impl Atoms {
@@ -79,34 +70,19 @@ impl Atoms {
         ensures empty { result ≡ [] }
     {
         Atoms {
-            kept: Kept::Few(FewAtoms {
-                atoms: [Atom::Number(0); FEW],
-                count: 0,
-                alloc,
-            }),
+            atoms: SmallVec::new(alloc),
         }
     }
 
     /// At most three arguments: the first ones of an array. Takes no memory.
     #[inline(always)]
-    pub fn few(alloc: Global, atoms: [Atom; FEW], count: usize) -> Atoms
+    pub fn few(alloc: Global, atoms: [Atom; 3], count: usize) -> Atoms
         requires few { count ≤ 3 }
         ensures value { result ≡ take count atoms }
     {
         Atoms {
-            kept: Kept::Few(FewAtoms {
-                atoms,
-                count,
-                alloc,
-            }),
+            atoms: SmallVec::from_buf_and_len(alloc, atoms, count),
         }
-    }
-
-    /// No arguments; memory for more than three is taken as they come.
-    pub fn with_capacity(alloc: Global, _count: usize) -> Result<Atoms, AllocError>
-        ensures empty { IfOk result (λ atoms. atoms ≡ []) }
-    {
-        Ok(Atoms::new(alloc))
     }
 
     /// Adds an argument at the end. An error means out of memory, and leaves the arguments as they were.
@@ -114,40 +90,17 @@ impl Atoms {
         ensures ok { OnOk result (self.new ≡ self.old ++ atom ∷ []) }
         ensures kept { OnErr result (self.new ≡ self.old) }
     {
-        match &mut self.kept {
-            Kept::Few(few) => {
-                let count = few.count;
-                if count < FEW {
-                    few.atoms[count] = atom;
-                    few.count = count + 1;
-                    return Ok(());
-                }
-                let [first, second, third] = few.atoms;
-                let many = Vec::from_array(few.alloc, [first, second, third, atom])?;
-                self.kept = Kept::Many(many);
-                Ok(())
-            }
-            Kept::Many(many) => {
-                many.push(atom)?;
-                Ok(())
-            }
-        }
+        self.atoms.push(atom)?;
+        Ok(())
     }
 
     /// The same arguments once more; takes memory only for more than three.
     pub fn copied(&self, alloc: Global) -> Result<Atoms, AllocError>
         ensures same { IfOk result (λ atoms. atoms ≡ self.now) }
     {
-        match &self.kept {
-            Kept::Few(few) => Ok(Atoms::few(alloc, few.atoms, few.count)),
-            Kept::Many(many) => {
-                let mut copy = Vec::with_capacity(alloc, many.len())?;
-                copy.extend_from_slice(many.as_slice())?;
-                Ok(Atoms {
-                    kept: Kept::Many(copy),
-                })
-            }
-        }
+        Ok(Atoms {
+            atoms: SmallVec::from_slice(alloc, self.atoms.as_slice())?,
+        })
     }
 
     /// The arguments in order.
@@ -155,10 +108,7 @@ impl Atoms {
     pub fn as_slice(&self) -> &[Atom]
         ensures value { result.now ≡ self.now }
     {
-        match &self.kept {
-            Kept::Few(few) => &few.atoms[..few.count],
-            Kept::Many(many) => many.as_slice(),
-        }
+        self.atoms.as_slice()
     }
 }
 

@@ -2,6 +2,7 @@
 #![tactic(auto)]
 
 mod code;
+mod hashing;
 mod kinds;
 mod limits;
 mod names;
@@ -10,6 +11,7 @@ mod totals;
 mod values;
 
 pub use code::{Atom, Atoms, Body, Call, Expr, Stmt, Test};
+pub use hashing::NameHasher;
 pub use kinds::same_kind;
 pub use limits::{
     MOST_BLOCKS, MOST_CLIENTS, MOST_HANDLERS, MOST_OBJECTS, MOST_REQUESTS, MOST_STEPS,

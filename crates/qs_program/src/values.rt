@@ -1,10 +1,10 @@
 //! What expressions, tests and requests are worth, by a client's variables.
 
-ghost use Rattle.std.specs.Prelude.{◌≡◌, ◌≤◌, length, map, pos, slice_index_or, take};
+ghost use Rattle.std.specs.Prelude.{◌≡◌, ◌≤◌, length, map, pos, slice_index_or};
 ghost use Rattle.qs_program.specs.Values.{atom_value, exact, expr_value, relates as holds, test_value, request_of};
 ghost use Rattle.qs_objects.specs.Act.{clamp_to_word};
 
-use crate::code::{Atom, Atoms, Call, Expr, FewAtoms, Kept, Test};
+use crate::code::{Atom, Call, Expr, Test};
 use crate::limits::MOST_VARIABLES;
 use qs_objects::{Args, Request};
 use qs_script::{Operator, Relation};
@@ -77,56 +77,33 @@ fn relates(relation: Relation, left: i64, right: i64) -> bool
 
 // The value of the argument at a place, or 0 where there is none.
 #[inline(always)]
-fn value_at(few: &FewAtoms, place: usize, locals: &Locals) -> i64
-    requires few { few.now.count ≤ 3 }
-    ensures value { result ≡ slice_index_or (map (atom_value locals.now) (take few.now.count few.now.atoms)) place (pos 0) }
+fn value_at(atoms: &[Atom], place: usize, locals: &Locals) -> i64
+    ensures value { result ≡ slice_index_or (map (atom_value locals.now) atoms.now) place (pos 0) }
 {
-    if place < few.count {
-        few.atoms[place].value(locals)
+    if place < atoms.len() {
+        atoms[place].value(locals)
     } else {
         0
-    }
-}
-
-// The arguments in place, by their values.
-#[inline(always)]
-fn values(few: &FewAtoms, locals: &Locals) -> Args
-    requires few { few.now.count ≤ 3 }
-    ensures value { result ≡ map (atom_value locals.now) (take few.now.count few.now.atoms) }
-{
-    let numbers = [
-        value_at(few, 0, locals),
-        value_at(few, 1, locals),
-        value_at(few, 2, locals),
-    ];
-    Args::of(numbers, few.count)
-}
-
-impl Atoms {
-    // At most three arguments, by their values.
-    #[inline(always)]
-    fn values(&self, locals: &Locals) -> Args
-        requires few { length self.now ≤ 3 }
-        ensures value { result ≡ map (atom_value locals.now) self.now }
-    {
-        match &self.kept {
-            Kept::Few(few) => values(few, locals),
-            Kept::Many(_) => unreachable!(),
-        }
     }
 }
 
 impl Call {
     /// The request that it makes: its arguments are evaluated now. Takes no memory.
     #[inline(always)]
-    pub fn request(&self, _alloc: Global, locals: &Locals) -> Request
+    pub fn request(&self, alloc: Global, locals: &Locals) -> Request
         requires { length self.now.args ≤ 3 }
         ensures value { result ≡ request_of locals.now self.now }
     {
+        let atoms = self.args.as_slice();
+        let numbers = [
+            value_at(atoms, 0, locals),
+            value_at(atoms, 1, locals),
+            value_at(atoms, 2, locals),
+        ];
         Request {
             object: self.object,
             op: self.op,
-            args: self.args.values(locals),
+            args: Args::of(alloc, numbers, atoms.len()),
         }
     }
 }

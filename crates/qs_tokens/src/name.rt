@@ -1,8 +1,7 @@
 //! Names.
 
-ghost use Rattle.std.specs.Prelude.{◌≡◌, ◌≤◌, ◌==◌, length, take};
+ghost use Rattle.std.specs.Prelude.{◌≡◌, ◌≤◌, ◌==◌, [], ◌∷◌, length, take};
 ghost use Rattle.std.proofs.Common.{rules};
-ghost use Rattle.std.specs.Hash as fed;
 ghost use Rattle.std.specs.Cmp.Lexicographic.{pointwise};
 ghost use Rattle.std.specs.Cmp.Rules.{comparing, hashing};
 ghost use Rattle.qs_tokens.specs.Limits.{longest_name};
@@ -99,13 +98,13 @@ impl Eq for Name {
     ghost laws = { Prim.search (comparing, rules) };
 }
 
-/// Equal names have the same hash.
+/// A name is hashed as one text, so equal names have the same hash.
 impl Hash for Name {
-    ghost hash_input = { λ n. fed.slice fed.u8 n };
+    ghost hash_input = { λ n. n ∷ [] };
 
     ghost respects_eq = { Prim.search (hashing, rules) };
 
     fn hash<H: Hasher>(&self, state: &mut H) {
-        self.as_slice().hash(state);
+        state.write(self.as_slice());
     }
 }
