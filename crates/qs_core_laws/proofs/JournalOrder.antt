@@ -50,8 +50,8 @@ command_is Refused k = absurd (cc (k (record { content = account (pos 0); refuse
 command_is TakeFirst k = absurd (cc (k (record { content = buffer 1 []; refused = pos 0 }) []))
 command_is First k = absurd (cc (k (record { content = buffer 1 []; refused = pos 0 }) []))
 command_is Size k = absurd (cc (k (record { content = buffer 1 []; refused = pos 0 }) []))
-command_is GetCell k = absurd (cc (k (record { content = grid 1 1 []; refused = pos 0 }) (pos 0 ∷ pos 0 ∷ [])))
-command_is RowSum k = absurd (cc (k (record { content = grid 1 1 []; refused = pos 0 }) (pos 0 ∷ [])))
+command_is GetCell k = absurd (cc (k (record { content = grid 1 []; refused = pos 0 }) (pos 0 ∷ pos 0 ∷ [])))
+command_is RowSum k = absurd (cc (k (record { content = grid 1 []; refused = pos 0 }) (pos 0 ∷ [])))
 
 pub no_queries : (rs : List Request) → AllCommands rs → AllByRecursion NoQuery rs
 no_queries rs c = each_map {Q = NoQuery} (λ (r : Request) (k : IsCommand r.op). command_is r.op k) rs c

@@ -1,7 +1,7 @@
 -- A journal that goes on along an order of tickets is, ticket by ticket, what each block did, and a ticket has entries only where
 -- all before it are through with the object. The isolation of every machine and of the threads stands on it. The main lemma,
 -- `told`, goes by induction on the order, with cases on whether the first ticket is through or the object is still busy with it.
-use Rattle.std.proofs.Common.{◌≡◌, ◌≢◌, ℕ, zero, suc, Bool, true, false, true≢false, List, [], ◌∷◌, ◌++◌, map, flat_map, refl, sym, ap, ap₂, ◌∙◌, subst, ◌⊎◌, inl, inr, append-nil}
+use Rattle.std.proofs.Common.{◌≡◌, ◌≢◌, ℕ, Bool, true, false, true≢false, List, [], ◌∷◌, ◌++◌, map, flat_map, refl, sym, ap, ap₂, ◌∙◌, subst, ◌⊎◌, inl, inr, append-nil}
 use Rattle.std.proofs.lemmas.List.Elements.{filter-append}
 use Rattle.std.specs.List.{AllByRecursion}
 use Rattle.qs_objects.specs.Act.{State}
@@ -14,12 +14,8 @@ use Rattle.qs_objects.specs.declared.held.Ticket.{Ticket}
 use Rattle.qs_objects.specs.declared.Request.{Request}
 use Rattle.qs_objects.proofs.Choices.{same_self, not_same}
 use Rattle.qs_objects.proofs.ObjectLaws.{never_answers}
-use Rattle.qs_meaning.specs.BlockRecords.{BlockRecord, IsDone, IsBlockRecord}
-use Rattle.qs_meaning.specs.Following.{Leads, block_tree}
-use Rattle.qs_meaning.specs.Interaction.{Interaction, Done, Call, Query}
-use Rattle.qs_program.specs.Program.{ProgramShape}
-use Rattle.qs_meaning.specs.Serial.{zeros}
-use Rattle.qs_program.specs.Values.{Locals}
+use Rattle.qs_meaning.specs.BlockRecords.{BlockRecord, IsDone}
+use Rattle.qs_meaning.specs.Interaction.{Interaction}
 use Rattle.qs_meaning.proofs.Each.{each_map, each_join, flat_map_same, flat_map_none}
 
 abbrev pub parts_of : (Ticket → BlockRecord) → ℕ → Ticket → List Event

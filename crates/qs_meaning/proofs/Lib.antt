@@ -8,7 +8,9 @@ pub mod SerialRuns
 pub mod TraceLoads
 pub mod EqualTexts
 pub mod AlikeTraces
+mod StatesKept
 pub mod StateKinds
+pub mod StateRanges
 pub mod ExampleBlocks
 pub mod Orders
 pub mod Swaps

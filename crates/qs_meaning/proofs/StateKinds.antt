@@ -1,10 +1,10 @@
 -- No request changes an object's kind; so the states of a serial run stay of the declared kinds, from the declared states on.
-use Rattle.std.proofs.Common.{◌≡◌, ℕ, Bool, true, false, true≢false, ◌==◌, ◌&&◌, ◌*◌, replicate, pos, if◌then◌else◌, List, [], ◌∷◌, Option, Some, None, refl}
-use Rattle.std.proofs.Common.{sym, ◌∙◌, subst, ⊎_elim}
+use Rattle.std.proofs.Common.{◌≡◌, ℕ, Bool, true, false, true≢false, ◌&&◌, replicate, pos, if◌then◌else◌, List, [], ◌∷◌, Option, Some, None, refl}
+use Rattle.std.proofs.Common.{sym, ◌∙◌}
 use Rattle.std.specs.List.{AllByRecursion}
 use Rattle.std.specs.Prelude.{IsSome}
 use Rattle.qs_objects.specs.Act.{State, Content, account, buffer, grid, size_of}
-use Rattle.qs_objects.specs.Journals.{after, answer}
+use Rattle.qs_objects.specs.Journals.{after}
 use Rattle.qs_objects.specs.Laws.{SameShape}
 use Rattle.qs_objects.specs.Objects.{kind_of, starts, between, fresh}
 use Rattle.qs_objects.specs.Operations.{fits}
@@ -13,7 +13,6 @@ use Rattle.qs_objects.specs.declared.Request.{Request}
 use Rattle.qs_objects.specs.declared.held.Ticket.{Ticket}
 use Rattle.qs_objects.specs.declared.object.Kind.{Kind}
 use Rattle.qs_objects.specs.declared.object.Kind.TheVariants as kinds
-use Rattle.qs_objects.proofs.Choices.{num_cases}
 use Rattle.qs_objects.proofs.ObjectLaws.{same_shape}
 use Rattle.qs_objects.specs.Limits.{most_lines}
 use Rattle.qs_program.specs.declared.program.Declared.{Declared}
@@ -21,42 +20,24 @@ use Rattle.qs_program.specs.Program.{ProgramShape, object_at, text_of, no_object
 use Rattle.qs_program.specs.Sound.{IsSound}
 use Rattle.qs_program.specs.Statements.{Statements}
 use Rattle.qs_program.specs.Values.{Locals}
-use Rattle.qs_meaning.specs.Interaction.{Interaction, Done, Call, Query, run, tree_of}
 use Rattle.qs_meaning.specs.Serial.{SerialBlock, serial_from, declared_states, state_or_none, zeros}
 use Rattle.qs_meaning.specs.Solo as alone
-use Rattle.qs_meaning.specs.Solo.{States, states_after, put, solo, value_of}
+use Rattle.qs_meaning.specs.Solo.{States, put, solo}
 use Rattle.qs_meaning.specs.StateKinds.{IsOfKind, AreOfKind, SerialKeepsKinds}
 use Rattle.qs_meaning.proofs.AlikeTraces.{all_at}
-use Rattle.qs_meaning.proofs.Trees.{trees_agree}
-use Rattle.qs_meaning.proofs.TreeWalks.{put_here, put_there}
+use Rattle.qs_meaning.proofs.StatesKept.{solo_keeps}
 
 shape_fits : (c d : Content) → SameShape c d → (op : Op) → fits op (kind_of d) ≡ fits op (kind_of c)
 shape_fits (account b) (account c) same op = refl
 shape_fits (buffer k xs) (buffer l ys) same op = refl
-shape_fits (grid n k cells) (grid m l others) same op = refl
+shape_fits (grid k rows) (grid l others) same op = refl
 shape_fits _ _ same op = absurd same
 
 after_kind : (kind : Kind) (s : State) (r : Request) → IsOfKind kind s → IsOfKind kind (after s r)
 after_kind kind s r is op = shape_fits s.content (after s r).content (same_shape s r.op r.args) op ∙ is op
 
-changed_kinds : (p : ProgramShape) (st : States) (r : Request) → AreOfKind p st → AreOfKind p (states_after st r)
-changed_kinds p st r are h =
-    ⊎_elim
-    (λ (is : r.object ≡ h).
-    subst (λ h. IsOfKind (object_at p h).kind (states_after st r h)) is
-    (subst (IsOfKind (object_at p r.object).kind) (sym (put_here st r.object (after (st r.object) r)))
-    (after_kind (object_at p r.object).kind (st r.object) r (are r.object))))
-    (λ (no : (r.object == h) ≡ false).
-    subst (IsOfKind (object_at p h).kind) (sym (put_there st r.object (after (st r.object) r) h no)) (are h))
-    (num_cases r.object h)
-
-run_kinds : (p : ProgramShape) (t : Interaction) (st : States) → AreOfKind p st → AreOfKind p (run t st).states
-run_kinds p (Done l) st are = are
-run_kinds p (Call r next) st are = run_kinds p next (states_after st r) (changed_kinds p st r are)
-run_kinds p (Query r next) st are = run_kinds p (next (value_of (answer (st r.object) r))) (states_after st r) (changed_kinds p st r are)
-
 solo_kinds : (p : ProgramShape) (b : Statements) (l : Locals) (st : States) → AreOfKind p st → AreOfKind p (solo b l st).states
-solo_kinds p b l st are = subst (λ (o : alone.BlockResult). AreOfKind p o.states) (sym (trees_agree b l st)) (run_kinds p (tree_of b l) st are)
+solo_kinds p b l st are = solo_keeps (λ h. IsOfKind (object_at p h).kind) (λ h s r is. after_kind (object_at p h).kind s r is) b l st are
 
 places_kinds : (p : ProgramShape) (order : List Ticket) (ls : ℕ → Locals) (st : States) → AreOfKind p st
     → AllByRecursion (λ (a : SerialBlock). AreOfKind p a.starts) (serial_from p ls st order).places × AreOfKind p (serial_from p ls st order).states
@@ -84,7 +65,7 @@ start_kind (kinds.Buffer k) is op = by_case (between 1 k 1024) is
 start_kind (kinds.Grid n k) is op = by_case (between 1 n most_lines && between 1 k most_lines) is
   where
     start : Bool → Option State
-    start test = if test then Some (fresh (grid (size_of n) (size_of k) (replicate (size_of n * size_of k) (pos 0)))) else None
+    start test = if test then Some (fresh (grid (size_of k) (replicate (size_of n) (replicate (size_of k) (pos 0))))) else None
 
     by_case : (test : Bool) → IsSome (start test) → fits op (kind_of (state_or_none (start test)).content) ≡ fits op (kinds.Grid n k)
     by_case true some = refl

@@ -10,6 +10,7 @@ pub mod MeaningExamples
 pub mod AlikeExamples
 pub mod BlockRecords
 pub mod Configurations
+pub mod StateRanges
 pub mod ConfigurationExamples
 pub mod Reduced
 pub mod ReducedExamples

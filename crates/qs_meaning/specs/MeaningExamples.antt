@@ -143,7 +143,7 @@ pub record MeaningExamples : Type 0 where
       Shows full_buffer only ((None ∷ None ∷ some 1 ∷ None ∷ some 0 ∷ some 2 ∷ []) ∷ []) (left_with (buffer 1 []) 2)
   pub row_sum :
       Shows cells only ((None ∷ some 0 ∷ None ∷ None ∷ some 1999999999999999998 ∷ []) ∷ [])
-      (left_with (grid 2 3 (pos 999999999999999999 ∷ pos 999999999999999999 ∷ pos 0 ∷ pos 0 ∷ pos 0 ∷ pos 0 ∷ [])) 1)
+      (left_with (grid 3 ((pos 999999999999999999 ∷ pos 999999999999999999 ∷ pos 0 ∷ []) ∷ (pos 0 ∷ pos 0 ∷ pos 0 ∷ []) ∷ [])) 1)
   pub left : Shows left_at_once only ((some 100 ∷ some 100 ∷ []) ∷ []) (left_with (account (pos 100)) 0)
   pub clamped :
       Shows products only ((None ∷ None ∷ some 9223372036854775807 ∷ []) ∷ [])

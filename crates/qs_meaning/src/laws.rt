@@ -11,6 +11,7 @@ ghost use Rattle.qs_meaning.specs.Paths.{RequestsWithinLoad};
 ghost use Rattle.qs_meaning.specs.Reduced.{NeighboursSwap, OutcomesAreUnion, ReducedOrdersSuffice, SomeGoOn};
 ghost use Rattle.qs_meaning.specs.ReducedExamples.{ReducedExamples};
 ghost use Rattle.qs_meaning.specs.StateKinds.{SerialKeepsKinds};
+ghost use Rattle.qs_meaning.specs.StateRanges.{OrdersKeepRanges};
 ghost use Rattle.qs_meaning.specs.TraceLoads.{SerialWithinLoad, TracesWithinLoad};
 
 /// A block alone, its statements run one after another, does what its interaction tree does: the same requests with the same
@@ -74,11 +75,12 @@ pub fn serial_keeps_kinds()
 
 /// Along a legal order each client's next block leads from a configuration to the next one. The configuration at the end has the variables
 /// and the states of the serial run; and the order is complete exactly where each client has begun all its blocks. A variable that its client's
-/// text doesn't name stays 0. It does nothing.
+/// text doesn't name stays 0, and objects stay in range. It does nothing.
 pub fn configurations()
     ensures follow { ConfigurationsFollowOrders }
     ensures complete { CompleteOrdersLeaveNone }
     ensures unnamed { UnnamedStayZero }
+    ensures ranges { OrdersKeepRanges }
 {}
 
 /// The two orders of two clients that withdraw from one account, with the configurations to which they lead, computed by the

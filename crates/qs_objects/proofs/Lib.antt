@@ -2,6 +2,7 @@ pub mod Arities
 pub mod Choices
 pub mod Elements
 pub mod Sums
+pub mod GridRows
 pub mod ObjectLaws
 pub mod Replays
 pub mod Cuts

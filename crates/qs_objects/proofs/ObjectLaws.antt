@@ -3,6 +3,8 @@
 -- operation, which the proof search or arithmetic finds.
 use Rattle.std.proofs.Common.{arith, rules}
 use Rattle.std.proofs.lemmas.Grind.{common_steps}
+use Rattle.std.proofs.lemmas.List.{length-replicate, length-set}
+use Rattle.qs_objects.proofs.GridRows.{even_filled, even_with_cell}
 use Rattle.qs_objects.specs.Laws.{CommandsNeverAnswer, QueriesAnswer, MisfitsDoNothing, ShapesStay, RangesBegin, RangesStay}
 
 pub never_answers : CommandsNeverAnswer
@@ -15,10 +17,10 @@ pub does_nothing : MisfitsDoNothing
 does_nothing = search rules
 
 pub same_shape : ShapesStay
-same_shape = search rules
+same_shape = search (rules, length-replicate)
 
 pub begins_in_range : RangesBegin
-begins_in_range = grind (arith, common_steps)
+begins_in_range = grind (arith, common_steps, length-replicate, even_filled)
 
 pub stays_in_range : RangesStay
-stays_in_range = grind (arith, common_steps)
+stays_in_range = grind (arith, common_steps, length-replicate, length-set, even_filled, even_with_cell)

@@ -1,15 +1,15 @@
 -- What an object does with a request: plain records, and one table for each kind of object.
-use Rattle.std.specs.Prelude.{ℕ, ◌+◌, ◌*◌, Bool, false, ◌||◌, ◌&&◌, not, if◌then◌else◌, nat_lt, nat_le, nat_eq, List, [], ◌∷◌, ◌++◌, length, take, drop, replicate, slice_index_or, slice_set, Option, Some, None}
+use Rattle.std.specs.Prelude.{ℕ, Bool, false, ◌||◌, ◌&&◌, not, if◌then◌else◌, nat_lt, nat_le, nat_eq, List, [], ◌∷◌, ◌++◌, length, drop, replicate, slice_index_or, slice_set, Option, Some, None}
 use Rattle.std.specs.Prelude.{ℤ, pos, negsuc, ◌+ℤ◌, ◌-ℤ◌, int_lt}
 use Rattle.std.specs.Int.{saturate_signed, w64}
 use Rattle.qs_objects.specs.declared.Op.{Op}
 use Rattle.qs_objects.specs.declared.Op.TheVariants.{Deposit, Withdraw, Balance, Refused, Put, DropFirst, TakeFirst, First, Size, SetCell, AddCell, Fill, GetCell, RowSum}
 
--- what an object holds beside its counter: a balance, a capacity and a list, or rows of cells, one after another
+-- what an object holds beside its counter: a balance, a capacity and a list, or rows of so many cells each
 pub data Content : Type 0 where
   account : (balance : ℤ) → Content
   buffer : (capacity : ℕ) → (values : List ℤ) → Content
-  grid : (rows columns : ℕ) → (cells : List ℤ) → Content
+  grid : (columns : ℕ) → (rows : List (List ℤ)) → Content
 
 -- an object, with the number of commands that it refused
 pub record State : Type 0 where
@@ -78,38 +78,41 @@ abbrev pub size_of : ℤ → ℕ
 size_of (pos i) = i
 size_of (negsuc i) = 0
 
--- the place of the cell in row r and column c, where a row has k cells
-abbrev pub place : ℕ → ℤ → ℤ → ℕ
-place k r c = size_of r * k + size_of c
-
 abbrev pub exact_sum : List ℤ → ℤ
 exact_sum [] = pos 0
 exact_sum (x ∷ xs) = x +ℤ exact_sum xs
 
-abbrev pub cell_at : List ℤ → ℕ → ℤ
-cell_at cells i = slice_index_or cells i (pos 0)
-
+-- of n rows with k cells each there is no cell in row r and column c
 abbrev pub outside : ℕ → ℕ → ℤ → ℤ → Bool
 outside n k r c = not (below r n && below c k)
 
--- what a grid of n rows with k cells each does
-abbrev pub grid_act : State → ℕ → ℕ → List ℤ → Op → List ℤ → ActResult
-grid_act s n k cells SetCell (r ∷ c ∷ v ∷ []) =
-    unless (outside n k r c) s (grid n k (slice_set cells (place k r c) v))
-grid_act s n k cells AddCell (r ∷ c ∷ v ∷ []) =
-    unless (outside n k r c) s (grid n k (slice_set cells (place k r c) (clamp_to_word (cell_at cells (place k r c) +ℤ v))))
-grid_act s n k cells Fill (v ∷ []) = becoming s (grid n k (replicate (n * k) v))
-grid_act s n k cells GetCell (r ∷ c ∷ []) =
-    replying s (if outside n k r c then pos 0 else cell_at cells (place k r c))
-grid_act s n k cells RowSum (r ∷ []) =
-    replying s (if below r n then clamp_to_word (exact_sum (take k (drop (size_of r * k) cells))) else pos 0)
-grid_act s n k cells Refused [] = replying s s.refused
-grid_act s n k cells _ _ = ignoring s
+abbrev pub row_at : List (List ℤ) → ℤ → List ℤ
+row_at rows r = slice_index_or rows (size_of r) []
+
+abbrev pub cell_at : List (List ℤ) → ℤ → ℤ → ℤ
+cell_at rows r c = slice_index_or (row_at rows r) (size_of c) (pos 0)
+
+-- with another number in the cell of row r and column c
+abbrev pub with_cell : List (List ℤ) → ℤ → ℤ → ℤ → List (List ℤ)
+with_cell rows r c v = slice_set rows (size_of r) (slice_set (row_at rows r) (size_of c) v)
+
+-- what a grid with k columns and these rows does
+abbrev pub grid_act : State → ℕ → List (List ℤ) → Op → List ℤ → ActResult
+grid_act s k rows SetCell (r ∷ c ∷ v ∷ []) = unless (outside (length rows) k r c) s (grid k (with_cell rows r c v))
+grid_act s k rows AddCell (r ∷ c ∷ v ∷ []) =
+    unless (outside (length rows) k r c) s (grid k (with_cell rows r c (clamp_to_word (cell_at rows r c +ℤ v))))
+grid_act s k rows Fill (v ∷ []) = becoming s (grid k (replicate (length rows) (replicate k v)))
+grid_act s k rows GetCell (r ∷ c ∷ []) =
+    replying s (if outside (length rows) k r c then pos 0 else cell_at rows r c)
+grid_act s k rows RowSum (r ∷ []) =
+    replying s (if below r (length rows) then clamp_to_word (exact_sum (row_at rows r)) else pos 0)
+grid_act s k rows Refused [] = replying s s.refused
+grid_act s k rows _ _ = ignoring s
 
 abbrev pub act_by : Content → State → Op → List ℤ → ActResult
 act_by (account b) s op args = account_act s b op args
 act_by (buffer k xs) s op args = buffer_act s k xs op args
-act_by (grid n k cells) s op args = grid_act s n k cells op args
+act_by (grid k rows) s op args = grid_act s k rows op args
 
 -- the state after a request, and its reply
 abbrev pub act : State → Op → List ℤ → ActResult

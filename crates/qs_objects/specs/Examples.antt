@@ -1,5 +1,5 @@
 -- What objects do in a few cases, worked out by hand.
-use Rattle.std.specs.Prelude.{◌≡◌, List, [], ◌∷◌, ◌++◌, map, replicate, Option, Some, None, ℕ, ℤ, pos, negsuc}
+use Rattle.std.specs.Prelude.{◌≡◌, List, [], ◌∷◌, map, replicate, Option, Some, None, ℕ, ℤ, pos, negsuc}
 use Rattle.qs_objects.specs.Act.{State, Content, account, buffer, grid, act}
 use Rattle.qs_objects.specs.Objects.{starts, fresh}
 use Rattle.qs_objects.specs.Journals.{HeldState, run_one, replay, IsHonest}
@@ -117,41 +117,41 @@ pub record BufferExamples : Type 0 where
 
 pub record GridExamples : Type 0 where
   pub outside :
-      Leads (grid 2 3 (replicate 6 (pos 0)))
+      Leads (grid 3 (replicate 2 (replicate 3 (pos 0))))
       (does SetCell (three (pos 2) (pos 0) (pos 9))
       ∷ does SetCell (three (pos 0) (pos 3) (pos 9))
       ∷ does AddCell (three minus (pos 0) (pos 9))
       ∷ asks GetCell (two (pos 5) (pos 5)) (pos 0)
       ∷ asks RowSum (one (pos 2)) (pos 0)
       ∷ asks RowSum (one minus) (pos 0) ∷ [])
-      (grid 2 3 (replicate 6 (pos 0))) 3
+      (grid 3 (replicate 2 (replicate 3 (pos 0)))) 3
   pub cells :
-      Leads (grid 2 3 (replicate 6 (pos 0)))
+      Leads (grid 3 (replicate 2 (replicate 3 (pos 0))))
       (does SetCell (three (pos 1) (pos 2) (pos 4))
       ∷ does AddCell (three (pos 1) (pos 0) (pos 5))
       ∷ asks GetCell (two (pos 1) (pos 2)) (pos 4)
       ∷ asks RowSum (one (pos 1)) (pos 9) ∷ [])
-      (grid 2 3 (pos 0 ∷ pos 0 ∷ pos 0 ∷ pos 5 ∷ pos 0 ∷ pos 4 ∷ [])) 0
+      (grid 3 (three (pos 0) (pos 0) (pos 0) ∷ three (pos 5) (pos 0) (pos 4) ∷ [])) 0
   pub filled :
-      Leads (grid 2 1 (two (pos 0) (pos 0)))
+      Leads (grid 1 (one (pos 0) ∷ one (pos 0) ∷ []))
       (does Fill (one (negsuc 2))
       ∷ asks RowSum (one (pos 1)) (negsuc 2) ∷ [])
-      (grid 2 1 (two (negsuc 2) (negsuc 2))) 0
+      (grid 1 (one (negsuc 2) ∷ one (negsuc 2) ∷ [])) 0
   pub cell_clamped :
-      Leads (grid 1 2 (two greatest least))
+      Leads (grid 2 (two greatest least ∷ []))
       (does AddCell (three (pos 0) (pos 0) (pos 1))
       ∷ does AddCell (three (pos 0) (pos 1) minus)
       ∷ does AddCell (three (pos 0) (pos 1) (pos 1)) ∷ [])
-      (grid 1 2 (two greatest (negsuc 9223372036854775806))) 0
+      (grid 2 (two greatest (negsuc 9223372036854775806) ∷ [])) 0
   pub row_clamped_once :
-      Leads (grid 1 3 (three greatest greatest least))
+      Leads (grid 3 (three greatest greatest least ∷ []))
       (asks RowSum (one (pos 0)) (pos 9223372036854775806) ∷ [])
-      (grid 1 3 (three greatest greatest least)) 0
+      (grid 3 (three greatest greatest least ∷ [])) 0
   pub row_clamped :
-      Leads (grid 2 3 (three least least (pos 5) ++ three greatest (pos 1) (pos 0)))
+      Leads (grid 3 (three least least (pos 5) ∷ three greatest (pos 1) (pos 0) ∷ []))
       (asks RowSum (one (pos 0)) least
       ∷ asks RowSum (one (pos 1)) greatest ∷ [])
-      (grid 2 3 (three least least (pos 5) ++ three greatest (pos 1) (pos 0))) 0
+      (grid 3 (three least least (pos 5) ∷ three greatest (pos 1) (pos 0) ∷ [])) 0
 
 -- the first and the last numbers of each kind, and their neighbours
 pub record StartExamples : Type 0 where
@@ -165,8 +165,8 @@ pub record StartExamples : Type 0 where
   pub too_many_places : starts (kinds.Buffer (pos 1025)) ≡ None
   pub no_rows : starts (kinds.Grid (pos 0) (pos 1)) ≡ None
   pub no_columns : starts (kinds.Grid (pos 1) (pos 0)) ≡ None
-  pub one_cell : starts (kinds.Grid (pos 1) (pos 1)) ≡ Some (fresh (grid 1 1 (one (pos 0))))
-  pub all_cells : starts (kinds.Grid (pos 16) (pos 16)) ≡ Some (fresh (grid 16 16 (replicate 256 (pos 0))))
+  pub one_cell : starts (kinds.Grid (pos 1) (pos 1)) ≡ Some (fresh (grid 1 (one (pos 0) ∷ [])))
+  pub all_cells : starts (kinds.Grid (pos 16) (pos 16)) ≡ Some (fresh (grid 16 (replicate 16 (replicate 16 (pos 0)))))
   pub too_many_rows : starts (kinds.Grid (pos 17) (pos 1)) ≡ None
   pub too_many_columns : starts (kinds.Grid (pos 1) (pos 17)) ≡ None
 

@@ -34,7 +34,7 @@ MisfitsDoNothing =
 abbrev pub SameShape : Content → Content → Type 0
 SameShape (account b) (account c) = Unit {0}
 SameShape (buffer k xs) (buffer l ys) = k ≡ l
-SameShape (grid n k cells) (grid m l others) = (n ≡ m) × (k ≡ l)
+SameShape (grid k rows) (grid l others) = (k ≡ l) × (length rows ≡ length others)
 SameShape _ _ = ⊥
 
 abbrev pub ShapesStay : Type 0

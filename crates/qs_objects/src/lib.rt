@@ -40,9 +40,6 @@ pub enum Op {
     RowSum,
 }
 
-/// The reply of a query.
-pub type Reply = i64;
-
 /// A request to an object, which it names by its number.
 pub struct Request {
     pub object: u8,

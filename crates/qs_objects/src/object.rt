@@ -2,7 +2,7 @@
 
 ghost use Rattle.std.specs.Prelude.{◌≡◌, ◌↔◌, ◌≤◌, ◌+◌, ◌++◌, length, Some, None, IfOk, IsErr, IsErrOf, IsSome, IsTrue, slice_get, pos, ◌+ℤ◌, ℤ};
 ghost use Rattle.std.specs.VecDeque.{deque_capacity, deque_len};
-ghost use Rattle.qs_objects.specs.Objects.{IsKept, starts, has_memory, needs_memory, kind_of, state_of, values_of};
+ghost use Rattle.qs_objects.specs.Objects.{IsInRange, IsKept, starts, has_memory, needs_memory, kind_of, state_of, values_of};
 ghost use Rattle.qs_objects.specs.Act.{act, clamp_to_word};
 ghost use Rattle.qs_objects.specs.Limits.{most_values};
 
@@ -25,10 +25,10 @@ pub enum Kind {
 #[derive(Clone, Copy, Debug, PartialEq, Eq, Error)]
 pub enum ObjectFault {
     /// A number of the kind is out of its range.
-    #[error("a number of the kind is out of its range")]
+    #[error("1 Range")]
     Range,
     /// An allocation failed.
-    #[error("out of memory")]
+    #[error("2 Memory")]
     Memory,
 }
 
@@ -54,6 +54,13 @@ fn copied_cells(alloc: Global, cells: &[i64]) -> Result<Vec<i64>, AllocError>
     let mut copy = Vec::with_capacity(alloc, cells.len())?;
     copy.extend_from_slice(cells)?;
     Ok(copy)
+}
+
+// The value at a place; None past the last.
+fn value_at(values: &[i64], place: usize) -> Option<i64>
+    ensures value { result ≡ slice_get values.now place }
+{
+    values.get(place).copied()
 }
 
 // Adds values at the end of a queue that has room for them.
@@ -144,6 +151,7 @@ impl Object {
     /// A new object, with all the memory that it will need: no later call takes any. `Range` comes
     /// exactly where a number of the kind is out of range, before any allocation; `Memory` where an allocation
     /// failed, never at an account. After an error nothing is left.
+    #[tactic(auto, using(crate::proofs::GridRows::cut_filled))]
     pub fn new(alloc: Global, kind: Kind) -> Result<Object, ObjectFault>
         ensures ok { IfOk result (λ object. starts kind ≡ Some object) }
         ensures range { IsErrOf result ObjectFault.Range ↔ (starts kind ≡ None) }
@@ -196,6 +204,20 @@ impl Object {
         })
     }
 
+    /// What it holds is in range: its balance, its number of values, its rows and columns. It does nothing.
+    #[tactic(auto, using(crate::proofs::GridRows::cut_length, crate::proofs::GridRows::cut_even))]
+    pub fn is_in_range(&self)
+        ensures range { IsInRange self.now.content }
+    {
+        match &self.content {
+            Content::Account { .. } => {}
+            Content::Buffer { values } => {
+                let _ = values.len();
+            }
+            Content::Grid { .. } => {}
+        }
+    }
+
     /// How many commands it refused, at most the greatest i64.
     pub fn refused(&self) -> i64
         ensures refused { result ≡ self.now.refused }
@@ -205,6 +227,7 @@ impl Object {
 
     /// How many values it has: an account's one is its balance, a grid's are its cells.
     /// At most 1024.
+    #[tactic(auto, using(crate::proofs::GridRows::cut_joined))]
     pub fn len(&self) -> usize
         ensures count { result ≡ length (values_of self.now.content) }
         ensures at_most { result ≤ most_values }
@@ -217,17 +240,19 @@ impl Object {
     }
 
     /// One of its values: a buffer's from the front, a grid's row by row; None exactly past the last.
+    #[tactic(auto, using(crate::proofs::GridRows::cut_joined))]
     pub fn value(&self, i: usize) -> Option<i64>
         ensures value { result ≡ slice_get (values_of self.now.content) i }
     {
         match &self.content {
             Content::Account { balance } => (i == 0).then_some(*balance),
             Content::Buffer { values } => values.get(i).copied(),
-            Content::Grid { cells, .. } => cells.get(i).copied(),
+            Content::Grid { cells, .. } => value_at(cells.as_slice(), i),
         }
     }
 
     /// Its kind, an account's with its balance now; its numbers are in range.
+    #[tactic(auto, using(crate::proofs::GridRows::cut_length))]
     pub fn kind(&self) -> Kind
         ensures kind { result ≡ kind_of self.now.content }
         ensures in_range { IsSome (starts result) }

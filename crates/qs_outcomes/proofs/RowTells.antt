@@ -2,7 +2,10 @@
 -- all their parts are; and a variable that no text names is 0. By this what was seen under a row need not be looked at again. It goes part by
 -- part, with the rest of the rows in hand.
 use Rattle.std.proofs.Common.{◌≡◌, ℕ, List, [], ◌∷◌, ◌++◌, length, flat_map, refl, sym, ap, ap₂, ◌∙◌, ℤ, pos, append_assoc, arith, inl, inr}
-use Rattle.qs_objects.specs.Act.{account, buffer, grid}
+use Rattle.qs_objects.specs.Act.{Content, State, account, buffer, grid}
+use Rattle.qs_objects.specs.Objects.{AreRowsOf, IsInRange}
+use Rattle.qs_objects.specs.Rows.{join_rows}
+use Rattle.qs_objects.proofs.GridRows.{equal_long, rows_tell}
 use Rattle.std.proofs.Common.{◌<◌, ◌+◌, suc, get_or, take, drop, replicate, subst}
 use Rattle.std.proofs.lemmas.List.{length-take}
 use Rattle.qs_objects.specs.declared.held.Ticket.{Ticket}
@@ -12,6 +15,8 @@ use Rattle.qs_program.specs.Sound.{IsSound}
 use Rattle.qs_program.specs.Values.{Locals}
 use Rattle.qs_meaning.specs.Configurations.{AreNamedAlone, Configuration}
 use Rattle.qs_meaning.specs.Serial.{no_state, zeros}
+use Rattle.qs_meaning.specs.Solo.{States}
+use Rattle.qs_meaning.proofs.StateRanges.{orders_keep_ranges}
 use Rattle.qs_meaning.proofs.Unnamed.{unnamed_stay_zero}
 use Rattle.qs_outcomes.specs.Lists.{HasOne}
 use Rattle.qs_outcomes.specs.Standings.{IsStanding, RowShape, StandingShape, configuration_in, content_row, counted, named_from, row_of, state_row}
@@ -28,48 +33,48 @@ tail e = cc
 abbrev Tells : {X : Type 0} → (X → List ℤ) → Type 0
 Tells {X = X} f = (x y : X) (us vs : List ℤ) → f x ++ us ≡ f y ++ vs → (x ≡ y) × (us ≡ vs)
 
-equal_long : {X : Type 0} (xs ys us vs : List X) → length xs ≡ length ys → xs ++ us ≡ ys ++ vs → (xs ≡ ys) × (us ≡ vs)
-equal_long [] [] us vs long e = (refl, e)
-equal_long [] (y ∷ ys) us vs long e = absurd (let h : 0 ≡ length (y ∷ ys) = long in omega (arith, h))
-equal_long (x ∷ xs) [] us vs long e = absurd (let h : length (x ∷ xs) ≡ 0 = long in omega (arith, h))
-equal_long (x ∷ xs) (y ∷ ys) us vs long e =
-    let rest = equal_long xs ys us vs (let h : length (x ∷ xs) ≡ length (y ∷ ys) = long in omega (arith, h)) (tail e) in
-    (ap₂ (λ z zs. z ∷ zs) (head e) rest.0, rest.1)
-
 pos_is : {m n : ℕ} → pos m ≡ pos n → m ≡ n
 pos_is e = cc
 
 counted_tells : Tells counted
 counted_tells xs ys us vs e = equal_long xs ys us vs (pos_is (head e)) (tail e)
 
-content_tells : Tells content_row
-content_tells (account b) (account c) us vs e = (ap account (head (tail e)), tail (tail e))
-content_tells (account b) (buffer k xs) us vs e = absurd (let h = pos_is (head e) in omega (arith, h))
-content_tells (account b) (grid n k cells) us vs e = absurd (let h = pos_is (head e) in omega (arith, h))
-content_tells (buffer k xs) (account c) us vs e = absurd (let h = pos_is (head e) in omega (arith, h))
-content_tells (buffer k xs) (buffer m ys) us vs e =
+content_tells : (c d : Content) (us vs : List ℤ) → IsInRange c → IsInRange d → content_row c ++ us ≡ content_row d ++ vs → (c ≡ d) × (us ≡ vs)
+content_tells (account b) (account c) us vs x y e = (ap account (head (tail e)), tail (tail e))
+content_tells (account b) (buffer k xs) us vs x y e = absurd (let h = pos_is (head e) in omega (arith, h))
+content_tells (account b) (grid k rows) us vs x y e = absurd (let h = pos_is (head e) in omega (arith, h))
+content_tells (buffer k xs) (account c) us vs x y e = absurd (let h = pos_is (head e) in omega (arith, h))
+content_tells (buffer k xs) (buffer m ys) us vs x y e =
     let rest = counted_tells xs ys us vs (tail (tail e)) in (ap₂ buffer (pos_is (head (tail e))) rest.0, rest.1)
-content_tells (buffer k xs) (grid n m cells) us vs e = absurd (let h = pos_is (head e) in omega (arith, h))
-content_tells (grid n k cells) (account c) us vs e = absurd (let h = pos_is (head e) in omega (arith, h))
-content_tells (grid n k cells) (buffer m ys) us vs e = absurd (let h = pos_is (head e) in omega (arith, h))
-content_tells (grid n k cells) (grid m l others) us vs e =
-    let rest = counted_tells cells others us vs (tail (tail (tail e))) in
-    let a = pos_is (head (tail e)) in let b = pos_is (head (tail (tail e))) in
-    ((λ i. grid (a i) (b i) (rest.0 i)), rest.1)
+content_tells (buffer k xs) (grid m rows) us vs x y e = absurd (let h = pos_is (head e) in omega (arith, h))
+content_tells (grid k rows) (account c) us vs x y e = absurd (let h = pos_is (head e) in omega (arith, h))
+content_tells (grid k rows) (buffer m ys) us vs x y e = absurd (let h = pos_is (head e) in omega (arith, h))
+content_tells (grid k rows) (grid l others) us vs x y e =
+    let rest = counted_tells (join_rows rows) (join_rows others) us vs (tail (tail (tail e))) in
+    let many = pos_is (head (tail e)) in
+    let wide = pos_is (head (tail (tail e))) in
+    let same = rows_tell k rows others x.4 (subst (λ m. AreRowsOf m others) (sym wide) y.4) many rest.0 in
+    ((λ i. grid (wide i) (same i)), rest.1)
 
-state_tells : Tells state_row
-state_tells s t us vs e =
-    let rest = content_tells s.content t.content us vs (tail e) in let refused = head e in
+state_tells : (s t : State) (us vs : List ℤ) → IsInRange s.content → IsInRange t.content → state_row s ++ us ≡ state_row t ++ vs → (s ≡ t) × (us ≡ vs)
+state_tells s t us vs x y e =
+    let rest = content_tells s.content t.content us vs x y (tail e) in let refused = head e in
     ((λ i. record { content = rest.0 i; refused = refused i }), rest.1)
 
-flat_tells : {X : Type 0} (f : X → List ℤ) → Tells f → (xs ys : List X) (us vs : List ℤ) → length xs ≡ length ys
-    → flat_map f xs ++ us ≡ flat_map f ys ++ vs → (xs ≡ ys) × (us ≡ vs)
-flat_tells f tells [] [] us vs long e = (refl, e)
-flat_tells f tells [] (y ∷ ys) us vs long e = absurd (let h : 0 ≡ length (y ∷ ys) = long in omega (arith, h))
-flat_tells f tells (x ∷ xs) [] us vs long e = absurd (let h : length (x ∷ xs) ≡ 0 = long in omega (arith, h))
-flat_tells f tells (x ∷ xs) (y ∷ ys) us vs long e =
-    let first = tells x y (flat_map f xs ++ us) (flat_map f ys ++ vs) (sym (append_assoc (f x) (flat_map f xs) us) ∙ (e ∙ append_assoc (f y) (flat_map f ys) vs)) in
-    let rest = flat_tells f tells xs ys us vs (let h : length (x ∷ xs) ≡ length (y ∷ ys) = long in omega (arith, h)) first.1 in
+-- all objects in range, each at its place
+abbrev AllInRange : List State → Type 0
+AllInRange ss = (h : ℕ) → h < length ss → IsInRange (get_or ss h no_state).content
+
+states_tell : (ss ts : List State) (us vs : List ℤ) → AllInRange ss → AllInRange ts → length ss ≡ length ts
+    → flat_map state_row ss ++ us ≡ flat_map state_row ts ++ vs → (ss ≡ ts) × (us ≡ vs)
+states_tell [] [] us vs x y long e = (refl, e)
+states_tell [] (t ∷ ts) us vs x y long e = absurd (let h : 0 ≡ length (t ∷ ts) = long in omega (arith, h))
+states_tell (s ∷ ss) [] us vs x y long e = absurd (let h : length (s ∷ ss) ≡ 0 = long in omega (arith, h))
+states_tell (s ∷ ss) (t ∷ ts) us vs x y long e =
+    let first = state_tells s t (flat_map state_row ss ++ us) (flat_map state_row ts ++ vs) (x 0 (omega arith)) (y 0 (omega arith))
+    (sym (append_assoc (state_row s) (flat_map state_row ss) us) ∙ (e ∙ append_assoc (state_row t) (flat_map state_row ts) vs)) in
+    let rest = states_tell ss ts us vs (λ h less. x (suc h) (omega (arith, less))) (λ h less. y (suc h) (omega (arith, less)))
+    (let h : length (s ∷ ss) ≡ length (t ∷ ts) = long in omega (arith, h)) first.1 in
     (ap₂ (λ z zs. z ∷ zs) first.0 rest.0, rest.1)
 
 append_none : (xs : List ℤ) → xs ++ [] ≡ xs
@@ -114,13 +119,16 @@ module _ (p : ProgramShape) (front : List Ticket) (sound : IsSound p) where
       subst (λ k. AreNamedAlone p k (get_or s.locals i zeros)) (let z : i ≡ 0 + i = omega arith in z)
       (subst (AreNamedAlone p i) (sym (ap (λ (g : Configuration). g.locals i) is.stands)) (unnamed_stay_zero p sound s.order i))
 
+  in_range : (s : StandingShape) → IsStanding p front s → AllInRange s.states
+  in_range s is h less = subst (λ (st : States). IsInRange (st h).content) (sym (ap (λ (g : Configuration). g.states) is.stands)) (orders_keep_ranges p sound s.order h)
+
   pub row_tells : (s t : StandingShape) → IsStanding p front s → IsStanding p front t → row_of p s ≡ row_of p t → configuration_in s ≡ configuration_in t
   row_tells s t a b e =
       let begun : s.begun ≡ t.begun =
       (equal_long s.begun t.begun (drop (length s.begun) (replicate most_clients 0)) (drop (length t.begun) (replicate most_clients 0)) (a.begun ∙ sym b.begun)
       (ap (λ (r : RowShape). r.begun) e)).0 in
       let second = named_tell p 0 s.locals t.locals (flat_map state_row s.states) (flat_map state_row t.states) (a.locals ∙ sym b.locals) (named s a) (named t b) (ap (λ (r : RowShape). r.numbers) e) in
-      let third = flat_tells state_row state_tells s.states t.states [] [] (a.states ∙ sym b.states)
+      let third = states_tell s.states t.states [] [] (in_range s a) (in_range t b) (a.states ∙ sym b.states)
       (append_none (flat_map state_row s.states) ∙ (second.1 ∙ sym (append_none (flat_map state_row t.states)))) in
       λ i. configuration_in (record { order = s.order; begun = begun i; locals = second.0 i; states = third.0 i })
 

@@ -1,6 +1,7 @@
 -- Configurations as they are kept: in lists, with an order that leads there, and as one row of numbers.
 use Rattle.std.specs.Prelude.{◌≡◌, ℕ, List, [], ◌∷◌, ◌++◌, true, drop, length, replicate, slice_index_or, slice_set, ℤ, pos, flat_map, suc, take}
 use Rattle.qs_objects.specs.Act.{State, Content, account, buffer, grid}
+use Rattle.qs_objects.specs.Rows.{join_rows}
 use Rattle.qs_objects.specs.declared.held.Ticket.{Ticket}
 use Rattle.qs_program.specs.Limits.{most_clients}
 use Rattle.qs_program.specs.Program.{ProgramShape, block_at, client_at}
@@ -91,7 +92,7 @@ counted xs = pos (length xs) ∷ xs
 abbrev pub content_row : Content → List ℤ
 content_row (account b) = pos 0 ∷ b ∷ []
 content_row (buffer k xs) = pos 1 ∷ pos k ∷ counted xs
-content_row (grid n k cells) = pos 2 ∷ pos n ∷ pos k ∷ counted cells
+content_row (grid k rows) = pos 2 ∷ pos (length rows) ∷ pos k ∷ counted (join_rows rows)
 
 abbrev pub state_row : State → List ℤ
 state_row s = s.refused ∷ content_row s.content

@@ -102,7 +102,7 @@ two_clients_played = record {
   journals = [];
   states =
       state (buffer 1 []) (pos 2)
-      ∷ state (grid 2 3 (large ∷ large ∷ pos 0 ∷ pos 0 ∷ pos 0 ∷ pos 0 ∷ [])) (pos 1)
+      ∷ state (grid 3 ((large ∷ large ∷ pos 0 ∷ []) ∷ (pos 0 ∷ pos 0 ∷ pos 0 ∷ []) ∷ [])) (pos 1)
       ∷ state (account (pos 1000000000000000)) (pos 0) ∷ [];
   syncs = 3;
   finished = false;
@@ -153,7 +153,7 @@ pub record StateExamples : Type 0 where
   pub two :
       state_line (codes "b") (state (buffer 1024 (pos 9223372036854775807 ∷ negsuc 9223372036854775807 ∷ [])) (pos 0))
       ≡ codes "b buffer 1024 [9223372036854775807 -9223372036854775808] refused 0\n"
-  pub cells : state_line (codes "g") (state (grid 1 2 (negsuc 0 ∷ pos 0 ∷ [])) (pos 10)) ≡ codes "g grid 1 2 [-1 0] refused 10\n"
+  pub cells : state_line (codes "g") (state (grid 2 ((negsuc 0 ∷ pos 0 ∷ []) ∷ [])) (pos 10)) ≡ codes "g grid 1 2 [-1 0] refused 10\n"
 
 -- the counts of these two programs, as far as their blocks have no statements
 pub record CountExamples : Type 0 where

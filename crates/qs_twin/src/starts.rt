@@ -66,9 +66,12 @@ fn are_same_values(here: &Object, there: &Object) -> bool
     true
 }
 
+#[tactic(auto, using(qs_objects::proofs::GridRows::same_state))]
 fn is_same_state(here: &Object, there: &Object) -> bool
     ensures same { Decides result (here.now ≡ there.now) }
 {
+    here.is_in_range();
+    there.is_in_range();
     here.kind() == there.kind() && here.refused() == there.refused() && are_same_values(here, there)
 }
 
