@@ -20,7 +20,7 @@ use Rattle.qs_program.specs.Kinds.{same_kind}
 use Rattle.qs_program.specs.Numbering.{Name, is_among, found_at}
 use Rattle.qs_places.specs.Places.{Scope, object, number, client, template, text, starts as begins, given, scope_or_fault, formal_kinds, formals_at, fault_of_text, given_places, kind_in, most_templates, with_template, kind_of, kind_places, item_places, blocks_places, script_places, with_object, with_client}
 use Rattle.qs_places.specs.Variables.{variables_of}
-use Rattle.qs_check.specs.Resolve.{objects_of, names_of, kinds_of, lists_of, templates_in}
+use Rattle.qs_check.specs.Resolve.{AreFaultless, objects_of, names_of, kinds_of, lists_of, templates_in}
 use Rattle.qs_check.specs.WellFormed.{client_names}
 use Rattle.qs_places.proofs.Steps.{split, variables_met, ok_same}
 use Rattle.qs_places.proofs.Inner.{parted}
@@ -107,6 +107,16 @@ kind_starts s t (Grid r c) h =
 
 object_starts : (s t : Scope) (o : ObjectItem) → scope_or_fault s (item_places (Object o)) ≡ Ok t → IsSome (starts (kind_of o.kind))
 object_starts s t o h = let w = split s t (object o.name (kind_of o.kind)) (kind_places o.kind) h in kind_starts w.0 t o.kind w.2
+
+-- the texts of all templates have no fault
+pub texts_faultless : (items : List Item) (s t : Scope) → scope_or_fault s (script_places items) ≡ Ok t → AreFaultless (templates_in items)
+texts_faultless [] s t h = tt
+texts_faultless (Object o ∷ rest) s t h = let w = parted s t (item_places (Object o)) (script_places rest) h in texts_faultless rest w.0 t w.2
+texts_faultless (Client c ∷ rest) s t h = let w = parted s t (item_places (Client c)) (script_places rest) h in texts_faultless rest w.0 t w.2
+texts_faultless (Template c ∷ rest) s t h =
+    let w = parted s t (item_places (Template c)) (script_places rest) h in
+    ((template_stays s w.0 c w.1).3, texts_faultless rest w.0 t w.2)
+texts_faultless (Started c ∷ rest) s t h = let w = parted s t (item_places (Started c)) (script_places rest) h in texts_faultless rest w.0 t w.2
 
 -- a script's items, from what is known before to what is known after them
 pub record Scripted (s t : Scope) (items : List Item) : Type 0 where

@@ -1,6 +1,6 @@
 -- The loop that looks for a template of a name over the items of a script finds the first one. The proof of the function that does
 -- this stands on it, and so does that a template which is found has the form of a script's.
-use Rattle.std.proofs.Common.{◌≡◌, ◌≢◌, ℕ, suc, ◌+◌, ◌<◌, ◌≤◌, Bool, true, false, List, [], ◌∷◌, length, map, get_or, drop, Some, refl, ap, sym, ◌∙◌, subst, add-one, arith, if◌then◌else◌}
+use Rattle.std.proofs.Common.{◌≡◌, ◌≢◌, ℕ, suc, ◌+◌, ◌<◌, ◌≤◌, Bool, true, false, List, [], ◌∷◌, length, map, get_or, drop, None, Some, refl, ap, sym, ◌∙◌, subst, add-one, arith, if◌then◌else◌}
 use Rattle.std.proofs.Math.Seq.{drop-cons}
 use Rattle.std.specs.List.{AllByRecursion}
 use Rattle.qs_objects.specs.declared.object.Kind.{Kind}
@@ -13,7 +13,8 @@ use Rattle.qs_script.specs.declared.tree.Item.TheVariants.{Object, Client, Templ
 use Rattle.qs_program.specs.Numbering.{Name, same_name}
 use Rattle.qs_program.specs.Program.{BlockShape}
 use Rattle.qs_program.specs.Sound.{levels_of}
-use Rattle.qs_check.specs.Resolve.{block_of, template_called, templates_in}
+use Rattle.qs_places.specs.Places.{fault_of_text}
+use Rattle.qs_check.specs.Resolve.{AreFaultless, block_of, template_called, templates_in}
 use Rattle.qs_check.proofs.Resolving.{levels_same}
 
 module _ (xs : List Item) (i : ℕ) (item : Item) (within : i < length xs) (item_is : item ≡ get_or xs i item) (n : Name)
@@ -59,6 +60,19 @@ called_formed (Object o ∷ rest) n t form h = called_formed rest n t form.1 h
 called_formed (Client c ∷ rest) n t form h = called_formed rest n t form.1 h
 called_formed (Template u ∷ rest) n t form h = formed_if u t (templates_in rest) n (same_name n u.name) h form.0 (called_formed rest n t form.1)
 called_formed (Started c ∷ rest) n t form h = called_formed rest n t form.1 h
+
+faultless_if : (u t : TemplateItem) (ts : List TemplateItem) (n : Name) (b : Bool) → (if b then Some u else template_called ts n) ≡ Some t
+    → fault_of_text u ≡ None → (template_called ts n ≡ Some t → fault_of_text t ≡ None) → fault_of_text t ≡ None
+faultless_if u t ts n true h one more =
+    let e : u ≡ t = cc in
+    let P : TemplateItem → Type 0 = λ v. fault_of_text v ≡ None in
+    subst P e one
+faultless_if u t ts n false h one more = more h
+
+-- the text of a template that is called has no fault
+pub called_faultless : (ts : List TemplateItem) (n : Name) (t : TemplateItem) → AreFaultless ts → template_called ts n ≡ Some t → fault_of_text t ≡ None
+called_faultless [] n t all h = cc
+called_faultless (u ∷ ts) n t all h = faultless_if u t ts n (same_name n u.name) h all.0 (called_faultless ts n t all.1)
 
 -- blocks by number are nested as the text's
 pub formed_levels : (os : List Name) (ks : List Kind) (vs : List Name) (bs : List Block) → AllByRecursion IsFormed bs → AllByRecursion (λ (b : BlockShape). levels_of b.body ≤ most_levels) (map (block_of os ks vs) bs)

@@ -1,5 +1,6 @@
 -- Scripts with each name replaced by its number.
-use Rattle.std.specs.Prelude.{ℕ, Bool, true, false, List, [], ◌∷◌, map, Option, Some, None, if◌then◌else◌}
+use Rattle.std.specs.Prelude.{◌≡◌, ℕ, Bool, true, false, List, [], ◌∷◌, map, Option, Some, None, if◌then◌else◌}
+use Rattle.std.specs.List.{AllByRecursion}
 use Rattle.qs_objects.specs.declared.object.Kind.{Kind}
 use Rattle.qs_script.specs.Tree as tree
 use Rattle.qs_script.specs.declared.tree.Atom as text_atom
@@ -27,7 +28,7 @@ use Rattle.qs_program.specs.Numbering.{Name, same_name, found_at}
 use Rattle.qs_places.specs.Operators.{op_or_refused}
 use Rattle.qs_program.specs.Statements.{Statements, end, command, query, assign, choose, again, leave}
 use Rattle.qs_program.specs.Program.{BlockShape, ClientShape, ProgramShape}
-use Rattle.qs_places.specs.Places.{op_at, formal_kind, kind_of}
+use Rattle.qs_places.specs.Places.{op_at, fault_of_text, formal_kind, kind_of}
 use Rattle.qs_places.specs.Variables.{variables_of}
 
 -- variables by the list of the client's
@@ -84,6 +85,10 @@ templates_in (items.Object o ∷ rest) = templates_in rest
 templates_in (items.Client c ∷ rest) = templates_in rest
 templates_in (items.Template t ∷ rest) = t ∷ templates_in rest
 templates_in (items.Started c ∷ rest) = templates_in rest
+
+-- the texts of all templates have no fault
+abbrev pub AreFaultless : List TemplateItem → Type 0
+AreFaultless ts = AllByRecursion (λ t. fault_of_text t ≡ None) ts
 
 -- the first template of a name
 abbrev pub template_called : List TemplateItem → Name → Option TemplateItem

@@ -6,7 +6,7 @@ ghost use Rattle.qs_script.specs.Form.{HasForm};
 ghost use Rattle.qs_program.specs.Limits.{most_objects, most_requests, most_steps, most_variables};
 ghost use Rattle.qs_check.specs.Checked.{IsCheckOf, text_fault, excess_of, shape_of};
 ghost use Rattle.qs_places.specs.Places.{Meets, scope_or_fault, over, start, without_variables, script_places};
-ghost use Rattle.qs_check.specs.Resolve.{program_of_items as resolved_of, clients_of, lists_of, objects_of, templates_in};
+ghost use Rattle.qs_check.specs.Resolve.{AreFaultless, program_of_items as resolved_of, clients_of, lists_of, objects_of, templates_in};
 ghost use Rattle.qs_program.specs.Program.{whole_load, whole_weight};
 ghost use Rattle.qs_program.specs.Sound.{IsSound};
 ghost use Rattle.qs_check.specs.WellFormed.{AcceptsWellFormed};
@@ -88,6 +88,7 @@ fn numbered(
     items: &[Item],
 ) -> Result<Resolved, AllocError>
     requires form { HasForm items.now }
+    requires texts { AreFaultless (templates_in items.now) }
     requires objects { length scope.now.objects ≤ most_objects }
     requires variables { variables.old.items ≡ lists_of items.now }
     requires limit { AllByRecursion (λ v. length v ≤ most_variables) variables.old.items }

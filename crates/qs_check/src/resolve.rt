@@ -7,7 +7,7 @@ ghost use Rattle.qs_script.specs.Views.{single as single_text};
 ghost use Rattle.qs_script.specs.Limits.{most_levels};
 ghost use Rattle.qs_program.specs.Limits.{most_objects, most_variables};
 ghost use Rattle.qs_program.specs.Numbering.{found_at};
-ghost use Rattle.qs_check.specs.Resolve.{atom_of, expr_of, test_of, call_of, body_of, block_of, clients_of, objects_of, lists_of, templates_in};
+ghost use Rattle.qs_check.specs.Resolve.{AreFaultless, atom_of, expr_of, test_of, call_of, body_of, block_of, clients_of, objects_of, lists_of, templates_in};
 ghost use Rattle.qs_program.specs.Sound.{levels_of as nested_in};
 ghost use Rattle.qs_program.specs.Statements.{end, command, query, assign, choose, again, leave, join_statements};
 
@@ -44,6 +44,7 @@ pub(crate) fn resolve_clients(
     items: &[Item],
 ) -> Result<Vec<Client>, AllocError>
     requires form { HasForm items.now }
+    requires texts { AreFaultless (templates_in items.now) }
     requires objects { length objects.now ≤ most_objects }
     requires variables { variables.old.items ≡ lists_of items.now }
     requires limit { AllByRecursion (λ v. length v ≤ most_variables) variables.old.items }
@@ -485,7 +486,7 @@ fn resolve_many(
     requires variables { length variables.now ≤ most_variables }
     ensures atoms { IfOk result (λ v. v ≡ map (atom_of variables.now) atoms.now) }
 {
-    let mut args = Atoms::with_capacity(alloc, atoms.len())?;
+    let mut args = Atoms::new(alloc);
     for atom in atoms {
         args.push(resolve_atom(variables, atom))?;
     }

@@ -1,15 +1,15 @@
 //! Clients of templates, by number.
 
-ghost use Rattle.std.specs.Prelude.{◌≡◌, ◌≤◌, IfOk, length, option_copied, Ok, Some};
+ghost use Rattle.std.specs.Prelude.{◌≡◌, ◌≤◌, IfOk, length, option_copied, None, Ok, Some};
 ghost use Rattle.std.specs.List.{AllByRecursion};
 ghost use Rattle.qs_script.specs.Form.{HasForm, IsFormed};
 ghost use Rattle.qs_program.specs.Limits.{most_objects};
-ghost use Rattle.qs_places.specs.Places.{scope_or_fault, start as nothing_known, text_places};
-ghost use Rattle.qs_check.specs.Resolve.{declared_formals, started_of, template_called, templates_in};
+ghost use Rattle.qs_places.specs.Places.{fault_of_text, scope_or_fault, start as nothing_known, text_places};
+ghost use Rattle.qs_check.specs.Resolve.{AreFaultless, declared_formals, started_of, template_called, templates_in};
 
 use crate::resolve::{resolve_blocks, resolve_list};
 use qs_binding::bind_blocks;
-use qs_places::{Scope, check_text, formal_value};
+use qs_places::{CheckFault, Scope, check_text, formal_value};
 use qs_program::{Block, Client, Declared, Names, Start};
 use qs_script::{Formal, Item, Name, StartedItem, TemplateItem};
 use std::alloc::{AllocError, Global};
@@ -36,6 +36,7 @@ pub(crate) fn resolve_started(
     item: &StartedItem,
 ) -> Result<Client, AllocError>
     requires form { HasForm items.now }
+    requires texts { AreFaultless (templates_in items.now) }
     requires objects { length objects.now ≤ most_objects }
     ensures client { IfOk result (λ c. c ≡ started_of objects.now (template_called (templates_in items.now) item.now.template) item.now) }
 {
@@ -46,7 +47,7 @@ pub(crate) fn resolve_started(
     }
 }
 
-// The template's text is walked again for the names of its variables. It had no fault before, so there is none now.
+// The template's text, which has no fault, is walked again for the names of its variables.
 fn start(
     alloc: Global,
     objects: &Names,
@@ -54,6 +55,7 @@ fn start(
     item: &StartedItem,
 ) -> Result<Client, AllocError>
     requires formed { AllByRecursion IsFormed template.now.blocks }
+    requires text { fault_of_text template.now ≡ None }
     requires objects { length objects.now ≤ most_objects }
     ensures client { IfOk result (λ c. c ≡ started_of objects.now (Some template.now) item.now) }
 {
@@ -71,13 +73,15 @@ fn start_in(
     item: &StartedItem,
 ) -> Result<Client, AllocError>
     requires formed { AllByRecursion IsFormed template.now.blocks }
+    requires text { fault_of_text template.now ≡ None }
     requires objects { length objects.now ≤ most_objects }
     requires start { inner.old ≡ nothing_known }
     ensures client { IfOk result (λ c. c ≡ started_of objects.now (Some template.now) item.now) }
 {
     match check_text(alloc, inner, template) {
         Ok(()) => start_walked(alloc, objects, inner, template, item),
-        Err(_) => Err(AllocError),
+        Err(CheckFault::Memory) => Err(AllocError),
+        Err(_) => unreachable!(),
     }
 }
 

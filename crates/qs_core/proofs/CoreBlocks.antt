@@ -35,56 +35,9 @@ use Rattle.qs_core_orders.proofs.Entering.{block_over, most_turns}
 use Rattle.qs_core_orders.proofs.Turns.{IsWithin}
 use Rattle.qs_core.specs.CoreOrders.{CoreGoes, IsOneBlockOn, IsQuietNow, blocks_begun}
 use Rattle.qs_core_state.specs.CoreState.{CoreState, CoreSteps, IsCoreState, IsFreshCore, IsPlayedOn, IsReachedCore, codes_of, core_of, side_at}
+use Rattle.qs_core.proofs.CoreGoing.{goes_join, goes_played}
 use Rattle.qs_core.proofs.CorePlaying.{fresh_played}
 use Rattle.qs_core_state.proofs.CoreReaching.{core_plays_more}
-
-pub goes_none : (s : CoreState) → CoreGoes s [] s
-goes_none s = record { program = refl; size = refl; codes = refl; played = refl }
-
--- and the step of one actor more
-pub goes_more : (old mid new : CoreState) (xs : List Actor) (a : Actor) (b : Bool) → CoreGoes old xs mid → OnTrue b (CoreSteps mid a new)
-    → (b ≡ false → core_step (codes_of mid) mid.size (core_of mid) a ≡ None) → (b ≡ false → new ≡ mid) → CoreGoes old (xs ++ a ∷ []) new
-goes_more old mid new xs a true goes steps none same = record {
-  program = steps.program ∙ goes.program;
-  size = steps.size ∙ goes.size;
-  codes = steps.codes ∙ goes.codes;
-  played =
-      sym (ap (or_stay (core_of mid)) steps.steps)
-      ∙ (λ k. or_stay (goes.played k) (core_step (goes.codes k) (goes.size k) (goes.played k) a))
-      ∙ sym (core_plays_more (codes_of old) old.size xs a (core_of old));
-}
-goes_more old mid new xs a false goes steps none same =
-    subst (CoreGoes old (xs ++ a ∷ [])) (sym (same refl)) (record {
-      program = goes.program;
-      size = goes.size;
-      codes = goes.codes;
-      played =
-          sym (ap (or_stay (core_of mid)) (none refl))
-          ∙ (λ k. or_stay (goes.played k) (core_step (goes.codes k) (goes.size k) (goes.played k) a))
-          ∙ sym (core_plays_more (codes_of old) old.size xs a (core_of old));
-    })
-
-pub goes_join : (old mid new : CoreState) (xs ys : List Actor) → CoreGoes old xs mid → CoreGoes mid ys new → CoreGoes old (xs ++ ys) new
-goes_join old mid new xs ys first next = record {
-  program = next.program ∙ first.program;
-  size = next.size ∙ first.size;
-  codes = next.codes ∙ first.codes;
-  played =
-      next.played
-      ∙ (λ k. core_plays (first.codes k) (first.size k) ys (first.played k))
-      ∙ sym (plays_by-append (core_step (codes_of old) old.size) xs ys (core_of old));
-}
-
--- two steps of the next handler
-pub goes_twice : (old mid one new : CoreState) (c h : ℕ) (a b : Bool) → CoreGoes old (actor.Client c ∷ two_of_each h) mid
-    → OnTrue a (CoreSteps mid (actor.Handler h) one) → (a ≡ false → core_step (codes_of mid) mid.size (core_of mid) (actor.Handler h) ≡ None) → (a ≡ false → one ≡ mid)
-    → OnTrue b (CoreSteps one (actor.Handler h) new) → (b ≡ false → core_step (codes_of one) one.size (core_of one) (actor.Handler h) ≡ None) → (b ≡ false → new ≡ one)
-    → CoreGoes old (actor.Client c ∷ two_of_each (h + 1)) new
-goes_twice old mid one new c h a b goes first none same second none_then same_then =
-    let front = actor.Client c ∷ two_of_each h in
-    let last = actor.Handler h in
-    let both = goes_more old one new (front ++ last ∷ []) last b (goes_more old mid one front last a goes first none same) second none_then same_then in
-    subst (λ xs. CoreGoes old xs new) (append_assoc front (last ∷ []) (last ∷ []) ∙ ap (λ n. actor.Client c ∷ two_of_each n) (sym (add-one h))) both
 
 -- what holds of the machine in each state that the code comes to
 pub record IsFit (s : CoreState) : Type 0 where
@@ -234,16 +187,7 @@ played_to : (p : ProgramShape) (mode : Mode) (size : ℕ) (old new : CoreState) 
 played_to p mode size old new more named goes (actors, all, on) = (
   actors ++ more,
   named_append p actors more all (subst (λ q. all_named q more ≡ true) on.program named),
-  record {
-    program = goes.program ∙ on.program;
-    size = goes.size ∙ on.size;
-    codes = subst (AreCodes p mode) (sym goes.codes) on.codes;
-    played =
-        goes.played
-        ∙ (λ k. core_plays (codes_of old) (on.size k) more (on.played k))
-        ∙ sym (plays_by-append (core_step (codes_of old) size) actors more (core_begin p))
-        ∙ (λ k. core_plays (sym goes.codes k) size (actors ++ more) (core_begin p));
-  },
+  goes_played p mode size actors more old new goes on,
 )
 
 -- the blocks that were played so far, and those that the rest of the list names

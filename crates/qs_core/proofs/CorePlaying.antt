@@ -1,15 +1,13 @@
--- These lemmas play a schedule of the optimised machine one actor at a time, and say what is shown at its end. The loops of
--- `play_core`, `play_rounds` and `round` keep that their state is where the actors so far lead (`IsPlayedOn`). An actor adds its
--- step or nothing, and where a round changes nothing, further rounds change nothing, by induction on their number.
+-- These lemmas play a schedule of the optimised machine one actor at a time, and say what is shown at its end. The loop of `play_core`
+-- keeps that its state is where the actors so far lead (`IsPlayedOn`). An actor adds its step or nothing.
 use Rattle.std.proofs.Common.{◌≡◌, ◌<◌, ℕ, zero, suc, ◌+◌, Bool, true, false, length, get_or, take, arith, List, [], ◌∷◌, ◌++◌, None, refl, ap, sym, subst, ◌∙◌, add-one}
 use Rattle.std.specs.Bool.{OnTrue}
 use Rattle.qs_program.specs.Program.{ProgramShape}
 use Rattle.qs_syncset.specs.declared.mode.Mode.{Mode}
 use Rattle.qs_played.specs.Isolation.{IsIsolated}
-use Rattle.qs_played.specs.Schedule.{actors_of, schedule}
+use Rattle.qs_played.specs.Schedule.{schedule}
 use Rattle.qs_played.specs.Played.{Played}
 use Rattle.qs_played.specs.declared.schedule.actor.Actor.{Actor}
-use Rattle.qs_played.proofs.Playing.{round_more}
 use Rattle.qs_core_laws.specs.Core.{AreCodes, core_begin, core_step}
 use Rattle.qs_core_laws.specs.CoreSchedule.{IsShown, core_played, core_plays, core_scheduled, on_way}
 use Rattle.qs_played.specs.Schedule.{or_stay}
@@ -40,11 +38,6 @@ played_more p mode size actors old new a false on steps none same =
           ∙ sym (core_plays_more (codes_of old) size actors a (core_begin p));
     })
 
--- the program stays
-pub program_kept : (old new : CoreState) (a : Actor) (b : Bool) → OnTrue b (CoreSteps old a new) → (b ≡ false → new ≡ old) → new.program ≡ old.program
-program_kept old new a true steps same = steps.program
-program_kept old new a false steps same = ap (λ (s : CoreState). s.program) (same refl)
-
 -- before the first actor
 pub fresh_played : (p : ProgramShape) (mode : Mode) (size : ℕ) (s : CoreState) → IsFreshCore p mode size s → IsPlayedOn p mode size [] s
 fresh_played p mode size s fresh = record { program = fresh.program; size = fresh.size; codes = fresh.codes; played = fresh.begins }
@@ -56,17 +49,6 @@ take_next (x ∷ xs) (suc i) d less = ap (λ zs. x ∷ zs) (take_next xs i d (om
 
 pub take_more : {A : Type 0} (xs : List A) (i : ℕ) (d : A) → i < length xs → take (i + 1) xs ≡ take i xs ++ get_or xs i d ∷ []
 take_more xs i d less = ap (λ n. take n xs) (add-one i) ∙ take_next xs i d less
-
--- where a round leads to the state that it began with, so do all further ones
-pub still_rounds : (p : ProgramShape) (mode : Mode) (size : ℕ) (picks : List Actor) (n k : ℕ) (s : CoreState) → ((actors : List Actor) → IsPlayedOn p mode size actors s → IsPlayedOn p mode size (actors ++ actors_of p) s)
-    → IsPlayedOn p mode size (schedule p picks n) s → IsPlayedOn p mode size (schedule p picks (n + k)) s
-still_rounds p mode size picks n zero s still on =
-    let none : n ≡ n + 0 = omega (arith) in
-    subst (λ m. IsPlayedOn p mode size (schedule p picks m) s) none on
-still_rounds p mode size picks n (suc k) s still on =
-    let more : (n + k) + 1 ≡ n + suc k = omega (arith) in
-    subst (λ m. IsPlayedOn p mode size (schedule p picks m) s) more
-    (subst (λ xs. IsPlayedOn p mode size xs s) (sym (round_more p picks (n + k))) (still (schedule p picks (n + k)) (still_rounds p mode size picks n k s still on)))
 
 -- what is shown after the whole schedule
 pub schedule_shown : (p : ProgramShape) (mode : Mode) (size : ℕ) (picks : List Actor) (rounds : ℕ) (s : CoreState) (played : Played) → IsPlayedOn p mode size (schedule p picks rounds) s

@@ -1,4 +1,5 @@
 pub mod CoreCounted
+pub mod CoreGoing
 pub mod CorePlaying
 pub mod CoreReadings
 pub mod ServiceFieldLemmas

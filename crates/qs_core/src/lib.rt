@@ -16,7 +16,7 @@ pub use core_orders::play_in_order;
 pub use core_schedules::play;
 pub use optimised::Core;
 pub use qs_objects::Traces;
-pub use qs_plain::{Deed, Rules, play_plain, play_plain_in_order};
+pub use qs_plain::{Awaited, Deed, Rules, play_plain, play_plain_in_order};
 pub use qs_plain_laws::QueueItem;
 pub use qs_played::{Actor, PlayFault, Played, Row};
 pub use qs_twin::{Twin, twin};

@@ -1,11 +1,8 @@
 //! The optimised machine, from its beginning on.
 
-ghost use Rattle.std.specs.Prelude.{◌≡◌, ◌<◌, ◌++◌, ℕ, List, None, false, length, IfOk};
-ghost use Rattle.qs_program.specs.Program.{ProgramShape};
-ghost use Rattle.qs_syncset.specs.declared.mode.Mode.{Mode as ModeShape};
+ghost use Rattle.std.specs.Prelude.{◌≡◌, ◌<◌, None, true, false, length, IfOk};
 ghost use Rattle.qs_core_laws.specs.CoreSchedule.{core_played};
-ghost use Rattle.qs_played.specs.Schedule.{actors_of, rounds_of};
-ghost use Rattle.qs_played.specs.declared.schedule.actor.Actor.{Actor as ActorShape};
+ghost use Rattle.qs_played.specs.Schedule.{HasStep, actors_of, rounds_of};
 ghost use Rattle.qs_played.specs.declared.schedule.actor.Actor.TheVariants as actors;
 ghost use Rattle.std.specs.Bool.{OnTrue};
 ghost use Rattle.qs_core_laws.specs.Core.{core_step};
@@ -14,7 +11,7 @@ ghost use Rattle.qs_program.specs.Program.{blocks_of};
 ghost use Rattle.qs_core_orders.specs.CoreQuiet.{turn_of};
 ghost use Rattle.qs_core.specs.CoreOrders.{CoreGoes, IsOneBlockOn, IsQuietNow, blocks_begun};
 ghost use Rattle.qs_core_state.specs.CoreState.{CoreIsCounted};
-ghost use Rattle.qs_core_state.specs.CoreState.{CoreIsIsolated, CoreSteps, IsFreshCore, IsPlayedOn, codes_of, core_of};
+ghost use Rattle.qs_core_state.specs.CoreState.{CoreIsIsolated, CoreSteps, IsFreshCore, codes_of, core_of};
 
 mod reading;
 
@@ -187,7 +184,8 @@ impl<'p> Core<'p> {
     /// One step of each client and then of each handler, in text order: true where one of them has stepped, and else false, with
     /// nothing changed.
     fn round(&mut self) -> bool
-        ensures round { (p : ProgramShape) (mode : ModeShape) (size : ℕ) (actors : List ActorShape) → IsPlayedOn p mode size actors self.old → IsPlayedOn p mode size (actors ++ actors_of p) self.new }
+        ensures goes { CoreGoes self.old (actors_of self.old.program) self.new }
+        ensures stepped { result ≡ true → HasStep (core_step (codes_of self.old) self.old.size) (actors_of self.old.program) (core_of self.old) }
         ensures unchanged { result ≡ false → self.new ≡ self.old }
     {
         let program = self.machine.program();
@@ -210,7 +208,7 @@ impl<'p> Core<'p> {
 
     /// So many rounds. It ends at the first one that steps nobody, as the further ones would change nothing either.
     pub fn play_rounds(&mut self, rounds: u32)
-        ensures rounds { (p : ProgramShape) (mode : ModeShape) (size : ℕ) (actors : List ActorShape) → IsPlayedOn p mode size actors self.old → IsPlayedOn p mode size (actors ++ rounds_of rounds (actors_of p)) self.new }
+        ensures goes { CoreGoes self.old (rounds_of rounds (actors_of self.old.program)) self.new }
     {
         for _round in 0..rounds {
             if !self.round() {

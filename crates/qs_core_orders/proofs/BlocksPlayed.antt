@@ -220,6 +220,8 @@ shown_in_order p sound mode code codes size order legal picks named s is quiet =
           (all_ended p order (configuration_after p order).begun s quiet (first_configuration p) order legal (λ c. refl));
       finished = λ complete. quiet_finished p order (configuration_after p order).begun s quiet (blocks complete);
       code = code;
+      codes = codes;
+      shown = ap (core_played p) there;
       isolated = subst (λ x. IsIsolated p (core_played p x) (on_way (core_scheduled p code size picks 0))) (sym there) (core_isolated p sound mode code codes size (picks ++ []));
       counted = subst (λ x. AreSyncsCounted p mode (core_played p x)) (sym there) (core_syncs_counted p sound mode code codes size (picks ++ []));
     }

@@ -13,10 +13,10 @@ use Rattle.qs_played.specs.Played.{Played}
 use Rattle.qs_played.specs.SyncSums.{AreSyncsCounted}
 use Rattle.qs_played.specs.declared.schedule.actor.Actor.{Actor}
 use Rattle.qs_core_laws.specs.Core.{AreCodes}
-use Rattle.qs_core_laws.specs.CoreSchedule.{IsPlayedIn, core_scheduled, on_way}
+use Rattle.qs_core_laws.specs.CoreSchedule.{IsPlayedIn, core_played, core_scheduled, on_way}
 
 -- What is shown after some picks, without a round after them, are exactly these tickets, in this order, and each of their blocks has
--- ended; where the order is complete, the run is finished. It is isolated and counted like every run.
+-- ended; where the order is complete, the run is finished. By the codes of the program in this mode it is what those picks show, isolated and counted like every run.
 pub record IsPlayedInOrderOn (p : ProgramShape) (mode : Mode) (size : ℕ) (due : List Ticket) (r : Played) : Type 0 where
   pub picks : List Actor
   pub played : IsPlayedIn p mode size picks 0 (Ok r)
@@ -24,6 +24,8 @@ pub record IsPlayedInOrderOn (p : ProgramShape) (mode : Mode) (size : ℕ) (due 
   pub ended : AllByRecursion (λ e. e ≡ true) r.ended
   pub finished : IsComplete p due → r.finished ≡ true
   pub code : ℕ → ClientCode
+  pub codes : AreCodes p mode code
+  pub shown : r ≡ core_played p (core_scheduled p code size picks 0)
   pub isolated : IsIsolated p r (on_way (core_scheduled p code size picks 0))
   pub counted : AreSyncsCounted p mode r
 

@@ -1,16 +1,16 @@
 -- These lemmas play a schedule of the plain rules one actor, one pick and one round at a time, and say what is shown at its end.
 -- The loops of `play`, `play_rounds` and `round` keep that their state is where the actors so far lead. Two lists of actors are
 -- played one after the other, and where a round changes nothing, further rounds change nothing, by induction.
-use Rattle.std.proofs.Common.{◌≡◌, ℕ, zero, suc, ◌+◌, Bool, true, false, List, [], ◌∷◌, ◌++◌, map, None, refl, ap, sym, subst, ◌∙◌, ◌≤◌, length, drop, arith}
+use Rattle.std.proofs.Common.{◌≡◌, ℕ, zero, suc, ◌+◌, Bool, true, false, ◌||◌, is_some, List, [], ◌∷◌, ◌++◌, map, None, refl, ap, sym, subst, ◌∙◌, ◌≤◌, length, drop, arith}
 use Rattle.std.proofs.lemmas.List.{drop_all}
 use Rattle.std.specs.Prelude.{Result, IfOk}
 use Rattle.std.specs.Bool.{OnTrue}
 use Rattle.std.specs.List.{range_with_len}
 use Rattle.qs_program.specs.Program.{ProgramShape}
-use Rattle.qs_played.specs.Schedule.{actors_of, rounds_of, schedule}
+use Rattle.qs_played.specs.Schedule.{HasStep, actors_of, rounds_of, schedule}
 use Rattle.qs_played.specs.Played.{Played}
 use Rattle.qs_played.specs.declared.schedule.actor.Actor.{Actor}
-use Rattle.qs_played.proofs.Playing.{plays_by-append, round_more, row_more}
+use Rattle.qs_played.proofs.Playing.{plays_by-append, round_more, row_more, step_at_end, step_in_front}
 use Rattle.qs_plain_laws.specs.Plain.{Plain, step}
 use Rattle.qs_plain_laws.specs.PlainSchedule.{played_of, plays}
 use Rattle.qs_played.specs.Schedule.{or_stay}
@@ -49,6 +49,15 @@ pub stepped : (old : RulesState) (a : Actor) (b : Bool) (new : RulesState) → O
 stepped old a true new steps none unchanged = (sym (ap (or_stay (plain_of old)) steps.0), steps.1)
 stepped old a false new steps none unchanged =
     (ap plain_of (unchanged refl) ∙ sym (ap (or_stay (plain_of old)) (none refl)), ap (λ (r : RulesState). r.program) (unchanged refl))
+
+-- where the last of some actors has stepped, or one before it, somebody of them has a step
+pub has_stepped : (p : ProgramShape) (xs : List Actor) (a : Actor) (first old new : RulesState) (before here : Bool) → old.program ≡ p
+    → plain_of old ≡ plays p xs (plain_of first) → OnTrue here (Steps old a new) → (before ≡ true → HasStep (step p) xs (plain_of first)) → (before || here) ≡ true
+    → HasStep (step p) (xs ++ a ∷ []) (plain_of first)
+has_stepped p xs a first old new true here same there steps so_far so = step_in_front (step p) xs (a ∷ []) (plain_of first) (so_far refl)
+has_stepped p xs a first old new false true same there steps so_far so =
+    step_at_end (step p) xs a (plain_of first) (ap is_some (sym (λ k. step (same k) (there k) a) ∙ steps.0))
+has_stepped p xs a first old new false false same there steps so_far so = cc
 
 -- where a round changes nothing, no further one does
 pub plays-still : (p : ProgramShape) (n k : ℕ) (s : Plain) → plays p (actors_of p) (plays p (rounds_of n (actors_of p)) s) ≡ plays p (rounds_of n (actors_of p)) s

@@ -53,7 +53,7 @@ impl<'p> Model for Machine<'p> {
 impl<'p> Machine<'p> {
     ghost use Rattle.qs_plain_client.specs.Clients.{client_at};
     ghost use Rattle.qs_plain.specs.Rules.{Steps, plain_of};
-    ghost use Rattle.qs_played.specs.Schedule.{actors_of, rounds_of};
+    ghost use Rattle.qs_played.specs.Schedule.{HasStep, actors_of, rounds_of};
     ghost use Rattle.qs_plain_laws.specs.PlainSchedule.{is_out, played_of, plays};
     ghost use Rattle.qs_plain.specs.BegunBlocks.{AreBegun};
     ghost use Rattle.qs_plain.specs.Blocks.{IsOneBlockOn, IsQuietNow, blocks_begun};
@@ -307,6 +307,7 @@ impl<'p> Machine<'p> {
     fn round(&mut self) -> bool
         ensures round { plain_of self.new ≡ plays self.old.program (actors_of self.old.program) (plain_of self.old) }
         ensures program { self.new.program ≡ self.old.program }
+        ensures stepped { result ≡ true → HasStep (the_step self.old.program) (actors_of self.old.program) (plain_of self.old) }
         ensures unchanged { result ≡ false → self.new ≡ self.old }
     {
         self.program.is_sound();

@@ -1,9 +1,9 @@
 -- Lists of actors, one actor and one round longer, and what playing them comes to, whatever the step function is: both machines' loops over
 -- actors and rounds keep their invariants by these.
-use Rattle.std.proofs.Common.{◌≡◌, ℕ, ◌+◌, List, [], ◌∷◌, ◌++◌, Option, map, refl, ap, sym, ◌∙◌, add-one, zero-add, append_assoc}
+use Rattle.std.proofs.Common.{◌≡◌, ℕ, ◌+◌, List, [], ◌∷◌, ◌++◌, Option, IsSome, map, refl, ap, sym, ◌∙◌, add-one, zero-add, append_assoc, inl, inr}
 use Rattle.std.specs.List.{range_with_len}
 use Rattle.qs_program.specs.Program.{ProgramShape}
-use Rattle.qs_played.specs.Schedule.{actors_of, or_stay, plays_by, rounds_of, schedule}
+use Rattle.qs_played.specs.Schedule.{HasStep, actors_of, or_stay, plays_by, rounds_of, schedule}
 use Rattle.qs_played.specs.declared.schedule.actor.Actor.{Actor}
 use Rattle.qs_played.proofs.Lists.{range_more}
 
@@ -25,3 +25,14 @@ round_more p picks n = ap (schedule p picks) (add-one n) ∙ sym (append_assoc p
 pub plays_by-append : {S : Type 0} (step : S → Actor → Option S) (xs ys : List Actor) (s : S) → plays_by step (xs ++ ys) s ≡ plays_by step ys (plays_by step xs s)
 plays_by-append step [] ys s = refl
 plays_by-append step (a ∷ xs) ys s = plays_by-append step xs ys (or_stay s (step s a))
+
+-- who has a step in the first part of a list
+pub step_in_front : {S : Type 0} (step : S → Actor → Option S) (xs ys : List Actor) (s : S) → HasStep step xs s → HasStep step (xs ++ ys) s
+step_in_front step [] ys s h = absurd h
+step_in_front step (a ∷ xs) ys s (inl h) = inl h
+step_in_front step (a ∷ xs) ys s (inr h) = inr (step_in_front step xs ys (or_stay s (step s a)) h)
+
+-- and at its end
+pub step_at_end : {S : Type 0} (step : S → Actor → Option S) (xs : List Actor) (a : Actor) (s : S) → IsSome (step (plays_by step xs s) a) → HasStep step (xs ++ a ∷ []) s
+step_at_end step [] a s h = inl h
+step_at_end step (b ∷ xs) a s h = inr (step_at_end step xs a (or_stay s (step s b)) h)

@@ -1,5 +1,5 @@
 -- Schedules: first the picks, one step each, then rounds, each of them one step of every client and of every handler in text order.
-use Rattle.std.specs.Prelude.{◌≡◌, ◌<◌, ◌≤◌, ℕ, zero, suc, Bool, true, false, ◌&&◌, nat_lt, if◌then◌else◌, List, [], ◌∷◌, ◌++◌, map, length, sum_by, Option, Some, None, Result, Ok, Err}
+use Rattle.std.specs.Prelude.{◌≡◌, ◌<◌, ◌≤◌, ◌⊎◌, IsSome, ℕ, zero, suc, Bool, true, false, ◌&&◌, nat_lt, if◌then◌else◌, List, [], ◌∷◌, ◌++◌, map, length, sum_by, Option, Some, None, Result, Ok, Err}
 use Rattle.std.specs.List.{range_with_len}
 use Rattle.qs_objects.specs.Operations.{is_query}
 use Rattle.qs_objects.specs.declared.held.Event.{Event}
@@ -46,6 +46,11 @@ module _ {S : Type 0} where
   abbrev pub plays_by : (S → Actor → Option S) → List Actor → S → S
   plays_by step [] s = s
   plays_by step (a ∷ rest) s = plays_by step rest (or_stay s (step s a))
+
+  -- somebody of a list has a step, where each one before had its own
+  abbrev pub HasStep : (S → Actor → Option S) → List Actor → S → Type 0
+  HasStep step [] s = ⊥
+  HasStep step (a ∷ rest) s = IsSome (step s a) ⊎ HasStep step rest (or_stay s (step s a))
 
 -- The result of playing, of which the first says what is shown: the rounds are looked at first, then the picks, and memory last.
 abbrev pub IsPlayedAs : (Played → Type 0) → ProgramShape → List Actor → ℕ → Result Played PlayFault → Type 0

@@ -1,6 +1,6 @@
 //! Two blocks of two runs.
 
-ghost use Rattle.std.specs.Prelude.{◌≡◌, ◌<◌, IfOk, length, map};
+ghost use Rattle.std.specs.Prelude.{◌≡◌, ◌<◌, IfOk, IsErr, length, map};
 ghost use Rattle.std.specs.Bool.{Decides};
 ghost use Rattle.qs_meaning.specs.Alike.{object_name};
 ghost use Rattle.qs_meaning.specs.Serial.{IsLegal};
@@ -59,7 +59,8 @@ fn are_same_texts(here: &Reservation<'_>, there: &Reservation<'_>) -> bool
 /// equal, name by name; if each variable that they name had the same value at entry; and if each object, matched by name, on which both
 /// journals have an entry of the block's ticket was found in the same state by both. `Different` comes exactly where they do not agree; else
 /// `Agree` with the length of the shorter trace: of isolated runs the first events of both traces, as many, are equal, name by name. An error
-/// means that memory for an object, on which its journal is replayed, was refused; nothing is changed.
+/// means that memory for an object, on which its journal is replayed, was refused: it comes only where the texts are equal, with equal
+/// values at entry; nothing is changed.
 pub fn twin(
     alloc: Global,
     program: &Program,
@@ -76,6 +77,7 @@ pub fn twin(
     requires other_legal { IsLegal other.now other_played.now.order }
     requires other_place { other_place < length other_played.now.order }
     ensures tells { IfOk result (Tells program.now played.now place other.now other_played.now other_place) }
+    ensures memory { IsErr result → TextsAlike program.now played.now place other.now other_played.now other_place }
 {
     let here = Reservation {
         program,

@@ -6,6 +6,7 @@ use Rattle.qs_program.specs.Limits.{most_variables}
 use Rattle.qs_places.specs.Places.{scope_or_fault, start, script_places}
 use Rattle.qs_check.specs.Resolve.{clients_of, lists_of, names_of, templates_in}
 use Rattle.qs_check.specs.Checked.{first_fault}
+use Rattle.qs_check.proofs.Scripts.{texts_faultless}
 use Rattle.qs_check.proofs.Soundness.{walked}
 use Rattle.qs_check.proofs.checker.resolve_from.Goals as goal
 
@@ -13,6 +14,11 @@ pub numbered-requires-clause-objects : goal.numbered-requires-clause-objects
 numbered-requires-clause-objects c =
     let w = walked c.args.items.now c.check_items.new.scope (rw c.requires.start at c.in_ok-check_items.ensures.meets) in
     w.few_objects
+
+pub numbered-requires-clause-texts : goal.numbered-requires-clause-texts
+numbered-requires-clause-texts c =
+    let w = walked c.args.items.now c.check_items.new.scope (rw c.requires.start at c.in_ok-check_items.ensures.meets) in
+    texts_faultless c.args.items.now start w.last w.met_all
 
 pub numbered-requires-clause-variables : goal.numbered-requires-clause-variables
 numbered-requires-clause-variables c =

@@ -5,6 +5,7 @@ use Rattle.qs_played.proofs.ShownRuns.{if_shown}
 use Rattle.qs_core_laws.specs.CoreSchedule.{IsShown, core_played}
 use Rattle.qs_core_state.specs.CoreState.{IsPlayedOn, IsShownIsolated, core_of}
 use Rattle.qs_core.proofs.CoreCounted.{schedule_counted}
+use Rattle.qs_core.proofs.CoreGoing.{rounds_played}
 use Rattle.qs_core.proofs.CorePlaying.{played_more, schedule_isolated, schedule_shown, take_more}
 use Rattle.qs_core.proofs.core_schedules.play_core.Goals as goal
 
@@ -24,7 +25,7 @@ returns c =
     let s = c.play_rounds.new.self in
     let shown = c.into_played.ensures.shown in
     let picked = subst (λ xs. IsPlayedOn p mode size xs c.loop-pick.core) (take_all c.loop-pick.pick-index picks c.loop-pick-test.false) c.loop-pick.invariant in
-    let on = c.play_rounds.ensures.rounds p mode size picks picked in
+    let on = rounds_played p mode size picks rounds c.loop-pick.core s c.play_rounds.ensures.goes picked in
     record {
       shown = if_shown (IsShown p mode size picks rounds) c.into_played.result (core_played s.program (core_of s)) shown (λ played is. schedule_shown p mode size picks rounds s played on is);
       isolated = if_shown (IsShownIsolated p mode size picks rounds) c.into_played.result (core_played s.program (core_of s)) shown

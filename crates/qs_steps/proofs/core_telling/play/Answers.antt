@@ -1,6 +1,7 @@
 use Rattle.std.proofs.Common.{sym, subst, take}
 use Rattle.std.proofs.lemmas.List.{take_all}
 use Rattle.qs_core_state.specs.CoreState.{IsPlayedOn}
+use Rattle.qs_core.proofs.CoreGoing.{rounds_played}
 use Rattle.qs_core.proofs.CorePlaying.{fresh_played, played_more, take_more}
 use Rattle.qs_steps.proofs.core_telling.play.Goals as goal
 
@@ -20,5 +21,5 @@ returns c = record {
   played = λ p mode size fresh.
       let picks = c.args.picks.now in
       let picked = subst (λ xs. IsPlayedOn p mode size xs c.loop-pick.core) (take_all c.loop-pick.pick-index picks c.loop-pick-test.false) (c.loop-pick.invariant p mode size fresh) in
-      c.play_rounds.ensures.rounds p mode size picks picked;
+      rounds_played p mode size picks c.args.rounds c.loop-pick.core c.play_rounds.new.self c.play_rounds.ensures.goes picked;
 }

@@ -40,4 +40,5 @@ returns c =
             (agreed_fronts p q c.is_sound.ensures.sound c.is_sound-2.ensures.sound r s c.args.place c.args.other_place c.requires.place
             c.requires.other_place agree waits later iso iso'),
       );
+      memory = λ _. texts;
     }

@@ -4,7 +4,7 @@ use Rattle.qs_played.specs.declared.schedule.actor.Actor.TheVariants as actors
 use Rattle.qs_core_orders.specs.CoreQuiet.{two_of_each}
 use Rattle.qs_core.specs.CoreOrders.{CoreGoes}
 use Rattle.qs_core_state.specs.CoreState.{CoreState}
-use Rattle.qs_core.proofs.CoreBlocks.{goes_more, goes_none, goes_twice}
+use Rattle.qs_core.proofs.CoreGoing.{goes_more, goes_none, goes_twice}
 use Rattle.qs_core.proofs.optimised.Core.turn.Goals as goal
 
 pub loop-handler-init : goal.loop-handler-init

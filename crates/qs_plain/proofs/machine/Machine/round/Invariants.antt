@@ -1,6 +1,8 @@
-use Rattle.std.proofs.Common.{◌≡◌, false, map}
+use Rattle.std.proofs.Common.{◌≡◌, ◌++◌, true, false, length, map}
 use Rattle.std.specs.List.{range_with_len}
 use Rattle.qs_played.specs.declared.schedule.actor.Actor.TheVariants as actor
+use Rattle.qs_played.specs.Schedule.{HasStep}
+use Rattle.qs_plain_laws.specs.Plain.{step}
 use Rattle.qs_plain_laws.specs.PlainSchedule.{plays}
 use Rattle.qs_plain.specs.Rules.{plain_of}
 use Rattle.qs_plain.proofs.machine.Machine.round.Given as goal
@@ -9,6 +11,7 @@ abbrev pub invariant-loop-client : goal.invariant-loop-client
 invariant-loop-client l = record {
   program : l.self.program ≡ l.initial.self.program;
   value : plain_of l.self ≡ plays l.initial.self.program (map actor.Client (range_with_len 0 l.client)) (plain_of l.initial.self);
+  moved : l.stepped ≡ true → HasStep (step l.initial.self.program) (map actor.Client (range_with_len 0 l.client)) (plain_of l.initial.self);
   still : l.stepped ≡ false → l.self ≡ l.initial.self;
 }
 
@@ -16,5 +19,6 @@ abbrev pub invariant-loop-handler : goal.invariant-loop-handler
 invariant-loop-handler l = record {
   program : l.self.program ≡ l.initial.self.program;
   value : plain_of l.self ≡ plays l.initial.self.program (map actor.Handler (range_with_len 0 l.handler)) (plain_of l.initial.self);
+  moved : l.stepped ≡ true → HasStep (step l.fn.self.program) (map actor.Client (range_with_len 0 (length l.fn.self.program.clients)) ++ map actor.Handler (range_with_len 0 l.handler)) (plain_of l.fn.self);
   still : l.stepped ≡ false → l.self ≡ l.fn.self;
 }
