@@ -9,6 +9,7 @@ use crate::places::{place_after, place_on};
 use crate::size::ChunkSize;
 use std::alloc::{AllocError, Global};
 use std::marker::Model;
+use std::mem::size_of;
 use std_alloc::room::may_hold;
 
 /// Values in order, at most as many as the capacity. No call but the constructor takes memory. They lie from the place `start` on,
@@ -20,6 +21,9 @@ pub struct Chunk<T> {
     count: usize,
     alloc: Global,
 }
+
+// A pointer and three numbers, and no other field that has a size.
+const _: () = prove!(size_of::<Chunk<u8>>() == 32);
 
 impl<T> Model for Chunk<T> {
     ghost use Rattle.std.specs.Prelude.{◌≡◌, ◌≤◌};

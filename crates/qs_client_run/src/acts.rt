@@ -34,19 +34,6 @@ impl Act {
 }
 
 impl Run {
-    /// The next act of a client that has begun so many blocks. What the act carries goes out.
-    pub fn act(&mut self, code: &Code, ticket: Ticket, begun: usize) -> Act
-        requires inside { IsInside self.old.stage ticket.index (length code.now.blocks) }
-        requires standing { (size : ℕ) × (most : ℕ) × IsStanding (code_at code.now ticket.index) size ticket.index most self.old self.old.stage }
-        ensures acted { (settings : Settings) (most : ℕ)
-            → IsStanding (code_at code.now ticket.index) settings.size ticket.index most self.old self.old.stage
-            → HasActed (code_at code.now ticket.index) settings (length code.now.blocks) ticket.index begun most result self.old self.new }
-    {
-        let mut act = Act::Finished;
-        self.act_into(code, ticket, begun, &mut act);
-        act
-    }
-
     /// The object came that the client waits for.
     pub fn take_object(&mut self, code: &Code, ticket: Ticket, held: Held)
         requires block { ticket.index < length code.now.blocks }

@@ -28,7 +28,8 @@ pub fn graph(alloc: Global, program: &Program, client: u8, block: u8) -> Result<
     graph_in(alloc, program, client, block, &mut Vec::new(alloc))
 }
 
-/// The same graph. Its names are put where those of another graph were, which `Graph::bound_in` left there.
+/// The control-flow graph of a block, as `graph` makes it. Its names are put where those of another graph were, which
+/// `Graph::bound_in` left there.
 pub fn graph_in(
     alloc: Global,
     program: &Program,

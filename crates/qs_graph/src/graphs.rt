@@ -136,18 +136,8 @@ impl Graph {
         }
     }
 
-    /// The graph over objects: each name is replaced by the object that it stands for in a client's blocks. Takes no memory.
-    pub fn bound(self, program: &Program, client: u8) -> Graph
-        requires client { client < length program.now.clients }
-        ensures value { result.nodes ≡ bound_nodes (binding_of program.now client) self.nodes }
-        ensures no_names { result.names ≡ [] }
-        ensures no_aliases { result.aliases ≡ false }
-    {
-        let mut room = Vec::new(*self.names.allocator());
-        self.bound_in(program, client, &mut room)
-    }
-
-    /// The same graph. The room that its names took is left for the names of another graph.
+    /// The graph over objects: each name is replaced by the object that it stands for in a client's blocks. The room that the names took
+    /// is left for those of another graph. Takes no memory.
     pub fn bound_in(self, program: &Program, client: u8, room: &mut Vec<Named>) -> Graph
         requires client { client < length program.now.clients }
         ensures value { result.nodes ≡ bound_nodes (binding_of program.now client) self.nodes }
@@ -183,13 +173,6 @@ impl Graph {
         ensures value { result ≡ length self.now.nodes }
     {
         self.places.len()
-    }
-
-    /// The names of the block's list, in its order.
-    pub fn names(&self) -> &[Named]
-        ensures value { result.now ≡ self.now.names }
-    {
-        self.names.as_slice()
     }
 
     /// Whether two names may stand for one object, as the formal names of a template may.
