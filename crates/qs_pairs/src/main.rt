@@ -43,6 +43,17 @@ const OTHER_VARIABLE: &str = "object a account 100
 const OTHER_STATE: &str = "object a account 99
     client ann { separate a { a.deposit(5); x = a.balance(); } }";
 
+// Ann's block, written out, and the same as a template's, of which bob's is another one with a single account.
+const WRITTEN_OUT: &str = "object a account 100 object b account 100
+    client ann { separate a b { a.withdraw(30); b.deposit(30); x = a.balance(); y = b.balance(); } }
+    client bob { separate a { a.deposit(1); } separate b { b.deposit(1); y = b.balance(); } }";
+
+const OF_A_TEMPLATE: &str = "object a account 100 object b account 100
+    template move(account f, account g) {
+        separate f g { f.withdraw(30); g.deposit(30); x = f.balance(); y = g.balance(); }
+    }
+    client ann = move(a, b) client bob = move(a, a)";
+
 // A program with the actors that step first, and how many rounds come then.
 #[derive(Clone, Copy)]
 struct Schedule<'a> {
@@ -194,10 +205,24 @@ fn compare_texts<W: Write>(out: &mut W, alloc: Global) {
     }
 }
 
+// Ann's block of a template, and the same written out.
+fn compare_templates<W: Write>(out: &mut W, alloc: Global) {
+    let none = [];
+    put(
+        out,
+        alloc,
+        "ann's, of a template or written out",
+        ANN,
+        &scheduled(OF_A_TEMPLATE, &none, WHOLE),
+        &scheduled(WRITTEN_OUT, &none, WHOLE),
+    );
+}
+
 fn main(rt: HostRuntime) -> ExitCode {
     let mut out = io::writer(&rt);
     compare_orders(&mut out, rt.alloc());
     compare_texts(&mut out, rt.alloc());
+    compare_templates(&mut out, rt.alloc());
     let _ = out.flush();
     ExitCode::SUCCESS
 }
