@@ -123,9 +123,9 @@ fn sized(resolved: Resolved) -> Result<Program, CheckFault>
     Ok(Program::new(resolved.objects, resolved.clients, load, weight))
 }
 
-/// Checks the items of a script one after another from a scope, and gathers the variables of each client with blocks of its own. The first
-/// fault of their text comes as an error, or `Memory` where an allocation failed; what an error leaves of the scope is of no use.
-pub fn check_items(
+// Checks the items of a script one after another from a scope, and gathers the variables of each client with blocks of its own. The first
+// fault of their text comes as an error, or `Memory` where an allocation failed; what an error leaves of the scope is of no use.
+fn check_items(
     alloc: Global,
     scope: &mut Scope,
     variables: &mut VecDeque<Names>,

@@ -7,7 +7,7 @@ pub mod laws;
 mod resolve;
 mod start;
 
-pub use checker::{check, check_items};
+pub use checker::check;
 pub use excess::{Excess, Measure, first_excess};
 pub use qs_places::CheckFault;
 pub use qs_program::{

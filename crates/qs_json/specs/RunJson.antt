@@ -1,5 +1,5 @@
 -- A run, and the counts of a program, as one object on one line.
-use Rattle.std.specs.Prelude.{ℕ, ℤ, List, [], ◌++◌, codes, decimal, length, Option, Some, None, slice_index_or, Bool, false, if◌then◌else◌}
+use Rattle.std.specs.Prelude.{ℕ, ℤ, List, [], ◌++◌, codes, decimal, length, Option, Some, None, slice_index_or, sum_by, Bool, false, if◌then◌else◌}
 use Rattle.std.specs.Fmt.{signed_decimal}
 use Rattle.qs_objects.specs.Act.{State}
 use Rattle.qs_objects.specs.Objects.{kind_of, values_of}
@@ -7,8 +7,7 @@ use Rattle.qs_objects.specs.declared.held.Ticket.{Ticket}
 use Rattle.qs_objects.specs.declared.held.Event.{Event}
 use Rattle.qs_objects.specs.declared.object.Kind.{Kind}
 use Rattle.qs_objects.specs.declared.object.Kind.TheVariants as kinds
-use Rattle.qs_program.specs.Program.{ProgramShape, object_at, client_at}
-use Rattle.qs_counts.specs.declared.counts.Counts.{Counts}
+use Rattle.qs_program.specs.Program.{ClientShape, ProgramShape, object_at, client_at, whole_load, whole_weight}
 use Rattle.qs_played.specs.Played.{Played}
 use Rattle.qs_sync_counts.specs.declared.sync_counts.SyncCount.{SyncCount}
 use Rattle.qs_report.specs.Report.{first_ticket, no_state, op_text}
@@ -79,11 +78,11 @@ run_json counts p run =
     ++ field (codes "syncs") (decimal run.syncs)
     ++ field (codes "finished") (truth run.finished) ++ codes "}\n"
 
--- the five counts of a script
-abbrev pub counts_json : Counts → List ℕ
-counts_json c =
-    first_field (codes "objects") (decimal c.objects)
-    ++ field (codes "clients") (decimal c.clients)
-    ++ field (codes "blocks") (decimal c.blocks)
-    ++ field (codes "load") (decimal c.load)
-    ++ field (codes "weight") (decimal c.weight) ++ codes "}\n"
+-- the five counts of a program
+abbrev pub counts_json : ProgramShape → List ℕ
+counts_json p =
+    first_field (codes "objects") (decimal (length p.objects))
+    ++ field (codes "clients") (decimal (length p.clients))
+    ++ field (codes "blocks") (decimal (sum_by (λ (c : ClientShape). length c.blocks) p.clients))
+    ++ field (codes "load") (decimal (whole_load p))
+    ++ field (codes "weight") (decimal (whole_weight p)) ++ codes "}\n"

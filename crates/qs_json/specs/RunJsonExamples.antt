@@ -6,7 +6,6 @@ use Rattle.qs_orders.specs.declared.fault.OrderFault.TheVariants as order_fault
 use Rattle.qs_outcomes.specs.declared.fault.OutcomesFault.TheVariants as outcomes
 use Rattle.qs_report.specs.Examples.{after_deposit, before, counted_syncs, deposited_once, deposits, three, two_clients_played}
 use Rattle.qs_report.specs.declared.faults.Fault.TheVariants.{CommandLine, Read, Check, Order, Outcomes, Memory}
-use Rattle.qs_counts.specs.Counts.{counts_of}
 use Rattle.qs_json.specs.FaultJson.{fault_json}
 use Rattle.qs_json.specs.RunJson.{counts_json, run_json}
 
@@ -26,7 +25,7 @@ pub record RunJsonExamples : Type 0 where
   pub counted :
       run_json true three counted_syncs
       ≡ codes "{\"order\":[{\"client\":\"bob\",\"block\":0,\"done\":true,\"trace\":[],\"sync_counts\":[]},{\"client\":\"ann\",\"block\":0,\"done\":true,\"trace\":[{\"object\":\"b\",\"operation\":\"front\",\"arguments\":[],\"reply\":0}],\"sync_counts\":[{\"object\":\"b\",\"count\":0}]},{\"client\":\"bob\",\"block\":1,\"done\":false,\"trace\":[],\"sync_counts\":[{\"object\":\"z_9\",\"count\":12},{\"object\":\"b\",\"count\":4294967295}]}],\"states\":[],\"syncs\":3,\"finished\":false}\n"
-  pub counts : counts_json (counts_of three) ≡ codes "{\"objects\":3,\"clients\":2,\"blocks\":3,\"load\":0,\"weight\":0}\n"
+  pub counts : counts_json three ≡ codes "{\"objects\":3,\"clients\":2,\"blocks\":3,\"load\":0,\"weight\":0}\n"
 
 pub record FaultJsonExamples : Type 0 where
   pub command_line : fault_json CommandLine ≡ codes "{\"refused\":{\"fault\":\"command line\"}}\n"

@@ -7,6 +7,5 @@ pub mod laws;
 mod templates;
 mod text;
 
-pub use greatest::{OfBlock, OfClient, Use, most_of_blocks, most_of_clients};
 pub use templates::{TemplateUse, template_use};
 pub use text::limits_text;

@@ -37,7 +37,7 @@ as_json = record plain { format = report_format.Json }
 abbrev pub as_picture : ReportStyle
 as_picture = record plain { format = report_format.Svg }
 
--- a part that is a name alone
+-- a part that is a name alone, after its `@`
 abbrev pub named : Text → Part
 named name = times 1 (Name name)
 
@@ -75,8 +75,9 @@ pub record FrontLines : Type 0 where
   pub more : line (codes "outcomes" ∷ codes "--after=c0,c9,c0" ∷ codes "--limit=7" ∷ []) ≡ asks (outcomes graph_format.Text 7 (once (Client 0) ∷ once (Client 9) ∷ once (Client 0) ∷ []))
   pub a_handler : line (codes "outcomes" ∷ codes "--after" ∷ codes "c0,h0" ∷ []) ≡ refused
   pub nobody : line (codes "outcomes" ∷ codes "--after" ∷ [] ∷ []) ≡ refused
-  pub two_digits : line (codes "outcomes" ∷ codes "--after" ∷ codes "c10" ∷ []) ≡ asks (outcomes graph_format.Text 1000000 (named (codes "c10") ∷ []))
-  pub repeated : line (codes "outcomes" ∷ codes "--after=ann*2,c1" ∷ []) ≡ asks (outcomes graph_format.Text 1000000 (times 2 (Name (codes "ann")) ∷ once (Client 1) ∷ []))
+  pub a_bare_name : line (codes "outcomes" ∷ codes "--after" ∷ codes "ann" ∷ []) ≡ refused
+  pub two_digits : line (codes "outcomes" ∷ codes "--after" ∷ codes "c10" ∷ []) ≡ refused
+  pub repeated : line (codes "outcomes" ∷ codes "--after=@ann*2,c1" ∷ []) ≡ asks (outcomes graph_format.Text 1000000 (times 2 (Name (codes "ann")) ∷ once (Client 1) ∷ []))
   pub twice : line (codes "outcomes" ∷ codes "--after=c0" ∷ codes "--after=c0" ∷ []) ≡ refused
   pub of_play : line (codes "play" ∷ codes "--after" ∷ codes "c0" ∷ []) ≡ refused
 
@@ -92,8 +93,10 @@ pub record OrderLines : Type 0 where
   pub after_rounds : line (codes "rules" ∷ codes "--rounds" ∷ codes "7" ∷ codes "--order=c0" ∷ []) ≡ refused
   pub a_handler : line (codes "rules" ∷ codes "--order" ∷ codes "c0,h0" ∷ []) ≡ refused
   pub nobody : line (codes "rules" ∷ codes "--order" ∷ [] ∷ []) ≡ refused
-  pub two_digits : line (codes "rules" ∷ codes "--order" ∷ codes "c10" ∷ []) ≡ asks (rules plain (by_order (named (codes "c10") ∷ [])))
-  pub repeated : line (codes "rules" ∷ codes "--order=bob,ann*2" ∷ [])
+  pub a_bare_name : line (codes "play" ∷ codes "--order=bob" ∷ []) ≡ refused
+  pub two_digits : line (codes "rules" ∷ codes "--order" ∷ codes "c10" ∷ []) ≡ refused
+  pub called_c1 : line (codes "rules" ∷ codes "--order" ∷ codes "@c1" ∷ []) ≡ asks (rules plain (by_order (named (codes "c1") ∷ [])))
+  pub repeated : line (codes "rules" ∷ codes "--order=@bob,@ann*2" ∷ [])
       ≡ asks (rules plain (by_order (named (codes "bob") ∷ times 2 (Name (codes "ann")) ∷ [])))
   pub twice : line (codes "play" ∷ codes "--order=c0" ∷ codes "--order=c0" ∷ []) ≡ refused
   pub of_run : line (codes "run" ∷ codes "--order=c0" ∷ []) ≡ refused
@@ -173,22 +176,33 @@ pub record UncountedLines : Type 0 where
   pub of_check : line (codes "check" ∷ codes "--counts" ∷ []) ≡ refused
   pub of_graph : line (codes "graph" ∷ codes "--counts" ∷ []) ≡ refused
 
--- a part is an actor by its number or a name, and after a `*` how often
+-- a part is an actor by its number or a name after an `@`, and after a `*` how often
 pub record ListLines : Type 0 where
-  pub names : line (codes "rules" ∷ codes "--pick=ann*3,a,h0*2" ∷ [])
+  pub names : line (codes "rules" ∷ codes "--pick=@ann*3,@a,h0*2" ∷ [])
       ≡ asks (rules plain (by_schedule 1000000 (times 3 (Name (codes "ann")) ∷ named (codes "a") ∷ times 2 (Number (Handler 0)) ∷ [])))
-  pub two_digits : line (codes "play" ∷ codes "--pick" ∷ codes "c10" ∷ []) ≡ asks (play plain Both 8 (by_schedule 1000000 (named (codes "c10") ∷ [])))
+  pub called_c10 : line (codes "play" ∷ codes "--pick" ∷ codes "@c10" ∷ []) ≡ asks (play plain Both 8 (by_schedule 1000000 (named (codes "c10") ∷ [])))
   pub most : line (codes "rules" ∷ codes "--pick=c0*1000000" ∷ []) ≡ asks (rules plain (by_schedule 1000000 (times 1000000 (Number (Client 0)) ∷ [])))
   pub one_more : line (codes "rules" ∷ codes "--pick=c0*1000001" ∷ []) ≡ refused
   pub more_in_all : line (codes "rules" ∷ codes "--pick=c0*1000000,h0" ∷ []) ≡ refused
   pub no_times : line (codes "rules" ∷ codes "--pick=c0*0" ∷ []) ≡ refused
   pub no_number : line (codes "rules" ∷ codes "--pick=c0*" ∷ []) ≡ refused
   pub two_numbers : line (codes "rules" ∷ codes "--pick=c0*2*2" ∷ []) ≡ refused
-  pub a_capital : line (codes "rules" ∷ codes "--pick=Ann" ∷ []) ≡ refused
-  pub a_space : line (codes "rules" ∷ codes "--pick=ann, bob" ∷ []) ≡ refused
-  pub longest_name : line (codes "rules" ∷ codes "--order=abcdefghijklmnop" ∷ []) ≡ asks (rules plain (by_order (named (codes "abcdefghijklmnop") ∷ [])))
-  pub longer_name : line (codes "rules" ∷ codes "--order=abcdefghijklmnopq" ∷ []) ≡ refused
-  pub handlers_in_an_order : line (codes "rules" ∷ codes "--order=ann,h0*2" ∷ []) ≡ refused
+  pub longest_name : line (codes "rules" ∷ codes "--order=@abcdefghijklmnop" ∷ []) ≡ asks (rules plain (by_order (named (codes "abcdefghijklmnop") ∷ [])))
+  pub handlers_in_an_order : line (codes "rules" ∷ codes "--order=@ann,h0*2" ∷ []) ≡ refused
+
+-- parts that are neither
+pub record NoPartLines : Type 0 where
+  pub another_letter : line (codes "rules" ∷ codes "--pick=x0" ∷ []) ≡ refused
+  pub two_digits : line (codes "play" ∷ codes "--pick" ∷ codes "c10" ∷ []) ≡ refused
+  pub no_digit : line (codes "rules" ∷ codes "--pick=c" ∷ []) ≡ refused
+  pub a_bare_name : line (codes "play" ∷ codes "--pick=c0,ann" ∷ []) ≡ refused
+  pub no_name : line (codes "rules" ∷ codes "--pick=@" ∷ []) ≡ refused
+  pub no_name_but_times : line (codes "rules" ∷ codes "--pick=@*2" ∷ []) ≡ refused
+  pub two_signs : line (codes "rules" ∷ codes "--pick=@@ann" ∷ []) ≡ refused
+  pub a_capital : line (codes "rules" ∷ codes "--pick=@Ann" ∷ []) ≡ refused
+  pub a_space : line (codes "rules" ∷ codes "--pick=@ann, @bob" ∷ []) ≡ refused
+  pub a_reserved_word : line (codes "rules" ∷ codes "--pick=@client" ∷ []) ≡ refused
+  pub longer_name : line (codes "rules" ∷ codes "--order=@abcdefghijklmnopq" ∷ []) ≡ refused
 
 -- `--warn` changes nothing of what is asked for
 pub record WarnedLines : Type 0 where
@@ -241,6 +255,7 @@ pub record LineExamples : Type 0 where
   pub counted : CountedLines
   pub uncounted : UncountedLines
   pub lists : ListLines
+  pub no_parts : NoPartLines
   pub warned : WarnedLines
   pub verbose : VerboseLines
   pub others : OtherLines

@@ -23,11 +23,11 @@ A script:
   client bob { separate a { a.withdraw(7); } }
 
 Examples, with the script in the file my.script:
-  qs check < my.script                   whether it is a script, and how large it is
-  qs play < my.script                    ann and bob take turns
-  qs play --pick 'bob*2,a' < my.script   bob steps twice and a's handler once, before the turns
-  qs run --counts < my.script            on threads, with the synchronisations sent
-  qs outcomes < my.script                all results that the script can have
+  qs check < my.script                     whether it is a script, and how large it is
+  qs play < my.script                      ann and bob take turns
+  qs play --pick '@bob*2,@a' < my.script   bob steps twice and a's handler once, before the turns
+  qs run --counts < my.script              on threads, with the synchronisations sent
+  qs outcomes < my.script                  all results that the script can have
 
 A report lists the blocks in the order of their reservations, each with its requests and replies, then the
 objects' last states and how many synchronisations were sent. `qs WORD --help` says more of a word.";
@@ -62,12 +62,13 @@ pub const RULES: &str = "Plays the script by the plain rules, one synchronisatio
 pub const RULES_EXAMPLE: &str = with_limits!(
     "\
 Example:
-  qs rules --pick 'bob*2,a' --rounds 3 < my.script
-  qs rules --order bob,ann < my.script
+  qs rules --pick '@bob*2,@a' --rounds 3 < my.script
+  qs rules --order @bob,@ann < my.script
 
 First the actors of LIST step, one after another; then, N times, every client steps once and every handler once.
 With --order, a whole block of bob runs first, and then one of ann.
-An actor is a client or an object, by name or by number: bob or c1, a or h0. `bob*2` stands for `bob,bob`."
+An actor is a client or an object, by number or by name with an @ before it: c1 or @bob, h0 or @a. `@bob*2` stands
+for `@bob,@bob`."
 );
 
 pub const PLAY: &str = "Plays the script on the optimised machine: lanes of chunks, and coalescing";
@@ -75,12 +76,13 @@ pub const PLAY: &str = "Plays the script on the optimised machine: lanes of chun
 pub const PLAY_EXAMPLE: &str = with_limits!(
     "\
 Example:
-  qs play --mode static --chunk 4 --pick 'bob*2,a' < my.script
-  qs play --order bob,ann < my.script
+  qs play --mode static --chunk 4 --pick '@bob*2,@a' < my.script
+  qs play --order @bob,@ann < my.script
 
 First the actors of LIST step, one after another; then, N times, every client steps once and every handler once.
 With --order, a whole block of bob runs first, and then one of ann.
-An actor is a client or an object, by name or by number: bob or c1, a or h0. `bob*2` stands for `bob,bob`.
+An actor is a client or an object, by number or by name with an @ before it: c1 or @bob, h0 or @a. `@bob*2` stands
+for `@bob,@bob`.
 Along one order of reservations neither the mode nor the size of chunks changes what a block sees. They change how many
 synchronisations are sent, and may change who comes first."
 );
@@ -102,7 +104,7 @@ pub const OUTCOMES_EXAMPLE: &str = with_limits!(
     "\
 Example:
   qs outcomes --limit 5000 < my.script
-  qs outcomes --after bob,ann < my.script
+  qs outcomes --after @bob,@ann < my.script
   qs outcomes --format dot < my.script | dot -Tsvg > my.svg
 
 The third draws how blocks lead from one configuration to the next, with a second outline for each outcome. The second lists only what comes after a block of bob and then one of ann. A line `outcome 2 c1,c0` begins the second
@@ -134,13 +136,13 @@ pub const LIMIT: &str =
     "How many configurations are looked at, at most: 1 to 4294967295; where there are more, nothing is listed";
 
 pub const AFTER: &str =
-    "Whose blocks were run before, joined by commas, each client's in turn: by name, or c0 for the first client; bob*2 is bob,bob";
+    "Whose blocks were run before, joined by commas, each client's in turn: c0 is the first client, @bob the one called bob; @bob*2 is @bob,@bob";
 
 pub const ORDER: &str =
-    "Whose blocks run, one whole block after another, joined by commas: by name, or c0 for the first client; bob*2 is bob,bob; not with --pick or --rounds";
+    "Whose blocks run, one whole block after another, joined by commas: c0 is the first client, @bob the one called bob; @bob*2 is @bob,@bob; not with --pick or --rounds";
 
 pub const PICK: &str =
-    "Who steps first, joined by commas: a client or an object by name, or c0 for the first client, h0 for the first object; bob*2 is bob,bob";
+    "Who steps first, joined by commas: c0 is the first client, h0 the first object, @bob the client or the object called bob; @bob*2 is @bob,@bob";
 
 pub const COUNTS: &str =
     "Shows after each block how many synchronisations it has sent for each of its objects";

@@ -1,5 +1,5 @@
--- A text of one letter and one digit has no `*`, so it is read as its actor, once; a list of such texts is read as these actors, and
--- names them. It goes by cases of the letter, and by induction on the list.
+-- A text of one letter, `c` or `h`, and one digit has no `*` and no `@` at its front, so it is read as its actor, once; a list of such
+-- texts is read as these actors, and names them. It goes by cases of the letter, and by induction on the list.
 use Rattle.std.proofs.Common.{◌≡◌, ◌≤◌, ◌+◌, ◌-◌, ◌==◌, ◌&&◌, ℕ, suc, Bool, true, false, List, [], ◌∷◌, length, map, Option, Some, None, Ok, Result, refl, sym, ap, ap₂, ◌∙◌, arith, nat_le, if◌then◌else◌, option_map, option_and_then, unwrap_or}
 use Rattle.std.specs.List.{fold, position, slice_split}
 use Rattle.std.proofs.lemmas.List.{length-map}
@@ -9,11 +9,12 @@ use Rattle.qs_played.specs.declared.schedule.actor.Actor.{Actor}
 use Rattle.qs_played.specs.declared.schedule.actor.Actor.TheVariants.{Client, Handler}
 use Rattle.qs_program.specs.Program.{ProgramShape}
 use Rattle.qs_lists.specs.declared.parts.Part.{Part}
+use Rattle.qs_lists.specs.declared.parts.Who.TheVariants.{Number}
 use Rattle.qs_lists.specs.declared.fault.ListFault.{ListFault}
 use Rattle.qs_lists.specs.Limits.{most_actors}
-use Rattle.qs_lists.specs.Named.{actor_of, actors_of, client_of, clients_of, listed_from, repeated}
+use Rattle.qs_lists.specs.Named.{actor_of, client_of, listed_from, repeated}
 use Rattle.qs_lists.specs.Numbers.{ClientNumbersStay, NumbersStay, numbers_of, once}
-use Rattle.qs_lists.specs.Parts.{actor_by, actor_in, has_handler, list_in, named_in, part_by, part_in, parts_of, times, within_limit, without_handlers}
+use Rattle.qs_lists.specs.Parts.{actor_by, actor_in, has_handler, name_in, part_by, part_in, parts_of, times, within_limit, without_handlers}
 
 other : (n m : ℕ) → (n ≡ m → ⊥) → (n == m) ≡ false
 other n m h = false_from_ne_true (n == m) (λ e. h (eqb-true n m e))
@@ -30,25 +31,39 @@ digit_free d h =
     both_first true c h = refl
     both_first false c h = h
 
-by_letter : (isc ish : Bool) (l d : ℕ) (a : Actor) → (l == 99) ≡ isc → (l == 104) ≡ ish
-    → (if isc then Some (Client (d - 48)) else if ish then Some (Handler (d - 48)) else None) ≡ Some a → (l == 42) ≡ false
-by_letter true ish l d a c h e = let same = eqb-true l 99 c in other l 42 (λ q. omega (arith, q, same))
-by_letter false true l d a c h e = let same = eqb-true l 104 h in other l 42 (λ q. omega (arith, q, same))
-by_letter false false l d a c h e = absurd (cc e)
+by_letter : (m : ℕ) → (m ≡ 99 → ⊥) → (m ≡ 104 → ⊥) → (isc ish : Bool) (l d : ℕ) (a : Actor) → (l == 99) ≡ isc → (l == 104) ≡ ish
+    → (if isc then Some (Client (d - 48)) else if ish then Some (Handler (d - 48)) else None) ≡ Some a → (l == m) ≡ false
+by_letter m no_c no_h true ish l d a c h e = other l m (λ q. no_c (sym q ∙ eqb-true l 99 c))
+by_letter m no_c no_h false true l d a c h e = other l m (λ q. no_h (sym q ∙ eqb-true l 104 h))
+by_letter m no_c no_h false false l d a c h e = absurd (cc e)
 
-by_digit : (b : Bool) (l d : ℕ) (a : Actor) → is_digit d ≡ b → (if b then actor_by l (d - 48) else None) ≡ Some a
-    → position (λ byte. byte == 42) (l ∷ d ∷ []) ≡ None
-by_digit true l d a h e = star_free l d (by_letter (l == 99) (l == 104) l d a refl refl e) (digit_free d h)
+-- there is no `*`, and no `@` at the front
+abbrev IsPlain : List ℕ → Type 0
+IsPlain [] = ⊥
+IsPlain (l ∷ rest) = (position (λ byte. byte == 42) (l ∷ rest) ≡ None) × ((l == 64) ≡ false)
+
+by_digit : (b : Bool) (l d : ℕ) (a : Actor) → is_digit d ≡ b → (if b then actor_by l (d - 48) else None) ≡ Some a → IsPlain (l ∷ d ∷ [])
+by_digit true l d a h e = (
+  star_free l d (by_letter 42 (λ q. omega (arith, q)) (λ q. omega (arith, q)) (l == 99) (l == 104) l d a refl refl e) (digit_free d h),
+  by_letter 64 (λ q. omega (arith, q)) (λ q. omega (arith, q)) (l == 99) (l == 104) l d a refl refl e,
+)
 by_digit false l d a h e = absurd (cc e)
 
-no_star : (text : List ℕ) (a : Actor) → actor_in text ≡ Some a → position (λ byte. byte == 42) text ≡ None
-no_star [] a e = absurd (cc e)
-no_star (x ∷ []) a e = absurd (cc e)
-no_star (x ∷ y ∷ []) a e = by_digit (is_digit y) x y a refl e
-no_star (x ∷ y ∷ z ∷ rest) a e = absurd (cc e)
+plain : (text : List ℕ) (a : Actor) → actor_in text ≡ Some a → IsPlain text
+plain [] a e = absurd (cc e)
+plain (x ∷ []) a e = absurd (cc e)
+plain (x ∷ y ∷ []) a e = by_digit (is_digit y) x y a refl e
+plain (x ∷ y ∷ z ∷ rest) a e = absurd (cc e)
+
+part_by_plain : (text : List ℕ) (a : Actor) → IsPlain text → actor_in text ≡ Some a → part_in text ≡ Some (once a)
+part_by_plain [] a plain e = absurd plain
+part_by_plain (l ∷ rest) a plain e =
+    ap (part_by (l ∷ rest)) plain.0
+    ∙ ap (λ b. option_map (times 1) (if b then name_in rest else option_map Number (actor_in (l ∷ rest)))) plain.1
+    ∙ ap (λ o. option_map (times 1) (option_map Number o)) e
 
 part_is : (text : List ℕ) (a : Actor) → actor_in text ≡ Some a → part_in text ≡ Some (once a)
-part_is text a e = ap (part_by text) (no_star text a e) ∙ ap (λ o. option_map (times 1) (named_in o text)) e
+part_is text a e = part_by_plain text a (plain text a e) e
 
 one_more : (o : Option Actor) (os : Option (List Actor)) (part : Option Part) (parts : Option (List Part)) (actors : List Actor)
     → ((a : Actor) → o ≡ Some a → part ≡ Some (once a)) → ((later : List Actor) → os ≡ Some later → parts ≡ Some (map once later))

@@ -1,6 +1,6 @@
 -- The parts read so far, followed by those of the texts that are left, are the parts of the whole list, and one text that is no part
 -- spoils the list. The loop of `parts_of` has this as its invariant, `parts_with`. It goes by cases on what the next text is.
-use Rattle.std.proofs.Common.{◌≡◌, ℕ, List, [], ◌∷◌, ◌++◌, Option, Some, None, refl, sym, ap, ◌∙◌, append_assoc, append-nil, option_map}
+use Rattle.std.proofs.Common.{◌≡◌, ℕ, List, [], ◌∷◌, ◌++◌, Option, Some, None, refl, sym, ap, append_assoc, option_map}
 use Rattle.qs_lists.specs.declared.parts.Part.{Part}
 use Rattle.qs_lists.specs.Parts.{part_in, parts_of}
 

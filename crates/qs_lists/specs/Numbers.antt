@@ -1,6 +1,5 @@
--- Lists of actors or of clients by number alone, which were all lists before there were names: each is read as it was, and names the same
--- actors or clients in every program.
-use Rattle.std.specs.Prelude.{◌≡◌, ◌≤◌, ◌==◌, ℕ, List, [], ◌∷◌, length, map, Option, Some, None, Ok, option_map, option_and_then}
+-- Lists of actors or of clients by number alone: each is read as these, and names them in every program, whatever names this has.
+use Rattle.std.specs.Prelude.{◌≡◌, ◌≤◌, ◌==◌, ℕ, List, [], ◌∷◌, length, map, Option, Some, Ok, option_map, option_and_then}
 use Rattle.std.specs.List.{slice_split}
 use Rattle.qs_played.specs.declared.schedule.actor.Actor.{Actor}
 use Rattle.qs_played.specs.declared.schedule.actor.Actor.TheVariants.{Client}

@@ -1,8 +1,8 @@
--- A list as it is written: parts that are joined by commas, each an actor by its number or a name, and how often.
-use Rattle.std.specs.Prelude.{ℕ, Bool, true, false, ◌==◌, ◌&&◌, ◌+◌, ◌-◌, if◌then◌else◌, nat_le, List, [], ◌∷◌, length, take, drop, Option, Some, None, option_map, option_and_then, sum_by, position}
+-- A list as it is written: parts that are joined by commas, each an actor by its number, or a name after an `@`, and how often.
+use Rattle.std.specs.Prelude.{ℕ, Bool, true, false, ◌==◌, ◌&&◌, ◌+◌, ◌-◌, if◌then◌else◌, not, nat_le, List, [], ◌∷◌, length, take, drop, Option, Some, None, option_map, option_and_then, sum_by, position}
 use Rattle.std.specs.List.{list_all, list_any, slice_split}
 use Rattle.qs_tokens.specs.Limits.{longest_name}
-use Rattle.qs_tokens.specs.Tokens.{is_digit, is_letter, is_name_byte, value_of}
+use Rattle.qs_tokens.specs.Tokens.{is_digit, is_letter, is_name_byte, reserved_words, same, value_of}
 use Rattle.qs_played.specs.declared.schedule.actor.Actor.{Actor}
 use Rattle.qs_played.specs.declared.schedule.actor.Actor.TheVariants.{Client, Handler}
 use Rattle.qs_lists.specs.declared.parts.Part.{Part}
@@ -19,18 +19,21 @@ abbrev pub actor_in : List ℕ → Option Actor
 actor_in (letter ∷ digit ∷ []) = if is_digit digit then actor_by letter (digit - 48) else None
 actor_in _ = None
 
--- a name of a script, or a reserved word
+abbrev pub is_reserved : List ℕ → Bool
+is_reserved text = list_any (λ entry. same text entry.0) reserved_words
+
+-- a name of the language: no reserved word is one
 abbrev pub is_name : List ℕ → Bool
 is_name [] = false
-is_name (b ∷ bs) = is_letter b && list_all is_name_byte bs && nat_le (length (b ∷ bs)) longest_name
+is_name (b ∷ bs) = is_letter b && list_all is_name_byte bs && nat_le (length (b ∷ bs)) longest_name && not (is_reserved (b ∷ bs))
 
-abbrev pub named_in : Option Actor → List ℕ → Option Who
-named_in (Some actor) text = Some (Number actor)
-named_in None text = if is_name text then Some (Name text) else None
+abbrev pub name_in : List ℕ → Option Who
+name_in text = if is_name text then Some (Name text) else None
 
--- an actor by its number, where the text is of that form, or else a name
+-- a name after an `@`, or else an actor by its number
 abbrev pub who_in : List ℕ → Option Who
-who_in text = named_in (actor_in text) text
+who_in [] = None
+who_in (b ∷ bs) = if b == 64 then name_in bs else option_map Number (actor_in (b ∷ bs))
 
 -- decimal digits that write a number from 1 to the limit
 abbrev pub is_count : List ℕ → Bool
@@ -47,7 +50,7 @@ abbrev pub part_by : List ℕ → Option ℕ → Option Part
 part_by text None = option_map (times 1) (who_in text)
 part_by text (Some i) = option_and_then (λ count. option_map (times count) (who_in (take i text))) (count_in (drop (i + 1) text))
 
--- an actor or a name, and after a `*` how often
+-- an actor by its number or after an `@` by its name, and after a `*` how often
 abbrev pub part_in : List ℕ → Option Part
 part_in text = part_by text (position (λ byte. byte == 42) text)
 

@@ -9,7 +9,7 @@ mod parts;
 mod reading;
 
 pub use fault::{ListFault, Why};
-pub use limits::{MOST_ACTORS, MOST_REPEATS};
+pub use limits::MOST_ACTORS;
 pub use named::{actors_of, clients_of};
 pub use parts::{Part, Who};
 pub use reading::{clients_in, list_in, part_of};

@@ -1,7 +1,7 @@
 //! The limits of a list of actors.
 
-/// How often one part may stand for its actor.
-pub const MOST_REPEATS: u32 = 1_000_000;
+// How often one part may stand for its actor.
+pub(crate) const MOST_REPEATS: u32 = 1_000_000;
 
 /// Actors of a list, each as often as its part says.
 pub const MOST_ACTORS: u32 = 1_000_000;

@@ -3,9 +3,9 @@
 ghost use Rattle.std.specs.Prelude.{◌≡◌, ◌<◌, ◌≤◌, ◌==◌, ◌+◌, IfOk, IfSome, IsTrue, length, map, min, nat_le, option_map, position};
 ghost use Rattle.std.specs.List.{list_all, slice_split};
 ghost use Rattle.qs_tokens.specs.Limits.{longest_name};
-ghost use Rattle.qs_tokens.specs.Tokens.{is_digit, is_name_byte, value_of};
+ghost use Rattle.qs_tokens.specs.Tokens.{is_digit, is_name_byte, same, value_of};
 ghost use Rattle.qs_lists.specs.Limits.{most_actors, most_repeats};
-ghost use Rattle.qs_lists.specs.Parts.{actor_in, clients_in as clients_due, count_in, has_handler as some_handler, is_handler, is_name, length_of, list_in as list_due, part_in, parts_of as parts_due, times, who_in};
+ghost use Rattle.qs_lists.specs.Parts.{actor_in, clients_in as clients_due, count_in, has_handler as some_handler, is_handler, is_name, is_reserved as is_reserved_word, length_of, list_in as list_due, name_in, part_in, parts_of as parts_due, times, who_in};
 
 use crate::limits::{LONGEST_NAME, MOST_ACTORS, MOST_REPEATS};
 use crate::parts::{Part, Who};
@@ -36,29 +36,62 @@ fn all_belong_to_name(text: &[u8]) -> bool
     text.iter().all(|byte| belongs_to_name(*byte))
 }
 
-// Whether a text has the form of a name.
+fn is(text: &[u8], word: &[u8]) -> bool
+    ensures exact { result ≡ same text.now word.now }
+{
+    text == word
+}
+
+// The words that are no names.
+fn is_reserved(text: &[u8]) -> bool
+    ensures exact { result ≡ is_reserved_word text.now }
+{
+    is(text, b"object")
+        || is(text, b"client")
+        || is(text, b"separate")
+        || is(text, b"if")
+        || is(text, b"else")
+        || is(text, b"repeat")
+        || is(text, b"leave")
+        || is(text, b"account")
+        || is(text, b"buffer")
+        || is(text, b"grid")
+        || is(text, b"template")
+}
+
+// Whether a text is a name of the language.
 fn is_name_text(text: &[u8]) -> bool
     ensures exact { result ≡ is_name text.now }
     ensures short { IsTrue result → length text.now ≤ longest_name }
 {
     match text {
         [first, rest @ ..] => {
-            first.is_ascii_lowercase() && all_belong_to_name(rest) && text.len() <= LONGEST_NAME
+            first.is_ascii_lowercase()
+                && all_belong_to_name(rest)
+                && text.len() <= LONGEST_NAME
+                && !is_reserved(text)
         }
         [] => false,
     }
 }
 
-fn who_of(text: &[u8]) -> Option<Who>
-    ensures who { result ≡ who_in text.now }
+fn name_of(text: &[u8]) -> Option<Who>
+    ensures name { result ≡ name_in text.now }
 {
-    if let Some(actor) = actor_at(text) {
-        return Some(Who::Number(actor));
-    }
     if is_name_text(text) {
         return Some(Who::Name(Name::new(text)));
     }
     None
+}
+
+// A name stands after an `@`; what has none is an actor by its number.
+fn who_of(text: &[u8]) -> Option<Who>
+    ensures who { result ≡ who_in text.now }
+{
+    match text {
+        [b'@', name @ ..] => name_of(name),
+        _ => Some(Who::Number(actor_at(text)?)),
+    }
 }
 
 fn are_digits(text: &[u8]) -> bool
@@ -106,7 +139,7 @@ fn star_of(text: &[u8]) -> Option<usize>
     text.iter().position(|byte| *byte == b'*')
 }
 
-/// The part of a text: an actor or a name, and after a `*` how often; None exactly where the text is no part.
+/// The part of a text: an actor by its number, or after an `@` by its name, and after a `*` how often; None exactly where the text is no part.
 pub fn part_of(text: &[u8]) -> Option<Part>
     ensures part { result ≡ part_in text.now }
 {

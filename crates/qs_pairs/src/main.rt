@@ -1,4 +1,5 @@
-//! Blocks of two runs on the optimised machine, compared in every two modes. What is printed depends on nothing but the scripts below.
+//! Blocks of two runs on the optimised machine, compared in every two modes, and the line of a run that is refused. What is printed depends
+//! on nothing but the scripts below.
 #![tactic(auto)]
 
 ghost use Rattle.std.specs.Prelude.{◌<◌, length, IfSome};
@@ -8,6 +9,7 @@ ghost use Rattle.qs_played.specs.Isolation.{IsFitting};
 use qs_chunk::ChunkSize;
 use qs_core::{Actor, Played, Twin, play, twin};
 use qs_program::Program;
+use qs_report::{Fault, fault_line};
 use qs_syncset::Mode;
 use std::alloc::Global;
 use std::io;
@@ -218,11 +220,29 @@ fn compare_templates<W: Write>(out: &mut W, alloc: Global) {
     );
 }
 
+// A pick of nobody makes no run to compare: its fault's line.
+fn put_refused<W: Write>(out: &mut W, alloc: Global) {
+    let (Some(program), Some(size)) = (checked(alloc, ALONE), ChunkSize::new(8)) else {
+        return;
+    };
+    if let Err(fault) = play(
+        alloc,
+        &program,
+        Mode::Both,
+        size,
+        &[Actor::Handler(7)],
+        WHOLE,
+    ) {
+        fault_line(&Fault::Play(fault), out);
+    }
+}
+
 fn main(rt: HostRuntime) -> ExitCode {
     let mut out = io::writer(&rt);
     compare_orders(&mut out, rt.alloc());
     compare_texts(&mut out, rt.alloc());
     compare_templates(&mut out, rt.alloc());
+    put_refused(&mut out, rt.alloc());
     let _ = out.flush();
     ExitCode::SUCCESS
 }

@@ -19,7 +19,6 @@ use Rattle.qs_played.specs.Played.{Played}
 use Rattle.qs_sync_counts.specs.SyncRows.{sync_count}
 use Rattle.qs_report.specs.declared.faults.Fault.{Fault}
 use Rattle.qs_report.specs.declared.faults.Fault.TheVariants.{CommandLine, Input, Read, Check, Play, Order, Outcomes, Memory}
-use Rattle.qs_counts.specs.Counts.{counts_of}
 use Rattle.qs_report.specs.Report.{report_text, counted_report_text, counts_text, state_line}
 use Rattle.qs_report.specs.Faults.{fault_text, fault_status}
 
@@ -157,8 +156,8 @@ pub record StateExamples : Type 0 where
 
 -- the counts of these two programs, as far as their blocks have no statements
 pub record CountExamples : Type 0 where
-  pub one : counts_text (counts_of deposits) ≡ codes "objects 1\nclients 1\nblocks 1\nload 0\nweight 0\n"
-  pub several : counts_text (counts_of three) ≡ codes "objects 3\nclients 2\nblocks 3\nload 0\nweight 0\n"
+  pub one : counts_text deposits ≡ codes "objects 1\nclients 1\nblocks 1\nload 0\nweight 0\n"
+  pub several : counts_text three ≡ codes "objects 3\nclients 2\nblocks 3\nload 0\nweight 0\n"
 
 -- the line and the status of a fault
 abbrev pub Says : Fault → List ℕ → ℕ → Type 0

@@ -1,5 +1,5 @@
 -- The report of a run, and the counts of a program, as bytes.
-use Rattle.std.specs.Prelude.{ℕ, ℤ, pos, List, [], ◌++◌, codes, decimal, length, flat_map, Option, Some, None, slice_index_or, Bool, true, false, if◌then◌else◌}
+use Rattle.std.specs.Prelude.{ℕ, ℤ, pos, List, [], ◌++◌, codes, decimal, length, flat_map, Option, Some, None, slice_index_or, sum_by, Bool, true, false, if◌then◌else◌}
 use Rattle.std.specs.Fmt.{signed_decimal}
 use Rattle.std.specs.List.{join_by}
 use Rattle.qs_objects.specs.Act.{State, account}
@@ -11,8 +11,7 @@ use Rattle.qs_objects.specs.declared.held.Ticket.{Ticket}
 use Rattle.qs_objects.specs.declared.held.Event.{Event}
 use Rattle.qs_objects.specs.declared.object.Kind.{Kind}
 use Rattle.qs_objects.specs.declared.object.Kind.TheVariants as kinds
-use Rattle.qs_program.specs.Program.{ProgramShape, object_at, client_at}
-use Rattle.qs_counts.specs.declared.counts.Counts.{Counts}
+use Rattle.qs_program.specs.Program.{ClientShape, ProgramShape, object_at, client_at, whole_load, whole_weight}
 use Rattle.qs_played.specs.Played.{Played}
 use Rattle.qs_sync_counts.specs.declared.sync_counts.SyncCount.{SyncCount}
 use Rattle.qs_report.specs.Texts.{count_line, texts_up_to}
@@ -123,10 +122,10 @@ abbrev pub counted_report_text : ProgramShape → Played → List ℕ
 counted_report_text p run = run_text true p run
 
 -- five lines of counts
-abbrev pub counts_text : Counts → List ℕ
-counts_text c =
-    count_line (codes "objects") c.objects
-    ++ count_line (codes "clients") c.clients
-    ++ count_line (codes "blocks") c.blocks
-    ++ count_line (codes "load") c.load
-    ++ count_line (codes "weight") c.weight
+abbrev pub counts_text : ProgramShape → List ℕ
+counts_text p =
+    count_line (codes "objects") (length p.objects)
+    ++ count_line (codes "clients") (length p.clients)
+    ++ count_line (codes "blocks") (sum_by (λ (c : ClientShape). length c.blocks) p.clients)
+    ++ count_line (codes "load") (whole_load p)
+    ++ count_line (codes "weight") (whole_weight p)

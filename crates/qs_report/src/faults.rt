@@ -7,9 +7,9 @@ ghost use Rattle.qs_report.specs.Faults.{fault_place, fault_status, fault_text, 
 
 use crate::watching::{Watch, write_text};
 use itoa::Buffer;
-use qs_check::CheckFault;
 use qs_orders::OrderFault;
 use qs_outcomes::OutcomesFault;
+use qs_places::CheckFault;
 use qs_played::{PlayFault, RunFault};
 use qs_script::ReadFault;
 use std::io::Write;

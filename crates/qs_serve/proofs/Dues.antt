@@ -1,7 +1,7 @@
 -- Out of memory is always a due answer, the status 4 is due only after a read has failed, the status 0 only with a text, and the report of a run is due where
 -- the line asked for that run. The function `serve` and those that find what is due stand on it. Each goes by cases on what the
 -- line asks for and on the answer.
-use Rattle.std.proofs.Common.{◌≡◌, ◌≤◌, ◌⊎◌, ◌||◌, if◌then◌else◌, ℕ, Bool, List, [], ◌∙◌, Option, None, Result, Ok, true, false, refl, sym, ap, subst, inl, inr, IsOkAnd}
+use Rattle.std.proofs.Common.{◌≡◌, ◌≤◌, ◌⊎◌, ◌||◌, if◌then◌else◌, ℕ, Bool, List, [], ◌∙◌, Option, Result, Ok, true, false, refl, sym, subst, inl, inr, IsOkAnd}
 use Rattle.std.proofs.lemmas.List.{append-nil}
 use Rattle.qs_played.specs.Played.{Played}
 use Rattle.qs_report.specs.declared.faults.Fault.{Fault}
@@ -11,12 +11,6 @@ use Rattle.qs_script.specs.declared.fault.ReadFault.TheVariants as read
 use Rattle.qs_places.specs.declared.fault.CheckFault.TheVariants as check_fault
 use Rattle.qs_played.specs.declared.fault.PlayFault.TheVariants as play_fault
 use Rattle.qs_program.specs.Program.{ProgramShape}
-use Rattle.qs_script.specs.Reads.{IsScriptText}
-use Rattle.qs_script.specs.declared.tree.Item.{Item}
-use Rattle.qs_check.specs.Checked.{fault_of}
-use Rattle.qs_check.specs.Resolve.{program_of_items}
-use Rattle.qs_counts.specs.Counts.{counts_of}
-use Rattle.qs_counts.specs.declared.counts.Counts.{Counts}
 use Rattle.qs_orders.specs.NamedOrders.{order_of}
 use Rattle.qs_orders.specs.declared.fault.OrderFault.TheVariants as order_fault
 use Rattle.qs_outcomes.specs.Outcomes.{OutcomesShape}
@@ -32,7 +26,7 @@ use Rattle.qs_line.specs.declared.line.GraphFormat.{GraphFormat}
 use Rattle.qs_line.specs.declared.line.GraphFormat.TheVariants as graph_format
 use Rattle.qs_line.specs.declared.line.ReportStyle.{ReportStyle}
 use Rattle.qs_line.specs.Line.{Line, Request, asks, check, graph, help, outcomes, play, refused, rules, run, version}
-use Rattle.qs_serve.specs.Due.{AreLinesFor, AreLinesWhere, IsDue, IsDueAfter, IsDueOfCounts, IsDueOfProgram, IsDueOfText, IsListOf, IsOutOfMemory, IsRefusedBy, IsReportBetween, IsReportOf, IsSomeText, IsTextBy, IsTextOfOutcomes, Lines, IsUnlisted, counts_in, due_status, limit_in, listed_as, listed_in, report_by, told_report}
+use Rattle.qs_serve.specs.Due.{AreLinesFor, AreLinesWhere, IsDue, IsDueAfter, IsDueOfProgram, IsListOf, IsOutOfMemory, IsRefusedBy, IsReportBetween, IsReportOf, IsSomeText, IsTextBy, IsTextOfOutcomes, Lines, IsUnlisted, due_status, limit_in, listed_as, listed_in, report_by, told_report}
 use Rattle.qs_serve.specs.declared.due.Due.{Due}
 use Rattle.qs_serve.specs.declared.due.Due.TheVariants.{Text, Refused}
 
@@ -43,17 +37,6 @@ memory_is_due help known failed fine = inl refl
 memory_is_due version known failed fine = inl refl
 memory_is_due (asks request) known true fine = absurd (cc fine)
 memory_is_due (asks request) known false fine = (λ clash. absurd (cc clash), inl tt)
-
--- counts are due of the program that has them, and of the script
-pub counts_of_program : (how : Format) (lines : Lines) (p : ProgramShape) (c : Counts) (due : Due) → c ≡ counts_of p → IsDueOfCounts how c due
-    → IsOutOfMemory due ⊎ IsDueOfProgram (check how) lines p due
-counts_of_program how lines p c (Text bytes) is text = inr (text ∙ ap (counts_in how) is)
-counts_of_program how lines p c (Refused f) is memory = inl (subst (λ g. IsOutOfMemory (Refused g)) (sym memory) tt)
-
-pub counts_of_text : (how : Format) (text : List ℕ) (s : List Item) (c : Counts) (due : Due) → IsScriptText text s → fault_of s ≡ None
-    → c ≡ counts_of (program_of_items s) → IsDueOfCounts how c due → IsOutOfMemory due ⊎ IsDueOfText (check how) text due
-counts_of_text how text s c (Text bytes) script none is due = inr (s, script, none, due ∙ ap (counts_in how) is)
-counts_of_text how text s c (Refused f) script none is memory = inl (subst (λ g. IsOutOfMemory (Refused g)) (sym memory) tt)
 
 -- of the faults only the input's has the status 4
 status_of_input : (f : Fault) → fault_status f ≡ 4 → f ≡ fault.Input

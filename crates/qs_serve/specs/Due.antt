@@ -16,8 +16,6 @@ use Rattle.qs_chart.specs.ChartDot.{IsChartDot}
 use Rattle.qs_report.specs.declared.faults.Fault.{Fault}
 use Rattle.qs_report.specs.declared.faults.Fault.TheVariants as fault
 use Rattle.qs_report.specs.Faults.{fault_text, fault_status}
-use Rattle.qs_counts.specs.Counts.{counts_of}
-use Rattle.qs_counts.specs.declared.counts.Counts.{Counts}
 use Rattle.qs_report.specs.Report.{run_text, counts_text}
 use Rattle.qs_report.specs.GraphText.{IsGraphText}
 use Rattle.qs_dot.specs.DotText.{IsDotText}
@@ -58,8 +56,12 @@ use Rattle.qs_line.specs.declared.line.GraphFormat.{GraphFormat}
 use Rattle.qs_line.specs.declared.line.GraphFormat.TheVariants as graph_format
 use Rattle.qs_line.specs.declared.line.ReportFormat.{ReportFormat}
 use Rattle.qs_line.specs.declared.line.ReportFormat.TheVariants as report_format
+use Rattle.qs_line.specs.declared.line.LineFault.{LineFault}
+use Rattle.qs_line.specs.declared.line.LineFault.TheVariants as line_fault
 use Rattle.qs_line.specs.declared.line.ReportStyle.{ReportStyle}
-use Rattle.qs_line.specs.Line.{Line, PlanShape, Request, asks, by_order, by_schedule, check, format_by, graph, help, line_in, outcomes, play, refused, rules, run, version}
+use Rattle.qs_line.specs.declared.line.Settings.{Settings}
+use Rattle.qs_line.specs.Line.{Line, PlanShape, Request, asks, by_order, by_schedule, check, format_by, format_of_request, graph, help, line_in, outcomes, play, refused, request_of, rules, run, version}
+use Rattle.qs_serve.specs.Reading.{Reading}
 use Rattle.qs_serve.specs.declared.due.Due.{Due}
 use Rattle.qs_serve.specs.declared.due.Due.TheVariants.{Text, Refused}
 
@@ -96,15 +98,10 @@ abbrev pub IsTextOf : {E : Type 0} → Result (Vec ℕ Global) E → Due → Typ
 IsTextOf (Ok bytes) due = due ≡ Text bytes
 IsTextOf (Err e) due = due ≡ Refused fault.Memory
 
--- counts, as text or as JSON
-abbrev pub counts_in : Format → Counts → List ℕ
-counts_in format.Text c = counts_text c
-counts_in format.Json c = counts_json c
-
--- counts that were made, or that an allocation failed
-abbrev pub IsDueOfCounts : Format → Counts → Due → Type 0
-IsDueOfCounts how c (Text bytes) = bytes.items ≡ counts_in how c
-IsDueOfCounts how c (Refused f) = f ≡ fault.Memory
+-- a program's counts, as text or as JSON
+abbrev pub counts_in : Format → ProgramShape → List ℕ
+counts_in format.Text p = counts_text p
+counts_in format.Json p = counts_json p
 
 -- the report of what was played, as text or as JSON, with the counts of synchronisations where they are asked for, or as a picture
 abbrev pub report_in : ReportFormat → (counts : Bool) → ProgramShape → Played → List ℕ
@@ -206,7 +203,7 @@ IsTextOfOutcomes graph_format.Dot p limit clients text = IsChartDot p (limit_in 
 -- at most. Each is written in the format that is asked for, and a report with the counts of synchronisations where they are asked for, after
 -- a line for each step where these are, and before what lies where at the end of a run that has not finished.
 abbrev pub IsTextBy : Request → Lines → ProgramShape → List ℕ → Type 0
-IsTextBy (check how) lines p text = text ≡ counts_in how (counts_of p)
+IsTextBy (check how) lines p text = text ≡ counts_in how p
 IsTextBy (graph how) lines p text = IsTextOfGraphs how lines p text
 IsTextBy (rules style plan) lines p text =
     (played : Played) × (steps queues : List ℕ) × IsShownByRules plan p played × AreLinesWhere style.steps (AreStepsOfRules plan p) steps
@@ -351,21 +348,48 @@ IsDue (asks request) known false due =
     (¬ IsRefusedBy fault.Input due)
     × (IsOutOfMemory due ⊎ IfSome known (λ bytes. IsDueOfText request (take longest bytes) due))
 
+-- what is due by the fault of a line that gave no settings
+abbrev pub IsDueOfFault : LineFault → Due → Type 0
+IsDueOfFault line_fault.Refused due = IsRefusedBy fault.CommandLine due
+IsDueOfFault (line_fault.Help text) due = IsSomeText due
+IsDueOfFault (line_fault.Version text) due = IsSomeText due
+IsDueOfFault line_fault.Memory due = IsRefusedBy fault.Memory due
+
+-- the format of what is due by the answer of reading a line: text, where it gave no settings
+abbrev pub format_of_answer : Result Settings LineFault → Format
+format_of_answer (Ok settings) = format_of_request (request_of settings)
+format_of_answer (Err f) = format.Text
+
 -- that memory ran out, as text
 abbrev pub IsTextOfMemory : Due → Format → Type 0
 IsTextOfMemory due format.Text = IsRefusedBy fault.Memory due
 IsTextOfMemory due format.Json = ⊥
 
--- what is due is written in the format that the line asks for; that memory ran out may be said as text before the line was read
-abbrev pub IsFormat : Line → Due → Format → Type 0
-IsFormat line due how = (how ≡ format_by line) ⊎ IsTextOfMemory due how
+-- what is due is written in the format that the line asks for; or that memory ran out is said as text, before the line was read, so that
+-- nothing of the input was read
+abbrev pub IsFormat : Line → (before after : Reading) → Due → Format → Type 0
+IsFormat line before after due how = (how ≡ format_by line) ⊎ (IsTextOfMemory due how × (after ≡ before))
+
+-- the text that was read is kept, by which a fault is told; unless a read failed, or memory ran out
+abbrev pub IsKept : Option (List ℕ) → Due → List ℕ → Type 0
+IsKept known (Text bytes) kept = IfSome known (λ all. kept ≡ take longest all)
+IsKept known (Refused fault.Input) kept = ⊤
+IsKept known (Refused fault.Memory) kept = ⊤
+IsKept known (Refused _) kept = IfSome known (λ all. kept ≡ take longest all)
+
+-- so it is where a line asks for something
+abbrev pub IsKeptBy : Line → Option (List ℕ) → Due → List ℕ → Type 0
+IsKeptBy (asks request) known due kept = IsKept known due kept
+IsKeptBy help known due kept = ⊤
+IsKeptBy version known due kept = ⊤
+IsKeptBy refused known due kept = ⊤
 
 -- all of the due text was written, with its status
 abbrev pub IsDone : Format → Option (List ℕ) → Option (List ℕ) → Due → ℕ → Type 0
 IsDone how old new due status = Appends old new (due_text how due) × (status ≡ due_status due)
 
 -- a front of the due text was written; all of it, with its status, exactly where no write and no flush has failed
-abbrev pub Serves : List (List ℕ) → Option (List ℕ) → Bool → Option (List ℕ) → Option (List ℕ) → Bool → ℕ → Type 0
-Serves words known read_failed old new write_failed status =
-    (due : Due) × (how : Format) × IsDue (line_in words) known read_failed due × IsFormat (line_in words) due how
+abbrev pub Serves : List (List ℕ) → (before after : Reading) → Option (List ℕ) → Option (List ℕ) → Bool → ℕ → Type 0
+Serves words before after old new write_failed status =
+    (due : Due) × (how : Format) × IsDue (line_in words) before.remaining after.has_failed due × IsFormat (line_in words) before after due how
     × AppendsFront old new (due_text how due) × MatchBool write_failed (status ≡ 4) (IsDone how old new due status)

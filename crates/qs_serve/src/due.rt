@@ -1,13 +1,13 @@
 // What a run has to write.
 
-ghost use Rattle.std.specs.Prelude.{◌≡◌, ◌+◌, ◌≤◌, ◌⊎◌, ℕ, List, [], false, length, IfOk, None, map};
+ghost use Rattle.std.specs.Prelude.{◌≡◌, ◌+◌, ◌≤◌, ◌⊎◌, [], false, length, IfErr, IfOk, OnErr, OnOk, None, map};
 ghost use Rattle.qs_report.specs.declared.faults.Fault.TheVariants as fault;
 ghost use Rattle.qs_line.specs.declared.line.GraphFormat.TheVariants as graph_format;
 ghost use Rattle.qs_line.specs.Line.{asks, check, graph, line_in, outcomes, request_by, request_of, run};
-ghost use Rattle.qs_serve.specs.Due.{AreLinesFor, HasAsked, IsDue, IsDueAfter, IsDueOfCounts, IsDueOfList, IsDueOfProgram, IsDueOfText, IsFormat, IsRefusedBy, IsListOf, IsTextOf, IsOutOfMemory, due_status, listed_as, longest};
+ghost use Rattle.qs_serve.specs.Due.{AreLinesFor, HasAsked, IsDue, IsDueAfter, IsDueOfFault, IsDueOfList, IsDueOfProgram, IsDueOfText, IsFormat, IsKept, IsKeptBy, IsRefusedBy, IsListOf, IsTextOf, IsOutOfMemory, due_status, format_of_answer, listed_as, longest};
 ghost use Rattle.qs_node_lines.specs.NodeLines.{node_lines};
 ghost use Rattle.qs_script.specs.Limits.{longest_text};
-ghost use Rattle.qs_script.specs.Reads.{IsScriptText};
+ghost use Rattle.qs_script.specs.Reads.{IsReadOf, IsScriptText};
 ghost use Rattle.std.specs.List.{AllByRecursion};
 ghost use Rattle.qs_outcomes.specs.Outcomes.{HasPlaces};
 
@@ -15,9 +15,8 @@ use crate::input::{Counted, InputFault, gather};
 use crate::plays::{due_of_play, due_of_rules};
 use crate::reports::due_of_outcome;
 use qs_chart::{MOST_PLACES, chart_dot};
-use qs_check::{Program, check};
+use qs_check::{CheckFault, Program, check};
 use qs_chunk::ChunkSize;
-use qs_counts::{Counts, count};
 use qs_dot::dot_text;
 use qs_json::{counts_json, graph_json, outcomes_json};
 use qs_line::{Format, GraphFormat, LineFault, ReportStyle, Settings, read_line};
@@ -26,7 +25,7 @@ use qs_node_lines::{NodeLines, node_lines};
 use qs_outcomes::{AllOutcomes, Watcher, outcomes_watched};
 use qs_report::{Fault, check_text, graph_text, outcomes_text, status};
 use qs_run::{FreeGate, FreeStart, Starter, execute_with};
-use qs_script::{LONGEST_TEXT, Script, read};
+use qs_script::{LONGEST_TEXT, ReadFault, Script, read};
 use qs_syncset::Mode;
 use std::alloc::{AllocError, Global};
 use std::io::Read;
@@ -78,13 +77,13 @@ pub(crate) fn due_of_list(fault: ListFault) -> Due
 }
 
 // The counts, in a format.
-fn due_of_counts(alloc: Global, counts: &Counts, format: Format) -> Due
+fn due_of_counts(alloc: Global, program: &Program, format: Format) -> Due
     ensures not_input { ¬ IsRefusedBy fault.Input result }
-    ensures due { IsDueOfCounts format counts.now result }
+    ensures due { IsOutOfMemory result ⊎ IsDueOfProgram (check format) [] program.now result }
 {
     match format {
-        Format::Text => due_of_bytes(check_text(alloc, counts)),
-        Format::Json => due_of_bytes(counts_json(alloc, counts)),
+        Format::Text => due_of_bytes(check_text(alloc, program)),
+        Format::Json => due_of_bytes(counts_json(alloc, program)),
     }
 }
 
@@ -197,7 +196,6 @@ fn due_of_outcomes<P: Watcher>(
 
 // What settings make of a program: a run by the plain rules, in the optimised machine or on threads, all outcomes, the counts, or the
 // graphs.
-#[tactic(auto, using(crate::proofs::Dues::counts_of_program))]
 fn due_of_program<T: Threads + Wait + Sync, P: Watcher>(
     rt: &T,
     alloc: Global,
@@ -225,7 +223,7 @@ fn due_of_program<T: Threads + Wait + Sync, P: Watcher>(
             limit,
             front,
         } => due_of_outcomes(alloc, program, *format, *limit, front.as_slice(), watcher),
-        Settings::Check { format } => due_of_counts(alloc, &Counts::of(program), *format),
+        Settings::Check { format } => due_of_counts(alloc, program, *format),
         Settings::Graph { format } => due_of_graphs(alloc, program, lines, *format),
     }
 }
@@ -249,7 +247,7 @@ fn lines_for(
 }
 
 // What settings make of a text.
-fn due_of_script<T: Threads + Wait + Sync, P: Watcher>(
+fn due_of_text<T: Threads + Wait + Sync, P: Watcher>(
     rt: &T,
     alloc: Global,
     settings: &Settings,
@@ -259,30 +257,32 @@ fn due_of_script<T: Threads + Wait + Sync, P: Watcher>(
     ensures not_input { ¬ IsRefusedBy fault.Input result }
     ensures due { IsOutOfMemory result ⊎ IsDueOfText (request_of settings.now) text.now result }
 {
-    let script = match read(alloc, text) {
-        Ok(script) => script,
-        Err(fault) => return Due::Refused(Fault::Read(fault)),
-    };
-    match settings {
-        Settings::Check { format } => due_of_check(alloc, *format, script),
-        _ => due_of_checked(rt, alloc, settings, text, script, watcher),
-    }
+    let script = read(alloc, text);
+    due_of_read(rt, alloc, settings, text, script, watcher)
 }
 
-// The counts of a script, for which no program is made; or its fault.
-#[tactic(auto, using(crate::proofs::Dues::counts_of_text))]
-fn due_of_check(alloc: Global, format: Format, script: Script) -> Due
+// What settings make of a text that was read, or the fault by which it was refused.
+fn due_of_read<T: Threads + Wait + Sync, P: Watcher>(
+    rt: &T,
+    alloc: Global,
+    settings: &Settings,
+    text: &[u8],
+    script: Result<Script, ReadFault>,
+    watcher: &mut P,
+) -> Due
+    requires read { IsReadOf text.now script }
     ensures not_input { ¬ IsRefusedBy fault.Input result }
-    ensures due { (text : List ℕ) → IsScriptText text script → IsOutOfMemory result ⊎ IsDueOfText (check format) text result }
+    ensures fault { IfErr script (λ f. IsRefusedBy (fault.Read f) result) }
+    ensures due { IsOutOfMemory result ⊎ IsDueOfText (request_of settings.now) text.now result }
 {
-    match count(alloc, script) {
-        Ok(counts) => due_of_counts(alloc, &counts, format),
-        Err(fault) => Due::Refused(Fault::Check(fault)),
+    match script {
+        Ok(script) => due_of_script(rt, alloc, settings, text, script, watcher),
+        Err(fault) => Due::Refused(Fault::Read(fault)),
     }
 }
 
 // What settings make of a script.
-fn due_of_checked<T: Threads + Wait + Sync, P: Watcher>(
+fn due_of_script<T: Threads + Wait + Sync, P: Watcher>(
     rt: &T,
     alloc: Global,
     settings: &Settings,
@@ -291,18 +291,33 @@ fn due_of_checked<T: Threads + Wait + Sync, P: Watcher>(
     watcher: &mut P,
 ) -> Due
     requires script { IsScriptText text.now script }
-    requires short { length text.now ≤ longest_text }
     ensures not_input { ¬ IsRefusedBy fault.Input result }
     ensures due { IsOutOfMemory result ⊎ IsDueOfText (request_of settings.now) text.now result }
 {
     let Ok(lines) = lines_for(alloc, settings, text, &script) else {
         return Due::Refused(Fault::Memory);
     };
-    let program = match check(alloc, script) {
-        Ok(program) => program,
-        Err(fault) => return Due::Refused(Fault::Check(fault)),
-    };
-    due_of_program(rt, alloc, settings, &program, &lines, watcher)
+    let checked = check(alloc, script);
+    due_of_checked(rt, alloc, settings, &lines, checked, watcher)
+}
+
+// What settings make of the program of a script, or the fault by which the script was refused.
+fn due_of_checked<T: Threads + Wait + Sync, P: Watcher>(
+    rt: &T,
+    alloc: Global,
+    settings: &Settings,
+    lines: &NodeLines,
+    checked: Result<Program, CheckFault>,
+    watcher: &mut P,
+) -> Due
+    ensures not_input { ¬ IsRefusedBy fault.Input result }
+    ensures fault { IfErr checked (λ f. IsRefusedBy (fault.Check f) result) }
+    ensures due { IfOk checked (λ p. IsOutOfMemory result ⊎ IsDueOfProgram (request_of settings.now) lines.now p result) }
+{
+    match checked {
+        Ok(program) => due_of_program(rt, alloc, settings, &program, lines, watcher),
+        Err(fault) => Due::Refused(Fault::Check(fault)),
+    }
 }
 
 // One byte more than a script may have shows that a text is longer.
@@ -319,16 +334,48 @@ fn due_of_input<T: Threads + Wait + Sync, R: Read, P: Watcher>(
 ) -> Due
     requires fine { input.old.has_failed ≡ false }
     ensures due { IsDue (asks (request_of settings.now)) input.old.remaining input.new.has_failed result }
+    ensures kept { IsKept input.old.remaining result kept.new.items }
     ensures reads { input.new.reads ≤ input.old.reads + longest }
 {
     match gather(alloc, input, LONGEST) {
         Ok(text) => {
-            let due = due_of_script(rt, alloc, settings, text.as_slice(), watcher);
+            let due = due_of_text(rt, alloc, settings, text.as_slice(), watcher);
             drop(mem::replace(kept, text));
             due
         }
         Err(InputFault::Read) => Due::Refused(Fault::Input),
         Err(InputFault::Memory) => Due::Refused(Fault::Memory),
+    }
+}
+
+// What is due by settings and an input, or by the fault of the line that gave none; and the format in which it is due.
+fn due_of_line<T: Threads + Wait + Sync, R: Read, P: Watcher>(
+    rt: &T,
+    alloc: Global,
+    line: Result<Settings, LineFault>,
+    input: &mut Counted<R>,
+    kept: &mut Vec<u8>,
+    watcher: &mut P,
+) -> (Due, Format)
+    requires fine { input.old.has_failed ≡ false }
+    ensures due { IfOk line (λ settings. IsDue (asks (request_of settings)) input.old.remaining input.new.has_failed result.0) }
+    ensures fault { IfErr line (λ f. IsDueOfFault f result.0) }
+    ensures format { result.1 ≡ format_of_answer line }
+    ensures kept { OnOk line (IsKept input.old.remaining result.0 kept.new.items) }
+    ensures unread { OnErr line (input.new ≡ input.old) }
+    ensures reads { input.new.reads ≤ input.old.reads + longest }
+{
+    match line {
+        Ok(settings) => {
+            let due = due_of_input(rt, alloc, &settings, input, kept, watcher);
+            let format = settings.format();
+            drop(settings);
+            (due, format)
+        }
+        Err(LineFault::Refused) => (Due::Refused(Fault::CommandLine), Format::Text),
+        Err(LineFault::Help(text)) => (Due::Text(text.into_bytes()), Format::Text),
+        Err(LineFault::Version(text)) => (Due::Text(text.into_bytes()), Format::Text),
+        Err(LineFault::Memory) => (Due::Refused(Fault::Memory), Format::Text),
     }
 }
 
@@ -346,20 +393,11 @@ pub fn due_of<'a, T: Threads + Wait + Sync, R: Read, P: Watcher>(
 ) -> (Due, Format)
     requires fine { input.old.has_failed ≡ false }
     ensures due { IsDue (line_in (map (λ word. word.now) words.entry.now)) input.old.remaining input.new.has_failed result.0 }
-    ensures format { IsFormat (line_in (map (λ word. word.now) words.entry.now)) result.0 result.1 }
+    ensures format { IsFormat (line_in (map (λ word. word.now) words.entry.now)) input.old input.new result.0 result.1 }
+    ensures kept { IsKeptBy (line_in (map (λ word. word.now) words.entry.now)) input.old.remaining result.0 kept.new.items }
     ensures unread { request_by (line_in (map (λ word. word.now) words.entry.now)) ≡ None → input.new ≡ input.old }
     ensures reads { input.new.reads ≤ input.old.reads + longest }
 {
-    match read_line(alloc, words) {
-        Ok(settings) => {
-            let due = due_of_input(rt, alloc, &settings, input, kept, watcher);
-            let format = settings.format();
-            drop(settings);
-            (due, format)
-        }
-        Err(LineFault::Refused) => (Due::Refused(Fault::CommandLine), Format::Text),
-        Err(LineFault::Help(text)) => (Due::Text(text.into_bytes()), Format::Text),
-        Err(LineFault::Version(text)) => (Due::Text(text.into_bytes()), Format::Text),
-        Err(LineFault::Memory) => (Due::Refused(Fault::Memory), Format::Text),
-    }
+    let line = read_line(alloc, words);
+    due_of_line(rt, alloc, line, input, kept, watcher)
 }

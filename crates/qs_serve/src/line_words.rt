@@ -98,16 +98,16 @@ const BESIDE_ROUNDS: &[u8] =
     b"error: the argument '--order <LIST>' cannot be used with '--rounds <N>'\n";
 
 const NO_ACTOR: &[u8] =
-    b"is no actor\n  = help: an actor is a name, or `c` or `h` and one digit, as in `ann*2,h0`: twice the client ann, and then the handler of object 0\n";
+    b"is no actor\n  = help: an actor is `c` or `h` and one digit, or `@` and a name, as in `@ann*2,h0`: twice the client ann, and then the handler of object 0\n";
 
 const NO_CLIENT: &[u8] =
-    b"is no client\n  = help: a client is a name, or `c` and one digit, as in `ann*2,c0`: two blocks of ann, and then one of client 0\n";
+    b"is no client\n  = help: a client is `c` and one digit, or `@` and a name, as in `@ann*2,c0`: two blocks of ann, and then one of client 0\n";
 
 const NO_TIMES: &[u8] = b"has no number from 1 to 1000000 after its `*`\n";
 
 const TOO_MANY: &[u8] = b"brings the list to more than 1000000\n";
 
-// Whether a text is an actor that may stand in a list: a name, a client, or a handler where handlers may.
+// Whether a text is an actor that may stand in a list: a client by its number, a handler where handlers may, or a name after its sign.
 fn may_stand(actor: &str, may_be_handler: bool) -> bool {
     match part_of(actor.as_bytes()) {
         Some(part) => may_be_handler || !matches!(&part.who, Who::Number(Actor::Handler(_))),

@@ -124,14 +124,14 @@ fn put_objects(out: &mut Vec<u8>, program: &Program) -> Result<(), AllocError> {
     Ok(())
 }
 
-// Puts a name and its number, after a comma where it is not the first.
+// Puts a name, as a list has it, and its number, after a comma where it is not the first.
 fn put_one(out: &mut Vec<u8>, number: u8, name: &[u8], letter: &[u8]) -> Result<(), AllocError> {
     let mut buffer = itoa::Buffer::new();
-    let comma: &[u8] = if number == 0 { b"" } else { b", " };
+    let sign: &[u8] = if number == 0 { b"@" } else { b", @" };
     put_all(
         out,
         &[
-            comma,
+            sign,
             name,
             b" (",
             letter,

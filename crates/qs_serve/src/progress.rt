@@ -3,7 +3,7 @@
 ghost use Rattle.std.specs.Prelude.{◌≡◌, ◌+◌, ◌≤◌, false, None, map};
 ghost use Rattle.std.specs.Io.KnownBytes.{Keeps};
 ghost use Rattle.qs_line.specs.Line.{line_in, request_by};
-ghost use Rattle.qs_serve.specs.Due.{IsDue, IsFormat, longest};
+ghost use Rattle.qs_serve.specs.Due.{IsDue, IsFormat, IsKeptBy, longest};
 
 use crate::due::{Due, due_of};
 use crate::input::Counted;
@@ -111,7 +111,8 @@ pub(crate) fn due_shown<'a, T: Threads + Wait + Clock + Sync, R: Read, W: Write>
 ) -> (Due, Format)
     requires fine { input.old.has_failed ≡ false }
     ensures due { IsDue (line_in (map (λ word. word.now) words.entry.now)) input.old.remaining input.new.has_failed result.0 }
-    ensures format { IsFormat (line_in (map (λ word. word.now) words.entry.now)) result.0 result.1 }
+    ensures format { IsFormat (line_in (map (λ word. word.now) words.entry.now)) input.old input.new result.0 result.1 }
+    ensures kept { IsKeptBy (line_in (map (λ word. word.now) words.entry.now)) input.old.remaining result.0 kept.new.items }
     ensures unread { request_by (line_in (map (λ word. word.now) words.entry.now)) ≡ None → input.new ≡ input.old }
     ensures reads { input.new.reads ≤ input.old.reads + longest }
     ensures silent { is_terminal ≡ false → Keeps (W.contents err.old) (W.contents err.new) }

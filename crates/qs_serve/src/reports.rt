@@ -9,7 +9,7 @@ use qs_check::Program;
 use qs_json::run_json;
 use qs_line::{ReportFormat, ReportStyle};
 use qs_played::{Outcome, Played};
-use qs_report::{report, report_counts};
+use qs_report::{report, report_counts, report_run, report_run_counts};
 use qs_steps::Told;
 use qs_svg::run_svg;
 use std::alloc::{AllocError, Global};
@@ -60,6 +60,39 @@ pub(crate) fn due_of_played(
     due_of_bytes(text)
 }
 
+// The report of what ran on threads as text, with the counts of synchronisations where they are asked for.
+fn run_report_text(
+    alloc: Global,
+    program: &Program,
+    counts: bool,
+    outcome: &Outcome,
+) -> Result<Vec<u8>, AllocError>
+    ensures text { IfOk result (λ text. text.items ≡ run_text counts program.now outcome.now) }
+{
+    if counts {
+        report_run_counts(alloc, program, outcome)
+    } else {
+        report_run(alloc, program, outcome)
+    }
+}
+
+// The report of what ran on threads, in the style that is asked for.
+fn styled_run_report(
+    alloc: Global,
+    program: &Program,
+    style: ReportStyle,
+    outcome: &Outcome,
+) -> Result<Vec<u8>, AllocError>
+    ensures text { IfOk result (λ text. text.items ≡ report_by style program.now outcome.now) }
+{
+    match style.format {
+        ReportFormat::Text => run_report_text(alloc, program, style.counts, outcome),
+        ReportFormat::Json | ReportFormat::Svg => {
+            styled_report(alloc, program, style, outcome.played())
+        }
+    }
+}
+
 /// The report of what ran on threads, where it was written.
 pub(crate) fn due_of_outcome(
     alloc: Global,
@@ -69,7 +102,7 @@ pub(crate) fn due_of_outcome(
 ) -> Due
     ensures due { IsReportOf style program.now outcome result }
 {
-    let text = styled_report(alloc, program, style, outcome.played());
+    let text = styled_run_report(alloc, program, style, &outcome);
     drop(outcome);
     due_of_bytes(text)
 }

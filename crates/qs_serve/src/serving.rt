@@ -40,8 +40,7 @@ pub fn serve<'a, T: Threads + Wait + Clock + Sync, R: Read, W: Write, E: Write>(
 ) -> u8
     requires readable { input.old.has_failed ≡ false }
     requires writable { watch.old.has_failed ≡ false }
-    ensures serves { Serves (map (λ word. word.now) words.entry.now)
-        input.old.remaining input.new.has_failed
+    ensures serves { Serves (map (λ word. word.now) words.entry.now) input.old input.new
         (W.contents out.old) (W.contents out.new) watch.new.has_failed result }
     ensures gives_up { result ≡ 4 → IsTrue input.new.has_failed ⊎ IsTrue watch.new.has_failed }
     ensures unread { request_by (line_in (map (λ word. word.now) words.entry.now)) ≡ None → input.new ≡ input.old }

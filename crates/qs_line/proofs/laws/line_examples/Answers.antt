@@ -20,7 +20,17 @@ returns c = record {
       by_rounds = refl;
       counted = refl;
     };
-    fronts = record { one = refl; more = refl; a_handler = refl; nobody = refl; two_digits = refl; repeated = refl; twice = refl; of_play = refl };
+    fronts = record {
+      one = refl;
+      more = refl;
+      a_handler = refl;
+      nobody = refl;
+      a_bare_name = refl;
+      two_digits = refl;
+      repeated = refl;
+      twice = refl;
+      of_play = refl;
+    };
     orders = record {
       by_rules = refl;
       by_play = refl;
@@ -31,7 +41,9 @@ returns c = record {
       after_rounds = refl;
       a_handler = refl;
       nobody = refl;
+      a_bare_name = refl;
       two_digits = refl;
+      called_c1 = refl;
       repeated = refl;
       twice = refl;
       of_run = refl;
@@ -93,18 +105,28 @@ returns c = record {
     uncounted = record { twice = refl; by_value = refl; by_true = refl; by_word = refl; before_word = refl; of_check = refl; of_graph = refl };
     lists = record {
       names = refl;
-      two_digits = refl;
+      called_c10 = refl;
       most = refl;
       one_more = refl;
       more_in_all = refl;
       no_times = refl;
       no_number = refl;
       two_numbers = refl;
+      longest_name = refl;
+      handlers_in_an_order = refl;
+    };
+    no_parts = record {
+      another_letter = refl;
+      two_digits = refl;
+      no_digit = refl;
+      a_bare_name = refl;
+      no_name = refl;
+      no_name_but_times = refl;
+      two_signs = refl;
       a_capital = refl;
       a_space = refl;
-      longest_name = refl;
+      a_reserved_word = refl;
       longer_name = refl;
-      handlers_in_an_order = refl;
     };
     warned = record { checks = refl; runs = refl; lists = refl; asked = refl; unasked = refl; twice = refl; before_word = refl };
     verbose = record {

@@ -1,2 +1,0 @@
-pub mod TextCounts
-pub mod Limits
