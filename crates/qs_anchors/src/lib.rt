@@ -7,6 +7,5 @@ mod blocks;
 mod finding;
 pub mod laws;
 
-pub use anchor::Anchor;
 pub use blocks::block_anchor;
 pub use finding::{Anchored, first_fault};

@@ -1,2 +1,6 @@
 pub mod Spans
+pub mod Sources
+pub mod ExcessTold
+pub mod Knowns
 pub mod CheckTold
+pub mod Near

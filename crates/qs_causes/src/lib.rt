@@ -7,7 +7,6 @@ mod expected;
 mod finding;
 mod form;
 mod known;
-mod nearness;
 mod operations;
 mod refusal;
 mod said;
@@ -18,7 +17,7 @@ mod telling;
 mod usual;
 mod words;
 
-pub use nearness::is_near;
 pub use source::Source;
 pub use spans::{PlacedToken, SpanFault, placed_tokens};
 pub use telling::{actors, tell_check, tell_read};
+pub use words::is_near;

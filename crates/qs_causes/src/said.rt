@@ -1,6 +1,6 @@
 // What is said of a place of a text.
 
-ghost use Rattle.std.specs.Prelude.{◌≡◌};
+ghost use Rattle.std.specs.Prelude.{◌≡◌, IfOk, decimal, flat_map};
 
 use crate::source::Source;
 use itoa::Buffer;
@@ -24,7 +24,9 @@ pub(crate) fn part<'a>(text: &'static [u8]) -> &'a [u8]
 }
 
 /// Texts one after another.
-pub(crate) fn joined(alloc: Global, texts: &[&[u8]]) -> Result<Vec<u8>, AllocError> {
+pub(crate) fn joined(alloc: Global, texts: &[&[u8]]) -> Result<Vec<u8>, AllocError>
+    ensures joined { IfOk result (λ out. out.items ≡ flat_map (λ text. text.now) texts.now) }
+{
     let mut out = Vec::new(alloc);
     put_all(&mut out, texts)?;
     Ok(out)
@@ -37,7 +39,12 @@ pub(crate) fn say(
     cause: &[&[u8]],
     label: &[&[u8]],
     help: &[&[u8]],
-) -> Result<Said, AllocError> {
+) -> Result<Said, AllocError>
+    ensures span { IfOk result (λ said. said.span ≡ span) }
+    ensures cause { IfOk result (λ said. said.cause.items ≡ flat_map (λ text. text.now) cause.now) }
+    ensures label { IfOk result (λ said. said.label.items ≡ flat_map (λ text. text.now) label.now) }
+    ensures help { IfOk result (λ said. said.help.items ≡ flat_map (λ text. text.now) help.now) }
+{
     let cause = joined(alloc, cause)?;
     let label = joined(alloc, label)?;
     let help = joined(alloc, help)?;
@@ -50,7 +57,9 @@ pub(crate) fn say(
 }
 
 /// A number's digits.
-pub(crate) fn digits(alloc: Global, number: usize) -> Result<Vec<u8>, AllocError> {
+pub(crate) fn digits(alloc: Global, number: usize) -> Result<Vec<u8>, AllocError>
+    ensures digits { IfOk result (λ out. out.items ≡ decimal number) }
+{
     let mut buffer = Buffer::new();
     joined(alloc, &[buffer.format(number).as_bytes()])
 }

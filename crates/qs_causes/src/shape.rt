@@ -2,10 +2,10 @@
 
 use crate::expected::expected;
 use crate::form::Stage;
-use crate::nearness::nearest;
 use crate::said::{Said, joined, part, say};
 use crate::source::Source;
 use crate::usual::usual_at;
+use crate::words::is_near;
 use qs_tokens::Token;
 use std::alloc::{AllocError, Global};
 
@@ -94,7 +94,7 @@ fn word_help(
     } else {
         source.word(place)
     };
-    match meant(stage, word) {
+    match meant(alloc, stage, word)? {
         Some(other) => joined(
             alloc,
             &[b"is `", word, b"` meant to be `", part(other), b"`?"],
@@ -103,17 +103,37 @@ fn word_help(
     }
 }
 
+// The first of some words that is near to a word.
+fn nearest(
+    alloc: Global,
+    word: &[u8],
+    words: &[&'static [u8]],
+) -> Result<Option<&'static [u8]>, AllocError> {
+    for it in words {
+        if is_near(alloc, word, it)? {
+            return Ok(Some(it));
+        }
+    }
+    Ok(None)
+}
+
 // The word that is meant by another, at a place.
-fn meant(stage: Stage, word: &[u8]) -> Option<&'static [u8]> {
+fn meant(alloc: Global, stage: Stage, word: &[u8]) -> Result<Option<&'static [u8]>, AllocError> {
     match stage {
-        Stage::Item => nearest(word, &[b"object", b"client", b"template"]),
-        Stage::Block => nearest(word, &[b"separate"]),
-        Stage::ObjectKind | Stage::FormalKind => nearest(word, &[b"account", b"buffer", b"grid"]),
-        Stage::AfterName => foreign(word).or(nearest(
-            word,
-            &[b"repeat", b"leave", b"else", b"separate", b"client"],
-        )),
-        _ => None,
+        Stage::Item => nearest(alloc, word, &[b"object", b"client", b"template"]),
+        Stage::Block => nearest(alloc, word, &[b"separate"]),
+        Stage::ObjectKind | Stage::FormalKind => {
+            nearest(alloc, word, &[b"account", b"buffer", b"grid"])
+        }
+        Stage::AfterName => match foreign(word) {
+            Some(other) => Ok(Some(other)),
+            None => nearest(
+                alloc,
+                word,
+                &[b"repeat", b"leave", b"else", b"separate", b"client"],
+            ),
+        },
+        _ => Ok(None),
     }
 }
 

@@ -1,6 +1,7 @@
 // A text with its tokens.
 
-ghost use Rattle.std.specs.Prelude.{◌≡◌};
+ghost use Rattle.std.specs.Prelude.{◌≡◌, length, option_map};
+ghost use Rattle.qs_causes.specs.Sources.{span_in, token_in, word_in};
 
 use crate::spans::PlacedToken;
 use qs_tokens::Token;
@@ -15,7 +16,10 @@ pub struct Source<'a> {
 
 impl<'a> Source<'a> {
     /// A text and its tokens.
-    pub fn new(text: &'a [u8], tokens: &'a [PlacedToken]) -> Source<'a> {
+    pub fn new(text: &'a [u8], tokens: &'a [PlacedToken]) -> Source<'a>
+        ensures text { result.text.now ≡ text.now }
+        ensures tokens { result.tokens.now ≡ tokens.now }
+    {
         Source { text, tokens }
     }
 
@@ -27,12 +31,16 @@ impl<'a> Source<'a> {
     }
 
     /// How many tokens there are.
-    pub fn len(self) -> usize {
+    pub fn len(self) -> usize
+        ensures exact { result ≡ length self.entry.tokens.now }
+    {
         self.tokens.len()
     }
 
     /// The token at a place, where there is one.
-    pub fn token(self, place: usize) -> Option<&'a Token> {
+    pub fn token(self, place: usize) -> Option<&'a Token>
+        ensures exact { option_map (λ token. token.now) result ≡ token_in self.entry.tokens.now place }
+    {
         match self.tokens.get(place) {
             Some(placed) => Some(&placed.token),
             None => None,
@@ -40,14 +48,21 @@ impl<'a> Source<'a> {
     }
 
     /// The bytes of the token at a place; none after the last token.
-    pub fn word(self, place: usize) -> &'a [u8] {
-        let span = self.span(place);
-        let rest = self.text.get(span.start..).unwrap_or(b"");
-        rest.get(..span.length).unwrap_or(b"")
+    pub fn word(self, place: usize) -> &'a [u8]
+        ensures exact { result.now ≡ word_in self.entry.text.now self.entry.tokens.now place }
+    {
+        match self.tokens.get(place) {
+            Some(placed) if placed.start <= placed.end && placed.end <= self.text.len() => {
+                &self.text[placed.start..placed.end]
+            }
+            _ => b"",
+        }
     }
 
     /// Where the token at a place stands; after the last token, the text's end.
-    pub fn span(self, place: usize) -> Span {
+    pub fn span(self, place: usize) -> Span
+        ensures exact { result ≡ span_in self.entry.text.now self.entry.tokens.now place }
+    {
         match self.tokens.get(place) {
             Some(placed) => Span {
                 start: placed.start,
@@ -61,7 +76,7 @@ impl<'a> Source<'a> {
     }
 
     /// The place right after a token.
-    pub fn end_of(self, place: usize) -> Span {
+    pub(crate) fn end_of(self, place: usize) -> Span {
         let span = self.span(place);
         Span {
             start: span.start.saturating_add(span.length),

@@ -1,13 +1,26 @@
 // What is said of the faults of checking.
 
+ghost use Rattle.std.specs.Prelude.{◌≡◌, IfOk};
+ghost use Rattle.qs_causes.specs.Near.{is_near};
+
 use crate::finding::{Cause, What};
 use crate::known::{Declared, Known};
-use crate::nearness::is_near;
 use crate::operations::{Kind, Operation, operation_at, operation_of};
 use crate::said::{Said, digits, joined, line_digits, part, say, words_at};
 use crate::source::Source;
 use qs_tokens::Token;
 use std::alloc::{AllocError, Global};
+use strsim::generic_levenshtein;
+
+/// Whether two words differ, by at most two letters that are put in, left out or changed, and two others stay. An error says that memory
+/// ran out.
+pub fn is_near(alloc: Global, left: &[u8], right: &[u8]) -> Result<bool, AllocError>
+    ensures near { IfOk result (λ it. it ≡ is_near left.now right.now) }
+{
+    let distance = generic_levenshtein(alloc, left, right)?;
+    let kept = left.len().max(right.len()).saturating_sub(distance);
+    Ok(distance > 0 && distance <= 2 && kept >= 2)
+}
 
 /// What is said of a place, by what is wrong there.
 pub(crate) fn say_cause(
@@ -121,13 +134,18 @@ fn is_declared(source: Source<'_>, word: &[u8]) -> bool {
 }
 
 // The first of some declarations whose name is near to a word.
-fn nearest_of<'a>(source: Source<'a>, declared: &[Declared], word: &[u8]) -> Option<&'a [u8]> {
+fn nearest_of<'a>(
+    alloc: Global,
+    source: Source<'a>,
+    declared: &[Declared],
+    word: &[u8],
+) -> Result<Option<&'a [u8]>, AllocError> {
     for it in declared {
-        if is_near(source.word(it.name), word) {
-            return Some(source.word(it.name));
+        if is_near(alloc, source.word(it.name), word)? {
+            return Ok(Some(source.word(it.name)));
         }
     }
-    None
+    Ok(None)
 }
 
 fn names_of(
@@ -156,7 +174,7 @@ fn say_unknown(
     }
     let word = source.word(place);
     let names = names_of(alloc, source, known.objects.as_slice(), 0)?;
-    let help = match nearest_of(source, known.objects.as_slice(), word) {
+    let help = match nearest_of(alloc, source, known.objects.as_slice(), word)? {
         Some(near) => joined(alloc, &[b"is it `", near, b"`?"])?,
         None if is_declared(source, word) => {
             joined(
@@ -228,15 +246,20 @@ fn say_unreserved(
 }
 
 // The operation of a kind whose word is near to a word.
-fn near_operation(kind: Kind, asks: bool, word: &[u8]) -> Option<Operation> {
+fn near_operation(
+    alloc: Global,
+    kind: Kind,
+    asks: bool,
+    word: &[u8],
+) -> Result<Option<Operation>, AllocError> {
     for place in 0..4 {
         if let Some(found) = operation_at(kind, asks, place) {
-            if is_near(found.word, word) {
-                return Some(found);
+            if is_near(alloc, found.word, word)? {
+                return Ok(Some(found));
             }
         }
     }
-    None
+    Ok(None)
 }
 
 fn operation_help(
@@ -248,7 +271,7 @@ fn operation_help(
     object: usize,
 ) -> Result<Vec<u8>, AllocError> {
     let name = source.word(object);
-    if let Some(found) = near_operation(kind, asks, word) {
+    if let Some(found) = near_operation(alloc, kind, asks, word)? {
         let near = joined(alloc, &[found.word])?;
         return joined(alloc, &[b"is it `", near.as_slice(), b"`?"]);
     }
@@ -359,13 +382,18 @@ fn say_leave(alloc: Global, source: Source<'_>, place: usize) -> Result<Said, Al
 }
 
 // The first of some words that is near to a word.
-fn nearest_at<'a>(source: Source<'a>, places: &[usize], word: &[u8]) -> Option<&'a [u8]> {
+fn nearest_at<'a>(
+    alloc: Global,
+    source: Source<'a>,
+    places: &[usize],
+    word: &[u8],
+) -> Result<Option<&'a [u8]>, AllocError> {
     for place in places {
-        if is_near(source.word(*place), word) {
-            return Some(source.word(*place));
+        if is_near(alloc, source.word(*place), word)? {
+            return Ok(Some(source.word(*place)));
         }
     }
-    None
+    Ok(None)
 }
 
 fn say_template(
@@ -377,7 +405,7 @@ fn say_template(
     let word = source.word(place);
     let templates = known.templates.as_slice();
     let names = words_at(alloc, source, templates, b"none")?;
-    let help = match nearest_at(source, templates, word) {
+    let help = match nearest_at(alloc, source, templates, word)? {
         Some(near) => joined(alloc, &[b"is it `", near, b"`?"])?,
         None => joined(
             alloc,

@@ -4,6 +4,7 @@ pub mod Loops
 pub mod Counts
 pub mod Complete
 pub mod Sound
+pub mod PassedLines
 pub mod ReadTexts
 pub mod Bytes
 pub mod Form

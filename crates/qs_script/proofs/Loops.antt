@@ -1,7 +1,7 @@
 -- A loop that reads one element after another, up to a token that stops it, reads what the definition of the list says. The
 -- functions that read arguments, names, blocks, statements and items stand on it. Their invariant is `Continues`: what is done,
 -- joined with what the rest is read as, is what the whole is read as.
-use Rattle.std.proofs.Common.{◌≡◌, ℕ, zero, suc, ◌<◌, List, [], ◌∷◌, ◌++◌, length, refl, ap, sym, ◌∙◌, arith, append_assoc, append-nil, Option, Some, None}
+use Rattle.std.proofs.Common.{◌≡◌, ℕ, zero, suc, ◌<◌, List, [], ◌∷◌, ◌++◌, length, refl, ap, sym, ◌∙◌, arith, append_assoc, append-nil, Option, Some, None, Ok, Err}
 use Rattle.qs_tokens.specs.declared.token.Token.{Token}
 use Rattle.qs_script.specs.declared.fault.Fault.{Fault}
 use Rattle.qs_script.specs.declared.fault.Fault.TheVariants.{Form, Memory}
@@ -33,54 +33,54 @@ pub run_is : {M : Type 0} (loop : Loop M) (ts : List Token) (read : Read M) → 
 unfolding run
 run_is loop ts read r = r.runs (suc (length ts)) (omega arith)
 
-stop_at : {M : Type 0} (loop : Loop M) (n : ℕ) (ts rest : List Token) → length ts < n → loop.stop ts ≡ Some rest → many_at loop n ts ≡ Some (loop.none, rest)
+stop_at : {M : Type 0} (loop : Loop M) (n : ℕ) (ts rest : List Token) → length ts < n → loop.stop ts ≡ Some rest → many_at loop n ts ≡ Ok (loop.none, rest)
 stop_at loop zero ts rest lt e = absurd (omega arith)
 stop_at loop (suc n) ts rest lt e = rw e refl
 
-pub runs_stop : {M : Type 0} (loop : Loop M) (ts rest : List Token) → loop.stop ts ≡ Some rest → Runs loop ts (Some (loop.none, rest))
+pub runs_stop : {M : Type 0} (loop : Loop M) (ts rest : List Token) → loop.stop ts ≡ Some rest → Runs loop ts (Ok (loop.none, rest))
 runs_stop loop ts rest e = record { runs = λ n lt. stop_at loop n ts rest lt e }
 
-no_element_at : {M : Type 0} (loop : Loop M) (n : ℕ) (ts : List Token) → length ts < n → loop.stop ts ≡ None → loop.element ts ≡ None → many_at loop n ts ≡ None
-no_element_at loop zero ts lt e s = absurd (omega arith)
-no_element_at loop (suc n) ts lt e s = rw (e, s) refl
+no_element_at : {M : Type 0} (loop : Loop M) (n left : ℕ) (ts : List Token) → length ts < n → loop.stop ts ≡ None → loop.element ts ≡ Err left → many_at loop n ts ≡ Err left
+no_element_at loop zero left ts lt e s = absurd (omega arith)
+no_element_at loop (suc n) left ts lt e s = rw (e, s) refl
 
-pub runs_no_element : {M : Type 0} (loop : Loop M) (ts : List Token) → loop.stop ts ≡ None → loop.element ts ≡ None → Runs loop ts None
-runs_no_element loop ts e s = record { runs = λ n lt. no_element_at loop n ts lt e s }
+pub runs_no_element : {M : Type 0} (loop : Loop M) (left : ℕ) (ts : List Token) → loop.stop ts ≡ None → loop.element ts ≡ Err left → Runs loop ts (Err left)
+runs_no_element loop left ts e s = record { runs = λ n lt. no_element_at loop n left ts lt e s }
 
-element_at : {M : Type 0} (loop : Loop M) (n : ℕ) (ts : List Token) (x : M × List Token) (read : Read M) → length ts < n → loop.stop ts ≡ None → loop.element ts ≡ Some x → length x.1 < length ts → Runs loop x.1 read → many_at loop n ts ≡ after loop x.0 read
+element_at : {M : Type 0} (loop : Loop M) (n : ℕ) (ts : List Token) (x : M × List Token) (read : Read M) → length ts < n → loop.stop ts ≡ None → loop.element ts ≡ Ok x → length x.1 < length ts → Runs loop x.1 read → many_at loop n ts ≡ after loop x.0 read
 element_at loop zero ts x read lt e s less r = absurd (omega arith)
 element_at loop (suc n) ts x read lt e s less r = rw (e, s) (ap (after loop x.0) (r.runs n (omega arith)))
 
-pub runs_element : {M : Type 0} (loop : Loop M) (ts : List Token) (x : M × List Token) (read : Read M) → loop.stop ts ≡ None → loop.element ts ≡ Some x → length x.1 < length ts → Runs loop x.1 read → Runs loop ts (after loop x.0 read)
+pub runs_element : {M : Type 0} (loop : Loop M) (ts : List Token) (x : M × List Token) (read : Read M) → loop.stop ts ≡ None → loop.element ts ≡ Ok x → length x.1 < length ts → Runs loop x.1 read → Runs loop ts (after loop x.0 read)
 runs_element loop ts x read e s less r = record { runs = λ n lt. element_at loop n ts x read lt e s less r }
 
 module _ {M : Type 0} (loop : Loop M) (lawful : IsLawful loop) where
   after-none : (read : Read M) → after loop loop.none read ≡ read
-  after-none None = refl
-  after-none (Some p) = ap (λ x. Some (x, p.1)) (lawful.none_before p.0)
+  after-none (Err left) = refl
+  after-none (Ok p) = ap (λ x. Ok (x, p.1)) (lawful.none_before p.0)
 
   after-after : (x y : M) (read : Read M) → after loop x (after loop y read) ≡ after loop (loop.join x y) read
-  after-after x y None = refl
-  after-after x y (Some p) = ap (λ z. Some (z, p.1)) (sym (lawful.regroups x y p.0))
+  after-after x y (Err left) = refl
+  after-after x y (Ok p) = ap (λ z. Ok (z, p.1)) (sym (lawful.regroups x y p.0))
 
   pub begins : (start : M) (tokens : List Token) → Continues loop start tokens tokens start
   begins start tokens = record { continues = λ read r. ap (after loop start) (run_is loop tokens read r) }
 
-  pub goes_on : (start : M) (tokens rest : List Token) (done : M) (x : M × List Token) → Continues loop start tokens rest done → loop.stop rest ≡ None → loop.element rest ≡ Some x → length x.1 < length rest → Continues loop start tokens x.1 (loop.join done x.0)
+  pub goes_on : (start : M) (tokens rest : List Token) (done : M) (x : M × List Token) → Continues loop start tokens rest done → loop.stop rest ≡ None → loop.element rest ≡ Ok x → length x.1 < length rest → Continues loop start tokens x.1 (loop.join done x.0)
   goes_on start tokens rest done x h e s less = record {
     continues = λ read r. h.continues (after loop x.0 read) (runs_element loop rest x read e s less r) ∙ after-after done x.0 read;
   }
 
-  pub closes : (start : M) (tokens rest left : List Token) (done : M) → Continues loop start tokens rest done → loop.stop rest ≡ Some left → after loop start (run loop tokens) ≡ Some (done, left)
+  pub closes : (start : M) (tokens rest left : List Token) (done : M) → Continues loop start tokens rest done → loop.stop rest ≡ Some left → after loop start (run loop tokens) ≡ Ok (done, left)
   closes start tokens rest left done h e =
-      h.continues (Some (loop.none, left)) (runs_stop loop rest left e) ∙ ap (λ x. Some (x, left)) (lawful.none_after done)
+      h.continues (Ok (loop.none, left)) (runs_stop loop rest left e) ∙ ap (λ x. Ok (x, left)) (lawful.none_after done)
 
   pub fails : (fault : Fault) (start : M) (tokens rest : List Token) (done : M) → Continues loop start tokens rest done → loop.stop rest ≡ None → Fails fault (loop.element rest) → Fails fault (after loop start (run loop tokens))
-  fails (Form left) start tokens rest done h e s = h.continues None (runs_no_element loop rest e s)
+  fails (Form left) start tokens rest done h e s = h.continues (Err left) (runs_no_element loop left rest e s)
   fails Memory start tokens rest done h e s = tt
 
   -- from no element on
-  pub whole_closes : (tokens rest left : List Token) (done : M) → Continues loop loop.none tokens rest done → loop.stop rest ≡ Some left → run loop tokens ≡ Some (done, left)
+  pub whole_closes : (tokens rest left : List Token) (done : M) → Continues loop loop.none tokens rest done → loop.stop rest ≡ Some left → run loop tokens ≡ Ok (done, left)
   whole_closes tokens rest left done h e = sym (after-none (run loop tokens)) ∙ closes loop.none tokens rest left done h e
 
   pub whole_fails : (fault : Fault) (tokens rest : List Token) (done : M) → Continues loop loop.none tokens rest done → loop.stop rest ≡ None → Fails fault (loop.element rest) → Fails fault (run loop tokens)
@@ -93,11 +93,11 @@ module _ {A : Type 0} (stop : List Token → Option (List Token)) (element : Lis
   pub list_begins : (start : List A) (tokens : List Token) → Continues (list_loop stop element) start tokens tokens start
   list_begins start tokens = begins (list_loop stop element) (list_lawful stop element) start tokens
 
-  pub list_goes_on : (start : List A) (tokens rest : List Token) (done : List A) (x : A × List Token) → Continues (list_loop stop element) start tokens rest done → stop rest ≡ None → element rest ≡ Some x → length x.1 < length rest → Continues (list_loop stop element) start tokens x.1 (done ++ x.0 ∷ [])
+  pub list_goes_on : (start : List A) (tokens rest : List Token) (done : List A) (x : A × List Token) → Continues (list_loop stop element) start tokens rest done → stop rest ≡ None → element rest ≡ Ok x → length x.1 < length rest → Continues (list_loop stop element) start tokens x.1 (done ++ x.0 ∷ [])
   list_goes_on start tokens rest done x h e s less =
       goes_on (list_loop stop element) (list_lawful stop element) start tokens rest done (x.0 ∷ [], x.1) h e (ap one s) less
 
-  pub list_closes : (start : List A) (tokens rest left : List Token) (done : List A) → Continues (list_loop stop element) start tokens rest done → stop rest ≡ Some left → after (list_loop stop element) start (run (list_loop stop element) tokens) ≡ Some (done, left)
+  pub list_closes : (start : List A) (tokens rest left : List Token) (done : List A) → Continues (list_loop stop element) start tokens rest done → stop rest ≡ Some left → after (list_loop stop element) start (run (list_loop stop element) tokens) ≡ Ok (done, left)
   list_closes start tokens rest left done h e =
       closes (list_loop stop element) (list_lawful stop element) start tokens rest left done h e
 
@@ -109,7 +109,7 @@ module _ {A : Type 0} (stop : List Token → Option (List Token)) (element : Lis
   list_fails fault start tokens rest done h e s =
       fails (list_loop stop element) (list_lawful stop element) fault start tokens rest done h e (one_fails fault (element rest) s)
 
-  pub whole_list_closes : (tokens rest left : List Token) (done : List A) → Continues (list_loop stop element) [] tokens rest done → stop rest ≡ Some left → run (list_loop stop element) tokens ≡ Some (done, left)
+  pub whole_list_closes : (tokens rest left : List Token) (done : List A) → Continues (list_loop stop element) [] tokens rest done → stop rest ≡ Some left → run (list_loop stop element) tokens ≡ Ok (done, left)
   whole_list_closes tokens rest left done h e =
       whole_closes (list_loop stop element) (list_lawful stop element) tokens rest left done h e
 
@@ -126,23 +126,26 @@ at_end [] h = refl
 at_end (x ∷ ts) h = absurd (omega arith)
 
 abbrev read_or : Stmts × List Token → Read Stmts → Stmts × List Token
-read_or other None = other
-read_or other (Some x) = x
+read_or other (Err left) = other
+read_or other (Ok x) = x
 
-same_read : (x y : Stmts × List Token) → Some x ≡ Some y → x ≡ y
+abbrev got : Stmts × List Token → Read Stmts
+got x = Ok x
+
+same_read : (x y : Stmts × List Token) → got x ≡ got y → x ≡ y
 same_read x y e = ap (read_or y) e
 
 -- a statement that was added to those of before
 put_read : (levels : ℕ) (start : Stmts) (tokens rest left : List Token) (done new : Stmts) (read : Read Stmts) → stmt_in levels rest ≡ read → Continues (body_loop levels) start tokens rest done → close_brace_at rest ≡ None
-    → onto done read ≡ Some (new, left) → length left < length rest → Continues (body_loop levels) start tokens left new
-put_read levels start tokens rest left done new None e h stop is less = cc
-put_read levels start tokens rest left done new (Some x) e h stop is less =
+    → onto done read ≡ Ok (new, left) → length left < length rest → Continues (body_loop levels) start tokens left new
+put_read levels start tokens rest left done new (Err stuck) e h stop is less = cc
+put_read levels start tokens rest left done new (Ok x) e h stop is less =
     let pair : (join_statements done x.0, x.1) ≡ (new, left) = same_read (join_statements done x.0, x.1) (new, left) is in
     let news : join_statements done x.0 ≡ new = ap (λ p. p.0) pair in
     let lefts : x.1 ≡ left = ap (λ p. p.1) pair in
     rw (← news, ← lefts) (goes_on (body_loop levels) (body_lawful levels) start tokens rest done x h stop e (rw lefts less))
 
 pub puts_on : (levels : ℕ) (start : Stmts) (tokens rest left : List Token) (done new : Stmts) → Continues (body_loop levels) start tokens rest done → close_brace_at rest ≡ None
-    → onto done (stmt_in levels rest) ≡ Some (new, left) → length left < length rest → Continues (body_loop levels) start tokens left new
+    → onto done (stmt_in levels rest) ≡ Ok (new, left) → length left < length rest → Continues (body_loop levels) start tokens left new
 puts_on levels start tokens rest left done new h stop is less =
     put_read levels start tokens rest left done new (stmt_in levels rest) refl h stop is less

@@ -1,7 +1,7 @@
 -- A text belongs to at most one script, and a text that belongs to one is refused only where memory runs out. The contract of
 -- `read` and the worked examples stand on it. It joins the two directions that are proved of the grammar: whatever is read is a
 -- script, and every script is read.
-use Rattle.std.proofs.Common.{◌≡◌, ℕ, ◌≤◌, List, [], length, refl, sym, subst, arith, Option, Some, None, Result, Ok, Err, true}
+use Rattle.std.proofs.Common.{◌≡◌, ℕ, ◌≤◌, List, [], length, refl, sym, subst, arith, Bool, Result, Ok, Err, true, false}
 use Rattle.qs_tokens.specs.declared.token.Token.{Token}
 use Rattle.qs_script.specs.declared.tree.Item.{Item}
 use Rattle.qs_script.specs.declared.fault.ReadFault.{ReadFault}
@@ -17,23 +17,19 @@ use Rattle.qs_script.proofs.Sound.{items_sound}
 use Rattle.qs_script.proofs.Complete.{items_complete, one_tree}
 use Rattle.qs_script.specs.Limits.{longest_text}
 
-not_both_read : {A : Type 0} (r : Option A) (x : A) → r ≡ Some x → r ≡ None → ⊥
-not_both_read None x p q = cc
-not_both_read (Some y) x p q = cc
-
 both_ok : {A E : Type 0} (r : Result A E) (x y : A) → r ≡ Ok x → r ≡ Ok y → x ≡ y
 both_ok (Ok z) x y p q = cc
 both_ok (Err e) x y p q = cc
 
-not_both : {A E : Type 0} (r : Result A E) (x : A) (e : E) → r ≡ Ok x → r ≡ Err e → ⊥
+pub not_both : {A E : Type 0} (r : Result A E) (x : A) (e : E) → r ≡ Ok x → r ≡ Err e → ⊥
 not_both (Ok z) x e p q = cc
 not_both (Err d) x e p q = cc
 
-pub is_script : (ts : List Token) (script : List Item) → run items_loop ts ≡ Some (script, []) → IsScript script ts
+pub is_script : (ts : List Token) (script : List Item) → run items_loop ts ≡ Ok (script, []) → IsScript script ts
 is_script ts script p = items_sound ts (script, []) p
 
-pub is_no_script : (ts : List Token) → run items_loop ts ≡ None → (script : List Item) → IsScript script ts → ⊥
-is_no_script ts p script h = not_both_read (run items_loop ts) (script, []) (items_complete script ts h) p
+pub is_no_script : (ts : List Token) (left : ℕ) → run items_loop ts ≡ Err left → (script : List Item) → IsScript script ts → ⊥
+is_no_script ts left p script h = not_both (run items_loop ts) (script, []) left (items_complete script ts h) p
 
 -- a text has at most one list of tokens
 same_tokens : (text : List ℕ) (ts us : List Token) → tokens_of text ≡ Ok ts → tokens_of text ≡ Ok us → ts ≡ us
@@ -47,28 +43,36 @@ one_script text s u g h =
 -- a script's text is refused only where memory runs out
 pub only_memory : (text : List ℕ) (s : List Item) (fault : ReadFault) → IsScriptText text s → IsRefused fault text → fault ≡ f.Memory
 only_memory text s f.Size g h = absurd (omega (arith, g.short))
-only_memory text s (f.Byte line) g (m, q) = absurd (not_both (tokens_of text) g.tokens e.Byte g.cut q)
-only_memory text s (f.Number line) g (m, q) = absurd (not_both (tokens_of text) g.tokens e.Number g.cut q)
-only_memory text s (f.Name line) g (m, q) = absurd (not_both (tokens_of text) g.tokens e.Name g.cut q)
-only_memory text s (f.Form line) g (m, us, q, no_tree) =
+only_memory text s (f.Byte line) g (m, (q, there)) = absurd (not_both (tokens_of text) g.tokens e.Byte g.cut q)
+only_memory text s (f.Number line) g (m, (q, there)) = absurd (not_both (tokens_of text) g.tokens e.Number g.cut q)
+only_memory text s (f.Name line) g (m, (q, there)) = absurd (not_both (tokens_of text) g.tokens e.Name g.cut q)
+only_memory text s (f.Form line) g (m, us, q, no_tree, there) =
     absurd (no_tree s (subst (IsScript s) (same_tokens text g.tokens us g.cut q) g.tree))
 only_memory text s f.Memory h k = refl
 
 -- worked examples: what the definitions compute to
 abbrev read_of : Result (List Token) TokenFault → Read (List Item)
 read_of (Ok ts) = run items_loop ts
-read_of (Err e) = None
+read_of (Err e) = Err 0
 
-reads_tokens : (text : List ℕ) (s : List Item) (r : Result (List Token) TokenFault) → tokens_of text ≡ r → length text ≤ longest_text → read_of r ≡ Some (s, []) → IsScriptText text s
+abbrev is_read : Read (List Item) → Bool
+is_read (Ok x) = true
+is_read (Err left) = false
+
+reads_tokens : (text : List ℕ) (s : List Item) (r : Result (List Token) TokenFault) → tokens_of text ≡ r → length text ≤ longest_text → read_of r ≡ Ok (s, []) → IsScriptText text s
 reads_tokens text s (Ok ts) p l q = record { short = l; tokens = ts; cut = p; tree = is_script ts s q }
 reads_tokens text s (Err e) p l q = cc
 
-pub reads_to : (text : List ℕ) (s : List Item) → ltb (length text) 65537 ≡ true → read_of (tokens_of text) ≡ Some (s, []) → IsScriptText text s
+pub reads_to : (text : List ℕ) (s : List Item) → ltb (length text) 65537 ≡ true → read_of (tokens_of text) ≡ Ok (s, []) → IsScriptText text s
 reads_to text s l q = reads_tokens text s (tokens_of text) refl (grind arith) q
 
-reads_no_tokens : (text : List ℕ) (s : List Item) (r : Result (List Token) TokenFault) → tokens_of text ≡ r → read_of r ≡ None → IsScriptText text s → ⊥
-reads_no_tokens text s (Ok ts) p q h = is_no_script ts q s (subst (IsScript s) (same_tokens text h.tokens ts h.cut p) h.tree)
+no_script_of : (ts : List Token) (r : Read (List Item)) → run items_loop ts ≡ r → is_read r ≡ false → (script : List Item) → IsScript script ts → ⊥
+no_script_of ts (Ok x) e q script h = cc
+no_script_of ts (Err left) e q script h = is_no_script ts left e script h
+
+reads_no_tokens : (text : List ℕ) (s : List Item) (r : Result (List Token) TokenFault) → tokens_of text ≡ r → is_read (read_of r) ≡ false → IsScriptText text s → ⊥
+reads_no_tokens text s (Ok ts) p q h = no_script_of ts (run items_loop ts) refl q s (subst (IsScript s) (same_tokens text h.tokens ts h.cut p) h.tree)
 reads_no_tokens text s (Err e) p q h = not_both (tokens_of text) h.tokens e h.cut p
 
-pub reads_nothing : (text : List ℕ) → read_of (tokens_of text) ≡ None → (s : List Item) → IsScriptText text s → ⊥
+pub reads_nothing : (text : List ℕ) → is_read (read_of (tokens_of text)) ≡ false → (s : List Item) → IsScriptText text s → ⊥
 reads_nothing text q s h = reads_no_tokens text s (tokens_of text) refl q h

@@ -1,6 +1,5 @@
 pub mod Limits
 pub mod Tree
-pub mod Kept
 pub mod TreeCode
 pub mod Views
 pub mod Form
@@ -9,6 +8,7 @@ pub mod BlockCode
 pub mod ScriptCode
 pub mod Grammar
 pub mod Reading
+pub mod Lines
 pub mod Reads
 pub mod Sizes
 pub mod Examples

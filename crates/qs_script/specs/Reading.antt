@@ -1,6 +1,6 @@
--- What the parser makes of a list of tokens: a tree and the tokens after it, or nothing.
+-- What the parser makes of a list of tokens: a tree and the tokens after it, or the token with which no reading goes on.
 use Rattle.std.specs.Borrow.{Bor}
-use Rattle.std.specs.Prelude.{◌≡◌, ℕ, zero, suc, length, List, [], ◌∷◌, ◌++◌, Option, Some, None, option_and_then, Result, Ok, Err, pos}
+use Rattle.std.specs.Prelude.{◌≡◌, ℕ, zero, suc, length, List, [], ◌∷◌, ◌++◌, Option, Some, None, Result, Ok, Err, pos}
 use Rattle.std.proofs.Common.{neg_ℤ}
 use Rattle.qs_tokens.specs.declared.token.Token.{Token}
 use Rattle.qs_tokens.specs.declared.token.Token.TheVariants as t
@@ -27,32 +27,33 @@ use Rattle.qs_script.specs.declared.fault.Fault.TheVariants.{Form, Memory}
 use Rattle.qs_script.specs.Tree.{Stmts, end, command, query, assign, choose, choose_else, again, leave, join_statements}
 use Rattle.qs_script.specs.Limits.{most_levels}
 
--- what is read and the tokens after it, or nothing
+-- what is read and the tokens after it; or nothing, and how many tokens are left where no reading goes on
 abbrev pub Read : Type 0 → Type 0
-Read A = Option (A × List Token)
+Read A = Result (A × List Token) ℕ
 
 infixl 10 ◌>>=◌
-abbrev pub ◌>>=◌ : {A B : Type 0} → Option A → (A → Option B) → Option B
-r >>= f = option_and_then f r
+abbrev pub ◌>>=◌ : {A B : Type 0} → Result A ℕ → (A → Result B ℕ) → Result B ℕ
+Ok x >>= f = f x
+Err left >>= f = Err left
 
--- nothing is read, unless memory ran out
-abbrev pub Fails : {Y : Type 0} → Fault → Option Y → Type 0
-Fails (Form left) read = read ≡ None
+-- no reading goes on at a token, and so many are left there; unless memory ran out
+abbrev pub Fails : {Y : Type 0} → Fault → Result Y ℕ → Type 0
+Fails (Form left) read = read ≡ Err left
 Fails Memory read = Unit {0}
 
 -- the code's result is what is read
-abbrev pub Gives : {X Y : Type 0} → (X → Y) → Result X Fault → Option Y → Type 0
-Gives view (Ok x) read = read ≡ Some (view x)
+abbrev pub Gives : {X Y : Type 0} → (X → Y) → Result X Fault → Result Y ℕ → Type 0
+Gives view (Ok x) read = read ≡ Ok (view x)
 Gives view (Err f) read = Fails f read
 
 -- these statements before what is read
 abbrev pub onto : Stmts → Read Stmts → Read Stmts
-onto xs None = None
-onto xs (Some p) = Some (join_statements xs p.0, p.1)
+onto xs (Err left) = Err left
+onto xs (Ok p) = Ok (join_statements xs p.0, p.1)
 
 -- what is read is added to the statements of before, and the code's result is what is left
 abbrev pub Puts : Stmts → Stmts → Result (Bor (List Token)) Fault → Read Stmts → Type 0
-Puts old new (Ok rest) read = onto old read ≡ Some (new, rest.now)
+Puts old new (Ok rest) read = onto old read ≡ Ok (new, rest.now)
 Puts old new (Err f) read = Fails f read
 
 -- the code finds what is read
@@ -69,20 +70,20 @@ pub record Loop (M : Type 0) : Type 0 where
 
 -- this list before that
 abbrev pub after : {M : Type 0} → Loop M → M → Read M → Read M
-after loop xs None = None
-after loop xs (Some p) = Some (loop.join xs p.0, p.1)
+after loop xs (Err left) = Err left
+after loop xs (Ok p) = Ok (loop.join xs p.0, p.1)
 
 abbrev pub stop_or : {M : Type 0} → Loop M → Option (List Token) → Read M → Read M
-stop_or loop (Some rest) read = Some (loop.none, rest)
+stop_or loop (Some rest) read = Ok (loop.none, rest)
 stop_or loop None read = read
 
 abbrev pub then_more : {M : Type 0} → Loop M → Read M → (List Token → Read M) → Read M
-then_more loop None rest = None
-then_more loop (Some x) rest = after loop x.0 (rest x.1)
+then_more loop (Err left) rest = Err left
+then_more loop (Ok x) rest = after loop x.0 (rest x.1)
 
 -- elements up to the end, in at most n steps
 abbrev pub many_at : {M : Type 0} → Loop M → ℕ → List Token → Read M
-many_at loop zero ts = None
+many_at loop zero ts = Err (length ts)
 many_at loop (suc n) ts = stop_or loop (loop.stop ts) (then_more loop (loop.element ts) (many_at loop n))
 
 -- elements up to the end
@@ -91,53 +92,58 @@ run loop ts = many_at loop (suc (length ts)) ts
 
 -- what is read, as a list of one
 abbrev pub one : {A : Type 0} → Read A → Read (List A)
-one None = None
-one (Some x) = Some (x.0 ∷ [], x.1)
+one (Err left) = Err left
+one (Ok x) = Ok (x.0 ∷ [], x.1)
 
 abbrev pub list_loop : {A : Type 0} → (List Token → Option (List Token)) → (List Token → Read A) → Loop (List A)
 list_loop stop element = record { none = []; join = ◌++◌; stop = stop; element = λ ts. one (element ts) }
 
 abbrev pub name_at : List Token → Read (List ℕ)
-name_at (t.Name n ∷ ts) = Some (n, ts)
-name_at _ = None
+name_at (t.Name n ∷ ts) = Ok (n, ts)
+name_at ts = Err (length ts)
 
 abbrev pub number_at : List Token → Read ℕ
-number_at (t.Number n ∷ ts) = Some (n, ts)
-number_at _ = None
+number_at (t.Number n ∷ ts) = Ok (n, ts)
+number_at ts = Err (length ts)
 
 abbrev pub open_brace_at : List Token → Option (List Token)
 open_brace_at (t.OpenBrace ∷ ts) = Some ts
 open_brace_at _ = None
 
+-- what has to stand at the front of the tokens
+abbrev pub due : List Token → Option (List Token) → Result (List Token) ℕ
+due ts None = Err (length ts)
+due ts (Some rest) = Ok rest
+
 abbrev pub close_brace_at : List Token → Option (List Token)
 close_brace_at (t.CloseBrace ∷ ts) = Some ts
 close_brace_at _ = None
 
-abbrev pub open_paren_at : List Token → Option (List Token)
-open_paren_at (t.OpenParen ∷ ts) = Some ts
-open_paren_at _ = None
+abbrev pub open_paren_at : List Token → Result (List Token) ℕ
+open_paren_at (t.OpenParen ∷ ts) = Ok ts
+open_paren_at ts = Err (length ts)
 
 abbrev pub close_paren_at : List Token → Option (List Token)
 close_paren_at (t.CloseParen ∷ ts) = Some ts
 close_paren_at _ = None
 
-abbrev pub comma_at : List Token → Option (List Token)
-comma_at (t.Comma ∷ ts) = Some ts
-comma_at _ = None
+abbrev pub comma_at : List Token → Result (List Token) ℕ
+comma_at (t.Comma ∷ ts) = Ok ts
+comma_at ts = Err (length ts)
 
-abbrev pub semicolon_at : List Token → Option (List Token)
-semicolon_at (t.Semicolon ∷ ts) = Some ts
-semicolon_at _ = None
+abbrev pub semicolon_at : List Token → Result (List Token) ℕ
+semicolon_at (t.Semicolon ∷ ts) = Ok ts
+semicolon_at ts = Err (length ts)
 
 abbrev pub negative_at : Read ℕ → Read Atom
-negative_at None = None
-negative_at (Some n) = Some (Number (neg_ℤ (pos n.0)), n.1)
+negative_at (Err left) = Err left
+negative_at (Ok n) = Ok (Number (neg_ℤ (pos n.0)), n.1)
 
 abbrev pub atom_at : List Token → Read Atom
-atom_at (t.Name n ∷ ts) = Some (Variable n, ts)
-atom_at (t.Number n ∷ ts) = Some (Number (pos n), ts)
+atom_at (t.Name n ∷ ts) = Ok (Variable n, ts)
+atom_at (t.Number n ∷ ts) = Ok (Number (pos n), ts)
 atom_at (t.Minus ∷ ts) = negative_at (number_at ts)
-atom_at _ = None
+atom_at ts = Err (length ts)
 
 -- a further argument
 abbrev pub further_at : List Token → Read Atom
@@ -160,27 +166,27 @@ call_of object op args = record { object = object; op = op; args = args }
 -- a request on the object, after its dot
 abbrev pub call_at : List ℕ → List Token → Read Call
 call_at object ts =
-    name_at ts >>= λ op. open_paren_at op.1 >>= λ x. args_at x >>= λ as'. Some (call_of object op.0 as'.0, as'.1)
+    name_at ts >>= λ op. open_paren_at op.1 >>= λ x. args_at x >>= λ as'. Ok (call_of object op.0 as'.0, as'.1)
 
-abbrev pub operator_at : List Token → Read Operator
+abbrev pub operator_at : List Token → Option (Operator × List Token)
 operator_at (t.Plus ∷ ts) = Some (o.Plus, ts)
 operator_at (t.Minus ∷ ts) = Some (o.Minus, ts)
 operator_at (t.Times ∷ ts) = Some (o.Times, ts)
 operator_at _ = None
 
 abbrev pub relation_at : List Token → Read Relation
-relation_at (t.Equal ∷ ts) = Some (r.Equal, ts)
-relation_at (t.Unequal ∷ ts) = Some (r.Unequal, ts)
-relation_at (t.Less ∷ ts) = Some (r.Less, ts)
-relation_at (t.AtMost ∷ ts) = Some (r.AtMost, ts)
-relation_at (t.Greater ∷ ts) = Some (r.Greater, ts)
-relation_at (t.AtLeast ∷ ts) = Some (r.AtLeast, ts)
-relation_at _ = None
+relation_at (t.Equal ∷ ts) = Ok (r.Equal, ts)
+relation_at (t.Unequal ∷ ts) = Ok (r.Unequal, ts)
+relation_at (t.Less ∷ ts) = Ok (r.Less, ts)
+relation_at (t.AtMost ∷ ts) = Ok (r.AtMost, ts)
+relation_at (t.Greater ∷ ts) = Ok (r.Greater, ts)
+relation_at (t.AtLeast ∷ ts) = Ok (r.AtLeast, ts)
+relation_at ts = Err (length ts)
 
 -- the rest of an expression that begins with a value
-abbrev pub expr_with : Atom → List Token → Read Operator → Read Expr
-expr_with a ts None = Some (Plain a, ts)
-expr_with a ts (Some op) = atom_at op.1 >>= λ b. Some (Binary a op.0 b.0, b.1)
+abbrev pub expr_with : Atom → List Token → Option (Operator × List Token) → Read Expr
+expr_with a ts None = Ok (Plain a, ts)
+expr_with a ts (Some op) = atom_at op.1 >>= λ b. Ok (Binary a op.0 b.0, b.1)
 
 abbrev pub expr_at : List Token → Read Expr
 expr_at ts = atom_at ts >>= λ a. expr_with a.0 a.1 (operator_at a.1)
@@ -189,11 +195,11 @@ abbrev pub test_of : Atom → Relation → Atom → Test
 test_of left relation right = record { left = left; relation = relation; right = right }
 
 abbrev pub test_at : List Token → Read Test
-test_at ts = atom_at ts >>= λ a. relation_at a.1 >>= λ r. atom_at r.1 >>= λ b. Some (test_of a.0 r.0 b.0, b.1)
+test_at ts = atom_at ts >>= λ a. relation_at a.1 >>= λ r. atom_at r.1 >>= λ b. Ok (test_of a.0 r.0 b.0, b.1)
 
 -- a statement, where a semicolon ends it
 abbrev pub ended_at : Stmts → List Token → Read Stmts
-ended_at s ts = semicolon_at ts >>= λ x. Some (s, x)
+ended_at s ts = semicolon_at ts >>= λ x. Ok (s, x)
 
 -- what a variable gets, after the =: a query where a name and a dot stand, else an expression
 abbrev pub query_at : List ℕ → List ℕ → List Token → Read Stmts
@@ -213,7 +219,7 @@ assigned_at v ts = assign_at v ts
 -- a command with these arguments
 abbrev pub with_args : List ℕ → List ℕ → Read (List Atom) → Read Stmts
 with_args object op args =
-    (args >>= λ (as' : List Atom × List Token). Some (call_of object op as'.0, as'.1)) >>= λ (c : Call × List Token). ended_at (command c.0 end) c.1
+    (args >>= λ (as' : List Atom × List Token). Ok (call_of object op as'.0, as'.1)) >>= λ (c : Call × List Token). ended_at (command c.0 end) c.1
 
 abbrev pub command_at : List ℕ → List Token → Read Stmts
 command_at object ts = call_at object ts >>= λ c. ended_at (command c.0 end) c.1
@@ -222,16 +228,16 @@ command_at object ts = call_at object ts >>= λ c. ended_at (command c.0 end) c.
 abbrev pub named_at : List ℕ → List Token → Read Stmts
 named_at n (t.Dot ∷ ts) = command_at n ts
 named_at n (t.Assign ∷ ts) = assigned_at n ts
-named_at n _ = None
+named_at n ts = Err (length ts)
 
 -- a body in braces
 abbrev pub braced_at : (List Token → Read Stmts) → List Token → Read Stmts
-braced_at inner ts = open_brace_at ts >>= λ x. inner x
+braced_at inner ts = due ts (open_brace_at ts) >>= λ x. inner x
 
 -- the second body of an if, where there is one
 abbrev pub other_at : (List Token → Read Stmts) → List Token → Read (Option Stmts)
-other_at inner (t.Else ∷ ts) = braced_at inner ts >>= λ b. Some (Some b.0, b.1)
-other_at inner ts = Some (None, ts)
+other_at inner (t.Else ∷ ts) = braced_at inner ts >>= λ b. Ok (Some b.0, b.1)
+other_at inner ts = Ok (None, ts)
 
 abbrev pub choice_of : Test → Stmts → Option Stmts → Stmts
 choice_of c first None = choose c first end
@@ -240,11 +246,11 @@ choice_of c first (Some other) = choose_else c first other end
 -- an if, after that word
 abbrev pub choice_at : (List Token → Read Stmts) → List Token → Read Stmts
 choice_at inner ts =
-    test_at ts >>= λ c. braced_at inner c.1 >>= λ b. other_at inner b.1 >>= λ e. Some (choice_of c.0 b.0 e.0, e.1)
+    test_at ts >>= λ c. braced_at inner c.1 >>= λ b. other_at inner b.1 >>= λ e. Ok (choice_of c.0 b.0 e.0, e.1)
 
 -- a repeat, after that word
 abbrev pub repeat_at : (List Token → Read Stmts) → List Token → Read Stmts
-repeat_at inner ts = number_at ts >>= λ n. braced_at inner n.1 >>= λ b. Some (again n.0 b.0 end, b.1)
+repeat_at inner ts = number_at ts >>= λ n. braced_at inner n.1 >>= λ b. Ok (again n.0 b.0 end, b.1)
 
 -- a statement, as a list of one; its bodies are read by inner
 abbrev pub stmt_at : (List Token → Read Stmts) → List Token → Read Stmts
@@ -252,14 +258,14 @@ stmt_at inner (t.Leave ∷ ts) = ended_at (leave end) ts
 stmt_at inner (t.If ∷ ts) = choice_at inner ts
 stmt_at inner (t.Repeat ∷ ts) = repeat_at inner ts
 stmt_at inner (t.Name n ∷ ts) = named_at n ts
-stmt_at inner _ = None
+stmt_at inner ts = Err (length ts)
 
 abbrev pub stmts_loop : (List Token → Read Stmts) → Loop Stmts
 stmts_loop element = record { none = end; join = join_statements; stop = close_brace_at; element = element }
 
 -- a statement as a list of one, where at most `levels` statements stand one inside another
 abbrev pub stmt_in : ℕ → List Token → Read Stmts
-stmt_in zero ts = None
+stmt_in zero ts = Err (length ts)
 stmt_in (suc n) ts = stmt_at (run (stmts_loop (stmt_in n))) ts
 
 -- statements and the brace that closes them, at most `levels` one inside another
@@ -277,22 +283,22 @@ block_of reserved body = record { reserved = reserved; body = body }
 abbrev pub block_at : List Token → Read Block
 block_at ts =
     name_at ts >>= λ n. after names_loop (n.0 ∷ []) (run names_loop n.1) >>= λ ns. run (body_loop most_levels) ns.1 >>= λ b.
-    Some (block_of ns.0 b.0, b.1)
+    Ok (block_of ns.0 b.0, b.1)
 
 -- a block with that word
 abbrev pub separate_at : List Token → Read Block
 separate_at (t.Separate ∷ ts) = block_at ts
-separate_at _ = None
+separate_at ts = Err (length ts)
 
 -- blocks and the brace that closes them
 abbrev pub blocks_loop : Loop (List Block)
 blocks_loop = list_loop close_brace_at separate_at
 
 abbrev pub kind_at : List Token → Read KindText
-kind_at (t.Account ∷ ts) = number_at ts >>= λ n. Some (Account n.0, n.1)
-kind_at (t.Buffer ∷ ts) = number_at ts >>= λ n. Some (Buffer n.0, n.1)
-kind_at (t.Grid ∷ ts) = number_at ts >>= λ n. number_at n.1 >>= λ m. Some (Grid n.0 m.0, m.1)
-kind_at _ = None
+kind_at (t.Account ∷ ts) = number_at ts >>= λ n. Ok (Account n.0, n.1)
+kind_at (t.Buffer ∷ ts) = number_at ts >>= λ n. Ok (Buffer n.0, n.1)
+kind_at (t.Grid ∷ ts) = number_at ts >>= λ n. number_at n.1 >>= λ m. Ok (Grid n.0 m.0, m.1)
+kind_at ts = Err (length ts)
 
 abbrev pub object_of : List ℕ → KindText → Item
 object_of name kind = Object (record { name = name; kind = kind })
@@ -302,27 +308,27 @@ client_of name blocks = Client (record { name = name; blocks = blocks })
 
 -- the object of that name, from its kind on
 abbrev pub object_called_at : List ℕ → List Token → Read Item
-object_called_at name ts = kind_at ts >>= λ k. Some (object_of name k.0, k.1)
+object_called_at name ts = kind_at ts >>= λ k. Ok (object_of name k.0, k.1)
 
 abbrev pub object_at : List Token → Read Item
 object_at ts = name_at ts >>= λ n. object_called_at n.0 n.1
 
 -- a client's own blocks, after the brace that opens them
 abbrev pub own_blocks_at : List ℕ → List Token → Read Item
-own_blocks_at name ts = run blocks_loop ts >>= λ bs. Some (client_of name bs.0, bs.1)
+own_blocks_at name ts = run blocks_loop ts >>= λ bs. Ok (client_of name bs.0, bs.1)
 
 -- a formal: its kind and its name
 abbrev pub formal_of : KindWord → List ℕ → Formal
 formal_of kind name = record { kind = kind; name = name }
 
 abbrev pub kind_word_at : List Token → Read KindWord
-kind_word_at (t.Account ∷ ts) = Some (kind.Account, ts)
-kind_word_at (t.Buffer ∷ ts) = Some (kind.Buffer, ts)
-kind_word_at (t.Grid ∷ ts) = Some (kind.Grid, ts)
-kind_word_at _ = None
+kind_word_at (t.Account ∷ ts) = Ok (kind.Account, ts)
+kind_word_at (t.Buffer ∷ ts) = Ok (kind.Buffer, ts)
+kind_word_at (t.Grid ∷ ts) = Ok (kind.Grid, ts)
+kind_word_at ts = Err (length ts)
 
 abbrev pub formal_at : List Token → Read Formal
-formal_at ts = kind_word_at ts >>= λ k. name_at k.1 >>= λ n. Some (formal_of k.0 n.0, n.1)
+formal_at ts = kind_word_at ts >>= λ k. name_at k.1 >>= λ n. Ok (formal_of k.0 n.0, n.1)
 
 abbrev pub further_formal_at : List Token → Read Formal
 further_formal_at ts = comma_at ts >>= λ x. formal_at x
@@ -352,7 +358,7 @@ started_of name template objects = Started (record { name = name; template = tem
 
 -- a template's blocks, with the brace that opens them
 abbrev pub template_blocks_at : List ℕ → List Formal → List Token → Read Item
-template_blocks_at name formals ts = open_brace_at ts >>= λ x. run blocks_loop x >>= λ bs. Some (template_of name formals bs.0, bs.1)
+template_blocks_at name formals ts = due ts (open_brace_at ts) >>= λ x. run blocks_loop x >>= λ bs. Ok (template_of name formals bs.0, bs.1)
 
 -- the template of that name, from its first formal on
 abbrev pub template_called_at : List ℕ → List Token → Read Item
@@ -363,7 +369,7 @@ template_at ts = name_at ts >>= λ n. open_paren_at n.1 >>= λ x. template_calle
 
 -- the client of that name, from its first object on
 abbrev pub started_with_at : List ℕ → List ℕ → List Token → Read Item
-started_with_at name template ts = given_at ts >>= λ os. Some (started_of name template os.0, os.1)
+started_with_at name template ts = given_at ts >>= λ os. Ok (started_of name template os.0, os.1)
 
 -- the client of that name, from its template on
 abbrev pub started_at : List ℕ → List Token → Read Item
@@ -373,7 +379,7 @@ started_at name ts = name_at ts >>= λ n. open_paren_at n.1 >>= λ x. started_wi
 abbrev pub client_called_at : List ℕ → List Token → Read Item
 client_called_at name (t.OpenBrace ∷ ts) = own_blocks_at name ts
 client_called_at name (t.Assign ∷ ts) = started_at name ts
-client_called_at name _ = None
+client_called_at name ts = Err (length ts)
 
 abbrev pub client_at : List Token → Read Item
 client_at ts = name_at ts >>= λ n. client_called_at n.0 n.1
@@ -382,7 +388,7 @@ abbrev pub item_at : List Token → Read Item
 item_at (t.Object ∷ ts) = object_at ts
 item_at (t.Client ∷ ts) = client_at ts
 item_at (t.Template ∷ ts) = template_at ts
-item_at _ = None
+item_at ts = Err (length ts)
 
 -- nothing, at the end
 abbrev pub end_at : List Token → Option (List Token)

@@ -1,5 +1,5 @@
 -- What reading a text answers.
-use Rattle.std.specs.Prelude.{◌≡◌, ℕ, ◌≤◌, ◌<◌, List, length, Result, Ok, Err}
+use Rattle.std.specs.Prelude.{◌≡◌, ℕ, ◌-◌, ◌≤◌, ◌<◌, List, length, Result, Ok, Err}
 use Rattle.qs_tokens.specs.declared.token.Token.{Token}
 use Rattle.qs_script.specs.declared.tree.Item.{Item}
 use Rattle.qs_script.specs.declared.fault.ReadFault.{ReadFault}
@@ -8,6 +8,8 @@ use Rattle.qs_tokens.specs.declared.lex.TokenFault.{TokenFault}
 use Rattle.qs_tokens.specs.declared.lex.TokenFault.TheVariants as token
 use Rattle.qs_tokens.specs.Tokens.{tokens_of}
 use Rattle.qs_script.specs.Grammar.{IsScript}
+use Rattle.qs_script.specs.Lines.{IsFaultLine, IsTokenLine, last_line}
+use Rattle.qs_script.specs.Reading.{items_loop, run}
 use Rattle.qs_script.specs.Limits.{longest_text}
 
 -- the text has at most 65,536 bytes, and its tokens are the script's
@@ -17,15 +19,28 @@ pub record IsScriptText (text : List ℕ) (script : List Item) : Type 0 where
   pub cut : tokens_of text ≡ Ok tokens
   pub tree : IsScript script tokens
 
--- why a text is refused: too long, its first token fault, or no script has its tokens. The lines are left open; where memory
--- runs out no more is said than that the text wasn't too long
+-- a text's first token fault, with its line
+abbrev pub IsFaultAt : List ℕ → TokenFault → ℕ → Type 0
+IsFaultAt text fault line = (tokens_of text ≡ Err fault) × IsFaultLine text fault line
+
+-- The line of a fault of form: that of the first token with which no reading goes on, or of the text's end. The definition of reading
+-- stops there, with so many tokens left.
+pub record IsFormLine (text : List ℕ) (ts : List Token) (line : ℕ) : Type 0 where
+  pub left : ℕ
+  pub stops : run items_loop ts ≡ Err left
+  pub at_token : length ts - left < length ts → IsTokenLine text (length ts - left) line
+  pub at_end : length ts ≤ length ts - left → line ≡ last_line text
+
+-- why a text is refused: too long; its first token fault, with its line; or no script has its tokens, with the line where reading stops.
+-- Where memory runs out no more is said than that the text wasn't too long
 abbrev pub IsRefused : ReadFault → List ℕ → Type 0
 IsRefused f.Size text = longest_text < length text
-IsRefused (f.Byte line) text = (length text ≤ longest_text) × (tokens_of text ≡ Err token.Byte)
-IsRefused (f.Number line) text = (length text ≤ longest_text) × (tokens_of text ≡ Err token.Number)
-IsRefused (f.Name line) text = (length text ≤ longest_text) × (tokens_of text ≡ Err token.Name)
+IsRefused (f.Byte line) text = (length text ≤ longest_text) × IsFaultAt text token.Byte line
+IsRefused (f.Number line) text = (length text ≤ longest_text) × IsFaultAt text token.Number line
+IsRefused (f.Name line) text = (length text ≤ longest_text) × IsFaultAt text token.Name line
 IsRefused (f.Form line) text =
     (length text ≤ longest_text) × (ts : List Token) × (tokens_of text ≡ Ok ts) × ((script : List Item) → IsScript script ts → ⊥)
+    × IsFormLine text ts line
 IsRefused f.Memory text = length text ≤ longest_text
 
 abbrev pub IsReadOf : List ℕ → Result (List Item) ReadFault → Type 0
@@ -33,19 +48,19 @@ IsReadOf text (Ok script) = IsScriptText text script
 IsReadOf text (Err fault) = IsRefused fault text
 
 -- a token fault with its line
-abbrev pub IsPlaced : TokenFault → ReadFault → Type 0
-IsPlaced fault f.Size = ⊥
-IsPlaced fault (f.Byte line) = fault ≡ token.Byte
-IsPlaced fault (f.Number line) = fault ≡ token.Number
-IsPlaced fault (f.Name line) = fault ≡ token.Name
-IsPlaced fault (f.Form line) = ⊥
-IsPlaced fault f.Memory = ⊥
+abbrev pub IsPlaced : TokenFault → ℕ → ReadFault → Type 0
+IsPlaced fault at f.Size = ⊥
+IsPlaced fault at (f.Byte line) = (fault ≡ token.Byte) × (line ≡ at)
+IsPlaced fault at (f.Number line) = (fault ≡ token.Number) × (line ≡ at)
+IsPlaced fault at (f.Name line) = (fault ≡ token.Name) × (line ≡ at)
+IsPlaced fault at (f.Form line) = ⊥
+IsPlaced fault at f.Memory = ⊥
 
 -- the first token fault of a text, unless memory ran out
-abbrev pub HasFault : ReadFault → Result (List Token) TokenFault → Type 0
-HasFault f.Size tokens = ⊥
-HasFault (f.Byte line) tokens = tokens ≡ Err token.Byte
-HasFault (f.Number line) tokens = tokens ≡ Err token.Number
-HasFault (f.Name line) tokens = tokens ≡ Err token.Name
-HasFault (f.Form line) tokens = ⊥
-HasFault f.Memory tokens = Unit {0}
+abbrev pub HasFault : ReadFault → List ℕ → Type 0
+HasFault f.Size text = ⊥
+HasFault (f.Byte line) text = IsFaultAt text token.Byte line
+HasFault (f.Number line) text = IsFaultAt text token.Number line
+HasFault (f.Name line) text = IsFaultAt text token.Name line
+HasFault (f.Form line) text = ⊥
+HasFault f.Memory text = Unit {0}

@@ -1,32 +1,29 @@
 // Faults of reading.
 
 use std::alloc::AllocError;
-use std::fmt;
-use std::fmt::{Debug, Display, Formatter, Write};
 use thiserror::Error;
 
 /// Why a text is no script. A line is one more than the number of LF before the fault's place. A reading that fails leaves nothing.
 #[derive(Clone, Copy, Debug, PartialEq, Eq, Error)]
 pub enum ReadFault {
     /// The text has more than 65,536 bytes. This is found before anything else.
+    #[error("1 Size")]
     Size,
     /// A byte that begins no token, a `!` without `=` after it too. Its place is that byte.
+    #[error("2 Byte line {line}")]
     Byte { line: u32 },
     /// A number of more than 18 digits. Its place is the first of them.
+    #[error("3 Number line {line}")]
     Number { line: u32 },
     /// A name of more than 16 bytes. Its place is the first of them.
+    #[error("4 Name line {line}")]
     Name { line: u32 },
     /// The tokens have no tree. Its place is the first token at which no script can go on, or the text's end.
+    #[error("5 Form line {line}")]
     Form { line: u32 },
     /// Memory ran out.
+    #[error("6 Memory")]
     Memory,
-}
-
-/// A fault's text is the name of its variant, with its line; what the program prints of it is written by `qs_report`.
-impl Display for ReadFault {
-    fn fmt<W: Write>(&self, f: &mut Formatter<W>) -> fmt::Result {
-        Debug::fmt(self, f)
-    }
 }
 
 impl From<AllocError> for ReadFault {

@@ -6,6 +6,7 @@ mod fault;
 mod items;
 pub mod laws;
 mod limits;
+mod lines;
 mod lists;
 mod reader;
 mod statements;
@@ -15,10 +16,10 @@ mod values;
 
 pub use fault::ReadFault;
 pub use limits::LONGEST_TEXT;
-pub use qs_tokens::{Name, Number, Token, TokenFault};
+pub use qs_tokens::{Name, Number};
 pub use reader::read;
 pub use tree::{
-    Args, Atom, Block, Blocks, Body, Call, ClientItem, Expr, Formal, Formals, Item, KindText,
-    KindWord, NameList, ObjectItem, Operator, Relation, Script, StartedItem, Stmt, TemplateItem,
-    Test,
+    ArgumentList, Atom, Block, Blocks, Body, Call, ClientItem, Expr, Formal, Formals, Item,
+    KindText, KindWord, NameList, ObjectItem, Operator, Relation, Script, StartedItem, Stmt,
+    TemplateItem, Test,
 };

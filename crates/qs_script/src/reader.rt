@@ -1,6 +1,6 @@
 // From a text to a script.
 
-ghost use Rattle.std.specs.Prelude.{◌≡◌, ◌<◌, ◌↔◌, length, Ok, IfOk, IfErr, IsErrOf};
+ghost use Rattle.std.specs.Prelude.{◌≡◌, ◌<◌, ◌≤◌, ◌↔◌, length, Ok, IfOk, IfErr, IsErrOf};
 ghost use Rattle.qs_tokens.specs.Tokens.{tokens_of};
 ghost use Rattle.qs_script.specs.Reads.{HasFault, IsReadOf, IsPlaced};
 ghost use Rattle.qs_script.specs.Limits.{longest_text};
@@ -8,35 +8,14 @@ ghost use Rattle.qs_script.specs.Limits.{longest_text};
 use crate::fault::{Fault, ReadFault};
 use crate::items::script;
 use crate::limits::LONGEST_TEXT;
+use crate::lines::line_of;
 use crate::tree::Script;
-use qs_tokens::{ListFault, Piece, Token, TokenFault, front, list_tokens};
+use qs_tokens::{ListFault, Token, TokenFault, list_tokens};
 use std::alloc::Global;
-
-// The line of the token before which so many stand, or of the fault or the end where fewer stand.
-fn line_after(text: &[u8], count: usize) -> u32 {
-    let mut line: u32 = 1;
-    let mut left = count;
-    let mut rest = text;
-    'each: while !rest.is_empty() {
-        match front(rest) {
-            Ok((Piece::Token(_), _)) if left == 0 => return line,
-            Ok((piece, after)) => {
-                match piece {
-                    Piece::Token(_) => left = left.saturating_sub(1),
-                    Piece::Line => line = line.saturating_add(1),
-                    Piece::Gap => {}
-                }
-                rest = after;
-            }
-            Err(_) => return line,
-        }
-    }
-    line
-}
 
 // The fault at that line.
 fn placed(fault: TokenFault, line: u32) -> ReadFault
-    ensures same { IsPlaced fault result }
+    ensures same { IsPlaced fault line result }
 {
     match fault {
         TokenFault::Byte => ReadFault::Byte { line },
@@ -47,12 +26,13 @@ fn placed(fault: TokenFault, line: u32) -> ReadFault
 
 // The tokens of a text, or its first token fault.
 fn tokenize(alloc: Global, text: &[u8]) -> Result<Vec<Token>, ReadFault>
+    requires short { length text.now ≤ longest_text }
     ensures tokens { IfOk result (λ tokens. tokens_of text.now ≡ Ok tokens.items) }
-    ensures fault { IfErr result (λ fault. HasFault fault (tokens_of text.now)) }
+    ensures fault { IfErr result (λ fault. HasFault fault text.now) }
 {
     match list_tokens(alloc, text) {
         Ok(tokens) => Ok(tokens),
-        Err(ListFault::Token(fault)) => Err(placed(fault, line_after(text, usize::MAX))),
+        Err(ListFault::Token(fault)) => Err(placed(fault, line_of(text, text.len()))),
         Err(ListFault::Memory) => Err(ReadFault::Memory),
     }
 }
@@ -72,7 +52,7 @@ pub fn read(alloc: Global, text: &[u8]) -> Result<Script, ReadFault>
     match script(alloc, tokens.as_slice()) {
         Ok(script) => Ok(script),
         Err(Fault::Form(left)) => Err(ReadFault::Form {
-            line: line_after(text, tokens.len().saturating_sub(left)),
+            line: line_of(text, tokens.len().saturating_sub(left)),
         }),
         Err(Fault::Memory) => Err(ReadFault::Memory),
     }

@@ -1,6 +1,6 @@
 // Statements. Each is added to its body as soon as it is read.
 
-ghost use Rattle.std.specs.Prelude.{◌≡◌, ◌<◌, ◌≤◌, [], ◌∷◌, length, Some, IfOk};
+ghost use Rattle.std.specs.Prelude.{◌≡◌, ◌<◌, ◌≤◌, [], ◌∷◌, length, Ok, IfOk};
 ghost use Rattle.qs_script.specs.Views.{single};
 ghost use Rattle.qs_script.specs.Reading.{Gives, Puts, run, body_loop, stmt_in, stmt_at, choice_at, other_at, repeat_at, braced_at, named_at, command_at, call_of, with_args, args_at, after, more_loop, assigned_at, query_at, assign_at, computed_at, semicolon_at, ended_at};
 ghost use Rattle.qs_script.specs.Tree.{end, leave, command};
@@ -8,7 +8,7 @@ ghost use Rattle.qs_script.specs.Tree.{end, leave, command};
 use crate::expect::{past_close_brace, past_close_paren};
 use crate::fault::Fault;
 use crate::limits::MOST_LEVELS;
-use crate::tree::{Args, Atom, Body, Expr, Operator, Stmt};
+use crate::tree::{ArgumentList, Atom, Body, Expr, Operator, Stmt};
 use crate::values::{args, atom, operator, request, several, test};
 use qs_tokens::{Name, Token};
 use std::alloc::Global;
@@ -234,7 +234,7 @@ fn called_with<'t>(
     ensures shorter { IfOk result (λ rest. length rest.now < length tokens.now) }
 {
     if let Some(rest) = past_close_paren(tokens) {
-        return put_command(object, op, Args::one(first), stmts, rest);
+        return put_command(object, op, ArgumentList::one(alloc, first), stmts, rest);
     }
     let (args, rest) = several(alloc, first, tokens)?;
     put_command(object, op, args, stmts, rest)
@@ -245,7 +245,7 @@ fn called_with<'t>(
 fn put_command<'t>(
     object: &Name,
     op: &Name,
-    args: Args,
+    args: ArgumentList,
     stmts: &mut Body,
     tokens: &'t [Token],
 ) -> Result<&'t [Token], Fault>
@@ -348,7 +348,7 @@ fn past_semicolon(tokens: &[Token]) -> Result<&[Token], Fault>
 // Adds the statement, and gives the tokens after it back.
 #[inline(always)]
 fn put<'t>(stmts: &mut Body, stmt: Stmt, rest: &'t [Token]) -> Result<&'t [Token], Fault>
-    ensures exact { Puts stmts.old stmts.new result (Some (single stmt, rest.now)) }
+    ensures exact { Puts stmts.old stmts.new result (Ok (single stmt, rest.now)) }
     ensures same { IfOk result (λ left. left.now ≡ rest.now) }
 {
     stmts.push(stmt)?;

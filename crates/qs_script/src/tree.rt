@@ -1,6 +1,6 @@
 // Syntax trees.
 
-ghost use Rattle.std.specs.Prelude.{◌≡◌, [], ◌∷◌, OnOk, OnErr, IfOk};
+ghost use Rattle.std.specs.Prelude.{◌≡◌, [], ◌∷◌, ◌++◌, OnOk, OnErr, IfOk};
 ghost use Rattle.qs_script.specs.Tree.{end, command, query, assign, join_statements};
 ghost use Rattle.qs_script.specs.Reading.{call_of};
 ghost use Rattle.qs_script.specs.Views.{single, stmts_of};
@@ -8,6 +8,7 @@ ghost use Rattle.qs_script.specs.Form.{HasForm};
 
 use crate::lists::make_room;
 use qs_tokens::{Name, Number};
+use smallvec::SmallVec;
 use std::alloc::{AllocError, Global};
 use std::marker::Model;
 
@@ -16,6 +17,13 @@ use std::marker::Model;
 pub enum Atom {
     Variable(Name),
     Number(i64),
+}
+
+/// What stands in a place of a list of arguments that is not used.
+impl Default for Atom {
+    fn default() -> Atom {
+        Atom::Number(0)
+    }
 }
 
 /// How two values make one.
@@ -52,71 +60,56 @@ pub struct Test {
     pub right: Atom,
 }
 
-/// The arguments of a request, as they are written. Contracts see them as a list.
+/// The arguments of a request in the order in which they are written; up to one takes no memory. Contracts see them as a list.
 #[derive(Drop)]
-pub struct Args {
-    kept: Kept,
+pub struct ArgumentList {
+    atoms: SmallVec<Atom, 1>,
 }
 
-// Where arguments are kept: up to one takes no memory.
-#[derive(Drop)]
-enum Kept {
-    Nothing,
-    One([Atom; 1]),
-    More(Vec<Atom>),
-}
-
-impl Model for Args {
+impl Model for ArgumentList {
     ghost use Rattle.std.specs.Prelude.{List};
     ghost use Rattle.qs_script.specs.declared.tree.Atom.{Atom};
 
     ghost Value = { List Atom };
 
-    ghost use Rattle.qs_script.specs.Kept.{atoms_of};
-
-    ghost view = { λ a. atoms_of a.kept };
+    ghost view = { λ a. a.atoms.items };
 }
 
-impl Args {
+impl ArgumentList {
     // No arguments.
     #[inline(always)]
-    pub(crate) fn none() -> Args
+    pub(crate) fn none(alloc: Global) -> ArgumentList
         ensures { result ≡ [] }
     {
-        Args {
-            kept: Kept::Nothing,
+        ArgumentList {
+            atoms: SmallVec::new(alloc),
         }
     }
 
     // One argument.
     #[inline(always)]
-    pub(crate) fn one(atom: Atom) -> Args
+    pub(crate) fn one(alloc: Global, atom: Atom) -> ArgumentList
         ensures { result ≡ atom ∷ [] }
     {
-        Args {
-            kept: Kept::One([atom]),
+        ArgumentList {
+            atoms: SmallVec::from_buf(alloc, [atom]),
         }
     }
 
-    // These arguments.
+    // Adds an argument at the end.
     #[inline(always)]
-    pub(crate) fn more(atoms: Vec<Atom>) -> Args
-        ensures { result ≡ atoms.items }
+    pub(crate) fn push(&mut self, atom: Atom) -> Result<(), AllocError>
+        ensures added { OnOk result (self.new ≡ self.old ++ atom ∷ []) }
     {
-        Args {
-            kept: Kept::More(atoms),
-        }
+        self.atoms.push(atom)?;
+        Ok(())
     }
 
     /// The arguments in order.
     pub fn as_slice(&self) -> &[Atom]
         ensures same { result.now ≡ self.now }
     {
-        match &self.kept {
-            Kept::Nothing => &[],
-            Kept::One(one) => one.as_slice(),
-            Kept::More(atoms) => atoms.as_slice(),
-        }
+        self.atoms.as_slice()
     }
 }
 
@@ -125,7 +118,7 @@ impl Args {
 pub struct Call {
     pub object: Name,
     pub op: Name,
-    pub args: Args,
+    pub args: ArgumentList,
 }
 
 /// A statement. An `if` without `else` and one with an empty `else` are different statements.
@@ -212,7 +205,7 @@ impl Body {
         &mut self,
         object: &Name,
         op: &Name,
-        args: Args,
+        args: ArgumentList,
     ) -> Result<(), AllocError>
         ensures added { OnOk result (self.new ≡ join_statements self.old (command (call_of object.now op.now args) end)) }
         ensures kept { OnErr result (self.new ≡ self.old) }
@@ -232,7 +225,7 @@ impl Body {
         variable: &Name,
         object: &Name,
         op: &Name,
-        args: Args,
+        args: ArgumentList,
     ) -> Result<(), AllocError>
         ensures added { OnOk result (self.new ≡ join_statements self.old (query variable.now (call_of object.now op.now args) end)) }
         ensures kept { OnErr result (self.new ≡ self.old) }

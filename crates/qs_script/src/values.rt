@@ -5,8 +5,7 @@ ghost use Rattle.qs_script.specs.Reading.{Gives, Finds, after, run, atom_at, fur
 
 use crate::expect::past_close_paren;
 use crate::fault::Fault;
-use crate::lists::add;
-use crate::tree::{Args, Atom, Operator, Relation, Test};
+use crate::tree::{ArgumentList, Atom, Operator, Relation, Test};
 use qs_tokens::{Name, Token};
 use std::alloc::Global;
 
@@ -39,12 +38,12 @@ fn further(tokens: &[Token]) -> Result<(Atom, &[Token]), Fault>
 
 // The arguments after the first, and the bracket that closes them.
 #[inline(always)]
-fn more(alloc: Global, first: Atom, tokens: &[Token]) -> Result<(Args, &[Token]), Fault>
+fn more(alloc: Global, first: Atom, tokens: &[Token]) -> Result<(ArgumentList, &[Token]), Fault>
     ensures exact { Gives (λ x. (x.0, x.1.now)) result (after more_loop (first ∷ []) (run more_loop tokens.now)) }
     ensures shorter { IfOk result (λ x. length x.1.now < length tokens.now) }
 {
     if let Some(rest) = past_close_paren(tokens) {
-        return Ok((Args::one(first), rest));
+        return Ok((ArgumentList::one(alloc, first), rest));
     }
     several(alloc, first, tokens)
 }
@@ -55,31 +54,30 @@ pub(crate) fn several(
     alloc: Global,
     first: Atom,
     tokens: &[Token],
-) -> Result<(Args, &[Token]), Fault>
+) -> Result<(ArgumentList, &[Token]), Fault>
     ensures exact { Gives (λ x. (x.0, x.1.now)) result (after more_loop (first ∷ []) (run more_loop tokens.now)) }
     ensures shorter { IfOk result (λ x. length x.1.now < length tokens.now) }
 {
-    let mut atoms = Vec::new(alloc);
-    add(&mut atoms, first)?;
+    let mut args = ArgumentList::one(alloc, first);
     let mut rest = tokens;
     'each: loop {
         if let Some(after) = past_close_paren(rest) {
-            return Ok((Args::more(atoms), after));
+            return Ok((args, after));
         }
         let (atom, after) = further(rest)?;
-        add(&mut atoms, atom)?;
+        args.push(atom)?;
         rest = after;
     }
 }
 
 // The arguments, and the bracket that closes them.
 #[inline(always)]
-pub(crate) fn args(alloc: Global, tokens: &[Token]) -> Result<(Args, &[Token]), Fault>
+pub(crate) fn args(alloc: Global, tokens: &[Token]) -> Result<(ArgumentList, &[Token]), Fault>
     ensures exact { Gives (λ x. (x.0, x.1.now)) result (args_at tokens.now) }
     ensures shorter { IfOk result (λ x. length x.1.now < length tokens.now) }
 {
     if let Some(rest) = past_close_paren(tokens) {
-        return Ok((Args::none(), rest));
+        return Ok((ArgumentList::none(alloc), rest));
     }
     let (first, rest) = atom(tokens)?;
     more(alloc, first, rest)
@@ -87,7 +85,10 @@ pub(crate) fn args(alloc: Global, tokens: &[Token]) -> Result<(Args, &[Token]), 
 
 // A request's operation and arguments, after the dot.
 #[inline(always)]
-pub(crate) fn request(alloc: Global, tokens: &[Token]) -> Result<(&Name, Args, &[Token]), Fault>
+pub(crate) fn request(
+    alloc: Global,
+    tokens: &[Token],
+) -> Result<(&Name, ArgumentList, &[Token]), Fault>
     ensures exact { (object : List ℕ) → Gives (λ x. (call_of object x.0.now x.1, x.2.now)) result (call_at object tokens.now) }
     ensures shorter { IfOk result (λ x. length x.2.now < length tokens.now) }
 {

@@ -3,3 +3,4 @@ pub mod Lexemes
 pub mod TokenCounts
 pub mod Suffixes
 pub mod Lists
+pub mod ByLine

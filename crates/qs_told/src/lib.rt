@@ -7,5 +7,5 @@ mod told;
 mod window;
 
 pub use bytes::{put, put_all};
-pub use spot::{Spot, spot_of};
+pub use spot::{Spot, line_end, spot_of};
 pub use told::{Diagnosis, Span, put_diagnosis, put_warning};

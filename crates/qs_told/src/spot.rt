@@ -38,6 +38,7 @@ fn past(spot: Spot, byte: u8) -> Spot
 pub fn spot_of(text: &[u8], offset: usize) -> Spot
     requires within { offset ≤ length text.now }
     ensures exact { result ≡ spot_at text.now offset }
+    ensures lines { result.line ≤ offset + 1 }
     ensures within { result.column ≤ offset + 1 }
     ensures first { 1 ≤ result.column }
 {
@@ -48,8 +49,8 @@ pub fn spot_of(text: &[u8], offset: usize) -> Spot
     spot
 }
 
-// Where a line ends: at the first LF from here on, or at the text's end.
-pub(crate) fn line_end(text: &[u8], from: usize) -> usize
+/// Where a line ends: at the first LF from here on, or at the text's end.
+pub fn line_end(text: &[u8], from: usize) -> usize
     requires within { from ≤ length text.now }
     ensures exact { result ≡ from + line_end_at text.now from }
     ensures within { result ≤ length text.now }

@@ -1,3 +1,4 @@
 pub mod Doings
 pub mod Warnings
+pub mod WarningPlaces
 pub mod WarningExamples

@@ -1,5 +1,8 @@
 // Where the names of a checked script stand, by the numbers that a program has for them.
 
+ghost use Rattle.std.specs.Prelude.{◌≡◌, length, option_map};
+ghost use Rattle.qs_warnings.specs.WarningPlaces.{after, blocks_at, blocks_name, brace_at, client_at, is_assign, is_beside_dot, is_brace, is_dot, is_listed, is_name, is_opening, is_opening_at, is_separate, is_separate_at, is_template, is_variable, list_at, listed_at, listed_past, next, numbered, object_at, opened_at, template_at, variable_at};
+
 use qs_causes::Source;
 use qs_tokens::Token;
 
@@ -11,7 +14,9 @@ enum Opening {
 }
 
 impl Opening {
-    fn is(self, token: Option<&Token>) -> bool {
+    fn is(self, token: Option<&Token>) -> bool
+        ensures exact { result ≡ is_opening self (option_map (λ token. token.now) token.entry) }
+    {
         match self {
             Opening::Object => matches!(token, Some(Token::Object)),
             Opening::Client => matches!(token, Some(Token::Client)),
@@ -19,106 +24,193 @@ impl Opening {
     }
 }
 
-// The place after the opening word of that number; past the last token, where there are not so many.
-fn after_opening(source: Source<'_>, opening: Opening, number: u8) -> usize {
-    let mut left = number;
-    for place in 0..source.len() {
-        if opening.is(source.token(place)) {
-            if left == 0 {
-                return place.saturating_add(1);
-            }
-            left -= 1;
-        }
+fn is_template(token: Option<&Token>) -> bool
+    ensures exact { result ≡ is_template (option_map (λ token. token.now) token.entry) }
+{
+    matches!(token, Some(Token::Template))
+}
+
+fn is_brace(token: Option<&Token>) -> bool
+    ensures exact { result ≡ is_brace (option_map (λ token. token.now) token.entry) }
+{
+    matches!(token, Some(Token::OpenBrace))
+}
+
+fn is_separate(token: Option<&Token>) -> bool
+    ensures exact { result ≡ is_separate (option_map (λ token. token.now) token.entry) }
+{
+    matches!(token, Some(Token::Separate))
+}
+
+fn is_assign(token: Option<&Token>) -> bool
+    ensures exact { result ≡ is_assign (option_map (λ token. token.now) token.entry) }
+{
+    matches!(token, Some(Token::Assign))
+}
+
+fn is_dot(token: Option<&Token>) -> bool
+    ensures exact { result ≡ is_dot (option_map (λ token. token.now) token.entry) }
+{
+    matches!(token, Some(Token::Dot))
+}
+
+fn is_name(token: Option<&Token>) -> bool
+    ensures exact { result ≡ is_name (option_map (λ token. token.now) token.entry) }
+{
+    matches!(token, Some(Token::Name(_)))
+}
+
+// The place after a place.
+fn next(place: usize) -> usize
+    ensures exact { result ≡ next place }
+{
+    place.saturating_add(1)
+}
+
+// The place after a place; past the last token, where there is none.
+fn after(place: Option<usize>, count: usize) -> usize
+    ensures exact { result ≡ after place count }
+{
+    match place {
+        Some(place) => next(place),
+        None => count,
     }
-    source.len()
+}
+
+// The place of the opening word of that number.
+fn opening_place(source: Source<'_>, opening: Opening, number: u8) -> Option<usize>
+    ensures exact { result ≡ numbered (is_opening_at source.entry.tokens.now opening) 0 (length source.entry.tokens.now) number }
+{
+    (0..source.len())
+        .filter(|place| opening.is(source.token(*place)))
+        .nth(usize::from(number))
+}
+
+// The place after the opening word of that number; past the last token, where there are not so many.
+fn after_opening(source: Source<'_>, opening: Opening, number: u8) -> usize
+    ensures exact { result ≡ opened_at source.entry.text.now source.entry.tokens.now opening number }
+{
+    after(opening_place(source, opening, number), source.len())
 }
 
 /// The place of an object's name, where it is declared.
-pub(crate) fn object_place(source: Source<'_>, object: u8) -> usize {
+pub(crate) fn object_place(source: Source<'_>, object: u8) -> usize
+    ensures exact { result ≡ object_at source.entry.text.now source.entry.tokens.now object }
+{
     after_opening(source, Opening::Object, object)
 }
 
 /// The place of a client's name.
-pub(crate) fn client_place(source: Source<'_>, client: u8) -> usize {
+pub(crate) fn client_place(source: Source<'_>, client: u8) -> usize
+    ensures exact { result ≡ client_at source.entry.text.now source.entry.tokens.now client }
+{
     after_opening(source, Opening::Client, client)
 }
 
 // The place of the name of the template that a word names.
-fn template_place(source: Source<'_>, word: &[u8]) -> usize {
-    for place in 0..source.len() {
-        let next = place.saturating_add(1);
-        if matches!(source.token(place), Some(Token::Template)) && source.word(next) == word {
-            return next;
-        }
-    }
-    source.len()
+fn template_place(source: Source<'_>, word: &[u8]) -> usize
+    ensures exact { result ≡ template_at source.entry.text.now source.entry.tokens.now word.now }
+{
+    let found = (0..source.len()).find(|place| is_template(source.token(*place))
+        && source.word(next(*place)) == word);
+    after(found, source.len())
 }
 
 // The first brace from a place on.
-fn brace_from(source: Source<'_>, from: usize) -> usize {
-    for place in from..source.len() {
-        if matches!(source.token(place), Some(Token::OpenBrace)) {
-            return place;
-        }
+fn brace_from(source: Source<'_>, from: usize) -> usize
+    ensures exact { result ≡ brace_at source.entry.text.now source.entry.tokens.now from }
+{
+    (from..source.len())
+        .find(|place| is_brace(source.token(*place)))
+        .unwrap_or(source.len())
+}
+
+// The name before the blocks of a client, whose own name stands at a place: that one, or that of its template.
+fn blocks_name(source: Source<'_>, name: usize) -> usize
+    ensures exact { result ≡ blocks_name source.entry.text.now source.entry.tokens.now name }
+{
+    let after = next(name);
+    if is_assign(source.token(after)) {
+        template_place(source, source.word(next(after)))
+    } else {
+        name
     }
-    source.len()
 }
 
 // The brace with which the blocks of a client begin: its own, or those of its template.
-fn text_of(source: Source<'_>, client: u8) -> usize {
-    let name = client_place(source, client);
-    let next = name.saturating_add(1);
-    let name = match source.token(next) {
-        Some(Token::Assign) => template_place(source, source.word(next.saturating_add(1))),
-        _ => name,
-    };
-    brace_from(source, name)
+fn blocks_of(source: Source<'_>, client: u8) -> usize
+    ensures exact { result ≡ blocks_at source.entry.text.now source.entry.tokens.now client }
+{
+    brace_from(source, blocks_name(source, client_place(source, client)))
 }
 
 // Whether the token at a place stands beside a dot, as the object and the operation of a request do.
-fn is_beside_dot(source: Source<'_>, place: usize) -> bool {
-    let is_after = place > 0 && matches!(source.token(place - 1), Some(Token::Dot));
-    is_after || matches!(source.token(place.saturating_add(1)), Some(Token::Dot))
+fn is_beside_dot(source: Source<'_>, place: usize) -> bool
+    ensures exact { result ≡ is_beside_dot source.entry.text.now source.entry.tokens.now place }
+{
+    (place > 0 && is_dot(source.token(place - 1))) || is_dot(source.token(next(place)))
+}
+
+// Whether the list of a block is open after a token, by whether it was before.
+fn listed_past(token: Option<&Token>, listed: bool) -> bool
+    ensures exact { result ≡ listed_past (option_map (λ token. token.now) token.entry) listed }
+{
+    is_separate(token) || (!is_brace(token) && listed)
+}
+
+// Whether a place stands in the list of a block, of blocks that begin at a place.
+fn is_listed(source: Source<'_>, from: usize, place: usize) -> bool
+    ensures exact { result ≡ is_listed source.entry.text.now source.entry.tokens.now from place }
+{
+    let mut listed = false;
+    for it in from..place.max(from) {
+        listed = listed_past(source.token(it), listed);
+    }
+    listed
+}
+
+// Whether a variable of a name stands at a place, in blocks that begin at a place.
+fn is_variable(source: Source<'_>, from: usize, word: &[u8], place: usize) -> bool
+    ensures exact { result ≡ is_variable source.entry.text.now source.entry.tokens.now from word.now place }
+{
+    is_name(source.token(place))
+        && source.word(place) == word
+        && !is_beside_dot(source, place)
+        && !is_listed(source, from, place)
 }
 
 /// The first place at which a client's text has a variable of that name.
-pub(crate) fn variable_place(source: Source<'_>, client: u8, word: &[u8]) -> usize {
-    let mut is_list = false;
-    for place in text_of(source, client)..source.len() {
-        match source.token(place) {
-            Some(Token::Separate) => is_list = true,
-            Some(Token::OpenBrace) => is_list = false,
-            Some(Token::Name(_)) => {
-                if !is_list && source.word(place) == word && !is_beside_dot(source, place) {
-                    return place;
-                }
-            }
-            _ => {}
-        }
-    }
-    source.len()
+pub(crate) fn variable_place(source: Source<'_>, client: u8, word: &[u8]) -> usize
+    ensures exact { result ≡ variable_at source.entry.text.now source.entry.tokens.now client word.now }
+{
+    let from = blocks_of(source, client);
+    (from..source.len())
+        .find(|place| is_variable(source, from, word, *place))
+        .unwrap_or(source.len())
+}
+
+// The place of the word `separate` of that number, from a place on.
+fn separate_place(source: Source<'_>, from: usize, number: u8) -> Option<usize>
+    ensures exact { result ≡ numbered (is_separate_at source.entry.tokens.now) from (length source.entry.tokens.now) number }
+{
+    (from..source.len())
+        .filter(|place| is_separate(source.token(*place)))
+        .nth(usize::from(number))
 }
 
 // The place after the word `separate` of a client's block.
-fn list_of(source: Source<'_>, client: u8, block: u8) -> usize {
-    let mut left = block;
-    for place in text_of(source, client)..source.len() {
-        if matches!(source.token(place), Some(Token::Separate)) {
-            if left == 0 {
-                return place.saturating_add(1);
-            }
-            left -= 1;
-        }
-    }
-    source.len()
+fn list_of(source: Source<'_>, client: u8, block: u8) -> usize
+    ensures exact { result ≡ list_at source.entry.text.now source.entry.tokens.now client block }
+{
+    let from = blocks_of(source, client);
+    after(separate_place(source, from, block), source.len())
 }
 
 /// The place of a name in the list of a client's block.
-pub(crate) fn listed_place(source: Source<'_>, client: u8, block: u8, word: &[u8]) -> usize {
-    for place in list_of(source, client, block)..source.len() {
-        if source.word(place) == word {
-            return place;
-        }
-    }
-    source.len()
+pub(crate) fn listed_place(source: Source<'_>, client: u8, block: u8, word: &[u8]) -> usize
+    ensures exact { result ≡ listed_at source.entry.text.now source.entry.tokens.now client block word.now }
+{
+    (list_of(source, client, block)..source.len())
+        .find(|place| source.word(*place) == word)
+        .unwrap_or(source.len())
 }

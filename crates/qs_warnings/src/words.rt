@@ -30,15 +30,15 @@ fn word_of(names: &Names, number: u8) -> &[u8] {
 }
 
 // Another variable whose name is near to this one.
-fn near_variable<'a>(names: &'a Names, word: &[u8]) -> &'a [u8] {
+fn near_variable<'a>(alloc: Global, names: &'a Names, word: &[u8]) -> Result<&'a [u8], AllocError> {
     for number in 0..names.len() {
         if let Some(name) = names.name(number) {
-            if is_near(name.as_slice(), word) {
-                return name.as_slice();
+            if is_near(alloc, name.as_slice(), word)? {
+                return Ok(name.as_slice());
             }
         }
     }
-    b""
+    Ok(b"")
 }
 
 impl Telling<'_> {
@@ -96,7 +96,7 @@ impl Telling<'_> {
         }
         let names = self.program.variables(client);
         let word = word_of(names, variable);
-        let near = near_variable(names, word);
+        let near = near_variable(self.alloc, names, word)?;
         let place = variable_place(self.source, client, word);
         let cause: &[&[u8]] = &[word, b" is read and never set, so it is 0"];
         if near.is_empty() {

@@ -1,4 +1,4 @@
-use Rattle.std.proofs.Common.{◌≡◌, ◌<◌, length, arith, [], Some}
+use Rattle.std.proofs.Common.{◌≡◌, ◌<◌, length, arith, [], Ok}
 use Rattle.std.proofs.lemmas.Result.{err_from_is_err_and}
 use Rattle.qs_script.specs.Reading.{run, end_at, item_at, items_loop}
 use Rattle.qs_script.proofs.Form.{formed}
@@ -35,7 +35,7 @@ pub invariant_of-result : goal.invariant_of-result
 invariant_of-result c =
     let none : length c.each.rest.now ≡ 0 = grind arith in
     let ts = c.args.tokens.now in
-    let all : run items_loop ts ≡ Some (c.each.items.items, []) =
+    let all : run items_loop ts ≡ Ok (c.each.items.items, []) =
     whole_list_closes end_at item_at ts c.each.rest.now [] c.each.items.items c.each.invariant.whole (at_end c.each.rest.now none) in
     formed c.each.items.items ts [] (is_script ts c.each.items.items all)
 

@@ -1,4 +1,8 @@
-use Rattle.std.proofs.Common.{arith}
+use Rattle.std.proofs.Common.{◌≡◌, ◌-◌, length, subst, arith, Ok, Err}
+use Rattle.qs_tokens.specs.Tokens.{tokens_of}
+use Rattle.qs_script.specs.Lines.{IsTokenLine}
+use Rattle.qs_script.specs.Reading.{items_loop, run}
+use Rattle.qs_script.specs.Reads.{IsFormLine}
 use Rattle.qs_script.proofs.ReadTexts.{is_script, is_no_script}
 use Rattle.qs_script.proofs.reader.read.Goals as goal
 
@@ -12,5 +16,15 @@ returns-in-Ok-clause-exact c = record {
 
 pub returns-in-Err-Form-clause-exact : goal.returns-in-Err-Form-clause-exact
 returns-in-Err-Form-clause-exact c =
-    let unread = rw c.in-Err-Form.field-0-is at c.in-Err-Form.ensures.exact in
-    (omega arith, c.as_slice.result.now, rw c.as_slice.ensures.value c.in_ok-tokens.ensures.tokens, is_no_script c.as_slice.result.now unread)
+    let ts = c.as_slice.result.now in
+    let left = c.in-Err-Form.left in
+    let stops : run items_loop ts ≡ Err left = rw c.in-Err-Form.field-0-is at c.in-Err-Form.ensures.exact in
+    let cut : tokens_of c.args.text.now ≡ Ok ts = rw c.as_slice.ensures.value c.in_ok-tokens.ensures.tokens in
+    let count : c.saturating_sub.result ≡ length ts - left = omega (arith, c.saturating_sub.ensures, c.len.ensures, c.as_slice.ensures.len) in
+    let line : IsFormLine c.args.text.now ts c.line_of.result = record {
+      left = left;
+      stops = stops;
+      at_token = λ less. subst (λ n. IsTokenLine c.args.text.now n c.line_of.result) count (c.line_of.ensures.token ts cut (omega (arith, less, count)));
+      at_end = λ more. c.line_of.ensures.end ts cut (omega (arith, more, count));
+    } in
+    (omega arith, ts, cut, is_no_script ts left stops, line)

@@ -5,7 +5,7 @@ use Rattle.qs_script.proofs.values.several.Given as goal
 
 abbrev pub invariant-each : goal.invariant-each
 invariant-each l = record {
-  whole : Continues more_loop (l.fn.first ∷ []) l.tokens l.rest l.atoms.items;
+  whole : Continues more_loop (l.fn.first ∷ []) l.tokens l.rest l.args;
   shorter : length l.rest ≤ length l.tokens;
 }
 
