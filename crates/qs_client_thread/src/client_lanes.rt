@@ -25,7 +25,7 @@ pub(crate) fn send<R: Wait>(rt: &R, lanes: &mut Lanes, handler: u8, parcel: Parc
         → lanes.new ≡ slice_set lanes.old handler (Some (record lane { sent = lane.sent ++ parcel ∷ [] })) }
 {
     match &mut lanes[usize::from(handler)] {
-        Some(lane) => lane.send(rt, parcel),
+        Some(lane) => lane.send_and_wake_handler(rt, parcel),
         None => unreachable!(),
     }
 }
@@ -34,12 +34,12 @@ pub(crate) fn send<R: Wait>(rt: &R, lanes: &mut Lanes, handler: u8, parcel: Parc
 pub(crate) fn wake_all(lanes: &Lanes) {
     for lane in lanes {
         if let Some(lane) = lane {
-            lane.wake();
+            lane.wake_handler();
         }
     }
 }
 
-/// Takes the next object that a handler gave. Waits until there is one.
+/// Takes the next object that a handler gave. Sleeps until there is one.
 pub(crate) fn get<R: Wait>(rt: &R, lanes: &mut Lanes, handler: u8) -> Held
     requires handler { handler < most_handlers }
     requires lane { IsSome (lane_at lanes.old handler) }
@@ -47,12 +47,12 @@ pub(crate) fn get<R: Wait>(rt: &R, lanes: &mut Lanes, handler: u8) -> Held
         → lanes.new ≡ slice_set lanes.old handler (Some (record lane { got = lane.got ++ result ∷ [] })) }
 {
     match &mut lanes[usize::from(handler)] {
-        Some(lane) => lane.get(rt),
+        Some(lane) => lane.get_or_sleep(rt),
         None => unreachable!(),
     }
 }
 
-/// Takes an empty chunk of the lane to a handler. Waits until there is one.
+/// Takes an empty chunk of the lane to a handler. Sleeps until there is one.
 pub(crate) fn empty<R: Wait>(rt: &R, lanes: &mut Lanes, handler: u8) -> Chunk<Request>
     requires handler { handler < most_handlers }
     requires lane { IsSome (lane_at lanes.old handler) }
@@ -60,7 +60,7 @@ pub(crate) fn empty<R: Wait>(rt: &R, lanes: &mut Lanes, handler: u8) -> Chunk<Re
         → (lanes.new ≡ slice_set lanes.old handler (Some (record lane { taken = lane.taken + 1 }))) × (result ≡ batch [] lane.size) }
 {
     match &mut lanes[usize::from(handler)] {
-        Some(lane) => lane.empty(rt),
+        Some(lane) => lane.empty_or_sleep(rt),
         None => unreachable!(),
     }
 }

@@ -42,7 +42,9 @@ pub fn run<D: DeskName, R: Wait>(
     let mut lanes = lanes;
     for _ in rt.forever() {
         match mind.next() {
-            Act::Reserve => mind.booked(front.reserve(rt, &mut share)),
+            Act::Reserve => {
+                mind.booked(front.reserve_and_wake_handlers(rt, &mut share));
+            }
             Act::Send(handler, parcel) => send(rt, &mut lanes, handler, parcel),
             Act::Await(handler) => mind.got(get(rt, &mut lanes, handler)),
             Act::NeedChunk(handler) => mind.chunk(empty(rt, &mut lanes, handler)),

@@ -13,20 +13,26 @@ ghost use Rattle.qs_objects.specs.declared.held.Next.{Next};
 
 use crate::name::DeskName;
 use crate::plan::Plan;
-use crate::queue::{TicketSender, TicketTaker, Tickets};
+use crate::queue::{TicketSender, TicketTaker, TicketWaker, Tickets};
 use crate::share::{Books, Share};
 use qs_objects::{Next, Ticket};
+use qs_program::MOST_HANDLERS;
 use std::marker::Model;
 use std::sync::Wait;
 
-/// The desk: the order of all reservations, and the desk's ends of the handlers' queues of tickets.
+/// The desk: the order of all reservations, and the desk's ends of the handlers' queues of tickets. What wakes the handlers lies here until
+/// the desk is put under a lock.
 pub struct Desk<D: DeskName> {
     plan: Plan,
     history: Vec<Ticket>,
     senders: Vec<TicketSender>,
     books: Books<D>,
     closed: bool,
+    wakers: Option<Vec<TicketWaker>>,
 }
+
+/// For each handler whether it was reserved.
+pub(crate) type Reserved = [bool; MOST_HANDLERS];
 
 impl<D: DeskName> Drop for Desk<D> {
     fn drop(self) {
@@ -36,6 +42,7 @@ impl<D: DeskName> Drop for Desk<D> {
             senders: _,
             books: _,
             closed: _,
+            wakers: _,
         } = self;
     }
 }
@@ -63,6 +70,7 @@ impl<D: DeskName> Desk<D> {
         history: Vec<Ticket>,
         senders: Vec<TicketSender>,
         books: Books<D>,
+        wakers: Vec<TicketWaker>,
     ) -> Desk<D>
         requires program { IsSound D.program × (plan ≡ lists_of D.program) }
         requires history { (history.items ≡ []) × (all_bookings ≤ vec_capacity history) }
@@ -77,11 +85,12 @@ impl<D: DeskName> Desk<D> {
             senders,
             books,
             closed: false,
+            wakers: Some(wakers),
         }
     }
 
     /// Books the next block of the share's client: the history grows by its ticket, and so does the queue of each handler that the block
-    /// reserves, all in one.
+    /// reserves, all in one. It wakes nobody.
     pub fn book<R: Wait>(&mut self, rt: &R, share: &mut Share<D>) -> Ticket
         requires unclosed { self.old.closed ≡ false }
         requires left { share.old.count < blocks_of D.program share.old.client }
@@ -89,14 +98,36 @@ impl<D: DeskName> Desk<D> {
         ensures history { self.new ≡ record self.old { history = self.old.history ++ result ∷ [] } }
         ensures share { share.new ≡ record share.old { count = share.old.count + 1 } }
     {
+        self.book_and_tell(rt, share).0
+    }
+
+    /// The same, which tells which handlers were reserved.
+    pub(crate) fn book_and_tell<R: Wait>(
+        &mut self,
+        rt: &R,
+        share: &mut Share<D>,
+    ) -> (Ticket, Reserved)
+        requires unclosed { self.old.closed ≡ false }
+        requires left { share.old.count < blocks_of D.program share.old.client }
+        ensures ticket { result.0 ≡ ticket share.old.client share.old.count }
+        ensures history { self.new ≡ record self.old { history = self.old.history ++ result.0 ∷ [] } }
+        ensures share { share.new ≡ record share.old { count = share.old.count + 1 } }
+    {
         let ticket = share.next();
         self.books.count(share);
         self.history.push_reserved(ticket);
-        push_ticket::<D, R>(rt, &self.plan, &mut self.senders, ticket);
-        ticket
+        let reserved = push_ticket::<D, R>(rt, &self.plan, &mut self.senders, ticket);
+        (ticket, reserved)
     }
 
-    /// Puts the closing mark at the end of each handler's queue.
+    /// What wakes the handlers, by their numbers; a second call finds nothing.
+    pub(crate) fn take_wakers(&mut self) -> Option<Vec<TicketWaker>>
+        ensures same { self.new ≡ self.old }
+    {
+        self.wakers.take()
+    }
+
+    /// Puts the closing mark at the end of each handler's queue. It wakes nobody.
     pub fn close<R: Wait>(&mut self, rt: &R)
         requires unclosed { self.old.closed ≡ false }
         ensures closed { self.new ≡ record self.old { closed = true } }
@@ -116,6 +147,7 @@ impl<D: DeskName> Desk<D> {
             senders: _,
             books: _,
             closed: _,
+            wakers: _,
         } = self;
         order
     }
@@ -147,23 +179,28 @@ fn compare_queue(senders: &mut [TicketSender], handler: u8, end: TicketTaker)
     senders[usize::from(handler)].agree(end);
 }
 
-// Pushes a ticket to each handler that its block reserves.
+// Pushes a ticket to each handler that its block reserves, and tells which these are.
 fn push_ticket<D: DeskName, R: Wait>(
     rt: &R,
     plan: &Plan,
     senders: &mut Vec<TicketSender>,
     ticket: Ticket,
-)
+) -> Reserved
     requires plan { plan.now ≡ lists_of D.program }
     requires room { (h : ℕ) → h < length senders.old.items → MayGrow D.program ticket h (queue_at senders.old.items h) }
     ensures len { length senders.new.items ≡ length senders.old.items }
     ensures grown { (h : ℕ) → h < length senders.old.items → queue_at senders.new.items h ≡ with_ticket D.program ticket h (queue_at senders.old.items h) }
 {
+    let mut reserved = [false; MOST_HANDLERS];
     for handler in 0..senders.len() {
         if plan.reserves(ticket, handler) {
             senders[handler].push(rt, Next::Ticket(ticket));
+            if let Some(place) = reserved.get_mut(handler) {
+                *place = true;
+            }
         }
     }
+    reserved
 }
 
 // Pushes the closing mark to each handler.

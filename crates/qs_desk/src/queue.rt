@@ -7,7 +7,7 @@ ghost use Rattle.qs_desk.specs.TicketQueues.{owner, new_queue, new_end, IsEndOf}
 use crate::name::DeskName;
 use qs_objects::Next;
 use qs_program::{MOST_TICKETS, Program};
-use qs_queue::{Key, Protocol, Sender, Taker, make_ends};
+use qs_queue::{Key, Protocol, Sender, Taker, Waker, make_ends};
 use std::alloc::{AllocError, Global};
 use std::marker::{Brand, Model, PhantomData};
 use std::sync::Wait;
@@ -39,6 +39,9 @@ pub type TicketSender = Sender<Next, QueueOwner, Reserving>;
 
 /// The handler's end.
 pub type TicketTaker = Taker<Next, QueueOwner, Reserving>;
+
+/// What wakes a handler that sleeps until it gets a ticket.
+pub type TicketWaker = Waker<Next, QueueOwner, Reserving>;
 
 /// A program and a handler that are known only as the queue is made.
 trait Chosen {
@@ -144,12 +147,20 @@ impl<D: DeskName> Tickets<D> {
         self.handler
     }
 
-    /// Takes the next ticket, whose block reserves this handler, or the closing mark. Waits until there is one.
+    /// Takes the next ticket, whose block reserves this handler, or the closing mark. Tries until there is one; it does not sleep.
     pub fn take<R: Wait>(&mut self, rt: &R) -> Next
         ensures taken { self.new ≡ record self.old { taken = self.old.taken ++ result ∷ [] } }
         ensures reserved { IsFor D.program self.old.handler result }
     {
         self.end.take(rt)
+    }
+
+    /// The same, but it sleeps until there is one and somebody who reserved it, or closed the desk, wakes it.
+    pub fn take_or_sleep<R: Wait>(&mut self, rt: &R) -> Next
+        ensures taken { self.new ≡ record self.old { taken = self.old.taken ++ result ∷ [] } }
+        ensures reserved { IsFor D.program self.old.handler result }
+    {
+        self.end.take_or_sleep(rt)
     }
 
     /// Its queue's end, and its handler.

@@ -9,7 +9,7 @@ ghost use Rattle.qs_desk.specs.Plans.{lists_of};
 use crate::desk::Desk;
 use crate::name::DeskName;
 use crate::plan::Plan;
-use crate::queue::{TicketSender, TicketTaker, Tickets, make_queue};
+use crate::queue::{TicketSender, TicketTaker, TicketWaker, Tickets, make_queue};
 use crate::share::{BlankLedgers, Share};
 use qs_objects::Ticket;
 use qs_program::{MOST_CLIENTS, MOST_HANDLERS, MOST_TICKETS, Program};
@@ -23,6 +23,7 @@ pub struct RawDesk {
     plan: Plan,
     history: Vec<Ticket>,
     senders: Vec<TicketSender>,
+    wakers: Vec<TicketWaker>,
     ends: [Option<TicketTaker>; MOST_HANDLERS],
     blanks: BlankLedgers,
 }
@@ -34,6 +35,7 @@ impl Drop for RawDesk {
             plan: _,
             history: _,
             senders: _,
+            wakers: _,
             ends: _,
             blanks: _,
         } = self;
@@ -91,6 +93,15 @@ fn make_queues(
     Ok((senders, ends))
 }
 
+// What wakes each handler, by their numbers.
+fn make_wakers(alloc: Global, senders: &[TicketSender]) -> Result<Vec<TicketWaker>, AllocError> {
+    let mut wakers = Vec::with_capacity(alloc, senders.len())?;
+    for sender in senders {
+        wakers.push(sender.waker()?)?;
+    }
+    Ok(wakers)
+}
+
 impl RawDesk {
     /// A desk for a program, with all the memory that it will need: its queues have room for all bookings and a closing mark. An error
     /// says that memory was refused.
@@ -101,11 +112,13 @@ impl RawDesk {
         let plan = Plan::new(alloc, program)?;
         let history = Vec::with_capacity(alloc, MOST_TICKETS)?;
         let (senders, ends) = make_queues(alloc, program)?;
+        let wakers = make_wakers(alloc, &senders)?;
         Ok(RawDesk {
             program: Snapshot::of(program),
             plan,
             history,
             senders,
+            wakers,
             ends,
             blanks: BlankLedgers::new(),
         })
@@ -125,12 +138,13 @@ impl RawDesk {
             plan,
             history,
             senders,
+            wakers,
             ends,
             blanks,
         } = self;
         let (books, shares) = blanks.open::<D>(&plan);
         DeskParts {
-            desk: Desk::new(plan, history, senders, books),
+            desk: Desk::new(plan, history, senders, books, wakers),
             shares,
             tickets: name_all(ends),
         }

@@ -289,6 +289,72 @@ fn day_at<R: Threads + Wait + Sync>(
     spend::<Brand, R>(rt, alloc, raw, at_once)
 }
 
+// How many tickets of ann's 64 blocks a handler took in their order.
+fn take_anns<D: DeskName, R: Wait>(rt: &R, tickets: Tickets<D>) -> (Tickets<D>, u8) {
+    let mut tickets = tickets;
+    let mut taken = 0;
+    for index in 0..64u8 {
+        if tickets.take(rt) == Next::Ticket(ticket(0, index)) {
+            taken += 1;
+        }
+    }
+    (tickets, taken)
+}
+
+// Ann reserves all her blocks from one thread, while a handler takes their tickets on another.
+fn reserve_and_take<D: DeskName + Send + Sync, R: Threads + Wait + Sync>(
+    rt: &R,
+    front: &Front<D>,
+    ann: Share<D>,
+    a: Tickets<D>,
+) -> (Share<D>, (Tickets<D>, u8)) {
+    thread::join(
+        rt,
+        move || reserve_all(rt, front, ann),
+        move || take_anns(rt, a),
+    )
+}
+
+// How many tickets a handler took in their order while they were reserved, by no other calls.
+fn taken_at_once<D: DeskName + Send + Sync, R: Threads + Wait + Sync>(
+    rt: &R,
+    opened: Opened<D>,
+) -> u8
+    requires { opened.desk.closed ≡ false }
+{
+    let Opened {
+        desk,
+        ann,
+        bob,
+        a,
+        b,
+    } = opened;
+    let front = Front::new(desk);
+    let (ann, (a, taken)) = reserve_and_take(rt, &front, ann, a);
+    drop(front);
+    drop(ann);
+    drop(bob);
+    drop(a);
+    drop(b);
+    taken
+}
+
+fn take_at_desk<D: DeskName + Send + Sync, R: Threads + Wait + Sync>(
+    rt: &R,
+    raw: RawDesk,
+) -> Option<u8>
+    requires { (D.program ≡ raw.program) × (D.queues ≡ raw.queues) × (D.ledgers ≡ raw.ledgers) }
+{
+    let opened = open_two::<D>(raw)?;
+    Some(taken_at_once(rt, opened))
+}
+
+// The same at a new desk; none where memory is refused.
+fn taken_at_desk<R: Threads + Wait + Sync>(rt: &R, alloc: Global, program: &Program) -> Option<u8> {
+    let raw = RawDesk::new(alloc, program).ok()?;
+    take_at_desk::<Brand, R>(rt, raw)
+}
+
 const fn ticket(client: u8, index: u8) -> Ticket {
     Ticket { client, index }
 }
@@ -350,6 +416,10 @@ fn is_crowded(day: &Day) -> bool {
 #[test]
 fn two_threads_reserve_in_one_order(rt: HostRuntime) -> Result<(), Fail> {
     let program = crowd(rt.alloc()).ok_or("no program")?;
+    for _ in 0..16u8 {
+        let taken = taken_at_desk(&rt, rt.alloc(), &program);
+        assert_eq!(rt; taken, Some(64));
+    }
     let day = day_at(&rt, rt.alloc(), &program, true);
     drop(program);
     let day = day.ok_or("out of memory")?;

@@ -4,6 +4,7 @@ use crate::gates::{Holding, Until};
 use crate::scripts::checked;
 use qs_chunk::ChunkSize;
 use qs_objects::Object;
+use qs_program::Program;
 use qs_run::{FreeGate, Outcome, execute};
 use qs_syncset::Mode;
 use std::alloc::{AllocError, Global};
@@ -47,10 +48,12 @@ pub enum Held {
     First,
 }
 
-/// What a run of them shows: how many tickets, how many clients have 32 of them, how many replies are the place of their ticket, counted
+/// What a run of them shows: the load and the weight of the program, how many tickets, how many clients have 32 of them, how many replies are the place of their ticket, counted
 /// from 1, how many accounts have 256 and refused nothing, the synchronisations, and how often the gate was passed, where it counts.
 #[derive(Drop)]
 pub struct Shown {
+    load: u64,
+    weight: u64,
     tickets: usize,
     clients: usize,
     replies: usize,
@@ -63,8 +66,14 @@ impl fmt::Display for Shown {
     fn fmt<W: fmt::Write>(&self, f: &mut fmt::Formatter<W>) -> fmt::Result {
         write!(
             f,
-            "tickets {} clients {} replies {} accounts {} syncs {}",
-            self.tickets, self.clients, self.replies, self.accounts, self.syncs
+            "load {} weight {} tickets {} clients {} replies {} accounts {} syncs {}",
+            self.load,
+            self.weight,
+            self.tickets,
+            self.clients,
+            self.replies,
+            self.accounts,
+            self.syncs
         )?;
         match self.passes {
             Some(passes) => write!(f, " passes {passes}"),
@@ -106,8 +115,10 @@ fn is_full(account: &Object) -> bool {
     account.value(0) == Some(256) && account.refused() == 0
 }
 
-fn what_is_shown(outcome: &Outcome, passes: Option<u32>) -> Shown {
+fn what_is_shown(program: &Program, outcome: &Outcome, passes: Option<u32>) -> Shown {
     Shown {
+        load: program.load(),
+        weight: program.weight(),
         tickets: outcome.order().len(),
         clients: clients_of(outcome),
         replies: replies_of(outcome),
@@ -135,7 +146,7 @@ pub fn run<R: Threads + Wait + Sync>(
     let until = match held {
         Held::Free => {
             let outcome = execute(rt, alloc, &program, mode, size, &FreeGate).ok()?;
-            return Some(what_is_shown(&outcome, None));
+            return Some(what_is_shown(&program, &outcome, None));
         }
         Held::Slow => [Until::Turns(10_000); 8],
         Held::First => {
@@ -149,5 +160,5 @@ pub fn run<R: Threads + Wait + Sync>(
     if gate.is_late() {
         return None;
     }
-    Some(what_is_shown(&outcome, Some(gate.passes())))
+    Some(what_is_shown(&program, &outcome, Some(gate.passes())))
 }

@@ -51,8 +51,8 @@ fn put_replies<W: Write>(out: &mut W, what: &str, replies: Option<[u8; 8]>) -> i
     )
 }
 
-// Clients apart, whose blocks run at the same time, or are held in turn.
-fn run_apart<R: Threads + Wait + Sync, W: Write>(
+// Each of two handlers is held until the other has begun a ticket, too.
+fn two_blocks_at_once<R: Threads + Wait + Sync, W: Write>(
     rt: &R,
     alloc: Global,
     mode: Mode,
@@ -70,16 +70,36 @@ fn run_apart<R: Threads + Wait + Sync, W: Write>(
         Until::Now,
     ];
     let two = apart::run(rt, alloc, apart::TWO, mode, size, both);
-    put_replies(out, "two blocks at once", two)?;
+    put_replies(out, "two_blocks_at_once", two)
+}
+
+// Which of two clients comes first at a third object is decided by the gate, which holds the first handler or the second.
+fn gate_decides<R: Threads + Wait + Sync, W: Write>(
+    rt: &R,
+    alloc: Global,
+    mode: Mode,
+    size: u8,
+    out: &mut W,
+) -> io::Result<()> {
     let a_held = one_held(0, Until::Begun(2));
     let first = apart::run(rt, alloc, apart::DECIDED, mode, size, a_held);
-    put_replies(out, "a is held", first)?;
+    put_replies(out, "gate_decides, a is held", first)?;
     let b_held = one_held(1, Until::Begun(2));
     let second = apart::run(rt, alloc, apart::DECIDED, mode, size, b_held);
-    put_replies(out, "b is held", second)?;
+    put_replies(out, "gate_decides, b is held", second)
+}
+
+// Each of eight handlers is held until all of them have begun a ticket.
+fn eight_at_once<R: Threads + Wait + Sync, W: Write>(
+    rt: &R,
+    alloc: Global,
+    mode: Mode,
+    size: u8,
+    out: &mut W,
+) -> io::Result<()> {
     let all = [Until::AllBegun; 8];
     let eight = apart::run(rt, alloc, apart::EIGHT, mode, size, all);
-    put_replies(out, "eight blocks at once", eight)
+    put_replies(out, "eight_at_once", eight)
 }
 
 // Clients who meet, and one alone.
@@ -125,7 +145,9 @@ fn run_all<R: Threads + Wait + Sync, W: Write>(
 ) -> io::Result<()> {
     for mode in MODES {
         for size in SIZES {
-            run_apart(rt, alloc, mode, size, out)?;
+            two_blocks_at_once(rt, alloc, mode, size, out)?;
+            gate_decides(rt, alloc, mode, size, out)?;
+            eight_at_once(rt, alloc, mode, size, out)?;
             run_together(rt, alloc, mode, size, out)?;
             run_refused(rt, alloc, mode, size, out)?;
         }

@@ -17,7 +17,7 @@ use std::sync::Wait;
 /// The handler's end of the lane from each client that has one.
 pub type Lanes = [Option<LaneIn>; MOST_CLIENTS];
 
-/// Takes the next parcel of a client's lane. Waits until there is one.
+/// Takes the next parcel of a client's lane. Sleeps until there is one.
 pub(crate) fn take_parcel<R: Wait>(rt: &R, lanes: &mut Lanes, client: u8) -> Parcel
     requires client { client < most_clients }
     requires lane { IsSome (lane_at lanes.old client) }
@@ -26,12 +26,12 @@ pub(crate) fn take_parcel<R: Wait>(rt: &R, lanes: &mut Lanes, client: u8) -> Par
         × MayFollow lane.size (is_asked false lane.received) result }
 {
     match &mut lanes[usize::from(client)] {
-        Some(lane) => lane.take(rt),
+        Some(lane) => lane.take_or_sleep(rt),
         None => unreachable!(),
     }
 }
 
-/// Gives the object to a client, which asked for it by the last parcel. Waits while an object lies in the lane.
+/// Gives the object to a client, which asked for it by the last parcel, and wakes the client. Waits while an object lies in the lane.
 pub(crate) fn give<R: Wait>(rt: &R, lanes: &mut Lanes, client: u8, held: Held)
     requires client { client < most_clients }
     requires lane { IsSome (lane_at lanes.old client) }
@@ -41,7 +41,7 @@ pub(crate) fn give<R: Wait>(rt: &R, lanes: &mut Lanes, client: u8, held: Held)
         → lanes.new ≡ slice_set lanes.old client (Some (record lane { given = lane.given ++ held ∷ [] })) }
 {
     match &mut lanes[usize::from(client)] {
-        Some(lane) => lane.give(rt, held),
+        Some(lane) => lane.give_and_wake_client(rt, held),
         None => unreachable!(),
     }
 }

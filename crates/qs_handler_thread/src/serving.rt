@@ -49,7 +49,7 @@ pub fn serve<D: DeskName, L, G: Passage<L>, R: Wait>(
     for _ in rt.forever() {
         match mind.next() {
             Act::TakeTicket => {
-                let next = tickets.take(rt);
+                let next = tickets.take_or_sleep(rt);
                 announce(gate, log, next, object);
                 mind.ticket(next);
             }

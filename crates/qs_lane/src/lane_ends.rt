@@ -1,6 +1,6 @@
 //! The two ends of a lane.
 
-ghost use Rattle.std.specs.Prelude.{◌≡◌, ◌+◌, ◌≤◌, ◌⊎◌, List, [], ◌∷◌, ◌++◌, length, replicate, true, false, IfOk, IfErr, IfSome, IfNone};
+ghost use Rattle.std.specs.Prelude.{◌≡◌, ◌+◌, ◌<◌, ◌≤◌, ◌⊎◌, List, [], ◌∷◌, ◌++◌, length, replicate, true, false, IfOk, IfErr, IfSome, IfNone};
 ghost use Rattle.qs_objects.specs.Journals.{HeldState};
 ghost use Rattle.qs_chunk.specs.Batch.{batch};
 ghost use Rattle.qs_chunk.specs.LaneRun.{AreServed, IsLaneRun, homes, syncs};
@@ -11,7 +11,7 @@ ghost use Rattle.qs_chunk.specs.Limits.{lane_room};
 use crate::protocols::{AnyObjects, EmptyChunks, InLane, Keyless, KnownSize, SizeKey};
 use qs_chunk::{Chunk, ChunkSize, LANE_ROOM, Parcel};
 use qs_objects::{Held, Request};
-use qs_queue::{Bell, Sender, Taker, make_ends};
+use qs_queue::{Events, Sender, Taker, make_ends};
 use std::alloc::{AllocError, Global};
 use std::marker::{Brand, Model};
 use std::sync::{Arc, Wait};
@@ -27,7 +27,7 @@ pub struct LaneOut {
     down: Sender<Parcel, ChunkSize, InLane>,
     up: Taker<Held, (), AnyObjects>,
     spare: SpareTaker,
-    bell: Arc<Bell, Global>,
+    events: Arc<Events, Global>,
 }
 
 impl Model for LaneOut {
@@ -55,7 +55,7 @@ pub struct LaneIn {
     down: Taker<Parcel, ChunkSize, InLane>,
     up: Sender<Held, (), AnyObjects>,
     spare: SpareSender,
-    bell: Arc<Bell, Global>,
+    events: Arc<Events, Global>,
 }
 
 impl Model for LaneIn {
@@ -120,14 +120,14 @@ fn lane_of<N: KnownSize, R: Wait>(
     rt: &R,
     alloc: Global,
     size: ChunkSize,
-    bell: &Arc<Bell, Global>,
+    events: &Arc<Events, Global>,
 ) -> Result<(LaneOut, LaneIn), AllocError>
     requires { N.size ≡ size }
     ensures out { IfOk result (λ ends. ends.0 ≡ record { name = ends.1.name; size = size; sent = []; got = []; taken = 0 }) }
     ensures inside { IfOk result (λ ends. ends.1 ≡ record { name = ends.1.name; size = size; received = []; given = []; spared = 4 }) }
 {
-    let clients_bell = Arc::try_clone(bell)?;
-    let handlers_bell = Arc::try_clone(bell)?;
+    let clients_events = Arc::try_clone(events)?;
+    let handlers_events = Arc::try_clone(events)?;
     let (spare_end, spare) = make_spares::<N, R>(rt, alloc, size)?;
     let Ok((up_end, up)) = make_ends::<Held, (), AnyObjects, Keyless>(alloc, 1) else {
         drop(spare_end);
@@ -146,27 +146,27 @@ fn lane_of<N: KnownSize, R: Wait>(
         down: down_end,
         up: up_end,
         spare: spare_end,
-        bell: handlers_bell,
+        events: handlers_events,
     };
     let out = LaneOut {
         down,
         up,
         spare,
-        bell: clients_bell,
+        events: clients_events,
     };
     Ok((out, inside))
 }
 
-/// A bell for the lanes of one handler. An error says that memory was refused.
-pub fn make_bell(alloc: Global) -> Result<Arc<Bell, Global>, AllocError> {
-    let Ok(bell) = Arc::new(alloc, Bell::new()) else {
+/// An event count for the lanes of one handler. An error says that memory was refused.
+pub fn make_events(alloc: Global) -> Result<Arc<Events, Global>, AllocError> {
+    let Ok(events) = Arc::new(alloc, Events::new()) else {
         return Err(AllocError);
     };
-    Ok(bell)
+    Ok(events)
 }
 
 /// The two ends of a lane whose chunks have this size: room for sixteen parcels down and one object up, and four empty chunks. All its
-/// memory is taken here; an error says that it was refused.
+/// memory is taken here; an error says that it was refused. Both ends have one event count, which no other lane has.
 pub fn lane<R: Wait>(
     rt: &R,
     alloc: Global,
@@ -175,89 +175,100 @@ pub fn lane<R: Wait>(
     ensures out { IfOk result (λ ends. ends.0 ≡ record { name = ends.1.name; size = size; sent = []; got = []; taken = 0 }) }
     ensures inside { IfOk result (λ ends. ends.1 ≡ record { name = ends.1.name; size = size; received = []; given = []; spared = 4 }) }
 {
-    let bell = make_bell(alloc)?;
-    lane_at(rt, alloc, size, &bell)
+    let events = make_events(alloc)?;
+    lane_at(rt, alloc, size, &events)
 }
 
-/// The same for a handler whose lanes share this bell: it sleeps there, whichever of them it takes from.
+/// The same for a handler whose lanes share this event count: it sleeps there, whichever of them it takes from.
 pub fn lane_at<R: Wait>(
     rt: &R,
     alloc: Global,
     size: ChunkSize,
-    bell: &Arc<Bell, Global>,
+    events: &Arc<Events, Global>,
 ) -> Result<(LaneOut, LaneIn), AllocError>
     ensures out { IfOk result (λ ends. ends.0 ≡ record { name = ends.1.name; size = size; sent = []; got = []; taken = 0 }) }
     ensures inside { IfOk result (λ ends. ends.1 ≡ record { name = ends.1.name; size = size; received = []; given = []; spared = 4 }) }
 {
-    lane_of::<Brand, R>(rt, alloc, size, bell)
+    lane_of::<Brand, R>(rt, alloc, size, events)
 }
 
 impl LaneOut {
     /// Sends a parcel that may follow what was sent; a chunk in it has the lane's size. The parcel comes back, and nothing changes, only
-    /// where sixteen parcels lie in the lane; so sixteen at least were sent before. Wakes the handler.
+    /// where sixteen parcels lie in the lane; so sixteen at least were sent before. It wakes nobody.
     pub fn try_send<R: Wait>(&mut self, rt: &R, parcel: Parcel) -> Result<(), Parcel>
         requires follows { MayFollow self.old.size (is_asked false self.old.sent) parcel }
         ensures ok { IfOk result (λ _. self.new ≡ record self.old { sent = self.old.sent ++ parcel ∷ [] }) }
         ensures back { IfErr result (λ back. (back ≡ parcel) × (self.new ≡ self.old)) }
         ensures full { IfErr result (λ _. lane_room ≤ length self.old.sent) }
     {
-        let sent = self.try_put(rt, parcel);
-        self.wake();
-        sent
+        self.down.try_send(rt, parcel)
     }
 
-    // The same, which wakes nobody.
-    fn try_put<R: Wait>(&mut self, rt: &R, parcel: Parcel) -> Result<(), Parcel>
-        requires follows { MayFollow self.old.size (is_asked false self.old.sent) parcel }
-        ensures ok { IfOk result (λ _. self.new ≡ record self.old { sent = self.old.sent ++ parcel ∷ [] }) }
-        ensures back { IfErr result (λ back. (back ≡ parcel) × (self.new ≡ self.old)) }
-        ensures full { IfErr result (λ _. lane_room ≤ length self.old.sent) }
-    {
-        self.down.try_put(rt, parcel)
-    }
-
-    /// Sends a parcel that may follow what was sent; a chunk in it has the lane's size. Waits until there is room. A handler that sleeps
-    /// may sleep on until somebody waits for it, by `get`, `empty` or here, or until `wake`.
+    /// Sends a parcel that may follow what was sent; a chunk in it has the lane's size. Tries until there is room; it wakes nobody.
     pub fn send<R: Wait>(&mut self, rt: &R, parcel: Parcel)
         requires follows { MayFollow self.old.size (is_asked false self.old.sent) parcel }
         ensures sent { self.new ≡ record self.old { sent = self.old.sent ++ parcel ∷ [] } }
     {
+        self.down.send(rt, parcel);
+    }
+
+    /// Sends a parcel as `send` does, to a handler that may sleep. It wakes the handler where it has to wait for room, and after an End
+    /// where somebody waits for the handler. Else a handler that sleeps may sleep on, until somebody waits for it or wakes it.
+    pub fn send_and_wake_handler<R: Wait>(&mut self, rt: &R, parcel: Parcel)
+        requires follows { MayFollow self.old.size (is_asked false self.old.sent) parcel }
+        ensures sent { self.new ≡ record self.old { sent = self.old.sent ++ parcel ∷ [] } }
+    {
         let ends = matches!(parcel, Parcel::End);
-        self.put(rt, parcel);
+        self.send_as_waiter(rt, parcel);
         if ends {
-            self.bell.ring_if_awaited();
+            self.events.notify_if_awaited();
         }
     }
 
     // The same, which wakes the handler only where it waits for room.
-    fn put<R: Wait>(&mut self, rt: &R, parcel: Parcel)
+    fn send_as_waiter<R: Wait>(&mut self, rt: &R, parcel: Parcel)
         requires follows { MayFollow self.old.size (is_asked false self.old.sent) parcel }
         ensures sent { self.new ≡ record self.old { sent = self.old.sent ++ parcel ∷ [] } }
     {
-        self.down.put(rt, &self.bell, parcel);
+        self.down.send_as_waiter(rt, &self.events, parcel);
     }
 
     /// Wakes the handler, where it sleeps until it gets a parcel of its lanes.
-    pub fn wake(&self) {
-        self.bell.ring();
+    pub fn wake_handler(&self) {
+        self.events.notify();
     }
 
-    /// Takes the next object that was given. Waits until there is one, and wakes the handler.
+    /// Takes the next object that was given. Tries until there is one; it wakes nobody.
     pub fn get<R: Wait>(&mut self, rt: &R) -> Held
         ensures got { self.new ≡ record self.old { got = self.old.got ++ result ∷ [] } }
     {
-        self.up.take_from(rt, &self.bell)
+        self.up.take(rt)
     }
 
-    /// Takes an empty chunk of the lane's size. Where none lies in the lane it waits until there is one, and wakes the handler.
+    /// Takes the next object that was given. It wakes the handler, and sleeps until there is an object.
+    pub fn get_or_sleep<R: Wait>(&mut self, rt: &R) -> Held
+        ensures got { self.new ≡ record self.old { got = self.old.got ++ result ∷ [] } }
+    {
+        self.up.take_or_sleep_as_waiter(rt, &self.events)
+    }
+
+    /// Takes an empty chunk of the lane's size. Tries until one lies in the lane; it wakes nobody.
     pub fn empty<R: Wait>(&mut self, rt: &R) -> Chunk<Request>
+        ensures taken { self.new ≡ record self.old { taken = self.old.taken + 1 } }
+        ensures empty { result ≡ batch [] self.old.size }
+    {
+        self.spare.take(rt)
+    }
+
+    /// Takes an empty chunk of the lane's size. Where none lies in the lane it wakes the handler, and sleeps until there is one.
+    pub fn empty_or_sleep<R: Wait>(&mut self, rt: &R) -> Chunk<Request>
         ensures taken { self.new ≡ record self.old { taken = self.old.taken + 1 } }
         ensures empty { result ≡ batch [] self.old.size }
     {
         if let Some(chunk) = self.try_empty(rt) {
             return chunk;
         }
-        self.wait_empty(rt)
+        self.sleep_and_empty(rt)
     }
 
     // Takes an empty chunk where one lies in the lane.
@@ -269,12 +280,12 @@ impl LaneOut {
         self.spare.try_take(rt)
     }
 
-    // Waits until there is an empty chunk, and wakes the handler.
-    fn wait_empty<R: Wait>(&mut self, rt: &R) -> Chunk<Request>
+    // Wakes the handler, and sleeps until there is an empty chunk.
+    fn sleep_and_empty<R: Wait>(&mut self, rt: &R) -> Chunk<Request>
         ensures taken { self.new ≡ record self.old { taken = self.old.taken + 1 } }
         ensures empty { result ≡ batch [] self.old.size }
     {
-        self.spare.take_from(rt, &self.bell)
+        self.spare.take_or_sleep_as_waiter(rt, &self.events)
     }
 }
 
@@ -288,9 +299,17 @@ impl LaneIn {
         self.down.try_take(rt)
     }
 
-    /// Takes the next parcel, which may follow what was received. Waits until there is one. Before it waits, and at an End, it wakes a client
-    /// that waits for an empty chunk.
+    /// Takes the next parcel, which may follow what was received. Tries until there is one; it wakes nobody.
     pub fn take<R: Wait>(&mut self, rt: &R) -> Parcel
+        ensures taken { self.new ≡ record self.old { received = self.old.received ++ result ∷ [] } }
+        ensures follows { MayFollow self.old.size (is_asked false self.old.received) result }
+    {
+        self.down.take(rt)
+    }
+
+    /// Takes the next parcel, which may follow what was received. Sleeps until there is one. Before it sleeps, and at an End, it wakes a
+    /// client that sleeps until there is an empty chunk.
+    pub fn take_or_sleep<R: Wait>(&mut self, rt: &R) -> Parcel
         ensures taken { self.new ≡ record self.old { received = self.old.received ++ result ∷ [] } }
         ensures follows { MayFollow self.old.size (is_asked false self.old.received) result }
     {
@@ -298,7 +317,7 @@ impl LaneIn {
             Some(parcel) => parcel,
             None => {
                 self.spare.wake();
-                self.wait_take(rt)
+                self.sleep_and_take(rt)
             }
         };
         if matches!(parcel, Parcel::End) {
@@ -307,30 +326,41 @@ impl LaneIn {
         parcel
     }
 
-    // Waits until there is a parcel.
-    fn wait_take<R: Wait>(&mut self, rt: &R) -> Parcel
+    // Sleeps until there is a parcel.
+    fn sleep_and_take<R: Wait>(&mut self, rt: &R) -> Parcel
         ensures taken { self.new ≡ record self.old { received = self.old.received ++ result ∷ [] } }
         ensures follows { MayFollow self.old.size (is_asked false self.old.received) result }
     {
-        self.down.take_at(rt, &self.bell)
+        self.down.take_or_sleep_at(rt, &self.events)
     }
 
-    /// Gives the object to the client, which asked for it by the last parcel. Waits while an object lies in the lane.
+    /// Gives the object to the client, which asked for it by the last parcel and has not got it yet. Tries while an object lies in the
+    /// lane; it wakes nobody.
     pub fn give<R: Wait>(&mut self, rt: &R, held: Held)
         requires asked { is_asked false self.old.received ≡ true }
-        requires unserved { length self.old.given + 1 ≡ syncs self.old.received }
+        requires unserved { length self.old.given < syncs self.old.received }
         ensures given { self.new ≡ record self.old { given = self.old.given ++ held ∷ [] } }
     {
         self.up.send(rt, held);
     }
 
-    /// Gives an empty chunk of the lane's size back: it is put into the lane, or dropped, where four lie there, and nothing changes. A client
-    /// that waits for it is woken by a later `take`.
+    /// Gives the object as `give` does, and wakes the client, where that sleeps until it gets one.
+    pub fn give_and_wake_client<R: Wait>(&mut self, rt: &R, held: Held)
+        requires asked { is_asked false self.old.received ≡ true }
+        requires unserved { length self.old.given < syncs self.old.received }
+        ensures given { self.new ≡ record self.old { given = self.old.given ++ held ∷ [] } }
+    {
+        self.give(rt, held);
+        self.up.wake();
+    }
+
+    /// Gives an empty chunk of the lane's size back: it is put into the lane, or dropped, where four lie there, and nothing changes. It
+    /// wakes nobody: a client that sleeps until there is one is woken by a later `take_or_sleep`.
     pub fn spare<R: Wait>(&mut self, rt: &R, chunk: Chunk<Request>)
         requires empty { chunk ≡ batch [] self.old.size }
         ensures spared { (self.new ≡ record self.old { spared = self.old.spared + 1 }) ⊎ (self.new ≡ self.old) }
     {
-        let _ = self.spare.try_put(rt, chunk);
+        let _ = self.spare.try_send(rt, chunk);
     }
 }
 
@@ -352,13 +382,13 @@ pub fn agree(out: LaneOut, inside: LaneIn)
         mut down,
         up,
         spare,
-        bell: _,
+        events: _,
     } = out;
     let LaneIn {
         down: down_end,
         up: mut up_end,
         spare: mut spare_end,
-        bell: _,
+        events: _,
     } = inside;
     down.agree(down_end);
     up_end.agree(up);

@@ -7,5 +7,5 @@ mod protocols;
 #[cfg(test)]
 mod tests;
 
-pub use lane_ends::{LaneIn, LaneOut, lane, lane_at, make_bell};
-pub use qs_queue::Bell;
+pub use lane_ends::{LaneIn, LaneOut, lane, lane_at, make_events};
+pub use qs_queue::Events;

@@ -1,6 +1,6 @@
 //! One lane from end to end: an object, parcels until the lane is full, and chunks.
 
-ghost use Rattle.std.specs.Prelude.{◌≡◌, ◌+◌, IsTrue, IfSome, true, false, [], length};
+ghost use Rattle.std.specs.Prelude.{◌≡◌, ◌+◌, ◌<◌, ◌≤◌, IsTrue, IfSome, true, false, [], length};
 ghost use Rattle.qs_chunk.specs.LaneRun.{syncs};
 ghost use Rattle.qs_chunk.specs.Lanes.{is_asked};
 
@@ -11,19 +11,22 @@ use qs_objects::{Args, Held, Kind, Object, Op, Request};
 use std::alloc::Global;
 use std::sync::Wait;
 use std::test::Fail;
+use std::thread;
+use std::thread::Threads;
 
 fn account(alloc: Global) -> Option<Held> {
     let object = Object::new(alloc, Kind::Account { balance: 7 }).ok()?;
     Held::new(alloc, object, 1).ok()
 }
 
-// Whether the first parcel is a Sync.
+// Whether the next parcel is a Sync.
 #[tactic(auto, using(qs_chunk::proofs::LaneFronts::asked_last))]
 fn take_sync<R: Wait>(rt: &R, inside: &mut LaneIn) -> bool
-    requires { (inside.old.received ≡ []) × (inside.old.given ≡ []) }
+    requires served { length inside.old.given ≤ syncs inside.old.received }
     ensures lane { (inside.new.name ≡ inside.old.name) × (inside.new.size ≡ inside.old.size) }
     ensures asked { IsTrue result → is_asked false inside.new.received ≡ true }
-    ensures unserved { IsTrue result → length inside.new.given + 1 ≡ syncs inside.new.received }
+    ensures unserved { IsTrue result → length inside.new.given < syncs inside.new.received }
+    ensures served { length inside.new.given ≤ syncs inside.new.received }
 {
     let parcel = inside.take(rt);
     let is_sync = matches!(&parcel, Parcel::Sync);
@@ -38,6 +41,7 @@ fn lend<R: Wait>(rt: &R, out: &mut LaneOut, inside: &mut LaneIn, held: Held) -> 
     ensures out_lane { (out.new.name ≡ out.old.name) × (out.new.size ≡ out.old.size) }
     ensures in_lane { (inside.new.name ≡ inside.old.name) × (inside.new.size ≡ inside.old.size) }
     ensures asked { is_asked false out.new.sent ≡ true }
+    ensures served { length inside.new.given ≤ syncs inside.new.received }
 {
     out.send(rt, Parcel::Sync);
     if !take_sync(rt, inside) {
@@ -48,16 +52,19 @@ fn lend<R: Wait>(rt: &R, out: &mut LaneOut, inside: &mut LaneIn, held: Held) -> 
     Some(out.get(rt))
 }
 
-// The object's value, as it comes home.
-fn take_home<R: Wait>(rt: &R, inside: &mut LaneIn) -> Option<i64>
+// The object, as it comes home.
+fn take_home<R: Wait>(rt: &R, inside: &mut LaneIn) -> Option<Held>
+    requires served { length inside.old.given ≤ syncs inside.old.received }
     ensures lane { (inside.new.name ≡ inside.old.name) × (inside.new.size ≡ inside.old.size) }
+    ensures served { length inside.new.given ≤ syncs inside.new.received }
 {
-    let Parcel::Home(held) = inside.take(rt) else {
-        return None;
-    };
-    let value = held.object().value(0);
-    drop(held);
-    value
+    match inside.take(rt) {
+        Parcel::Home(held) => Some(held),
+        other => {
+            drop(other);
+            None
+        }
+    }
 }
 
 // The object goes to the client and home; its value there.
@@ -70,7 +77,10 @@ fn lend_once<R: Wait>(rt: &R, out: &mut LaneOut, inside: &mut LaneIn, held: Held
 {
     let held = lend(rt, out, inside, held)?;
     out.send(rt, Parcel::Home(held));
-    take_home(rt, inside)
+    let home = take_home(rt, inside)?;
+    let value = home.object().value(0);
+    drop(home);
+    value
 }
 
 fn send_end<R: Wait>(rt: &R, out: &mut LaneOut) -> bool
@@ -298,6 +308,144 @@ fn turns_of<R: Wait>(rt: &R, alloc: Global, size: ChunkSize) -> Option<u16> {
     Some(turns)
 }
 
+// A client's end of which the last parcel is no Sync.
+#[derive(Drop)]
+struct QuietOut {
+    out: LaneOut,
+    ghost is_quiet: { is_asked false out.sent ≡ false },
+}
+
+// A handler's end at which no more objects were given than asked for.
+#[derive(Drop)]
+struct ServedIn {
+    inside: LaneIn,
+    ghost is_served: { length inside.given ≤ syncs inside.received },
+}
+
+// What a client sends in one turn: an empty chunk, a Sync, the object home, and an End. Whether the object that it got is the account.
+#[tactic(auto, using(qs_chunk::proofs::LaneFronts::asked_last))]
+fn client_turn<R: Wait>(rt: &R, out: &mut LaneOut) -> bool
+    requires quiet { is_asked false out.old.sent ≡ false }
+    ensures lane { (out.new.name ≡ out.old.name) × (out.new.size ≡ out.old.size) }
+    ensures quiet { is_asked false out.new.sent ≡ false }
+{
+    let chunk = out.empty(rt);
+    out.send(rt, Parcel::Work(chunk));
+    out.send(rt, Parcel::Sync);
+    let held = out.get(rt);
+    let is_own = held.object().value(0) == Some(7);
+    out.send(rt, Parcel::Home(held));
+    out.send(rt, Parcel::End);
+    is_own
+}
+
+// How many of a thousand turns a client had as it should. It drops its end then, and does nothing else.
+fn client_turns<R: Wait>(rt: &R, quiet: QuietOut) -> u16 {
+    let QuietOut { mut out } = quiet;
+    let mut turns = 0;
+    for _turn in 0..1000u16 {
+        if client_turn(rt, &mut out) {
+            turns += 1;
+        }
+    }
+    drop(out);
+    turns
+}
+
+// Takes an empty chunk, and gives it back.
+fn serve_chunk<R: Wait>(rt: &R, inside: &mut LaneIn) -> bool
+    requires served { length inside.old.given ≤ syncs inside.old.received }
+    ensures lane { (inside.new.name ≡ inside.old.name) × (inside.new.size ≡ inside.old.size) }
+    ensures served { length inside.new.given ≤ syncs inside.new.received }
+{
+    let Parcel::Work(chunk) = inside.take(rt) else {
+        return false;
+    };
+    let mut chunk = chunk;
+    let request = chunk.take_front();
+    if request.is_some() {
+        drop(request);
+        drop(chunk);
+        return false;
+    }
+    inside.spare(rt, chunk);
+    true
+}
+
+// Takes an End.
+fn serve_end<R: Wait>(rt: &R, inside: &mut LaneIn) -> bool
+    requires served { length inside.old.given ≤ syncs inside.old.received }
+    ensures lane { (inside.new.name ≡ inside.old.name) × (inside.new.size ≡ inside.old.size) }
+    ensures served { length inside.new.given ≤ syncs inside.new.received }
+{
+    let parcel = inside.take(rt);
+    let is_end = matches!(&parcel, Parcel::End);
+    drop(parcel);
+    is_end
+}
+
+// What a handler does in one turn; the object, where all came as it should.
+fn handler_turn<R: Wait>(rt: &R, inside: &mut LaneIn, held: Held) -> Option<Held>
+    requires served { length inside.old.given ≤ syncs inside.old.received }
+    ensures lane { (inside.new.name ≡ inside.old.name) × (inside.new.size ≡ inside.old.size) }
+    ensures served { length inside.new.given ≤ syncs inside.new.received }
+{
+    if !serve_chunk(rt, inside) || !take_sync(rt, inside) {
+        drop(held);
+        return None;
+    }
+    inside.give(rt, held);
+    let home = take_home(rt, inside)?;
+    if !serve_end(rt, inside) {
+        drop(home);
+        return None;
+    }
+    Some(home)
+}
+
+// How many of a thousand turns a handler had as it should.
+fn handler_turns<R: Wait>(rt: &R, served: ServedIn, held: Held) -> u16 {
+    let ServedIn { mut inside } = served;
+    let mut held = held;
+    for turn in 0..1000u16 {
+        match handler_turn(rt, &mut inside, held) {
+            Some(home) => held = home,
+            None => return turn,
+        }
+    }
+    drop(held);
+    drop(inside);
+    1000
+}
+
+// The turns of a client and of a handler, each on a thread of its own.
+fn join_turns<R: Threads + Wait + Sync>(
+    rt: &R,
+    quiet: QuietOut,
+    served: ServedIn,
+    held: Held,
+) -> (u16, u16) {
+    thread::join(
+        rt,
+        move || client_turns(rt, quiet),
+        move || handler_turns(rt, served, held),
+    )
+}
+
+// The same of a new lane; none where memory is refused.
+fn turns_at_once<R: Threads + Wait + Sync>(
+    rt: &R,
+    alloc: Global,
+    size: ChunkSize,
+) -> Option<(u16, u16)> {
+    let held = account(alloc)?;
+    let Ok((out, inside)) = lane(rt, alloc, size) else {
+        drop(held);
+        return None;
+    };
+    Some(join_turns(rt, QuietOut { out }, ServedIn { inside }, held))
+}
+
 fn is_all(carried: Carried) -> bool {
     carried.value == 7
         && carried.ends == 16
@@ -317,6 +465,8 @@ fn a_lane_carries_what_is_sent(rt: HostRuntime) -> Result<(), Fail> {
         let size = ChunkSize::new(size).ok_or("no size")?;
         let turns = turns_of(&rt, rt.alloc(), size).ok_or("out of memory")?;
         assert_eq!(rt; turns, 1000);
+        let turns = turns_at_once(&rt, rt.alloc(), size).ok_or("out of memory")?;
+        assert_eq!(rt; turns, (1000, 1000));
     }
     Ok(())
 }

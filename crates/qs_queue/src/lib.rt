@@ -1,14 +1,14 @@
 //! One kind of queue for all that goes from one thread to another: one end sends, the other takes, and all that was sent keeps to a protocol.
 #![tactic(auto)]
 
-mod bell;
-mod patience;
+mod events;
+mod long_spins;
 mod protocol;
 mod queue_ends;
 mod rule;
 #[cfg(test)]
 mod tests;
 
-pub use bell::Bell;
+pub use events::Events;
 pub use protocol::{Key, Protocol};
-pub use queue_ends::{Sender, Taker, make_ends};
+pub use queue_ends::{Sender, Taker, Waker, make_ends};

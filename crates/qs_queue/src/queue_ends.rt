@@ -3,8 +3,8 @@
 ghost use Rattle.std.specs.Prelude.{◌≡◌, ◌<◌, ◌≤◌, List, [], ◌∷◌, ◌++◌, length, IfOk, IfSome, IfNone, IfErr};
 ghost use Rattle.crossbeam_queue.specs.Passes.{view, IsPassOf, ruled_capacity};
 
-use crate::bell::Bell;
-use crate::patience::Patience;
+use crate::events::Events;
+use crate::long_spins::LongSpins;
 use crate::protocol::{Key, Protocol};
 use crate::rule::{Agrees, Known, Meets, Opens, Queue, Sends, Takes};
 use crossbeam_queue::Pass;
@@ -16,12 +16,12 @@ use std::marker::Model;
 use std::sync::{Arc, Wait};
 
 // How often the taking end looks before it sleeps, some 3 microseconds in all, and how many of these looks have no pause after them.
-const LOOKS: u32 = 80;
+const SPINS: u32 = 80;
 
-const QUICK_LOOKS: u32 = 30;
+const QUICK_SPINS: u32 = 30;
 
-// How often it looks where it has patience, some 60 microseconds more.
-const PATIENT_LOOKS: u32 = 1200;
+// How often it looks in a long spin, some 60 microseconds more.
+const LONG_SPINS: u32 = 1200;
 
 // What both ends have: the queue, and who sleeps until something is sent.
 struct Shared<T, K, P: Protocol<T, K>> {
@@ -68,12 +68,30 @@ impl<T, K, P: Protocol<T, K>> Model for Sender<T, K, P> {
     ghost invariant = { λ s. IsPassOf s.shared.value.queue s.pass × (known s.pass ≡ sending (known s.pass).key (known s.pass).sent) };
 }
 
+/// What wakes the taking end of a queue, where it sleeps there, and does nothing else.
+pub struct Waker<T, K, P: Protocol<T, K>> {
+    shared: Arc<Shared<T, K, P>, Global>,
+}
+
+impl<T: Drop, K, P: Protocol<T, K>> Drop for Waker<T, K, P> {
+    fn drop(self) {
+        let Waker { shared: _ } = self;
+    }
+}
+
+impl<T, K, P: Protocol<T, K>> Waker<T, K, P> {
+    /// Wakes the taking end, where it sleeps at its queue.
+    pub fn wake(&self) {
+        self.shared.sleeper.notify_one();
+    }
+}
+
 /// The taking end of a queue.
 #[derive(Drop)]
 pub struct Taker<T, K, P: Protocol<T, K>> {
     shared: Arc<Shared<T, K, P>, Global>,
     pass: Pass<T, Known<T, K>>,
-    patience: Patience,
+    long_spins: LongSpins,
 }
 
 impl<T, K, P: Protocol<T, K>> Model for Taker<T, K, P> {
@@ -108,43 +126,25 @@ pub fn make_ends<T: Drop, K, P: Protocol<T, K>, N: Key<K>>(
     let taker = Taker {
         shared: Arc::try_clone(&shared)?,
         pass: theirs,
-        patience: Patience::new(),
+        long_spins: LongSpins::new(),
     };
     Ok((Sender { shared, pass }, taker))
 }
 
 impl<T: Drop, K, P: Protocol<T, K>> Sender<T, K, P> {
-    /// Sends a value as `try_send` does, and wakes nobody.
-    pub fn try_put<R: Wait>(&mut self, rt: &R, value: T) -> Result<(), T>
-        requires good { P.good self.old.key (self.old.sent ++ value ∷ []) }
-        ensures ok { IfOk result (λ _. self.new ≡ record self.old { sent = self.old.sent ++ value ∷ [] }) }
-        ensures back { IfErr result (λ back. (back ≡ value) × (self.new ≡ self.old)) }
-        ensures full { IfErr result (λ _. self.old.room ≤ length self.old.sent) }
-    {
-        self.shared
-            .queue
-            .push_as::<Sends, R>(rt, &mut self.pass, value)
-    }
-
-    /// Wakes the taking end, where it sleeps at its queue.
-    pub fn wake(&self) {
-        self.shared.sleeper.notify_one();
-    }
-
     /// Sends a value, where what was sent stays good by it. The value comes back, and nothing changes, only where the queue is full; so as
-    /// many values at least were sent before as there is room for.
+    /// many values at least were sent before as there is room for. It wakes nobody.
     pub fn try_send<R: Wait>(&mut self, rt: &R, value: T) -> Result<(), T>
         requires good { P.good self.old.key (self.old.sent ++ value ∷ []) }
         ensures ok { IfOk result (λ _. self.new ≡ record self.old { sent = self.old.sent ++ value ∷ [] }) }
         ensures back { IfErr result (λ back. (back ≡ value) × (self.new ≡ self.old)) }
         ensures full { IfErr result (λ _. self.old.room ≤ length self.old.sent) }
     {
-        self.try_put(rt, value)?;
-        self.wake();
-        Ok(())
+        let queue = &self.shared.queue;
+        queue.push_as::<Sends, R>(rt, &mut self.pass, value)
     }
 
-    /// Sends a value, where what was sent stays good by it; waits until the queue has room.
+    /// Sends a value, where what was sent stays good by it. Tries until the queue has room, with a pause between two tries; it wakes nobody.
     pub fn send<R: Wait>(&mut self, rt: &R, value: T)
         requires good { P.good self.old.key (self.old.sent ++ value ∷ []) }
         ensures sent { self.new ≡ record self.old { sent = self.old.sent ++ value ∷ [] } }
@@ -161,32 +161,39 @@ impl<T: Drop, K, P: Protocol<T, K>> Sender<T, K, P> {
         unreachable!()
     }
 
-    /// Sends a value as `send` does, and wakes nobody; but it calls the thread of a bell while it waits for room.
-    pub fn put<R: Wait>(&mut self, rt: &R, bell: &Bell, value: T)
+    /// Sends a value as `send` does. While it waits for room it is a waiter of the thread of an event count, which it wakes.
+    pub fn send_as_waiter<R: Wait>(&mut self, rt: &R, events: &Events, value: T)
         requires good { P.good self.old.key (self.old.sent ++ value ∷ []) }
         ensures sent { self.new ≡ record self.old { sent = self.old.sent ++ value ∷ [] } }
     {
-        if let Err(back) = self.try_put(rt, value) {
-            bell.call();
+        if let Err(back) = self.try_send(rt, value) {
+            events.add_waiter();
             self.send(rt, back);
-            bell.hang_up();
+            events.remove_waiter();
         }
     }
 
-    /// Sends a value, where what was sent stays good by it, to a queue that has room for all that was sent and this value.
+    /// Sends a value, where what was sent stays good by it, to a queue that has room for all that was sent and this value. It wakes
+    /// nobody.
     pub fn push<R: Wait>(&mut self, rt: &R, value: T)
         requires good { P.good self.old.key (self.old.sent ++ value ∷ []) }
         requires room { length self.old.sent < self.old.room }
         ensures sent { self.new ≡ record self.old { sent = self.old.sent ++ value ∷ [] } }
     {
-        let Ok(()) = self
-            .shared
-            .queue
-            .push_as::<Sends, R>(rt, &mut self.pass, value)
-        else {
+        let Ok(()) = self.try_send(rt, value) else {
             unreachable!();
         };
-        self.wake();
+    }
+
+    /// Wakes the taking end, where it sleeps at its queue.
+    pub fn wake(&self) {
+        self.shared.sleeper.notify_one();
+    }
+
+    /// What wakes the taking end from elsewhere. An error says that there are too many of them.
+    pub fn waker(&self) -> Result<Waker<T, K, P>, AllocError> {
+        let shared = Arc::try_clone(&self.shared)?;
+        Ok(Waker { shared })
     }
 
     /// What the two ends of one queue know together: what was received is a front of what was sent, and what was sent is good.
@@ -199,7 +206,7 @@ impl<T: Drop, K, P: Protocol<T, K>> Sender<T, K, P> {
         let Taker {
             shared: _shared,
             pass: theirs,
-            patience: _,
+            long_spins: _,
         } = taker;
         self.shared.queue.absorb::<Meets<P>>(&mut self.pass, theirs);
         self.shared.queue.learn_as::<Agrees<P>>(&mut self.pass);
@@ -217,53 +224,68 @@ impl<T: Drop, K, P: Protocol<T, K>> Taker<T, K, P> {
         self.shared.queue.pop_as::<Takes<P>, R>(rt, &mut self.pass)
     }
 
-    /// Takes the next value; what was received is good. Waits until there is one: it looks again and again for some microseconds, and
-    /// then sleeps until something is sent.
+    /// Takes the next value; what was received is good. Tries until there is one, with a pause between two tries; it does not sleep.
     pub fn take<R: Wait>(&mut self, rt: &R) -> T
         ensures taken { self.new ≡ record self.old { received = self.old.received ++ result ∷ [] } }
         ensures good { P.good self.old.key (self.old.received ++ result ∷ []) }
     {
-        if let Some(value) = self.look() {
+        let backoff = Backoff::new();
+        for _ in rt.forever() {
+            if let Some(value) = self.try_take(rt) {
+                return value;
+            }
+            backoff.snooze();
+        }
+        unreachable!()
+    }
+
+    /// Takes the next value; what was received is good. Until there is one it spins for some microseconds, and then sleeps at its queue
+    /// until it is woken.
+    pub fn take_or_sleep<R: Wait>(&mut self, rt: &R) -> T
+        ensures taken { self.new ≡ record self.old { received = self.old.received ++ result ∷ [] } }
+        ensures good { P.good self.old.key (self.old.received ++ result ∷ []) }
+    {
+        if let Some(value) = self.spin() {
             return value;
         }
         self.sleep_and_take(rt, None)
     }
 
-    /// The same, but it sleeps at a bell until that is rung.
-    pub fn take_at<R: Wait>(&mut self, rt: &R, bell: &Bell) -> T
+    /// The same, but it sleeps at an event count until that is notified.
+    pub fn take_or_sleep_at<R: Wait>(&mut self, rt: &R, events: &Events) -> T
         ensures taken { self.new ≡ record self.old { received = self.old.received ++ result ∷ [] } }
         ensures good { P.good self.old.key (self.old.received ++ result ∷ []) }
     {
-        if let Some(value) = self.look() {
+        if let Some(value) = self.spin() {
             return value;
         }
-        self.sleep_and_take(rt, Some(bell))
+        self.sleep_and_take(rt, Some(events))
     }
 
-    /// The same as `take`, but it rings the bell of the thread that sends, and calls it while it sleeps.
-    pub fn take_from<R: Wait>(&mut self, rt: &R, bell: &Bell) -> T
+    /// The same as `take_or_sleep`. It wakes the thread of an event count, which is to send, and is a waiter of it while it sleeps.
+    pub fn take_or_sleep_as_waiter<R: Wait>(&mut self, rt: &R, events: &Events) -> T
         ensures taken { self.new ≡ record self.old { received = self.old.received ++ result ∷ [] } }
         ensures good { P.good self.old.key (self.old.received ++ result ∷ []) }
     {
-        bell.ring();
-        if let Some(value) = self.look() {
+        events.notify();
+        if let Some(value) = self.spin() {
             return value;
         }
-        bell.call();
+        events.add_waiter();
         let value = self.sleep_and_take(rt, None);
-        bell.hang_up();
+        events.remove_waiter();
         value
     }
 
-    // Takes the next value. Until there is one it sleeps, at its queue where no bell is named.
-    fn sleep_and_take<R: Wait>(&mut self, rt: &R, bell: Option<&Bell>) -> T
+    // Takes the next value. Until there is one it sleeps, at its queue where no event count is named.
+    fn sleep_and_take<R: Wait>(&mut self, rt: &R, events: Option<&Events>) -> T
         ensures taken { self.new ≡ record self.old { received = self.old.received ++ result ∷ [] } }
         ensures good { P.good self.old.key (self.old.received ++ result ∷ []) }
     {
         for _ in rt.forever() {
-            let taken = match bell {
-                Some(bell) => self.take_or_sleep_at(rt, bell),
-                None => self.take_or_sleep(rt),
+            let taken = match events {
+                Some(events) => self.pop_or_sleep_at(rt, events),
+                None => self.pop_or_sleep(rt),
             };
             if let Some(value) = taken {
                 return value;
@@ -274,7 +296,7 @@ impl<T: Drop, K, P: Protocol<T, K>> Taker<T, K, P> {
 
     // Takes the next value, or sleeps at its queue until it is woken. It says that it will sleep before it looks, so that nothing is sent
     // unseen.
-    fn take_or_sleep<R: Wait>(&mut self, rt: &R) -> Option<T>
+    fn pop_or_sleep<R: Wait>(&mut self, rt: &R) -> Option<T>
         ensures none { IfNone result (self.new ≡ self.old) }
         ensures some { IfSome result (λ value. self.new ≡ record self.old { received = self.old.received ++ value ∷ [] }) }
         ensures good { IfSome result (λ value. P.good self.old.key (self.old.received ++ value ∷ [])) }
@@ -289,13 +311,13 @@ impl<T: Drop, K, P: Protocol<T, K>> Taker<T, K, P> {
         }
     }
 
-    // The same at a bell.
-    fn take_or_sleep_at<R: Wait>(&mut self, rt: &R, bell: &Bell) -> Option<T>
+    // The same at an event count.
+    fn pop_or_sleep_at<R: Wait>(&mut self, rt: &R, events: &Events) -> Option<T>
         ensures none { IfNone result (self.new ≡ self.old) }
         ensures some { IfSome result (λ value. self.new ≡ record self.old { received = self.old.received ++ value ∷ [] }) }
         ensures good { IfSome result (λ value. P.good self.old.key (self.old.received ++ value ∷ [])) }
     {
-        let key = bell.sleeper.prepare_wait();
+        let key = events.sleeper.prepare_wait();
         match self.shared.queue.pop_as::<Takes<P>, R>(rt, &mut self.pass) {
             Some(value) => Some(value),
             None => {
@@ -305,24 +327,24 @@ impl<T: Drop, K, P: Protocol<T, K>> Taker<T, K, P> {
         }
     }
 
-    // Looks again and again. It gives no processor away in between: on a busy machine that may take a whole turn of another program. Few
-    // looks are enough where the other thread is at work. Where that is being woken patience helps, for else both would sleep in turn.
-    fn look(&mut self) -> Option<T>
+    // Spins. It gives no processor away in between: on a busy machine that may take a whole turn of another program. A short spin is enough
+    // where the other thread is at work. Where that is being woken a long one helps, for else both would sleep in turn.
+    fn spin(&mut self) -> Option<T>
         ensures none { IfNone result (self.new ≡ self.old) }
         ensures some { IfSome result (λ value. self.new ≡ record self.old { received = self.old.received ++ value ∷ [] }) }
         ensures good { IfSome result (λ value. P.good self.old.key (self.old.received ++ value ∷ [])) }
     {
-        if let Some(value) = self.look_often(LOOKS, QUICK_LOOKS) {
+        if let Some(value) = self.spin_for(SPINS, QUICK_SPINS) {
             return Some(value);
         }
-        if !self.patience.is_left() {
+        if !self.long_spins.is_due() {
             return None;
         }
-        if let Some(value) = self.look_often(PATIENT_LOOKS, 0) {
-            self.patience.gain();
+        if let Some(value) = self.spin_for(LONG_SPINS, 0) {
+            self.long_spins.succeed();
             return Some(value);
         }
-        self.patience.lose();
+        self.long_spins.fail();
         None
     }
 
@@ -336,16 +358,16 @@ impl<T: Drop, K, P: Protocol<T, K>> Taker<T, K, P> {
     }
 
     // Looks so many times, the first of them without a pause of one instruction in between.
-    fn look_often(&mut self, looks: u32, quick: u32) -> Option<T>
+    fn spin_for(&mut self, spins: u32, quick: u32) -> Option<T>
         ensures none { IfNone result (self.new ≡ self.old) }
         ensures some { IfSome result (λ value. self.new ≡ record self.old { received = self.old.received ++ value ∷ [] }) }
         ensures good { IfSome result (λ value. P.good self.old.key (self.old.received ++ value ∷ [])) }
     {
-        for look in 0..looks {
+        for spin in 0..spins {
             if let Some(value) = self.look_once() {
                 return Some(value);
             }
-            if look >= quick {
+            if spin >= quick {
                 hint::spin_loop();
             }
         }

@@ -7,7 +7,7 @@ ghost use Rattle.qs_run.specs.Prepared.{AreNewEnds, lane_end_at, ever_reserves, 
 use qs_chunk::ChunkSize;
 use qs_client_thread::Lanes as ClientLanes;
 use qs_handler_thread::Lanes as HandlerLanes;
-use qs_lane::{Bell, LaneIn, LaneOut, lane_at, make_bell};
+use qs_lane::{Events, LaneIn, LaneOut, lane_at, make_events};
 use qs_program::{MOST_HANDLERS, Program};
 use std::alloc::{AllocError, Global};
 use std::sync::{Arc, Wait};
@@ -26,15 +26,15 @@ fn ever_reserves(program: &Program, client: u8, handler: u8) -> bool
     false
 }
 
-// A bell for each handler that there can be.
-fn make_bells(alloc: Global) -> Result<Vec<Arc<Bell, Global>>, AllocError>
-    ensures len { IfOk result (λ bells. length bells.items ≡ most_handlers) }
+// An event count for each handler that there can be.
+fn make_all_events(alloc: Global) -> Result<Vec<Arc<Events, Global>>, AllocError>
+    ensures len { IfOk result (λ events. length events.items ≡ most_handlers) }
 {
-    let mut bells = Vec::with_capacity(alloc, MOST_HANDLERS)?;
+    let mut events = Vec::with_capacity(alloc, MOST_HANDLERS)?;
     for _handler in 0..MOST_HANDLERS {
-        bells.push_reserved(make_bell(alloc)?);
+        events.push_reserved(make_events(alloc)?);
     }
-    Ok(bells)
+    Ok(events)
 }
 
 // Both ends of a new lane, if some block of the client reserves the handler, and none otherwise.
@@ -45,7 +45,7 @@ fn new_ends<R: Wait>(
     size: ChunkSize,
     client: u8,
     handler: u8,
-    bell: &Arc<Bell, Global>,
+    events: &Arc<Events, Global>,
 ) -> Result<(Option<LaneOut>, Option<LaneIn>), AllocError>
     requires client { client < length program.now.clients }
     ensures ends { IfOk result (λ ends. AreNewEnds size (ever_reserves program.now client handler) ends.0 ends.1) }
@@ -53,7 +53,7 @@ fn new_ends<R: Wait>(
     if !ever_reserves(program, client, handler) {
         return Ok((None, None));
     }
-    let (out, inside) = lane_at(rt, alloc, size, bell)?;
+    let (out, inside) = lane_at(rt, alloc, size, events)?;
     Ok((Some(out), Some(inside)))
 }
 
@@ -94,12 +94,12 @@ fn add_client_lanes<R: Wait>(
     program: &Program,
     size: ChunkSize,
     client: u8,
-    bells: &[Arc<Bell, Global>],
+    events: &[Arc<Events, Global>],
     outs: &mut Vec<ClientLanes>,
     ins: &mut Vec<HandlerLanes>,
 ) -> Result<(), AllocError>
     requires client { client < length program.now.clients }
-    requires bells { length bells.now ≡ most_handlers }
+    requires events { length events.now ≡ most_handlers }
     requires outs { length outs.old.items ≡ length program.now.clients }
     requires ins { length ins.old.items ≡ length program.now.objects }
     requires none { (h : ℕ) → (out_at outs.old.items client h ≡ None) × (in_at ins.old.items client h ≡ None) }
@@ -112,8 +112,8 @@ fn add_client_lanes<R: Wait>(
 {
     program.is_sound();
     for handler in 0..program.objects() as u8 {
-        let bell = &bells[usize::from(handler)];
-        let (out, inside) = new_ends(rt, alloc, program, size, client, handler, bell)?;
+        let events = &events[usize::from(handler)];
+        let (out, inside) = new_ends(rt, alloc, program, size, client, handler, events)?;
         put_end(outs, client, handler, out);
         put_end(ins, handler, client, inside);
     }
@@ -126,11 +126,11 @@ fn add_lanes<R: Wait>(
     alloc: Global,
     program: &Program,
     size: ChunkSize,
-    bells: &[Arc<Bell, Global>],
+    events: &[Arc<Events, Global>],
     outs: &mut Vec<ClientLanes>,
     ins: &mut Vec<HandlerLanes>,
 ) -> Result<(), AllocError>
-    requires bells { length bells.now ≡ most_handlers }
+    requires events { length events.now ≡ most_handlers }
     requires outs { length outs.old.items ≡ length program.now.clients }
     requires ins { length ins.old.items ≡ length program.now.objects }
     requires none { (c h : ℕ) → (out_at outs.old.items c h ≡ None) × (in_at ins.old.items c h ≡ None) }
@@ -141,12 +141,12 @@ fn add_lanes<R: Wait>(
 {
     program.is_sound();
     for client in 0..program.clients() as u8 {
-        add_client_lanes(rt, alloc, program, size, client, bells, outs, ins)?;
+        add_client_lanes(rt, alloc, program, size, client, events, outs, ins)?;
     }
     Ok(())
 }
 
-/// Makes a lane for each client and each handler that some block of the client reserves; all lanes of a handler share a bell. It gives the
+/// Makes a lane for each client and each handler that some block of the client reserves; all lanes of a handler share an event count. It gives the
 /// ends of each client, by handler, and those of each handler, by client.
 pub(crate) fn make_lanes<R: Wait>(
     rt: &R,
@@ -159,9 +159,9 @@ pub(crate) fn make_lanes<R: Wait>(
     ensures lanes { IfOk result (λ lanes. (c h : ℕ)
         → AreNewEnds size (ever_reserves program.now c h) (out_at lanes.0.items c h) (in_at lanes.1.items c h)) }
 {
-    let bells = make_bells(alloc)?;
+    let events = make_all_events(alloc)?;
     let mut outs = empty_rows(alloc, program.clients())?;
     let mut ins = empty_rows(alloc, program.objects())?;
-    add_lanes(rt, alloc, program, size, &bells, &mut outs, &mut ins)?;
+    add_lanes(rt, alloc, program, size, &events, &mut outs, &mut ins)?;
     Ok((outs, ins))
 }

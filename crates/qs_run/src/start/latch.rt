@@ -3,6 +3,7 @@
 ghost use Rattle.std.specs.Prelude.{◌≡◌};
 
 use std::marker::Model;
+use std::snapshot::Snapshot;
 use std::sync::{OnceLock, OnceToken, Wait};
 
 /// Holds the workers until it is decided whether they go: they go once all of them are started, and end if one could not be.
@@ -22,7 +23,15 @@ impl Model for Latch {
 /// The right to decide at a latch. It is made with the latch and used up by the decision, so there is one decision.
 #[derive(Drop)]
 pub(crate) struct Deciding {
-    _alone: (),
+    latch: Snapshot<Latch>,
+}
+
+impl Model for Deciding {
+    ghost use Rattle.std.specs.Prelude.{ℕ};
+
+    ghost Value = { ℕ };
+
+    ghost view = { λ d. d.latch.value };
 }
 
 /// What was decided at a latch. Two decisions of one latch are the same.
@@ -30,15 +39,20 @@ pub(crate) type Decision<'l> = OnceToken<'l, bool>;
 
 impl Latch {
     /// A latch at which nothing is decided, and the right to decide.
-    pub(crate) fn new() -> (Latch, Deciding) {
-        let latch = Latch {
+    pub(crate) fn new() -> (Latch, Deciding)
+        ensures latch { result.1 ≡ result.0 }
+    {
+        let go = Latch {
             go: OnceLock::new(),
         };
-        (latch, Deciding { _alone: () })
+        let latch = Snapshot::of(&go);
+        (go, Deciding { latch })
     }
 
-    /// Decides whether the workers go. It is the first decision, as there is one right to it, so the latch takes it at the first try.
+    /// Decides whether the workers go, by the right that was made with this latch. It is the first decision, as there is one right to it, so
+    /// the latch takes it at the first try.
     pub(crate) fn decide<R: Wait>(&self, rt: &R, deciding: Deciding, go: bool) -> Decision<'_>
+        requires own { deciding ≡ self.now }
         ensures latch { result.of ≡ self.now }
         ensures decided { result.value ≡ go }
     {

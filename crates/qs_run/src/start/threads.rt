@@ -116,6 +116,7 @@ fn refuse<'l, S, W, R: Wait>(
     worker: W,
 ) -> Group<'l, S, W>
     requires own { vec_len ready < vec_capacity ready }
+    requires latch { deciding ≡ latch.now }
     ensures kept { (result.workers.items ≡ ready.items ++ worker ∷ []) × (vec_capacity result.workers ≡ vec_capacity ready) }
     ensures end { (result.decision.of ≡ latch.entry.now) × (result.decision.value ≡ false) }
     ensures starter { result.starter ≡ starter }
@@ -143,6 +144,7 @@ fn run_clients<'l, D: DeskName + Send + Sync, S: Starter + Drop, R: Threads + Wa
     room: Vec<ClientWorker<D>>,
 ) -> Result<Group<'l, S, ClientWorker<D>>, Group<'l, S, ReadyClient<D>>>
     requires room { (vec_len ready ≤ vec_capacity room) × (room.items ≡ []) }
+    requires latch { deciding ≡ latch.now }
     requires few { number + vec_len ready < 2 ^ 32 }
     ensures ran { IfOk result (λ r. AllZip ClientHasRun ready.items r.workers.items × (vec_len r.workers ≡ vec_len ready) × (vec_capacity r.workers ≡ vec_capacity room)) }
     ensures go { IfOk result (λ r. (r.decision.of ≡ latch.entry.now) × (r.decision.value ≡ true)) }
@@ -167,6 +169,7 @@ fn run_clients<'l, D: DeskName + Send + Sync, S: Starter + Drop, R: Threads + Wa
             requires sync { IsSync R.row × IsSend D.row × IsSync D.row }
             requires room { (vec_len ready < vec_capacity room) × (room.items ≡ []) }
             requires own { vec_len ready < vec_capacity ready }
+            requires latch { deciding ≡ latch.now }
             requires few { number + vec_len ready + 1 < 2 ^ 32 }
             ensures ran { IfOk result (λ r. AllZip ClientHasRun (ready.items ++ worker ∷ []) r.workers.items × (vec_len r.workers ≡ vec_len ready + 1) × (vec_capacity r.workers ≡ vec_capacity room)) }
             ensures go { IfOk result (λ r. (r.decision.of ≡ latch.entry.now) × (r.decision.value ≡ true)) }
@@ -252,6 +255,7 @@ fn run_handlers<
 ) -> Result<Ran<'l, S, D>, Held<'l, S, D>>
     requires room { (vec_len ready ≤ vec_capacity room) × (room.items ≡ []) }
     requires clients_room { (vec_len clients ≤ vec_capacity clients_room) × (clients_room.items ≡ []) }
+    requires latch { deciding ≡ latch.now }
     requires few { number + vec_len ready + vec_len clients < 2 ^ 32 }
     ensures served { IfOk result (λ r. AllZip (HandlerHasServed D.program) ready.items r.results.handlers.items × (vec_len r.results.handlers ≡ vec_len ready) × (vec_capacity r.results.handlers ≡ vec_capacity room)) }
     ensures ran { IfOk result (λ r. AllZip ClientHasRun clients.items r.results.clients.items) }
@@ -301,6 +305,7 @@ fn run_handlers<
             requires room { (vec_len ready < vec_capacity room) × (room.items ≡ []) }
             requires own { vec_len ready < vec_capacity ready }
             requires clients_room { (vec_len clients ≤ vec_capacity clients_room) × (clients_room.items ≡ []) }
+            requires latch { deciding ≡ latch.now }
             requires few { number + (vec_len ready + 1) + vec_len clients < 2 ^ 32 }
             ensures served { IfOk result (λ r. AllZip (HandlerHasServed D.program) (ready.items ++ worker ∷ []) r.results.handlers.items × (vec_len r.results.handlers ≡ vec_len ready + 1) × (vec_capacity r.results.handlers ≡ vec_capacity room)) }
             ensures ran { IfOk result (λ r. AllZip ClientHasRun clients.items r.results.clients.items) }

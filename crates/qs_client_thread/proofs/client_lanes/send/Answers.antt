@@ -2,8 +2,8 @@ use Rattle.std.proofs.Common.{◌∙◌, ◌<◌, sym, ap, subst, slice_index_or
 use Rattle.std.proofs.lemmas.List.{get_or_default}
 use Rattle.qs_client_thread.proofs.client_lanes.send.Goals as goal
 
-pub send-requires : goal.send-requires
-send-requires g c =
+pub send_and_wake_handler-requires : goal.send_and_wake_handler-requires
+send_and_wake_handler-requires g c =
     let inside = subst (λ n. c.args.handler < n) (sym c.told-lanes) c.requires.handler in
     record {
       follows = c.requires.follows c.in-Some.lane

@@ -10,8 +10,8 @@ pub loop-init : goal.loop-init
 loop-init g c =
     begins g.D.DeskName.program c.args.share.client (mind_of c.args.mind) c.args.lanes c.args.share refl c.requires.unbooked c.requires.fresh
 
-pub reserve-requires : goal.reserve-requires
-reserve-requires g c =
+pub reserve_and_wake_handlers-requires : goal.reserve_and_wake_handlers-requires
+reserve_and_wake_handlers-requires g c =
     record {
       left = has_left g.D.DeskName.program c.args.share.client (mind_of c.args.mind) c.args.lanes c.requires.sound c.requires.code c.requires.begins
           c.requires.fresh c.requires.reached (mind_of c.loop.mind) (mind_of c.next-in-loop.new.self) c.loop.share c.loop.lanes c.loop.invariant
@@ -20,7 +20,7 @@ reserve-requires g c =
 
 pub booked-requires-clause-next : goal.booked-requires-clause-next
 booked-requires-clause-next g c =
-    ap (λ (t : Ticket). t.index) c.reserve.ensures.ticket
+    ap (λ (t : Ticket). t.index) c.reserve_and_wake_handlers.ensures.ticket
     ∙ count_is g.D.DeskName.program c.args.share.client (mind_of c.args.mind) c.args.lanes c.requires.sound c.requires.code c.requires.begins
     c.requires.fresh c.requires.reached (mind_of c.loop.mind) (mind_of c.next-in-loop.new.self) c.loop.share c.loop.lanes c.loop.invariant
     c.next-in-loop.ensures.rest (sym c.in-Reserve.ensures.act)
@@ -29,8 +29,8 @@ pub loop-preserved-in-Reserve : goal.loop-preserved-in-Reserve
 loop-preserved-in-Reserve g c =
     kept_by_ticket g.D.DeskName.program c.args.share.client (mind_of c.args.mind) c.args.lanes c.requires.sound c.requires.code c.requires.begins
     c.requires.fresh c.requires.reached (mind_of c.loop.mind) (mind_of c.next-in-loop.new.self) c.loop.share c.loop.lanes c.loop.invariant
-    c.next-in-loop.ensures.rest (mind_of c.booked.new.self) c.reserve.result c.reserve.new.share
-    (sym c.in-Reserve.ensures.act) c.reserve.ensures.ticket c.reserve.ensures.share c.booked.ensures.begun
+    c.next-in-loop.ensures.rest (mind_of c.booked.new.self) c.reserve_and_wake_handlers.result c.reserve_and_wake_handlers.new.share
+    (sym c.in-Reserve.ensures.act) c.reserve_and_wake_handlers.ensures.ticket c.reserve_and_wake_handlers.ensures.share c.booked.ensures.begun
 
 pub send-requires-clause-handler : goal.send-requires-clause-handler
 send-requires-clause-handler g c =

@@ -13,12 +13,12 @@ loop-init g c = (
 
 pub loop-preserved-in-TakeTicket : goal.loop-preserved-in-TakeTicket
 loop-preserved-in-TakeTicket g c = (
-  took_ticket g.D.DeskName.program c.args.tickets.handler c.args.held c.args.lanes c.loop.mind c.next-in-loop.new.self c.ticket.new.self c.take-next.result
-      c.loop.tickets c.take-next.new.self c.loop.lanes c.loop.invariant.0 c.next-in-loop.ensures.rest (sym c.in-TakeTicket.ensures.act) c.ticket.ensures.taken
-      c.take-next.ensures.reserved c.take-next.ensures.taken,
-  subst (λ (v : TicketsView). ArePassed (g.G.Passage.moves c.args.gate.now) c.args.tickets.handler c.args.log.now v.taken c.announce.new.log) (sym c.take-next.ensures.taken)
-      (passed_more (g.G.Passage.moves c.args.gate.now) c.args.tickets.handler c.loop.tickets.taken (c.take-next.result ∷ []) c.args.log.now c.loop.log c.announce.new.log c.loop.invariant.1
-      (subst (λ object. ArePassed (g.G.Passage.moves c.args.gate.now) object c.loop.log (c.take-next.result ∷ []) c.announce.new.log) c.handler-object.ensures.handler c.announce.ensures.passed)),
+  took_ticket g.D.DeskName.program c.args.tickets.handler c.args.held c.args.lanes c.loop.mind c.next-in-loop.new.self c.ticket.new.self c.take_or_sleep-next.result
+      c.loop.tickets c.take_or_sleep-next.new.self c.loop.lanes c.loop.invariant.0 c.next-in-loop.ensures.rest (sym c.in-TakeTicket.ensures.act) c.ticket.ensures.taken
+      c.take_or_sleep-next.ensures.reserved c.take_or_sleep-next.ensures.taken,
+  subst (λ (v : TicketsView). ArePassed (g.G.Passage.moves c.args.gate.now) c.args.tickets.handler c.args.log.now v.taken c.announce.new.log) (sym c.take_or_sleep-next.ensures.taken)
+      (passed_more (g.G.Passage.moves c.args.gate.now) c.args.tickets.handler c.loop.tickets.taken (c.take_or_sleep-next.result ∷ []) c.args.log.now c.loop.log c.announce.new.log c.loop.invariant.1
+      (subst (λ object. ArePassed (g.G.Passage.moves c.args.gate.now) object c.loop.log (c.take_or_sleep-next.result ∷ []) c.announce.new.log) c.handler-object.ensures.handler c.announce.ensures.passed)),
 )
 
 pub take_parcel-requires-clause-client : goal.take_parcel-requires-clause-client
