@@ -4,6 +4,7 @@ use crate::form::{Form, Stage};
 use crate::known::{Declared, Known, kind_of, place_in};
 use crate::operations::{Kind, operation_of};
 use crate::source::Source;
+use qs_objects::Op;
 use qs_places::CheckFault;
 use qs_tokens::Token;
 use std::alloc::{AllocError, Global};
@@ -49,8 +50,7 @@ pub(crate) enum Cause {
     },
     /// It takes so many arguments, and not that many.
     Arity {
-        call: &'static [u8],
-        due: usize,
+        op: Op,
         given: usize,
     },
     /// No `repeat` is around it.
@@ -218,8 +218,7 @@ impl Search {
         let kind = self.known.object(source, source.word(object))?.kind;
         match operation_of(kind, asks, source.word(place)) {
             Some(found) => Some(Cause::Arity {
-                call: found.call,
-                due: found.count,
+                op: found,
                 given: count_to_paren(source, place.saturating_add(2)),
             }),
             None => Some(Cause::UnknownOp { kind, asks, object }),

@@ -1,4 +1,9 @@
-// The operations of the objects, by kind, for readers.
+// The kinds of objects and their operations, in words for a reader.
+
+use crate::said::joined;
+use qs_objects::Op;
+use qs_told::put_all;
+use std::alloc::{AllocError, Global};
 
 /// A kind of object.
 #[derive(Clone, Copy, Debug, PartialEq, Eq)]
@@ -6,14 +11,6 @@ pub(crate) enum Kind {
     Account,
     Buffer,
     Grid,
-}
-
-/// An operation: its word, how a call of it is written, and how many arguments it takes.
-#[derive(Clone, Copy)]
-pub(crate) struct Operation {
-    pub(crate) word: &'static [u8],
-    pub(crate) call: &'static [u8],
-    pub(crate) count: usize,
 }
 
 impl Kind {
@@ -26,68 +23,60 @@ impl Kind {
         }
     }
 
-    /// The words of its commands, or of its queries.
-    pub(crate) fn words(self, asks: bool) -> &'static [u8] {
-        match self {
-            Kind::Account if asks => b"balance, refused",
-            Kind::Account => b"deposit, withdraw",
-            Kind::Buffer if asks => b"take, front, size, refused",
-            Kind::Buffer => b"put, drop",
-            Kind::Grid if asks => b"get, row, refused",
-            Kind::Grid => b"set, add, fill",
+    // The operations of its objects.
+    fn operations(self) -> &'static [Op] {
+        let kind = match self {
+            Kind::Account => qs_objects::Kind::Account { balance: 0 },
+            Kind::Buffer => qs_objects::Kind::Buffer { capacity: 1 },
+            Kind::Grid => qs_objects::Kind::Grid {
+                rows: 1,
+                columns: 1,
+            },
+        };
+        kind.operations()
+    }
+
+    /// Its queries, or else its commands.
+    pub(crate) fn listed(self, alloc: Global, asks: bool) -> Result<Vec<Op>, AllocError> {
+        let mut listed = Vec::new(alloc);
+        for op in self.operations() {
+            if op.is_query() == asks {
+                listed.push(*op)?;
+            }
         }
+        Ok(listed)
     }
-}
 
-fn called(word: &'static [u8], call: &'static [u8], count: usize) -> Operation {
-    Operation { word, call, count }
-}
-
-// The command of a kind at a place, counted from 0.
-fn command(kind: Kind, place: usize) -> Option<Operation> {
-    match (kind, place) {
-        (Kind::Account, 0) => Some(called(b"deposit", b"deposit(n)", 1)),
-        (Kind::Account, 1) => Some(called(b"withdraw", b"withdraw(n)", 1)),
-        (Kind::Buffer, 0) => Some(called(b"put", b"put(n)", 1)),
-        (Kind::Buffer, 1) => Some(called(b"drop", b"drop()", 0)),
-        (Kind::Grid, 0) => Some(called(b"set", b"set(row, column, n)", 3)),
-        (Kind::Grid, 1) => Some(called(b"add", b"add(row, column, n)", 3)),
-        (Kind::Grid, 2) => Some(called(b"fill", b"fill(n)", 1)),
-        _ => None,
-    }
-}
-
-// The query of a kind at a place, counted from 0.
-fn query(kind: Kind, place: usize) -> Option<Operation> {
-    match (kind, place) {
-        (Kind::Account, 0) => Some(called(b"balance", b"balance()", 0)),
-        (Kind::Buffer, 0) => Some(called(b"take", b"take()", 0)),
-        (Kind::Buffer, 1) => Some(called(b"front", b"front()", 0)),
-        (Kind::Buffer, 2) => Some(called(b"size", b"size()", 0)),
-        (Kind::Grid, 0) => Some(called(b"get", b"get(row, column)", 2)),
-        (Kind::Grid, 1) => Some(called(b"row", b"row(row)", 1)),
-        (_, 3) => Some(called(b"refused", b"refused()", 0)),
-        _ => None,
-    }
-}
-
-// The command or the query at a place.
-pub(crate) fn operation_at(kind: Kind, asks: bool, place: usize) -> Option<Operation> {
-    if asks {
-        query(kind, place)
-    } else {
-        command(kind, place)
+    /// What its queries are, or else its commands, in words.
+    pub(crate) fn words(self, alloc: Global, asks: bool) -> Result<Vec<u8>, AllocError> {
+        let mut words = joined(
+            alloc,
+            &[if asks {
+                b"its queries"
+            } else {
+                b"its commands"
+            }],
+        )?;
+        let mut comma: &'static [u8] = b": ";
+        for op in self.listed(alloc, asks)? {
+            put_all(&mut words, &[comma, op.word()])?;
+            comma = b", ";
+        }
+        Ok(words)
     }
 }
 
 /// The command, or the query, that a kind has under a word.
-pub(crate) fn operation_of(kind: Kind, asks: bool, word: &[u8]) -> Option<Operation> {
-    for place in 0..4 {
-        if let Some(found) = operation_at(kind, asks, place) {
-            if found.word == word {
-                return Some(found);
-            }
+pub(crate) fn operation_of(kind: Kind, asks: bool, word: &[u8]) -> Option<Op> {
+    for op in kind.operations() {
+        if op.is_query() == asks && op.word() == word {
+            return Some(*op);
         }
     }
     None
+}
+
+/// How a request for the operation is written, after its object and a point.
+pub(crate) fn call_of(alloc: Global, op: Op) -> Result<Vec<u8>, AllocError> {
+    joined(alloc, &[op.word(), b"(", op.parameters(), b")"])
 }

@@ -5,9 +5,10 @@ ghost use Rattle.qs_causes.specs.Near.{is_near};
 
 use crate::finding::{Cause, What};
 use crate::known::{Declared, Known};
-use crate::operations::{Kind, Operation, operation_at, operation_of};
+use crate::operations::{Kind, call_of, operation_of};
 use crate::said::{Said, digits, joined, line_digits, part, say, words_at};
 use crate::source::Source;
+use qs_objects::Op;
 use qs_tokens::Token;
 use std::alloc::{AllocError, Global};
 use strsim::generic_levenshtein;
@@ -40,7 +41,7 @@ pub(crate) fn say_cause(
         Cause::UnknownOp { kind, asks, object } => {
             say_operation(alloc, source, place, kind, asks, object)
         }
-        Cause::Arity { call, due, given } => say_arity(alloc, source, place, call, due, given),
+        Cause::Arity { op, given } => say_arity(alloc, source, place, op, given),
         Cause::LeaveOutside => say_leave(alloc, source, place),
         Cause::UnknownTemplate => say_template(alloc, source, known, place),
         Cause::Count { due, given } => say_count(alloc, source, place, due, given),
@@ -251,12 +252,10 @@ fn near_operation(
     kind: Kind,
     asks: bool,
     word: &[u8],
-) -> Result<Option<Operation>, AllocError> {
-    for place in 0..4 {
-        if let Some(found) = operation_at(kind, asks, place) {
-            if is_near(alloc, found.word, word)? {
-                return Ok(Some(found));
-            }
+) -> Result<Option<Op>, AllocError> {
+    for op in kind.listed(alloc, asks)? {
+        if is_near(alloc, op.word(), word)? {
+            return Ok(Some(op));
         }
     }
     Ok(None)
@@ -270,34 +269,35 @@ fn operation_help(
     word: &[u8],
     object: usize,
 ) -> Result<Vec<u8>, AllocError> {
-    let name = source.word(object);
     if let Some(found) = near_operation(alloc, kind, asks, word)? {
-        let near = joined(alloc, &[found.word])?;
-        return joined(alloc, &[b"is it `", near.as_slice(), b"`?"]);
+        return joined(alloc, &[b"is it `", found.word(), b"`?"]);
     }
-    match operation_of(kind, !asks, word) {
-        Some(found) if asks => joined(
+    let Some(other) = operation_of(kind, !asks, word) else {
+        return Ok(Vec::new(alloc));
+    };
+    let call = call_of(alloc, other)?;
+    if asks {
+        return joined(
             alloc,
             &[
                 b"a command has no answer: write `",
-                name,
+                source.word(object),
                 b".",
-                part(found.call),
+                call.as_slice(),
                 b";`",
             ],
-        ),
-        Some(found) => joined(
-            alloc,
-            &[
-                b"the answer of a query is kept in a variable: write `x = ",
-                name,
-                b".",
-                part(found.call),
-                b";`",
-            ],
-        ),
-        None => joined(alloc, &[]),
+        );
     }
+    joined(
+        alloc,
+        &[
+            b"the answer of a query is kept in a variable: write `x = ",
+            source.word(object),
+            b".",
+            call.as_slice(),
+            b";`",
+        ],
+    )
 }
 
 fn say_operation(
@@ -310,11 +310,7 @@ fn say_operation(
 ) -> Result<Said, AllocError> {
     let word = source.word(place);
     let what: &'static [u8] = if asks { b"query" } else { b"command" };
-    let several: &'static [u8] = if asks {
-        b"its queries: "
-    } else {
-        b"its commands: "
-    };
+    let words = kind.words(alloc, asks)?;
     let help = operation_help(alloc, source, kind, asks, word, object)?;
     say(
         alloc,
@@ -328,7 +324,7 @@ fn say_operation(
             b" ",
             word,
         ],
-        &[several, kind.words(asks)],
+        &[words.as_slice()],
         &[help.as_slice()],
     )
 }
@@ -349,11 +345,11 @@ fn say_arity(
     alloc: Global,
     source: Source<'_>,
     place: usize,
-    call: &'static [u8],
-    due: usize,
+    op: Op,
     given: usize,
 ) -> Result<Said, AllocError> {
-    let due = counted(alloc, due, b"argument", b"arguments")?;
+    let due = counted(alloc, op.arity(), b"argument", b"arguments")?;
+    let call = call_of(alloc, op)?;
     let given = digits(alloc, given)?;
     let object = source.word(place.saturating_sub(2));
     say(
@@ -367,7 +363,7 @@ fn say_arity(
             given.as_slice(),
         ],
         &[],
-        &[b"write `", object, b".", part(call), b"`"],
+        &[b"write `", object, b".", call.as_slice(), b"`"],
     )
 }
 

@@ -1,15 +1,14 @@
 -- In a script with no fault each request names an object of the block's list, with an operation of that object's kind and the
 -- right number of arguments, so the statements by number are sound. The soundness of blocks and of whole programs stands on
 -- `sound_body`. It goes by induction on the statements, and reads each fact off the place that was passed without a fault.
-use Rattle.std.proofs.Common.{◌≡◌, ℕ, zero, suc, codes, ◌≤◌, Bool, true, false, List, [], ◌∷◌, ◌++◌, length, map, slice_index_or, Option, Some, None, refl, ap, sym, ◌∙◌, subst, arith, Ok, pos, if◌then◌else◌}
+use Rattle.std.proofs.Common.{◌≡◌, ℕ, zero, suc, ◌≤◌, rules, Bool, true, false, List, [], ◌∷◌, ◌++◌, length, map, slice_index_or, Option, Some, None, refl, ap, sym, ◌∙◌, subst, arith, Ok, pos, if◌then◌else◌}
 use Rattle.std.proofs.lemmas.Bool.Decides.{nat_tests}
 use Rattle.std.proofs.lemmas.List.{length-map}
 use Rattle.std.specs.List.{AllByRecursion}
 use Rattle.qs_objects.specs.declared.Op.{Op}
-use Rattle.qs_objects.specs.declared.Op.TheVariants.{Deposit, Withdraw, Balance, Refused, Put, DropFirst, TakeFirst, First, Size, SetCell, AddCell, Fill, GetCell, RowSum}
 use Rattle.qs_objects.specs.declared.object.Kind.{Kind}
-use Rattle.qs_objects.specs.declared.object.Kind.TheVariants.{Account, Buffer, Grid}
-use Rattle.qs_objects.specs.Operations.{is_query, arity, fits}
+use Rattle.qs_objects.specs.declared.object.Kind.TheVariants.{Account}
+use Rattle.qs_objects.specs.Operations.{is_query, arity, fits, operations_of, word}
 use Rattle.qs_script.specs.declared.tree.Atom as text
 use Rattle.qs_script.specs.declared.tree.Atom.TheVariants.{Variable, Number}
 use Rattle.qs_script.specs.declared.tree.Expr as text_expr
@@ -19,7 +18,7 @@ use Rattle.qs_script.specs.declared.tree.Call as text_call
 use Rattle.qs_script.specs.Tree as tree
 use Rattle.qs_program.specs.declared.program.Declared.{Declared}
 use Rattle.qs_program.specs.Numbering.{Name, same_name, is_among, found_at}
-use Rattle.qs_places.specs.Operators.{means, op_of, op_or_refused}
+use Rattle.qs_places.specs.Operators.{called, is_meant, op_of, op_or_refused}
 use Rattle.qs_places.specs.Places.{Scope, TextPlace, number, target, operation, arguments, variable, leaves, scope_or_fault, places, atoms_places, expr_places, test_places, call_places, op_at, is_known, takes}
 use Rattle.qs_program.specs.Program.{no_object}
 use Rattle.qs_check.specs.Resolve.{atom_of, expr_of, test_of, call_of, body_of}
@@ -33,23 +32,29 @@ use Rattle.qs_places.proofs.Steps.{split}
 abbrev Suits : Bool → Kind → Op → Type 0
 Suits asks kind op = (fits op kind ≡ true) × (is_query op ≡ asks)
 
-by_test : (P : Op → Type 0) (b : Bool) (op : Op) (others : Option Op) → P op → (is_known others ≡ true → P (op_or_refused others)) → is_known (if b then Some op else others) ≡ true → P (op_or_refused (if b then Some op else others))
-by_test P true op others here later h = here
-by_test P false op others here later h = later h
+by_tests : (P : Op → Type 0) (m s : Bool) (op : Op) (others : Option Op)
+    → (m ≡ true → P op) → (is_known others ≡ true → P (op_or_refused others))
+    → is_known (if m then if s then Some op else others else others) ≡ true
+    → P (op_or_refused (if m then if s then Some op else others else others))
+by_tests P true true op others here later h = here refl
+by_tests P true false op others here later h = later h
+by_tests P false s op others here later h = later h
 
-one_of : (P : Op → Type 0) (w word : Name) (op : Op) (others : Option Op) → P op → (is_known others ≡ true → P (op_or_refused others)) → is_known (means w word op others) ≡ true → P (op_or_refused (means w word op others))
-one_of P w word op others = by_test P (same_name w word) op others
+asked : (asks : Bool) (op : Op) → is_meant asks op ≡ true → is_query op ≡ asks
+asked = search rules
 
-none : (P : Op → Type 0) → is_known None ≡ true → P (op_or_refused None)
-none P h = absurd (cc)
+all_fit : (kind : Kind) → AllByRecursion (λ op. fits op kind ≡ true) (operations_of kind)
+all_fit = search rules
+
+suits_in : (asks : Bool) (kind : Kind) (w : Name) (ops : List Op) → AllByRecursion (λ op. fits op kind ≡ true) ops
+    → is_known (called asks w ops) ≡ true → Suits asks kind (op_or_refused (called asks w ops))
+suits_in asks kind w [] fit h = absurd (cc)
+suits_in asks kind w (op ∷ ops) fit h =
+    by_tests (Suits asks kind) (is_meant asks op) (same_name w (word op)) op (called asks w ops)
+    (λ m. (fit.0, asked asks op m)) (suits_in asks kind w ops fit.1) h
 
 suits : (asks : Bool) (kind : Kind) (w : Name) → is_known (op_of asks kind w) ≡ true → Suits asks kind (op_or_refused (op_of asks kind w))
-suits false (Account b) w = let P : Op → Type 0 = Suits false (Account b) in one_of P w (codes "deposit") Deposit (means w (codes "withdraw") Withdraw None) (refl, refl) (one_of P w (codes "withdraw") Withdraw None (refl, refl) (none P))
-suits true (Account b) w = let P : Op → Type 0 = Suits true (Account b) in one_of P w (codes "balance") Balance (means w (codes "refused") Refused None) (refl, refl) (one_of P w (codes "refused") Refused None (refl, refl) (none P))
-suits false (Buffer k) w = let P : Op → Type 0 = Suits false (Buffer k) in one_of P w (codes "put") Put (means w (codes "drop") DropFirst None) (refl, refl) (one_of P w (codes "drop") DropFirst None (refl, refl) (none P))
-suits true (Buffer k) w = let P : Op → Type 0 = Suits true (Buffer k) in one_of P w (codes "take") TakeFirst (means w (codes "front") First (means w (codes "size") Size (means w (codes "refused") Refused None))) (refl, refl) (one_of P w (codes "front") First (means w (codes "size") Size (means w (codes "refused") Refused None)) (refl, refl) (one_of P w (codes "size") Size (means w (codes "refused") Refused None) (refl, refl) (one_of P w (codes "refused") Refused None (refl, refl) (none P))))
-suits false (Grid r c) w = let P : Op → Type 0 = Suits false (Grid r c) in one_of P w (codes "set") SetCell (means w (codes "add") AddCell (means w (codes "fill") Fill None)) (refl, refl) (one_of P w (codes "add") AddCell (means w (codes "fill") Fill None) (refl, refl) (one_of P w (codes "fill") Fill None (refl, refl) (none P)))
-suits true (Grid r c) w = let P : Op → Type 0 = Suits true (Grid r c) in one_of P w (codes "get") GetCell (means w (codes "row") RowSum (means w (codes "refused") Refused None)) (refl, refl) (one_of P w (codes "row") RowSum (means w (codes "refused") Refused None) (refl, refl) (one_of P w (codes "refused") Refused None (refl, refl) (none P)))
+suits asks kind w = suits_in asks kind w (operations_of kind) (all_fit kind)
 
 taken : (found : Option Op) (n : ℕ) → takes found n ≡ true → n ≡ arity (op_or_refused found)
 taken None n h = absurd (cc)

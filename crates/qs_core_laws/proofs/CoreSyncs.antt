@@ -1,33 +1,26 @@
 -- What the optimised machine shows of the Syncs of each block is the exact count of its mode for the block's trace, or one more
 -- at one object while the block is open, and their sum is what it shows as its syncs. The law `core_syncs_are_counted` is this.
 -- The count was kept step by step; here it is read off, by cases on where the client stands in its block.
-use Rattle.std.proofs.Common.{◌≡◌, ◌<◌, ◌≤◌, ℕ, suc, ◌+◌, ◌==◌, ◌&&◌, nat_lt, nat_eq, Bool, true, false, if◌then◌else◌, List, [], ◌∷◌, length, map, refl, sym, ap, ap₂, ◌∙◌, subst, inl, inr, arith}
+use Rattle.std.proofs.Common.{◌≡◌, ◌<◌, ◌≤◌, ℕ, suc, ◌&&◌, nat_lt, nat_eq, Bool, true, false, List, [], ◌∷◌, length, map, refl, sym, ap, ap₂, ◌∙◌, subst, inl, inr, arith}
 use Rattle.std.specs.Prelude.{sum_by}
 use Rattle.std.specs.List.{AllByRecursion}
 use Rattle.std.proofs.lemmas.List.{get_or-map}
 use Rattle.std.proofs.lemmas.List.Sums.{sum_by-cons}
-use Rattle.qs_objects.specs.declared.held.Event.{Event}
 use Rattle.qs_objects.specs.declared.held.Ticket.{Ticket}
 use Rattle.qs_objects.proofs.Elements.{AllByRecursion-get_or}
 use Rattle.qs_meaning.specs.Following.{Leads, block_tree}
-use Rattle.qs_program.specs.Program.{ProgramShape, blocks_of, text_of}
+use Rattle.qs_program.specs.Program.{ProgramShape, blocks_of}
 use Rattle.qs_program.specs.Sound.{IsSound}
 use Rattle.qs_syncset.specs.declared.mode.Mode.{Mode}
-use Rattle.qs_syncset.specs.Codes.{ClientCode, code_at}
-use Rattle.qs_syncset.specs.Modes.{is_dynamic}
-use Rattle.qs_syncset.specs.SyncCounts.{AreOrdered, IsSentBy, queries, syncs_along}
-use Rattle.qs_syncset.proofs.CountedSyncs.{syncs_are_counted}
-use Rattle.qs_syncset.specs.SyncCounts as counts
+use Rattle.qs_syncset.specs.Codes.{ClientCode}
+use Rattle.qs_syncset.specs.SyncCounts.{syncs_along}
 use Rattle.qs_sync_counts.specs.SyncRows.{object_of, syncs_for, syncs_of}
-use Rattle.qs_syncset.proofs.QueryRuns.{runs_within}
 use Rattle.qs_client_run.specs.Client.{Client, ClientStage, between, runs, full, awaits, leaves}
-use Rattle.qs_client_run.specs.BlockSizes.{longest}
 use Rattle.qs_client.specs.ClientModel.{is_between, has_ended}
 use Rattle.qs_played.specs.Isolation.{ended_of, entry_of, ticket_at, trace_of}
 use Rattle.qs_played.specs.Played.{ticket}
 use Rattle.qs_played.specs.SyncSums.{AreSent, AreSyncsCounted, IsCounted, counts_at, syncs_at}
 use Rattle.qs_played.specs.Played.{Played}
-use Rattle.qs_played.proofs.JournalRooms.{no_block_beyond}
 use Rattle.qs_played.proofs.ReservedObjects.{listed_inside}
 use Rattle.qs_played.proofs.SyncLists.{legal_blocks, sum_inside, sum_of, total_of}
 use Rattle.qs_played.proofs.SyncTallies.{sent_of, total_for}

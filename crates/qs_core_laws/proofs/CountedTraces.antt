@@ -1,10 +1,8 @@
 -- The counts of one reservation's synchronisations, by its trace: what a block's tree says of them is what its mode says.
 use Rattle.std.proofs.Common.{◌≡◌, ◌<◌, ℕ, ◌+◌, ◌==◌, Bool, false, if◌then◌else◌, length, ap, ◌∙◌, inl, inr, arith}
-use Rattle.qs_objects.specs.declared.held.Event.{Event}
 use Rattle.qs_objects.specs.declared.held.Ticket.{Ticket}
 use Rattle.qs_program.specs.Program.{ProgramShape, blocks_of, text_of}
 use Rattle.qs_program.specs.Sound.{IsSound}
-use Rattle.qs_program.specs.Values.{Locals}
 use Rattle.qs_meaning.specs.Following.{Leads, block_tree}
 use Rattle.qs_meaning.specs.Interaction.{Interaction}
 use Rattle.qs_graph.specs.Names.{graph_of}

@@ -2,20 +2,18 @@
 -- but for the commands that are on their way. Isolation of the optimised machine needs this (`goes`). The proof is an induction
 -- along the order, through the tickets that were served, the one that is, and those to come; the room suffices, as no part is
 -- longer than its block's load.
-use Rattle.std.proofs.Common.{◌≡◌, ◌+◌, ◌≤◌, arith, ℕ, suc, Bool, true, false, true≢false, if◌then◌else◌, List, [], ◌∷◌, ◌++◌, map, filter, length, refl, sym, ap, ◌∙◌, subst, inl, inr, append_assoc, append-nil, pos, None}
+use Rattle.std.proofs.Common.{◌≡◌, ◌+◌, ◌≤◌, arith, ℕ, suc, Bool, true, false, true≢false, if◌then◌else◌, List, [], ◌∷◌, ◌++◌, map, filter, length, refl, sym, ap, ◌∙◌, subst, inl, inr, append_assoc, append-nil, None}
 use Rattle.std.specs.List.{AllByRecursion}
 use Rattle.std.proofs.lemmas.List.{length-append, length-map, map-append}
-use Rattle.qs_objects.specs.Act.{act, account, buffer, grid}
+use Rattle.qs_objects.specs.Act.{act}
 use Rattle.qs_objects.specs.Journals.{HeldState, after, answer, has_room, with_entry, replay, unstamp, without_tickets, IsHonest}
 use Rattle.qs_objects.specs.Laws.{IsCommand}
-use Rattle.qs_objects.specs.Operations.{is_query}
 use Rattle.qs_objects.specs.Parts.{command_event, stamp}
-use Rattle.qs_objects.specs.declared.Op.{Op}
-use Rattle.qs_objects.specs.declared.Op.TheVariants.{Deposit, Withdraw, Balance, Refused, Put, DropFirst, TakeFirst, First, Size, SetCell, AddCell, Fill, GetCell, RowSum}
 use Rattle.qs_objects.specs.declared.held.Entry.{Entry}
 use Rattle.qs_objects.specs.declared.held.Event.{Event}
 use Rattle.qs_objects.specs.declared.held.Ticket.{Ticket}
 use Rattle.qs_objects.specs.declared.Request.{Request}
+use Rattle.qs_objects.proofs.ObjectLaws.{command_is}
 use Rattle.qs_objects.proofs.Replays.{replay-append, IsHonest-append}
 use Rattle.qs_meaning.specs.Following.{reserves, block_tree}
 use Rattle.qs_program.specs.Program.{ProgramShape, text_of}
@@ -35,23 +33,6 @@ use Rattle.qs_core_laws.specs.CoreSchedule.{on_way}
 use Rattle.qs_core_laws.proofs.CoreInvariant.{LaneHistory, post, TicketOk, CoreInvariant}
 use Rattle.qs_core_laws.proofs.CoreObjects.{object_now}
 use Rattle.qs_core_laws.proofs.CommandsInTransit.{IsMine, IsLater, later, mine_ahead, mine_past, part_out, waits_ahead, waits_out, waits_past}
-
--- an operation that never answers is no query
-command_is : (op : Op) → IsCommand op → is_query op ≡ false
-command_is Deposit k = refl
-command_is Withdraw k = refl
-command_is Put k = refl
-command_is DropFirst k = refl
-command_is SetCell k = refl
-command_is AddCell k = refl
-command_is Fill k = refl
-command_is Balance k = absurd (cc (k (record { content = account (pos 0); refused = pos 0 }) []))
-command_is Refused k = absurd (cc (k (record { content = account (pos 0); refused = pos 0 }) []))
-command_is TakeFirst k = absurd (cc (k (record { content = buffer 1 []; refused = pos 0 }) []))
-command_is First k = absurd (cc (k (record { content = buffer 1 []; refused = pos 0 }) []))
-command_is Size k = absurd (cc (k (record { content = buffer 1 []; refused = pos 0 }) []))
-command_is GetCell k = absurd (cc (k (record { content = grid 1 []; refused = pos 0 }) (pos 0 ∷ pos 0 ∷ [])))
-command_is RowSum k = absurd (cc (k (record { content = grid 1 []; refused = pos 0 }) (pos 0 ∷ [])))
 
 pub no_queries : (rs : List Request) → AllCommands rs → AllByRecursion NoQuery rs
 no_queries rs c = each_map {Q = NoQuery} (λ (r : Request) (k : IsCommand r.op). command_is r.op k) rs c

@@ -22,7 +22,7 @@ use Rattle.qs_graph.specs.declared.node.Choice.TheVariants.{If, Repeat}
 use Rattle.qs_graph.specs.declared.node.Node.{Node}
 use Rattle.qs_graph.specs.declared.node.Node.TheVariants.{Entry, Local, Branch, Sync, Query, Call, Exit}
 use Rattle.qs_report.specs.GraphText.{name_of}
-use Rattle.qs_report.specs.Report.{op_text}
+use Rattle.qs_objects.specs.Operations.{word}
 
 abbrev pub operator_text : Operator → List ℕ
 operator_text Plus = codes "+"
@@ -70,7 +70,7 @@ names_of_variables p c = (client_at p c).variables
 
 -- the word of an operation, after the name of its object and before its arguments
 abbrev pub opened_text : Op → List ℕ
-opened_text op = codes "." ++ op_text op ++ codes "("
+opened_text op = codes "." ++ word op ++ codes "("
 
 -- a call of client c, with its own names
 abbrev pub call_text : ProgramShape → (c : ℕ) → calls.Call → List ℕ

@@ -8,7 +8,7 @@ use itoa::Buffer;
 use qs_graph::{Action, Choice, Node};
 use qs_objects::Op;
 use qs_program::{Atom, Atoms, Call, Expr, Names, Program, Test};
-use qs_report::{declared_name, opening, put, put_all, put_number, variable_name};
+use qs_report::{declared_name, put, put_all, put_number, variable_name};
 use qs_script::{Operator, Relation};
 use std::alloc::AllocError;
 
@@ -156,7 +156,7 @@ fn put_object(
 fn put_opened(out: &mut Vec<u8>, op: Op) -> Result<(), AllocError>
     ensures ok { OnOk result (out.new.items ≡ out.old.items ++ opened_text op) }
 {
-    put(out, opening(op))
+    put(out, op.opening())
 }
 
 // The arguments of a client's call.

@@ -10,7 +10,8 @@ use Rattle.qs_objects.specs.declared.object.Kind.TheVariants as kinds
 use Rattle.qs_program.specs.Program.{ClientShape, ProgramShape, object_at, client_at, whole_load, whole_weight}
 use Rattle.qs_played.specs.Played.{Played}
 use Rattle.qs_sync_counts.specs.declared.sync_counts.SyncCount.{SyncCount}
-use Rattle.qs_report.specs.Report.{first_ticket, no_state, op_text}
+use Rattle.qs_report.specs.Report.{first_ticket, no_state}
+use Rattle.qs_objects.specs.Operations.{word}
 use Rattle.qs_json.specs.Pieces.{array, array_up_to, field, first_field, quoted, truth}
 
 -- a query's reply; a command has none
@@ -22,7 +23,7 @@ reply_json (Some reply) = signed_decimal reply
 abbrev pub event_json : ProgramShape → Event → List ℕ
 event_json p e =
     first_field (codes "object") (quoted (object_at p e.request.object).name)
-    ++ field (codes "operation") (quoted (op_text e.request.op))
+    ++ field (codes "operation") (quoted (word e.request.op))
     ++ field (codes "arguments") (array signed_decimal e.request.args)
     ++ field (codes "reply") (reply_json e.reply) ++ codes "}"
 
@@ -47,7 +48,7 @@ ticket_json counts p run i =
     ++ syncs_json counts p run i ++ codes "}"
 
 abbrev pub kind_json : List ℕ → List ℕ
-kind_json word = field (codes "kind") (quoted word)
+kind_json kind = field (codes "kind") (quoted kind)
 
 abbrev pub values_json : List ℤ → List ℕ
 values_json values = field (codes "values") (array signed_decimal values)

@@ -3,7 +3,7 @@
 ghost use Rattle.std.specs.Prelude.{◌≡◌, ◌<◌, ◌++◌, OnOk, codes};
 ghost use Rattle.std.specs.Fmt.{signed_decimal};
 ghost use Rattle.std.specs.List.{join_by};
-ghost use Rattle.qs_report.specs.Report.{op_text};
+ghost use Rattle.qs_objects.specs.Operations.{word};
 ghost use Rattle.qs_json.specs.Pieces.{Puts, array, field, quoted};
 ghost use Rattle.qs_json.specs.RunJson.{event_json, reply_json};
 
@@ -12,32 +12,11 @@ use qs_objects::{Event, Op};
 use qs_program::Program;
 use std::alloc::AllocError;
 
-fn op_word(op: Op) -> &'static [u8]
-    ensures word { result.now ≡ op_text op }
-{
-    match op {
-        Op::Deposit => b"deposit",
-        Op::Withdraw => b"withdraw",
-        Op::Balance => b"balance",
-        Op::Refused => b"refused",
-        Op::Put => b"put",
-        Op::DropFirst => b"drop",
-        Op::TakeFirst => b"take",
-        Op::First => b"front",
-        Op::Size => b"size",
-        Op::SetCell => b"set",
-        Op::AddCell => b"add",
-        Op::Fill => b"fill",
-        Op::GetCell => b"get",
-        Op::RowSum => b"row",
-    }
-}
-
 // The operation of a request, as a field.
 fn put_operation(out: &mut Vec<u8>, op: Op) -> Result<(), AllocError>
-    ensures ok { OnOk result (Puts (field (codes "operation") (quoted (op_text op))) out.old.items out.new.items) }
+    ensures ok { OnOk result (Puts (field (codes "operation") (quoted (word op))) out.old.items out.new.items) }
 {
-    put_string(out, b",\"operation\":", op_word(op))
+    put_string(out, b",\"operation\":", op.word())
 }
 
 // The arguments of a request, with a comma between each two.

@@ -1,9 +1,34 @@
--- The operations: which are queries, how many numbers they take, and which kinds have them.
-use Rattle.std.specs.Prelude.{ℕ, Bool, true, false}
+-- The table of the operations: their words, which are queries, how many numbers they take, and which kinds have them.
+use Rattle.std.specs.Prelude.{ℕ, ◌+◌, ◌==◌, Bool, true, false, List, [], ◌∷◌, codes, filter, length}
 use Rattle.qs_objects.specs.declared.Op.{Op}
 use Rattle.qs_objects.specs.declared.Op.TheVariants.{Deposit, Withdraw, Balance, Refused, Put, DropFirst, TakeFirst, First, Size, SetCell, AddCell, Fill, GetCell, RowSum}
 use Rattle.qs_objects.specs.declared.object.Kind.{Kind}
 use Rattle.qs_objects.specs.declared.object.Kind.TheVariants as kinds
+
+-- the operations, each once; those of a kind stand in the order in which a reader is told of them
+abbrev pub all_operations : List Op
+all_operations =
+    Deposit ∷ Withdraw ∷ Balance
+    ∷ Put ∷ DropFirst ∷ TakeFirst ∷ First ∷ Size
+    ∷ SetCell ∷ AddCell ∷ Fill ∷ GetCell ∷ RowSum
+    ∷ Refused ∷ []
+
+-- the word of an operation in scripts and reports
+abbrev pub word : Op → List ℕ
+word Deposit = codes "deposit"
+word Withdraw = codes "withdraw"
+word Balance = codes "balance"
+word Refused = codes "refused"
+word Put = codes "put"
+word DropFirst = codes "drop"
+word TakeFirst = codes "take"
+word First = codes "front"
+word Size = codes "size"
+word SetCell = codes "set"
+word AddCell = codes "add"
+word Fill = codes "fill"
+word GetCell = codes "get"
+word RowSum = codes "row"
 
 -- a query answers; every other operation is a command
 abbrev pub is_query : Op → Bool
@@ -58,3 +83,14 @@ abbrev pub fits : Op → Kind → Bool
 fits op (kinds.Account b) = is_of_account op
 fits op (kinds.Buffer k) = is_of_buffer op
 fits op (kinds.Grid n k) = is_of_grid op
+
+-- the operations of a kind
+abbrev pub operations_of : Kind → List Op
+operations_of (kinds.Account b) = filter is_of_account all_operations
+operations_of (kinds.Buffer k) = filter is_of_buffer all_operations
+operations_of (kinds.Grid n k) = filter is_of_grid all_operations
+
+-- how many parts a text has, with a comma between each two
+abbrev pub parts : List ℕ → ℕ
+parts [] = 0
+parts text = 1 + length (filter (λ c. c == 44) text)

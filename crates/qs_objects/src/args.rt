@@ -55,9 +55,17 @@ impl Args {
         requires few { len ≤ 3 }
         ensures value { result ≡ take len numbers }
     {
-        Args {
-            numbers: SmallVec::from_buf_and_len(alloc, numbers, len),
+        let mut all = SmallVec::from_buf(alloc, numbers);
+        if len < 3 {
+            all.pop();
         }
+        if len < 2 {
+            all.pop();
+        }
+        if len < 1 {
+            all.pop();
+        }
+        Args { numbers: all }
     }
 
     /// Adds a number at the end. Answers false exactly where three are there, and changes nothing then.

@@ -4,7 +4,8 @@ use Rattle.std.proofs.lemmas.List.{take_all}
 use Rattle.std.specs.Fmt.{signed_decimal}
 use Rattle.qs_objects.specs.declared.Request.{Request}
 use Rattle.qs_program.specs.Program.{ProgramShape, object_at}
-use Rattle.qs_report.specs.Report.{args_text, op_text, reply_text}
+use Rattle.qs_report.specs.Report.{args_text, reply_text}
+use Rattle.qs_objects.specs.Operations.{word}
 use Rattle.qs_report.specs.Lines.{line_text}
 
 no_argument : (xs : List ℤ) → length xs ≡ 0 → args_text xs ≡ []
@@ -26,25 +27,25 @@ five_behind old a b d e x =
 
 -- a line, put in three pieces
 line_shown : (p : ProgramShape) (r : Request) (reply : Option ℤ) (old first second last : List ℕ)
-    → first ≡ old ++ (object_at p r.object).name ++ codes "." ++ op_text r.op ++ codes "(" → second ≡ first ++ args_text r.args
+    → first ≡ old ++ (object_at p r.object).name ++ codes "." ++ word r.op ++ codes "(" → second ≡ first ++ args_text r.args
     → last ≡ second ++ (codes ")" ++ (reply_text reply ++ codes "\n")) → last ≡ old ++ line_text p r reply
 line_shown p r reply old first second last f s l =
-    let front = (object_at p r.object).name ++ codes "." ++ op_text r.op ++ codes "(" ++ args_text r.args in
+    let front = (object_at p r.object).name ++ codes "." ++ word r.op ++ codes "(" ++ args_text r.args in
     let rest = reply_text reply ++ codes "\n" in
-    l ∙ ap (λ t. t ++ (codes ")" ++ rest)) (s ∙ ap (λ t. t ++ args_text r.args) f ∙ five_behind old (object_at p r.object).name (codes ".") (op_text r.op) (codes "(") (args_text r.args))
+    l ∙ ap (λ t. t ++ (codes ")" ++ rest)) (s ∙ ap (λ t. t ++ args_text r.args) f ∙ five_behind old (object_at p r.object).name (codes ".") (word r.op) (codes "(") (args_text r.args))
     ∙ append_assoc old front (codes ")" ++ rest)
     ∙ ap (λ t. old ++ t) (sym (append_assoc (front ++ codes ")") (reply_text reply) (codes "\n") ∙ append_assoc front (codes ")") rest))
 
 -- a line with no argument, put in two pieces
 pub line_without : (p : ProgramShape) (r : Request) (reply : Option ℤ) (old first last : List ℕ) → length r.args ≡ 0
-    → first ≡ old ++ (object_at p r.object).name ++ codes "." ++ op_text r.op ++ codes "("
+    → first ≡ old ++ (object_at p r.object).name ++ codes "." ++ word r.op ++ codes "("
     → last ≡ first ++ (codes ")" ++ (reply_text reply ++ codes "\n")) → last ≡ old ++ line_text p r reply
 line_without p r reply old first last empty f l =
     line_shown p r reply old first first last f (sym (ap (λ t. first ++ t) (no_argument r.args empty) ∙ append-nil first)) l
 
 -- a line with one argument, put in three pieces
 pub line_with_one : (p : ProgramShape) (r : Request) (reply : Option ℤ) (old first second last : List ℕ) → length r.args ≡ 1
-    → first ≡ old ++ (object_at p r.object).name ++ codes "." ++ op_text r.op ++ codes "("
+    → first ≡ old ++ (object_at p r.object).name ++ codes "." ++ word r.op ++ codes "("
     → second ≡ first ++ signed_decimal (get_or r.args 0 (pos 0))
     → last ≡ second ++ (codes ")" ++ (reply_text reply ++ codes "\n")) → last ≡ old ++ line_text p r reply
 line_with_one p r reply old first second last one f s l = line_shown p r reply old first second last f (s ∙ ap (λ t. first ++ t) (sym (one_argument r.args one))) l

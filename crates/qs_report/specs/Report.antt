@@ -4,8 +4,7 @@ use Rattle.std.specs.Fmt.{signed_decimal}
 use Rattle.std.specs.List.{join_by}
 use Rattle.qs_objects.specs.Act.{State, account}
 use Rattle.qs_objects.specs.Objects.{kind_of, values_of}
-use Rattle.qs_objects.specs.declared.Op.{Op}
-use Rattle.qs_objects.specs.declared.Op.TheVariants.{Deposit, Withdraw, Balance, Refused, Put, DropFirst, TakeFirst, First, Size, SetCell, AddCell, Fill, GetCell, RowSum}
+use Rattle.qs_objects.specs.Operations.{word}
 use Rattle.qs_objects.specs.declared.Request.{Request}
 use Rattle.qs_objects.specs.declared.held.Ticket.{Ticket}
 use Rattle.qs_objects.specs.declared.held.Event.{Event}
@@ -16,29 +15,12 @@ use Rattle.qs_played.specs.Played.{Played}
 use Rattle.qs_sync_counts.specs.declared.sync_counts.SyncCount.{SyncCount}
 use Rattle.qs_report.specs.Texts.{count_line, texts_up_to}
 
--- the script's word of an operation
-abbrev pub op_text : Op → List ℕ
-op_text Deposit = codes "deposit"
-op_text Withdraw = codes "withdraw"
-op_text Balance = codes "balance"
-op_text Refused = codes "refused"
-op_text Put = codes "put"
-op_text DropFirst = codes "drop"
-op_text TakeFirst = codes "take"
-op_text First = codes "front"
-op_text Size = codes "size"
-op_text SetCell = codes "set"
-op_text AddCell = codes "add"
-op_text Fill = codes "fill"
-op_text GetCell = codes "get"
-op_text RowSum = codes "row"
-
 abbrev pub args_text : List ℤ → List ℕ
 args_text args = join_by signed_decimal (codes ",") args
 
 -- a request on an object of the program; a number past its objects has no name
 abbrev pub request_text : ProgramShape → Request → List ℕ
-request_text p r = (object_at p r.object).name ++ codes "." ++ op_text r.op ++ codes "(" ++ args_text r.args ++ codes ")"
+request_text p r = (object_at p r.object).name ++ codes "." ++ word r.op ++ codes "(" ++ args_text r.args ++ codes ")"
 
 -- a query's reply; a command has none
 abbrev pub reply_text : Option ℤ → List ℕ

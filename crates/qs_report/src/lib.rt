@@ -22,5 +22,5 @@ pub use names::{client_name, declared_name, object_name, variable_name};
 pub use outcomes::outcomes_text;
 pub use runs::{report, report_counts, report_run, report_run_counts};
 pub use states::put_content;
-pub use tickets::{opening, put_whole_request};
+pub use tickets::put_whole_request;
 pub use watching::{Watch, write_text};

@@ -1,13 +1,14 @@
 // Lines of a trace, put where there is room for the longest one: no byte asks for room of its own.
 
 ghost use Rattle.std.specs.Prelude.{◌≡◌, ◌<◌, ◌≤◌, ◌+◌, ◌*◌, ◌++◌, ◌∷◌, [], None, Some, false, IsTrue, length, take, flat_map, codes, decimal, vec_capacity, vec_len};
+ghost use Rattle.qs_objects.specs.Operations.{word};
 ghost use Rattle.qs_program.specs.Program.{object_at};
 ghost use Rattle.std.specs.Fmt.{signed_decimal};
 ghost use Rattle.qs_report.specs.Lines.{IsShort, line_text, longest_line};
-ghost use Rattle.qs_report.specs.Report.{op_text, event_line};
+ghost use Rattle.qs_report.specs.Report.{event_line};
 
 use crate::names::short_name;
-use qs_objects::{Event, Op, Request};
+use qs_objects::{Event, Request};
 use qs_program::Program;
 use std::mem;
 
@@ -43,32 +44,6 @@ fn put_name(out: &mut Vec<u8>, name: &[u8])
             out.push_reserved(*second);
         }
         _ => put(out, name),
-    }
-}
-
-// The operation's word after a point, and a parenthesis.
-#[inline(always)]
-fn put_opening(out: &mut Vec<u8>, op: Op)
-    requires room { vec_len out.old + 10 ≤ vec_capacity out.old }
-    ensures items { out.new.items ≡ out.old.items ++ codes "." ++ op_text op ++ codes "(" }
-    ensures len { vec_len out.new ≤ vec_len out.old + 10 }
-    ensures capacity { vec_capacity out.new ≡ vec_capacity out.old }
-{
-    match op {
-        Op::Deposit => put(out, b".deposit("),
-        Op::Withdraw => put(out, b".withdraw("),
-        Op::Balance => put(out, b".balance("),
-        Op::Refused => put(out, b".refused("),
-        Op::Put => put(out, b".put("),
-        Op::DropFirst => put(out, b".drop("),
-        Op::TakeFirst => put(out, b".take("),
-        Op::First => put(out, b".front("),
-        Op::Size => put(out, b".size("),
-        Op::SetCell => put(out, b".set("),
-        Op::AddCell => put(out, b".add("),
-        Op::Fill => put(out, b".fill("),
-        Op::GetCell => put(out, b".get("),
-        Op::RowSum => put(out, b".row("),
     }
 }
 
@@ -170,12 +145,12 @@ fn put_reply(out: &mut Vec<u8>, reply: i64)
 #[inline(always)]
 fn put_head(out: &mut Vec<u8>, program: &Program, request: &Request)
     requires room { vec_len out.old + 26 ≤ vec_capacity out.old }
-    ensures items { out.new.items ≡ out.old.items ++ (object_at program.now request.now.object).name ++ codes "." ++ op_text request.now.op ++ codes "(" }
+    ensures items { out.new.items ≡ out.old.items ++ (object_at program.now request.now.object).name ++ codes "." ++ word request.now.op ++ codes "(" }
     ensures len { vec_len out.new ≤ vec_len out.old + 26 }
     ensures capacity { vec_capacity out.new ≡ vec_capacity out.old }
 {
     put_name(out, short_name(program, usize::from(request.object)));
-    put_opening(out, request.op);
+    put(out, request.op.opening());
 }
 
 #[inline(always)]

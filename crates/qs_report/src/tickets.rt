@@ -3,62 +3,16 @@
 ghost use Rattle.std.specs.Prelude.{◌≡◌, ◌<◌, ◌++◌, length, flat_map, OnOk, codes};
 ghost use Rattle.std.specs.Fmt.{signed_decimal};
 ghost use Rattle.qs_sync_counts.specs.SyncRows.{sync_count};
-ghost use Rattle.qs_report.specs.Report.{op_text, args_text, request_text, reply_text, event_line, ended_text, ticket_line, ticket_text, sync_line, sync_lines, shown_ticket, order_text};
+ghost use Rattle.qs_report.specs.Report.{args_text, request_text, reply_text, event_line, ended_text, ticket_line, ticket_text, sync_line, sync_lines, shown_ticket, order_text};
 
 use crate::bytes::{put, put_all, put_count, put_number, put_short};
 use crate::lines::put_lines;
 use crate::names::{client_name, object_name};
 use itoa::Buffer;
-use qs_objects::{Event, Op, Request, Ticket};
+use qs_objects::{Event, Request, Ticket};
 use qs_played::Played;
 use qs_program::Program;
 use std::alloc::AllocError;
-
-/// What stands between the object of a request and its arguments: the operation's word after a point, and a parenthesis. It is one text,
-/// since a long report has very many requests.
-pub fn opening(op: Op) -> &'static [u8]
-    ensures opening { result.now ≡ codes "." ++ op_text op ++ codes "(" }
-{
-    match op {
-        Op::Deposit => b".deposit(",
-        Op::Withdraw => b".withdraw(",
-        Op::Balance => b".balance(",
-        Op::Refused => b".refused(",
-        Op::Put => b".put(",
-        Op::DropFirst => b".drop(",
-        Op::TakeFirst => b".take(",
-        Op::First => b".front(",
-        Op::Size => b".size(",
-        Op::SetCell => b".set(",
-        Op::AddCell => b".add(",
-        Op::Fill => b".fill(",
-        Op::GetCell => b".get(",
-        Op::RowSum => b".row(",
-    }
-}
-
-// The same, put at the end: each text by itself, so that its length is known where it is copied.
-#[inline(always)]
-fn put_opening(out: &mut Vec<u8>, op: Op) -> Result<(), AllocError>
-    ensures ok { OnOk result (out.new.items ≡ out.old.items ++ codes "." ++ op_text op ++ codes "(") }
-{
-    match op {
-        Op::Deposit => put(out, b".deposit("),
-        Op::Withdraw => put(out, b".withdraw("),
-        Op::Balance => put(out, b".balance("),
-        Op::Refused => put(out, b".refused("),
-        Op::Put => put(out, b".put("),
-        Op::DropFirst => put(out, b".drop("),
-        Op::TakeFirst => put(out, b".take("),
-        Op::First => put(out, b".front("),
-        Op::Size => put(out, b".size("),
-        Op::SetCell => put(out, b".set("),
-        Op::AddCell => put(out, b".add("),
-        Op::Fill => put(out, b".fill("),
-        Op::GetCell => put(out, b".get("),
-        Op::RowSum => put(out, b".row("),
-    }
-}
 
 // Further arguments, each after a comma.
 fn put_others(out: &mut Vec<u8>, args: &[i64]) -> Result<(), AllocError>
@@ -93,7 +47,7 @@ fn put_request(out: &mut Vec<u8>, program: &Program, request: &Request) -> Resul
     ensures ok { OnOk result (out.new.items ++ codes ")" ≡ out.old.items ++ request_text program.now request.now) }
 {
     put_short(out, object_name(program, usize::from(request.object)))?;
-    put_opening(out, request.op)?;
+    put(out, request.op.opening())?;
     put_args(out, request.args.as_slice())
 }
 

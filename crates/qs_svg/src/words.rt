@@ -9,7 +9,7 @@ ghost use Rattle.qs_svg.specs.Words.{block_words, entry_words, ticket_words, str
 use crate::pieces::{object_name, put_count, put_word};
 use qs_objects::{Entry, Request, Ticket};
 use qs_program::Program;
-use qs_report::{client_name, opening, put_number};
+use qs_report::{client_name, put_number};
 use std::alloc::AllocError;
 
 // Further arguments, each after a comma.
@@ -40,7 +40,7 @@ fn put_request(out: &mut Vec<u8>, program: &Program, request: &Request) -> Resul
     ensures ok { OnOk result (Puts (request_text program.now request.now) out.old.items out.new.items) }
 {
     put_word(out, object_name(program, usize::from(request.object)))?;
-    put_word(out, opening(request.op))?;
+    put_word(out, request.op.opening())?;
     put_args(out, request.args.as_slice())?;
     put_word(out, b")")
 }
