@@ -8,3 +8,6 @@ pub mod PassedLines
 pub mod ReadTexts
 pub mod Bytes
 pub mod Form
+pub mod Prefixes
+pub mod Readers
+pub mod Places

@@ -1,5 +1,5 @@
 -- What reading a text answers.
-use Rattle.std.specs.Prelude.{◌≡◌, ℕ, ◌-◌, ◌≤◌, ◌<◌, List, length, Result, Ok, Err}
+use Rattle.std.specs.Prelude.{◌≡◌, ℕ, suc, ◌≤◌, ◌<◌, List, ◌++◌, length, take, Result, Ok, Err}
 use Rattle.qs_tokens.specs.declared.token.Token.{Token}
 use Rattle.qs_script.specs.declared.tree.Item.{Item}
 use Rattle.qs_script.specs.declared.fault.ReadFault.{ReadFault}
@@ -9,7 +9,6 @@ use Rattle.qs_tokens.specs.declared.lex.TokenFault.TheVariants as token
 use Rattle.qs_tokens.specs.Tokens.{tokens_of}
 use Rattle.qs_script.specs.Grammar.{IsScript}
 use Rattle.qs_script.specs.Lines.{IsFaultLine, IsTokenLine, last_line}
-use Rattle.qs_script.specs.Reading.{items_loop, run}
 use Rattle.qs_script.specs.Limits.{longest_text}
 
 -- the text has at most 65,536 bytes, and its tokens are the script's
@@ -23,15 +22,21 @@ pub record IsScriptText (text : List ℕ) (script : List Item) : Type 0 where
 abbrev pub IsFaultAt : List ℕ → TokenFault → ℕ → Type 0
 IsFaultAt text fault line = (tokens_of text ≡ Err fault) × IsFaultLine text fault line
 
--- The line of a fault of form: that of the first token with which no reading goes on, or of the text's end. The definition of reading
--- stops there, with so many tokens left.
-pub record IsFormLine (text : List ℕ) (ts : List Token) (line : ℕ) : Type 0 where
-  pub left : ℕ
-  pub stops : run items_loop ts ≡ Err left
-  pub at_token : length ts - left < length ts → IsTokenLine text (length ts - left) line
-  pub at_end : length ts ≤ length ts - left → line ≡ last_line text
+-- The place of a fault of form, told by the grammar alone: the place of the first token with which no script goes on, or the end. Some
+-- script begins with the tokens before it, and none with those and the token there.
+pub record IsFormPlace (ts : List Token) (place : ℕ) : Type 0 where
+  pub within : place ≤ length ts
+  pub goes_on : (rest : List Token) × (script : List Item) × IsScript script (take place ts ++ rest)
+  pub stops : place < length ts → (rest : List Token) (script : List Item) → IsScript script (take (suc place) ts ++ rest) → ⊥
 
--- why a text is refused: too long; its first token fault, with its line; or no script has its tokens, with the line where reading stops.
+-- the line of a fault of form: that of the token at its place, or of the text's end
+pub record IsFormLine (text : List ℕ) (ts : List Token) (line : ℕ) : Type 0 where
+  pub place : ℕ
+  pub there : IsFormPlace ts place
+  pub at_token : place < length ts → IsTokenLine text place line
+  pub at_end : length ts ≤ place → line ≡ last_line text
+
+-- why a text is refused: too long; its first token fault, with its line; or no script has its tokens, with the line where none goes on.
 -- Where memory runs out no more is said than that the text wasn't too long
 abbrev pub IsRefused : ReadFault → List ℕ → Type 0
 IsRefused f.Size text = longest_text < length text

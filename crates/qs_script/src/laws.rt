@@ -6,7 +6,7 @@ ghost use Rattle.qs_script.specs.declared.tree.Item.{Item};
 ghost use Rattle.qs_script.specs.declared.fault.ReadFault.{ReadFault};
 ghost use Rattle.qs_script.specs.declared.fault.ReadFault.TheVariants.{Memory};
 ghost use Rattle.qs_script.specs.Grammar.{IsScript};
-ghost use Rattle.qs_script.specs.Reads.{IsScriptText, IsRefused};
+ghost use Rattle.qs_script.specs.Reads.{IsScriptText, IsRefused, IsFormPlace};
 ghost use Rattle.qs_script.specs.Sizes.{statements};
 ghost use Rattle.qs_script.specs.Examples.{TokenExamples, ScriptExamples};
 
@@ -31,4 +31,10 @@ pub fn one_answer()
 /// A script with statements has fewer of them, inner ones too, than its text has bytes.
 pub fn fewer_statements()
     ensures { (text : List ℕ) (s : List Item) → IsScriptText text s → 0 < statements s → statements s < length text }
+{}
+
+/// Tokens that no script has are at fault at a place, and only at one.
+pub fn one_place()
+    ensures some { (ts : List Token) → ((s : List Item) → IsScript s ts → ⊥) → (place : ℕ) × IsFormPlace ts place }
+    ensures one { (ts : List Token) (place other : ℕ) → IsFormPlace ts place → IsFormPlace ts other → place ≡ other }
 {}

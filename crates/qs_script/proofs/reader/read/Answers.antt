@@ -4,6 +4,7 @@ use Rattle.qs_script.specs.Lines.{IsTokenLine}
 use Rattle.qs_script.specs.Reading.{items_loop, run}
 use Rattle.qs_script.specs.Reads.{IsFormLine}
 use Rattle.qs_script.proofs.ReadTexts.{is_script, is_no_script}
+use Rattle.qs_script.proofs.Places.{form_place}
 use Rattle.qs_script.proofs.reader.read.Goals as goal
 
 pub returns-in-Ok-clause-exact : goal.returns-in-Ok-clause-exact
@@ -22,8 +23,8 @@ returns-in-Err-Form-clause-exact c =
     let cut : tokens_of c.args.text.now ≡ Ok ts = rw c.as_slice.ensures.value c.in_ok-tokens.ensures.tokens in
     let count : c.saturating_sub.result ≡ length ts - left = omega (arith, c.saturating_sub.ensures, c.len.ensures, c.as_slice.ensures.len) in
     let line : IsFormLine c.args.text.now ts c.line_of.result = record {
-      left = left;
-      stops = stops;
+      place = length ts - left;
+      there = form_place ts left stops;
       at_token = λ less. subst (λ n. IsTokenLine c.args.text.now n c.line_of.result) count (c.line_of.ensures.token ts cut (omega (arith, less, count)));
       at_end = λ more. c.line_of.ensures.end ts cut (omega (arith, more, count));
     } in
