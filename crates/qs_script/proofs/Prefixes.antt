@@ -55,9 +55,6 @@ by_first {A} p short word a ends status = record { short = short; status = at } 
   at [] = begun short word a (λ tail t. ends tail)
   at (u ∷ us) = status u us
 
-pub by_element : {A : Type 0} (p : List Token → Read A) (word : List Token) (a : A) → ((tail : List Token) → p (word ++ tail) ≡ Ok (a, tail)) → Element p → Careful p
-by_element p word a ends e = by_first p (λ ts. eaten_short (p ts) (length ts) (e.eats ts)) word a ends e.status
-
 nothing_left : (zs : List Token) → length (zs ++ []) ≤ 0 → zs ≡ []
 nothing_left [] h = refl
 nothing_left (z ∷ zs) h = absurd (omega (arith, h))
@@ -130,6 +127,37 @@ after_careful loop m = put_careful (after loop m) (loop.join m) (λ left. refl) 
 one_element : {A : Type 0} (p : List Token → Read A) → Element p → Element (λ ts. one (p ts))
 one_element p = put_element one (λ a. a ∷ []) (λ left. refl) (λ x. refl) p
 
+-- what a reader makes of a first token: no reading goes on at it, or what is read is what another reads of the tokens after it
+pub data First {A : Type 0} (p : List Token → Read A) (u : Token) : Type 0 where
+  stuck : ((ts : List Token) → p (u ∷ ts) ≡ Err (length (u ∷ ts))) → First p u
+  then_by : (q : List Token → Read A) → Careful q → ((ts : List Token) → p (u ∷ ts) ≡ q ts) → First p u
+
+-- the first token is all that is read
+pub took : {A : Type 0} {p : List Token → Read A} {u : Token} (a : A) → ((ts : List Token) → p (u ∷ ts) ≡ Ok (a, ts)) → First p u
+took a h = then_by (λ ts. Ok (a, ts)) (said a) h
+
+-- a reader by the first token
+module _ {A : Type 0} (p : List Token → Read A) (nothing : p [] ≡ Err 0) (each : (u : Token) → First p u) where
+  first_eats : (u : Token) (ts : List Token) → First p u → Eaten (length (u ∷ ts)) (p (u ∷ ts))
+  first_eats u ts (stuck h) = rw (h ts) (omega arith)
+  first_eats u ts (then_by q c h) = rw (h ts) (past (q ts) u ts (c.short ts))
+
+  first_status : (u : Token) (us : List Token) → First p u → Status Any (λ ws. p (u ∷ us ++ ws))
+  first_status u us (stuck h) = refused u us (λ ws. h (us ++ ws))
+  first_status u us (then_by q c h) =
+      same Any (λ ws. q (us ++ ws)) (λ ws. p (u ∷ us ++ ws)) (λ ws. h (us ++ ws)) (c.status us)
+
+  eats : (ts : List Token) → Eaten (length ts) (p ts)
+  eats [] = rw nothing (omega arith)
+  eats (u ∷ ts) = first_eats u ts (each u)
+
+  pub element : Element p
+  element = record { eats = eats; status = λ u us. first_status u us (each u) }
+
+  -- with a whole that it reads
+  pub by_token : (word : List Token) (a : A) → ((tail : List Token) → p (word ++ tail) ≡ Ok (a, tail)) → Careful p
+  by_token word a ends = by_first p (λ ts. eaten_short (p ts) (length ts) (eats ts)) word a ends element.status
+
 -- a token is taken from the front, or no reading goes on at it
 abbrev pub IsTaken : (List Token → Result (List Token) ℕ) → Token → Type 0
 IsTaken q u = ((ts : List Token) → q (u ∷ ts) ≡ Ok ts) ⊎ ((ts : List Token) → q (u ∷ ts) ≡ Err (length (u ∷ ts)))
@@ -142,26 +170,17 @@ pub record Due (q : List Token → Result (List Token) ℕ) : Type 0 where
   pub each : (u : Token) → IsTaken q u
 
 module _ {A : Type 0} (q : List Token → Result (List Token) ℕ) (y : Due q) (f : List Token → Read A) (c : Careful f) where
-  due_eats_at : (u : Token) (ts : List Token) → IsTaken q u → Eaten (length (u ∷ ts)) (q (u ∷ ts) >>= f)
-  due_eats_at u ts (inl h) = rw (h ts) (past (f ts) u ts (c.short ts))
-  due_eats_at u ts (inr h) = rw (h ts) (omega arith)
-
-  due_eats : (ts : List Token) → Eaten (length ts) (q ts >>= f)
-  due_eats [] = rw y.nothing (omega arith)
-  due_eats (u ∷ ts) = due_eats_at u ts (y.each u)
-
-  due_status_at : (u : Token) (us : List Token) → IsTaken q u → Status Any (λ ws. q (u ∷ us ++ ws) >>= f)
-  due_status_at u us (inl h) =
-      same Any (λ ws. f (us ++ ws)) (λ ws. q (u ∷ us ++ ws) >>= f) (λ ws. rw (h (us ++ ws)) refl) (c.status us)
-  due_status_at u us (inr h) = refused u us (λ ws. rw (h (us ++ ws)) refl)
+  due_first : (u : Token) → IsTaken q u → First (λ ts. q ts >>= f) u
+  due_first u (inl h) = then_by f c (λ ts. rw (h ts) refl)
+  due_first u (inr h) = stuck (λ ts. rw (h ts) refl)
 
   pub due_element : Element (λ ts. q ts >>= f)
-  due_element = record { eats = due_eats; status = λ u us. due_status_at u us (y.each u) }
+  due_element = element (λ ts. q ts >>= f) (rw y.nothing refl) (λ u. due_first u (y.each u))
 
   pub due_then : Careful (λ ts. q ts >>= f)
   due_then =
       let (word, a, k) = starts f c in
-      by_element (λ ts. q ts >>= f) (y.token ∷ word) a (λ tail. rw (y.here (word ++ tail)) (k tail)) due_element
+      by_token (λ ts. q ts >>= f) (rw y.nothing refl) (λ u. due_first u (y.each u)) (y.token ∷ word) a (λ tail. rw (y.here (word ++ tail)) (k tail))
 
 -- a token ends a list, or does not
 abbrev pub IsSettled : (List Token → Option (List Token)) → Token → Type 0

@@ -16,7 +16,7 @@ use Rattle.qs_script.specs.declared.tree.Formal.{Formal}
 use Rattle.qs_script.specs.Tree.{Stmts, end, command, query, assign, again, leave}
 use Rattle.qs_script.specs.Limits.{most_levels}
 use Rattle.qs_script.specs.Reading.{Read, ◌>>=◌, due, after, run, name_at, number_at, open_brace_at, close_brace_at, open_paren_at, close_paren_at, comma_at, semicolon_at, negative_at, atom_at, further_at, more_loop, first_arg, args_at, call_of, call_at, operator_at, relation_at, expr_with, expr_at, test_of, test_at, ended_at, query_at, assign_at, assigned_at, command_at, named_at, braced_at, other_at, choice_of, choice_at, repeat_at, stmt_at, stmt_in, body_loop, names_loop, block_of, block_at, separate_at, blocks_loop, kind_at, object_of, client_of, object_at, own_blocks_at, formal_of, kind_word_at, formal_at, further_formal_at, formals_at, further_name_at, given_at, template_of, started_of, template_blocks_at, template_called_at, template_at, started_with_at, started_at, client_called_at, client_at, item_at, end_at, items_loop}
-use Rattle.qs_script.proofs.Prefixes.{Status, refused, whole, begun, Any, Eaten, left_of, Careful, Element, past, by_first, by_element, starts, said, joined, put_careful, Due, IsTaken, due_then, due_element, Stop, IsSettled, run_careful, list_status, list_short, list_careful, after_first}
+use Rattle.qs_script.proofs.Prefixes.{Status, refused, whole, begun, Any, left_of, Careful, Element, First, stuck, then_by, took, element, by_first, by_token, starts, said, joined, put_careful, Due, IsTaken, due_then, due_element, Stop, IsSettled, run_careful, list_status, list_short, list_careful, after_first}
 
 -- single tokens
 open_paren : Due open_paren_at
@@ -62,65 +62,40 @@ paren_stop = record { word = t.CloseParen ∷ []; ends = λ tail e. refl; nothin
   at _ = inr (λ ts. refl)
 
 -- names, numbers and values
-name_element : Element name_at
-name_element = record { eats = eats; status = status } where
-  eats : (ts : List Token) → Eaten (length ts) (name_at ts)
-  eats (t.Name n ∷ ts) = omega arith
-  eats _ = omega arith
-
-  status : (u : Token) (us : List Token) → Status Any (λ ws. name_at (u ∷ us ++ ws))
-  status (t.Name n) us = whole n us (λ ws. refl)
-  status u us = refused u us (λ ws. refl)
+name_first : (u : Token) → First name_at u
+name_first (t.Name n) = took n (λ ts. refl)
+name_first _ = stuck (λ ts. refl)
 
 name : Careful name_at
-name = by_element name_at (t.Name [] ∷ []) [] (λ tail. refl) name_element
+name = by_token name_at refl name_first (t.Name [] ∷ []) [] (λ tail. refl)
 
 number : Careful number_at
-number = by_element number_at (t.Number 0 ∷ []) 0 (λ tail. refl) (record { eats = eats; status = status }) where
-  eats : (ts : List Token) → Eaten (length ts) (number_at ts)
-  eats (t.Number n ∷ ts) = omega arith
-  eats _ = omega arith
-
-  status : (u : Token) (us : List Token) → Status Any (λ ws. number_at (u ∷ us ++ ws))
-  status (t.Number n) us = whole n us (λ ws. refl)
-  status u us = refused u us (λ ws. refl)
+number = by_token number_at refl first (t.Number 0 ∷ []) 0 (λ tail. refl) where
+  first : (u : Token) → First number_at u
+  first (t.Number n) = took n (λ ts. refl)
+  first _ = stuck (λ ts. refl)
 
 negative : Careful (λ ts. negative_at (number_at ts))
 negative = put_careful negative_at (λ n. Number (neg_ℤ (pos n))) (λ left. refl) (λ x. refl) number_at number
 
 atom : Careful atom_at
-atom = by_element atom_at (t.Number 0 ∷ []) (Number (pos 0)) (λ tail. refl) (record { eats = eats; status = status }) where
-  eats : (ts : List Token) → Eaten (length ts) (atom_at ts)
-  eats (t.Name n ∷ ts) = omega arith
-  eats (t.Number n ∷ ts) = omega arith
-  eats (t.Minus ∷ ts) = past (negative_at (number_at ts)) t.Minus ts (negative.short ts)
-  eats _ = omega arith
-
-  status : (u : Token) (us : List Token) → Status Any (λ ws. atom_at (u ∷ us ++ ws))
-  status (t.Name n) us = whole (Variable n) us (λ ws. refl)
-  status (t.Number n) us = whole (Number (pos n)) us (λ ws. refl)
-  status t.Minus us = negative.status us
-  status u us = refused u us (λ ws. refl)
+atom = by_token atom_at refl first (t.Number 0 ∷ []) (Number (pos 0)) (λ tail. refl) where
+  first : (u : Token) → First atom_at u
+  first (t.Name n) = took (Variable n) (λ ts. refl)
+  first (t.Number n) = took (Number (pos n)) (λ ts. refl)
+  first t.Minus = then_by _ negative (λ ts. refl)
+  first _ = stuck (λ ts. refl)
 
 relation : Careful relation_at
-relation = by_element relation_at (t.Less ∷ []) r.Less (λ tail. refl) (record { eats = eats; status = status }) where
-  eats : (ts : List Token) → Eaten (length ts) (relation_at ts)
-  eats (t.Equal ∷ ts) = omega arith
-  eats (t.Unequal ∷ ts) = omega arith
-  eats (t.Less ∷ ts) = omega arith
-  eats (t.AtMost ∷ ts) = omega arith
-  eats (t.Greater ∷ ts) = omega arith
-  eats (t.AtLeast ∷ ts) = omega arith
-  eats _ = omega arith
-
-  status : (u : Token) (us : List Token) → Status Any (λ ws. relation_at (u ∷ us ++ ws))
-  status t.Equal us = whole r.Equal us (λ ws. refl)
-  status t.Unequal us = whole r.Unequal us (λ ws. refl)
-  status t.Less us = whole r.Less us (λ ws. refl)
-  status t.AtMost us = whole r.AtMost us (λ ws. refl)
-  status t.Greater us = whole r.Greater us (λ ws. refl)
-  status t.AtLeast us = whole r.AtLeast us (λ ws. refl)
-  status u us = refused u us (λ ws. refl)
+relation = by_token relation_at refl first (t.Less ∷ []) r.Less (λ tail. refl) where
+  first : (u : Token) → First relation_at u
+  first t.Equal = took r.Equal (λ ts. refl)
+  first t.Unequal = took r.Unequal (λ ts. refl)
+  first t.Less = took r.Less (λ ts. refl)
+  first t.AtMost = took r.AtMost (λ ts. refl)
+  first t.Greater = took r.Greater (λ ts. refl)
+  first t.AtLeast = took r.AtLeast (λ ts. refl)
+  first _ = stuck (λ ts. refl)
 
 -- arguments and requests
 further_element : Element further_at
@@ -201,16 +176,11 @@ commanded : (object : List ℕ) → Careful (command_at object)
 commanded object = joined (call_at object) _ (call object) λ c. ended (command c end)
 
 named : (n : List ℕ) → Careful (named_at n)
-named n = by_element (named_at n) (t.Assign ∷ t.Number 0 ∷ t.Plus ∷ t.Number 0 ∷ t.Semicolon ∷ []) _ (λ tail. refl) (record { eats = eats; status = status }) where
-  eats : (ts : List Token) → Eaten (length ts) (named_at n ts)
-  eats (t.Dot ∷ ts) = past (command_at n ts) t.Dot ts ((commanded n).short ts)
-  eats (t.Assign ∷ ts) = past (assigned_at n ts) t.Assign ts ((assigned n).short ts)
-  eats _ = omega arith
-
-  status : (u : Token) (us : List Token) → Status Any (λ ws. named_at n (u ∷ us ++ ws))
-  status t.Dot us = (commanded n).status us
-  status t.Assign us = (assigned n).status us
-  status u us = refused u us (λ ws. refl)
+named n = by_token (named_at n) refl first (t.Assign ∷ t.Number 0 ∷ t.Plus ∷ t.Number 0 ∷ t.Semicolon ∷ []) _ (λ tail. refl) where
+  first : (u : Token) → First (named_at n) u
+  first t.Dot = then_by _ (commanded n) (λ ts. refl)
+  first t.Assign = then_by _ (assigned n) (λ ts. refl)
+  first _ = stuck (λ ts. refl)
 
 -- statements whose bodies inner reads
 module _ (inner : List Token → Read Stmts) (body : Careful inner) where
@@ -237,20 +207,13 @@ module _ (inner : List Token → Read Stmts) (body : Careful inner) where
   repeated = joined number_at _ number λ n. joined (braced_at inner) _ braced λ b. said (again n b end)
 
   stmt : Element (stmt_at inner)
-  stmt = record { eats = eats; status = status } where
-    eats : (ts : List Token) → Eaten (length ts) (stmt_at inner ts)
-    eats (t.Leave ∷ ts) = past (ended_at (leave end) ts) t.Leave ts ((ended (leave end)).short ts)
-    eats (t.If ∷ ts) = past (choice_at inner ts) t.If ts (choice.short ts)
-    eats (t.Repeat ∷ ts) = past (repeat_at inner ts) t.Repeat ts (repeated.short ts)
-    eats (t.Name n ∷ ts) = past (named_at n ts) (t.Name n) ts ((named n).short ts)
-    eats _ = omega arith
-
-    status : (u : Token) (us : List Token) → Status Any (λ ws. stmt_at inner (u ∷ us ++ ws))
-    status t.Leave us = (ended (leave end)).status us
-    status t.If us = choice.status us
-    status t.Repeat us = repeated.status us
-    status (t.Name n) us = (named n).status us
-    status u us = refused u us (λ ws. refl)
+  stmt = element (stmt_at inner) refl first where
+    first : (u : Token) → First (stmt_at inner) u
+    first t.Leave = then_by _ (ended (leave end)) (λ ts. refl)
+    first t.If = then_by _ choice (λ ts. refl)
+    first t.Repeat = then_by _ repeated (λ ts. refl)
+    first (t.Name n) = then_by _ (named n) (λ ts. refl)
+    first _ = stuck (λ ts. refl)
 
 stmt_element : (levels : ℕ) → Element (stmt_in levels)
 stmt_element zero = record { eats = λ ts. omega arith; status = λ u us. refused u us (λ ws. refl) }
@@ -262,45 +225,26 @@ body levels = run_careful (body_loop levels) brace_stop (stmt_element levels)
 -- blocks
 block : Careful block_at
 block =
-    joined name_at _ name λ n. joined (λ ts. after names_loop (n ∷ []) (run names_loop ts)) _ (after_first open_brace_at name_at names_stop name_element n) λ ns.
+    joined name_at _ name λ n. joined (λ ts. after names_loop (n ∷ []) (run names_loop ts)) _ (after_first open_brace_at name_at names_stop (element name_at refl name_first) n) λ ns.
     joined (run (body_loop most_levels)) _ (body most_levels) λ b. said (block_of ns b)
 
-separate_element : Element separate_at
-separate_element = record { eats = eats; status = status } where
-  eats : (ts : List Token) → Eaten (length ts) (separate_at ts)
-  eats (t.Separate ∷ ts) = past (block_at ts) t.Separate ts (block.short ts)
-  eats _ = omega arith
-
-  status : (u : Token) (us : List Token) → Status Any (λ ws. separate_at (u ∷ us ++ ws))
-  status t.Separate us = block.status us
-  status u us = refused u us (λ ws. refl)
+separate : Element separate_at
+separate = element separate_at refl first where
+  first : (u : Token) → First separate_at u
+  first t.Separate = then_by _ block (λ ts. refl)
+  first _ = stuck (λ ts. refl)
 
 blocks : Careful (run blocks_loop)
-blocks = list_careful close_brace_at separate_at brace_stop separate_element
+blocks = list_careful close_brace_at separate_at brace_stop separate
 
 -- items
 kind_text : Careful kind_at
-kind_text = by_element kind_at (t.Account ∷ t.Number 0 ∷ []) (Account 0) (λ tail. refl) (record { eats = eats; status = status }) where
-  account : Careful (λ ts. number_at ts >>= λ n. Ok (Account n.0, n.1))
-  account = joined number_at (λ n. Ok (Account n.0, n.1)) number (λ n. said (Account n))
-
-  buffer : Careful (λ ts. number_at ts >>= λ n. Ok (Buffer n.0, n.1))
-  buffer = joined number_at (λ n. Ok (Buffer n.0, n.1)) number (λ n. said (Buffer n))
-
-  grid : Careful (λ ts. number_at ts >>= λ n. number_at n.1 >>= λ m. Ok (Grid n.0 m.0, m.1))
-  grid = joined number_at _ number λ n. joined number_at _ number λ m. said (Grid n m)
-
-  eats : (ts : List Token) → Eaten (length ts) (kind_at ts)
-  eats (t.Account ∷ ts) = past _ t.Account ts (account.short ts)
-  eats (t.Buffer ∷ ts) = past _ t.Buffer ts (buffer.short ts)
-  eats (t.Grid ∷ ts) = past _ t.Grid ts (grid.short ts)
-  eats _ = omega arith
-
-  status : (u : Token) (us : List Token) → Status Any (λ ws. kind_at (u ∷ us ++ ws))
-  status t.Account us = account.status us
-  status t.Buffer us = buffer.status us
-  status t.Grid us = grid.status us
-  status u us = refused u us (λ ws. refl)
+kind_text = by_token kind_at refl first (t.Account ∷ t.Number 0 ∷ []) (Account 0) (λ tail. refl) where
+  first : (u : Token) → First kind_at u
+  first t.Account = then_by (λ ts. number_at ts >>= λ n. Ok (Account n.0, n.1)) (joined number_at _ number λ n. said (Account n)) (λ ts. refl)
+  first t.Buffer = then_by (λ ts. number_at ts >>= λ n. Ok (Buffer n.0, n.1)) (joined number_at _ number λ n. said (Buffer n)) (λ ts. refl)
+  first t.Grid = then_by (λ ts. number_at ts >>= λ n. number_at n.1 >>= λ m. Ok (Grid n.0 m.0, m.1)) (joined number_at _ number λ n. joined number_at _ number λ m. said (Grid n m)) (λ ts. refl)
+  first _ = stuck (λ ts. refl)
 
 object : Careful object_at
 object = joined name_at _ name λ n. joined kind_at _ kind_text λ k. said (object_of n k)
@@ -309,18 +253,12 @@ own_blocks : (n : List ℕ) → Careful (own_blocks_at n)
 own_blocks n = joined (run blocks_loop) _ blocks λ bs. said (client_of n bs)
 
 kind_word : Careful kind_word_at
-kind_word = by_element kind_word_at (t.Account ∷ []) kind.Account (λ tail. refl) (record { eats = eats; status = status }) where
-  eats : (ts : List Token) → Eaten (length ts) (kind_word_at ts)
-  eats (t.Account ∷ ts) = omega arith
-  eats (t.Buffer ∷ ts) = omega arith
-  eats (t.Grid ∷ ts) = omega arith
-  eats _ = omega arith
-
-  status : (u : Token) (us : List Token) → Status Any (λ ws. kind_word_at (u ∷ us ++ ws))
-  status t.Account us = whole kind.Account us (λ ws. refl)
-  status t.Buffer us = whole kind.Buffer us (λ ws. refl)
-  status t.Grid us = whole kind.Grid us (λ ws. refl)
-  status u us = refused u us (λ ws. refl)
+kind_word = by_token kind_word_at refl first (t.Account ∷ []) kind.Account (λ tail. refl) where
+  first : (u : Token) → First kind_word_at u
+  first t.Account = took kind.Account (λ ts. refl)
+  first t.Buffer = took kind.Buffer (λ ts. refl)
+  first t.Grid = took kind.Grid (λ ts. refl)
+  first _ = stuck (λ ts. refl)
 
 formal : Careful formal_at
 formal = joined kind_word_at _ kind_word λ k. joined name_at _ name λ n. said (formal_of k n)
@@ -342,33 +280,22 @@ started : (n : List ℕ) → Careful (started_at n)
 started n = joined name_at _ name λ m. due_then open_paren_at open_paren (started_with_at n m) (joined given_at _ given λ os. said (started_of n m os))
 
 client_called : (n : List ℕ) → Careful (client_called_at n)
-client_called n = let (word, i, k) = starts (own_blocks_at n) (own_blocks n) in by_element (client_called_at n) (t.OpenBrace ∷ word) i k (record { eats = eats; status = status }) where
-  eats : (ts : List Token) → Eaten (length ts) (client_called_at n ts)
-  eats (t.OpenBrace ∷ ts) = past (own_blocks_at n ts) t.OpenBrace ts ((own_blocks n).short ts)
-  eats (t.Assign ∷ ts) = past (started_at n ts) t.Assign ts ((started n).short ts)
-  eats _ = omega arith
-
-  status : (u : Token) (us : List Token) → Status Any (λ ws. client_called_at n (u ∷ us ++ ws))
-  status t.OpenBrace us = (own_blocks n).status us
-  status t.Assign us = (started n).status us
-  status u us = refused u us (λ ws. refl)
+client_called n = let (word, i, k) = starts (own_blocks_at n) (own_blocks n) in by_token (client_called_at n) refl first (t.OpenBrace ∷ word) i k where
+  first : (u : Token) → First (client_called_at n) u
+  first t.OpenBrace = then_by _ (own_blocks n) (λ ts. refl)
+  first t.Assign = then_by _ (started n) (λ ts. refl)
+  first _ = stuck (λ ts. refl)
 
 client : Careful client_at
 client = joined name_at _ name client_called
 
-pub item_element : Element item_at
-item_element = record { eats = eats; status = status } where
-  eats : (ts : List Token) → Eaten (length ts) (item_at ts)
-  eats (t.Object ∷ ts) = past (object_at ts) t.Object ts (object.short ts)
-  eats (t.Client ∷ ts) = past (client_at ts) t.Client ts (client.short ts)
-  eats (t.Template ∷ ts) = past (template_at ts) t.Template ts (template.short ts)
-  eats _ = omega arith
-
-  status : (u : Token) (us : List Token) → Status Any (λ ws. item_at (u ∷ us ++ ws))
-  status t.Object us = object.status us
-  status t.Client us = client.status us
-  status t.Template us = template.status us
-  status u us = refused u us (λ ws. refl)
+item : Element item_at
+item = element item_at refl first where
+  first : (u : Token) → First item_at u
+  first t.Object = then_by _ object (λ ts. refl)
+  first t.Client = then_by _ client (λ ts. refl)
+  first t.Template = then_by _ template (λ ts. refl)
+  first _ = stuck (λ ts. refl)
 
 -- no token after the last item
 abbrev pub IsEmpty : List Token → Type 0
@@ -378,7 +305,7 @@ end_stop : Stop IsEmpty end_at
 end_stop = record { word = []; ends = λ tail e. rw e refl; nothing = λ rest h. cc; each = λ u. inr (λ ts. refl) }
 
 pub items_status : (us : List Token) → Status IsEmpty (λ ws. run items_loop (us ++ ws))
-items_status = list_status IsEmpty end_at item_at end_stop item_element
+items_status = list_status IsEmpty end_at item_at end_stop item
 
 pub items_short : (ts : List Token) → left_of (run items_loop ts) ≤ length ts
-items_short = list_short IsEmpty end_at item_at end_stop item_element
+items_short = list_short IsEmpty end_at item_at end_stop item

@@ -1,5 +1,5 @@
 -- What reading a text answers.
-use Rattle.std.specs.Prelude.{◌≡◌, ℕ, suc, ◌≤◌, ◌<◌, List, ◌++◌, length, take, Result, Ok, Err}
+use Rattle.std.specs.Prelude.{◌≡◌, ℕ, suc, ◌≤◌, ◌<◌, List, ◌++◌, length, take, Option, Some, None, Result, Ok, Err}
 use Rattle.qs_tokens.specs.declared.token.Token.{Token}
 use Rattle.qs_script.specs.declared.tree.Item.{Item}
 use Rattle.qs_script.specs.declared.fault.ReadFault.{ReadFault}
@@ -22,12 +22,21 @@ pub record IsScriptText (text : List ℕ) (script : List Item) : Type 0 where
 abbrev pub IsFaultAt : List ℕ → TokenFault → ℕ → Type 0
 IsFaultAt text fault line = (tokens_of text ≡ Err fault) × IsFaultLine text fault line
 
--- The place of a fault of form, told by the grammar alone: the place of the first token with which no script goes on, or the end. Some
--- script begins with the tokens before it, and none with those and the token there.
+-- some script begins with these tokens
+abbrev pub BeginsScript : List Token → Type 0
+BeginsScript ts = (rest : List Token) × (script : List Item) × IsScript script (ts ++ rest)
+
+-- The place of a fault of form, told by the grammar alone: that of the first token with which no script goes on, or the end. Some script
+-- begins with the tokens before it, and none with those and the token there.
 pub record IsFormPlace (ts : List Token) (place : ℕ) : Type 0 where
   pub within : place ≤ length ts
-  pub goes_on : (rest : List Token) × (script : List Item) × IsScript script (take place ts ++ rest)
-  pub stops : place < length ts → (rest : List Token) (script : List Item) → IsScript script (take (suc place) ts ++ rest) → ⊥
+  pub goes_on : BeginsScript (take place ts)
+  pub stops : place < length ts → BeginsScript (take (suc place) ts) → ⊥
+
+-- the place of the fault of form of tokens that no script has; none, where a script has them
+abbrev pub IsFormPlaceOf : List Token → Option ℕ → Type 0
+IsFormPlaceOf ts None = (script : List Item) × IsScript script ts
+IsFormPlaceOf ts (Some place) = ((script : List Item) → IsScript script ts → ⊥) × IsFormPlace ts place
 
 -- the line of a fault of form: that of the token at its place, or of the text's end
 pub record IsFormLine (text : List ℕ) (ts : List Token) (line : ℕ) : Type 0 where

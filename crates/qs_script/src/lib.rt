@@ -17,7 +17,7 @@ mod values;
 pub use fault::ReadFault;
 pub use limits::LONGEST_TEXT;
 pub use qs_tokens::{Name, Number};
-pub use reader::read;
+pub use reader::{begins_script, form_place, read};
 pub use tree::{
     ArgumentList, Atom, Block, Blocks, Body, Call, ClientItem, Expr, Formal, Formals, Item,
     KindText, KindWord, NameList, ObjectItem, Operator, Relation, Script, StartedItem, Stmt,

@@ -1,8 +1,8 @@
 // From a text to a script.
 
-ghost use Rattle.std.specs.Prelude.{◌≡◌, ◌<◌, ◌≤◌, ◌↔◌, length, Ok, IfOk, IfErr, IsErrOf};
+ghost use Rattle.std.specs.Prelude.{◌≡◌, ◌<◌, ◌≤◌, ◌↔◌, length, Ok, IfOk, IfErr, IsErrOf, IsTrue};
 ghost use Rattle.qs_tokens.specs.Tokens.{tokens_of};
-ghost use Rattle.qs_script.specs.Reads.{HasFault, IsReadOf, IsPlaced};
+ghost use Rattle.qs_script.specs.Reads.{BeginsScript, HasFault, IsFormPlaceOf, IsReadOf, IsPlaced};
 ghost use Rattle.qs_script.specs.Limits.{longest_text};
 
 use crate::fault::{Fault, ReadFault};
@@ -11,7 +11,7 @@ use crate::limits::LONGEST_TEXT;
 use crate::lines::line_of;
 use crate::tree::Script;
 use qs_tokens::{ListFault, Token, TokenFault, list_tokens};
-use std::alloc::Global;
+use std::alloc::{AllocError, Global};
 
 // The fault at that line.
 fn placed(fault: TokenFault, line: u32) -> ReadFault
@@ -55,5 +55,30 @@ pub fn read(alloc: Global, text: &[u8]) -> Result<Script, ReadFault>
             line: line_of(text, tokens.len().saturating_sub(left)),
         }),
         Err(Fault::Memory) => Err(ReadFault::Memory),
+    }
+}
+
+/// The place of the fault of form of some tokens: how many stand before the first with which no script goes on, or, where there is no
+/// such token, all of them. Nothing, where they are a script's. It fails only where memory runs out.
+pub fn form_place(alloc: Global, tokens: &[Token]) -> Result<Option<usize>, AllocError>
+    ensures exact { IfOk result (IsFormPlaceOf tokens.now) }
+{
+    match script(alloc, tokens) {
+        Ok(script) => {
+            drop(script);
+            Ok(None)
+        }
+        Err(Fault::Form(left)) => Ok(Some(tokens.len().saturating_sub(left))),
+        Err(Fault::Memory) => Err(AllocError),
+    }
+}
+
+/// Whether some script begins with these tokens. It fails only where memory runs out.
+pub fn begins_script(alloc: Global, tokens: &[Token]) -> Result<bool, AllocError>
+    ensures exact { IfOk result (λ begins. IsTrue begins ↔ BeginsScript tokens.now) }
+{
+    match form_place(alloc, tokens)? {
+        Some(place) => Ok(place == tokens.len()),
+        None => Ok(true),
     }
 }
