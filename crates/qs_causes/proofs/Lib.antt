@@ -1,2 +1,3 @@
 mod Standing
 mod Anchored
+mod FormTold

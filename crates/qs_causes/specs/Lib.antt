@@ -3,4 +3,5 @@ pub mod Sources
 pub mod ExcessTold
 pub mod Knowns
 pub mod CheckTold
+pub mod ReadTold
 pub mod Near

@@ -24,3 +24,11 @@ span_of text (Some p) = record { start = p.start; length = p.end - p.start }
 -- where the token at a place stands; after the last token, the text's end
 abbrev pub span_in : List ℕ → List PlacedToken → ℕ → Span
 span_in text tokens place = span_of text (slice_get tokens place)
+
+abbrev pub end_of : List ℕ → Option PlacedToken → Span
+end_of text None = record { start = length text; length = 0 }
+end_of text (Some p) = record { start = p.end; length = 0 }
+
+-- the place right after a token; after the last token, the text's end
+abbrev pub end_in : List ℕ → List PlacedToken → ℕ → Span
+end_in text tokens place = end_of text (slice_get tokens place)

@@ -1,5 +1,7 @@
 // What is said of a byte, a number or a name that is no token.
 
+ghost use Rattle.std.specs.Prelude.{◌≡◌, IfOk};
+
 use crate::said::{Said, digits, say};
 use qs_tokens::TokenFault;
 use qs_told::Span;
@@ -23,7 +25,9 @@ pub(crate) fn say_token(
     fault: TokenFault,
     start: usize,
     rest: &[u8],
-) -> Result<Said, AllocError> {
+) -> Result<Said, AllocError>
+    ensures start { IfOk result (λ said. said.span.start ≡ start) }
+{
     match fault {
         TokenFault::Byte => say_byte(alloc, start, rest),
         TokenFault::Number => {
@@ -53,7 +57,9 @@ pub(crate) fn say_token(
     }
 }
 
-fn say_byte(alloc: Global, start: usize, rest: &[u8]) -> Result<Said, AllocError> {
+fn say_byte(alloc: Global, start: usize, rest: &[u8]) -> Result<Said, AllocError>
+    ensures start { IfOk result (λ said. said.span.start ≡ start) }
+{
     let first = rest.first().copied().unwrap_or(0);
     let second = rest.get(1).copied().unwrap_or(0);
     let span = Span { start, length: 1 };

@@ -1,11 +1,15 @@
 // What is wrong at a token of a script, with what else it is about.
 
+ghost use Rattle.std.specs.Prelude.{◌↔◌, IfOk, IsTrue};
+ghost use Rattle.qs_causes.specs.ReadTold.{IsFormFaultOf, MayEnd};
+
 use crate::form::{Form, Stage};
 use crate::known::{Declared, Known, kind_of, place_in};
 use crate::operations::{Kind, operation_of};
 use crate::source::Source;
 use qs_objects::Op;
 use qs_places::CheckFault;
+use qs_script::{begins_script, form_place};
 use qs_tokens::Token;
 use std::alloc::{AllocError, Global};
 
@@ -69,13 +73,35 @@ pub(crate) enum Cause {
     },
 }
 
-/// The first token with which no script goes on, by its place; one more than the last place at the text's end.
+/// A fault of form: the place of the first token with which no script goes on, one more than the last place at the text's end; and
+/// whether a `;` may stand there.
 #[derive(Clone, Copy)]
 pub(crate) struct FormFault {
-    /// What may stand there.
-    pub(crate) stage: Stage,
-    pub(crate) is_deep: bool,
     pub(crate) place: usize,
+    pub(crate) ends: bool,
+}
+
+// Whether a `;` may stand at a place of some tokens.
+fn may_end(alloc: Global, tokens: Vec<Token>, place: usize) -> Result<bool, AllocError>
+    ensures exact { IfOk result (λ ends. IsTrue ends ↔ MayEnd tokens.items place) }
+{
+    let mut tokens = tokens;
+    tokens.truncate(place);
+    tokens.push(Token::Semicolon)?;
+    begins_script(alloc, tokens.as_slice())
+}
+
+/// The fault of form of some tokens, where no script has them.
+pub(crate) fn form_fault(alloc: Global, tokens: Vec<Token>) -> Result<Option<FormFault>, AllocError>
+    ensures exact { IfOk result (IsFormFaultOf tokens.items) }
+{
+    match form_place(alloc, tokens.as_slice())? {
+        Some(place) => {
+            let ends = may_end(alloc, tokens, place)?;
+            Ok(Some(FormFault { place, ends }))
+        }
+        None => Ok(None),
+    }
 }
 
 /// What a script has come to, token by token.
@@ -91,40 +117,6 @@ impl Search {
             form: Form::new(alloc),
             known: Known::new(alloc),
         }
-    }
-
-    /// Goes through the tokens up to the first with which no script goes on, if there is one.
-    pub(crate) fn form_fault(
-        &mut self,
-        source: Source<'_>,
-    ) -> Result<Option<FormFault>, AllocError> {
-        for place in 0..source.len() {
-            let Some(token) = source.token(place) else {
-                return Ok(None);
-            };
-            let (stage, is_deep) = (self.form.stage(), self.form.is_deep());
-            if !self.form.pass(token)? {
-                return Ok(Some(FormFault {
-                    stage,
-                    is_deep,
-                    place,
-                }));
-            }
-        }
-        Ok(self.end(source))
-    }
-
-    // A script ends after an item.
-    fn end(&self, source: Source<'_>) -> Option<FormFault> {
-        let stage = self.form.stage();
-        if stage == Stage::Item {
-            return None;
-        }
-        Some(FormFault {
-            stage,
-            is_deep: self.form.is_deep(),
-            place: source.len(),
-        })
     }
 
     /// Learns what the tokens before a place tell.

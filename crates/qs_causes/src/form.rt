@@ -1,5 +1,6 @@
 // What may stand at each place of a script.
 
+use crate::source::Source;
 use qs_tokens::Token;
 use std::alloc::{AllocError, Global};
 
@@ -113,6 +114,20 @@ impl Form {
     /// Whether no statement may stand at this place, since too many are around it.
     pub(crate) fn is_deep(&self) -> bool {
         self.bodies.len() > MOST_AROUND
+    }
+
+    /// Goes past the tokens before a place.
+    pub(crate) fn pass_before(
+        &mut self,
+        source: Source<'_>,
+        place: usize,
+    ) -> Result<(), AllocError> {
+        for before in 0..place {
+            if let Some(token) = source.token(before) {
+                self.pass(token)?;
+            }
+        }
+        Ok(())
     }
 
     /// Goes past a token. False where it may not stand here.

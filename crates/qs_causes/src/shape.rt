@@ -1,7 +1,12 @@
 // What is said of a fault of form.
 
+ghost use Rattle.std.specs.Prelude.{◌≡◌, IfOk, IsTrue};
+ghost use Rattle.qs_causes.specs.ReadTold.{IsSpot};
+ghost use Rattle.qs_causes.specs.Sources.{end_in, span_in};
+
 use crate::expected::expected;
-use crate::form::Stage;
+use crate::finding::FormFault;
+use crate::form::{Form, Stage};
 use crate::said::{Said, joined, part, say};
 use crate::source::Source;
 use crate::usual::usual_at;
@@ -9,27 +14,32 @@ use crate::words::is_near;
 use qs_tokens::Token;
 use std::alloc::{AllocError, Global};
 
-// Whether a `;` alone is due at a place, or may end what stands before it.
-fn is_end(stage: Stage) -> bool {
-    matches!(
-        stage,
-        Stage::CommandEnd
-            | Stage::QueryEnd
-            | Stage::ExpressionEnd
-            | Stage::LeaveEnd
-            | Stage::AfterVariable
-            | Stage::AfterNumber
-    )
+/// What is said of a fault of form.
+pub(crate) fn say_form(
+    alloc: Global,
+    source: Source<'_>,
+    fault: FormFault,
+) -> Result<Said, AllocError>
+    ensures spot { IfOk result (λ said. IsSpot source.entry.text.now source.entry.tokens.now fault.place (IsTrue fault.ends) said.span) }
+{
+    let mut form = Form::new(alloc);
+    form.pass_before(source, fault.place)?;
+    let (stage, is_deep) = (form.stage(), form.is_deep());
+    drop(form);
+    say_at(alloc, source, stage, is_deep, fault)
 }
 
-/// What is said of a token with which no script goes on.
-pub(crate) fn say_form(
+// The same, by what may stand at the place in words.
+fn say_at(
     alloc: Global,
     source: Source<'_>,
     stage: Stage,
     is_deep: bool,
-    place: usize,
-) -> Result<Said, AllocError> {
+    fault: FormFault,
+) -> Result<Said, AllocError>
+    ensures spot { IfOk result (λ said. IsSpot source.entry.text.now source.entry.tokens.now fault.place (IsTrue fault.ends) said.span) }
+{
+    let place = fault.place;
     if let Some(usual) = usual_at(source, stage, is_deep, place) {
         return say(
             alloc,
@@ -39,7 +49,7 @@ pub(crate) fn say_form(
             &[usual.help],
         );
     }
-    if is_end(stage) {
+    if fault.ends {
         return say_semicolon(alloc, source, place.saturating_sub(1));
     }
     let help = word_help(alloc, source, stage, place)?;
@@ -55,7 +65,9 @@ pub(crate) fn say_form(
     )
 }
 
-fn say_semicolon(alloc: Global, source: Source<'_>, before: usize) -> Result<Said, AllocError> {
+fn say_semicolon(alloc: Global, source: Source<'_>, before: usize) -> Result<Said, AllocError>
+    ensures span { IfOk result (λ said. said.span ≡ end_in source.entry.text.now source.entry.tokens.now before) }
+{
     say(
         alloc,
         source.end_of(before),
@@ -71,7 +83,9 @@ fn say_end(
     stage: Stage,
     place: usize,
     help: &[u8],
-) -> Result<Said, AllocError> {
+) -> Result<Said, AllocError>
+    ensures span { IfOk result (λ said. said.span ≡ span_in source.entry.text.now source.entry.tokens.now place) }
+{
     say(
         alloc,
         source.span(place),

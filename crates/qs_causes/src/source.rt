@@ -1,7 +1,7 @@
 // A text with its tokens.
 
 ghost use Rattle.std.specs.Prelude.{◌≡◌, length, option_map};
-ghost use Rattle.qs_causes.specs.Sources.{span_in, token_in, word_in};
+ghost use Rattle.qs_causes.specs.Sources.{end_in, span_in, token_in, word_in};
 
 use crate::spans::PlacedToken;
 use qs_tokens::Token;
@@ -75,12 +75,19 @@ impl<'a> Source<'a> {
         }
     }
 
-    /// The place right after a token.
-    pub(crate) fn end_of(self, place: usize) -> Span {
-        let span = self.span(place);
-        Span {
-            start: span.start.saturating_add(span.length),
-            length: 0,
+    /// The place right after a token; after the last token, the text's end.
+    pub(crate) fn end_of(self, place: usize) -> Span
+        ensures exact { result ≡ end_in self.entry.text.now self.entry.tokens.now place }
+    {
+        match self.tokens.get(place) {
+            Some(placed) => Span {
+                start: placed.end,
+                length: 0,
+            },
+            None => Span {
+                start: self.text.len(),
+                length: 0,
+            },
         }
     }
 }

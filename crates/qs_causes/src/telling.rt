@@ -1,20 +1,25 @@
 // The diagnosis of a text that is refused.
 
-ghost use Rattle.std.specs.Prelude.{◌≡◌, ◌≤◌, ◌<◌, OnOk, List, [], length, Ok, Some};
-ghost use Rattle.qs_script.specs.Reads.{IsScriptText};
+ghost use Rattle.std.specs.Prelude.{◌≡◌, ◌≤◌, ◌<◌, ◌↔◌, IsTrue, OnOk, List, [], length, Ok, Err, Some};
+ghost use Rattle.qs_tokens.specs.declared.token.Token.{Token};
+ghost use Rattle.qs_tokens.specs.declared.lex.TokenFault.{TokenFault};
+ghost use Rattle.qs_tokens.specs.Tokens.{tokens_of};
+ghost use Rattle.qs_script.specs.Grammar.{IsScript};
+ghost use Rattle.qs_script.specs.Reads.{IsFormPlace, IsScriptText};
 ghost use Rattle.qs_script.specs.declared.tree.Item.{Item};
-ghost use Rattle.qs_causes.specs.Spans.{ArePlaced, Stand};
+ghost use Rattle.qs_causes.specs.ReadTold.{IsFormTold, IsTokenTold, MayEnd};
+ghost use Rattle.qs_causes.specs.Spans.{ArePlaced, IsFaultAt, Stand, tokens_in};
 ghost use Rattle.qs_causes.specs.CheckTold.{IsCheckTold, IsRefusalTold, IsRefusedAt, IsSaidAt, IsToldAt, span_at};
 
 use crate::bytes::say_token;
-use crate::finding::Search;
+use crate::finding::{FormFault, form_fault};
 use crate::refusal::{Refusal, Why, refusal_of, say_refusal};
 use crate::said::Said;
 use crate::shape::say_form;
 use crate::source::Source;
 use crate::spans::{PlacedToken, SpanFault, place_of_anchor, placed_tokens};
 use qs_script::{ReadFault, Script, read};
-use qs_tokens::Token;
+use qs_tokens::{ListFault, Token, TokenFault, list_tokens};
 use qs_told::{Diagnosis, Span, put_diagnosis};
 use std::alloc::{AllocError, Global};
 
@@ -38,55 +43,71 @@ fn put_said(
     put_diagnosis(alloc, out, text, &diagnosis)
 }
 
-// The same at the place that it is said of; nothing, where that is not in the text.
-fn put_there(alloc: Global, out: &mut Vec<u8>, text: &[u8], said: &Said) -> Result<(), AllocError> {
-    if said.span.start > text.len() {
-        return Ok(());
-    }
-    put_said(alloc, out, text, said.span, said)
+// Tells a fault of form.
+fn tell_place(
+    alloc: Global,
+    out: &mut Vec<u8>,
+    text: &[u8],
+    tokens: &[PlacedToken],
+    fault: FormFault,
+) -> Result<(), AllocError>
+    requires placed { ArePlaced text.now tokens.now }
+    requires there { IsFormPlace (tokens_in tokens.now) fault.place }
+    requires ends { IsTrue fault.ends ↔ MayEnd (tokens_in tokens.now) fault.place }
+    ensures told { OnOk result (IsFormTold text.now out.old.items out.new.items) }
+{
+    let said = say_form(alloc, Source::new(text, tokens), fault)?;
+    put_said(alloc, out, text, said.span, &said)
 }
 
+// Tells why no script has the tokens of a text, where none has.
 fn tell_form(
     alloc: Global,
     out: &mut Vec<u8>,
     text: &[u8],
     tokens: &[PlacedToken],
-) -> Result<(), AllocError> {
-    let source = Source::new(text, tokens);
-    let mut search = Search::new(alloc);
-    let found = search.form_fault(source)?;
-    drop(search);
-    match found {
-        Some(fault) => {
-            let said = say_form(alloc, source, fault.stage, fault.is_deep, fault.place)?;
-            put_there(alloc, out, text, &said)
-        }
-        None => Ok(()),
+) -> Result<(), AllocError>
+    requires placed { ArePlaced text.now tokens.now }
+    ensures form { OnOk result (((s : List Item) → IsScript s (tokens_in tokens.now) → ⊥) → IsFormTold text.now out.old.items out.new.items) }
+    ensures script { OnOk result ((s : List Item) → IsScript s (tokens_in tokens.now) → out.new.items ≡ out.old.items) }
+{
+    match list_tokens(alloc, text) {
+        Ok(list) => match form_fault(alloc, list)? {
+            Some(fault) => tell_place(alloc, out, text, tokens, fault),
+            None => Ok(()),
+        },
+        Err(ListFault::Memory) => Err(AllocError),
+        Err(ListFault::Token(_)) => unreachable!(),
     }
 }
 
+// Tells a token at fault.
 fn tell_token(
     alloc: Global,
     out: &mut Vec<u8>,
     text: &[u8],
-    fault: SpanFault,
-) -> Result<(), AllocError> {
-    match fault {
-        SpanFault::Token { fault, start } => {
-            let rest = text.get(start..).unwrap_or(b"");
-            let said = say_token(alloc, fault, start, rest)?;
-            put_there(alloc, out, text, &said)
-        }
-        SpanFault::Memory => Err(AllocError),
-    }
+    fault: TokenFault,
+    start: usize,
+) -> Result<(), AllocError>
+    requires there { IsFaultAt text.now (SpanFault.Token fault start) }
+    ensures told { OnOk result (IsTokenTold text.now fault out.old.items out.new.items) }
+{
+    let said = say_token(alloc, fault, start, &text[start..])?;
+    put_said(alloc, out, text, said.span, &said)
 }
 
 /// Puts the diagnosis of a text that can't be read at the end: of its first token at fault, or else of the first token with which no
-/// script goes on. Nothing, where there is no such token.
-pub fn tell_read(alloc: Global, out: &mut Vec<u8>, text: &[u8]) -> Result<(), AllocError> {
+/// script goes on; where a `;` may stand there, that may be told right after the token before. Nothing, where some script has the text's
+/// tokens.
+pub fn tell_read(alloc: Global, out: &mut Vec<u8>, text: &[u8]) -> Result<(), AllocError>
+    ensures token { OnOk result ((fault : TokenFault) → tokens_of text.now ≡ Err fault → IsTokenTold text.now fault out.old.items out.new.items) }
+    ensures form { OnOk result ((ts : List Token) → tokens_of text.now ≡ Ok ts → ((s : List Item) → IsScript s ts → ⊥) → IsFormTold text.now out.old.items out.new.items) }
+    ensures script { OnOk result ((ts : List Token) (s : List Item) → tokens_of text.now ≡ Ok ts → IsScript s ts → out.new.items ≡ out.old.items) }
+{
     match placed_tokens(alloc, text) {
         Ok(tokens) => tell_form(alloc, out, text, tokens.as_slice()),
-        Err(fault) => tell_token(alloc, out, text, fault),
+        Err(SpanFault::Token { fault, start }) => tell_token(alloc, out, text, fault, start),
+        Err(SpanFault::Memory) => Err(AllocError),
     }
 }
 
