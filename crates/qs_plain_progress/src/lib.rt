@@ -1,0 +1,4 @@
+//! That runs by the plain rules go on until they are finished.
+#![tactic(auto)]
+
+pub mod laws;
