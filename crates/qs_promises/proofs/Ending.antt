@@ -1,0 +1,95 @@
+-- A finished run that is isolated shows what the serial run of its order leaves, and this order is complete; so what
+-- the run shows is an outcome of the program. What is left to say is that an outcome to which the order comes has the
+-- states that the order leaves. That each complete order is reached follows from the law that each legal order is
+-- played one block after another; and each outcome that is listed has a complete order.
+use Rattle.std.proofs.Common.{◌≡◌, ◌∙◌, ℕ, true, List, sym, ap}
+use Rattle.qs_objects.specs.declared.Request.{Request}
+use Rattle.qs_objects.specs.declared.held.Ticket.{Ticket}
+use Rattle.qs_program.specs.Program.{ProgramShape}
+use Rattle.qs_program.specs.Sound.{IsSound}
+use Rattle.qs_meaning.proofs.Each.{each_both}
+use Rattle.qs_outcomes.specs.Outcomes.{IsLeast, IsListed}
+use Rattle.qs_outcomes.specs.Standings.{StandingShape}
+use Rattle.qs_outcomes.proofs.Lists.{has_map}
+use Rattle.qs_played.specs.Isolation.{IsIsolated}
+use Rattle.qs_played.specs.Played.{Played}
+use Rattle.qs_plain_orders.proofs.BlockReached.{orders_played}
+use Rattle.qs_core_orders.proofs.BlocksPlayed.{core_orders_played}
+use Rattle.qs_promises.specs.Finished.{FinishedRunsAreWhole, IsWholeRun}
+use Rattle.qs_promises.specs.Outcomes.{CanHappen, FinishedRunsAreCovered, IsCovered, ListedOutcomesCanHappen, MachineReachesCompleteOrders, RulesReachCompleteOrders}
+use Rattle.qs_promises.specs.Runs.{by_rules, on_machine}
+use Rattle.qs_promises.proofs.Done.{EndsWhole, ends_whole}
+use Rattle.qs_promises.proofs.Isolating.{all_isolated}
+
+isolated_whole : (p : ProgramShape) (r : Played) (waits : ℕ → Ticket → List Request) → IsIsolated p r waits
+    → r.finished ≡ true → EndsWhole p r → IsWholeRun p r
+unfolding IsIsolated
+isolated_whole p r waits isolated finished ends =
+    let whole = isolated.finished finished in
+    record {
+      complete = record { legal = isolated.legal; once = whole.once };
+      done = ends isolated.legal finished;
+      states = whole.states;
+    }
+
+pub finished_whole : FinishedRunsAreWhole
+finished_whole p sound way r run finished =
+    let x = all_isolated p sound way r run in isolated_whole p r x.0 x.1 finished (ends_whole p sound way r run)
+
+whole_covered : (p : ProgramShape) (r : Played) → IsWholeRun p r → IsCovered p r
+whole_covered p r whole = record {
+  complete = whole.complete;
+  states = whole.states;
+  listed = λ found all.
+      has_map (λ s same. (same, λ h within. whole.states h within ∙ ap (λ x. x.states h) (sym same))) found
+      (all r.order whole.complete);
+}
+
+pub finished_covered : FinishedRunsAreCovered
+finished_covered p sound way r run finished = whole_covered p r (finished_whole p sound way r run finished)
+
+pub rules_reach : RulesReachCompleteOrders
+rules_reach p sound order complete =
+    let found = orders_played p sound order complete.legal in
+    let shown = found.1 in
+    let finished : found.0.finished ≡ true = shown.finished complete in (
+      shown.picks,
+      (
+        found.0,
+        record {
+          run = shown.played;
+          order = shown.order;
+          finished = finished;
+          covered = finished_covered p sound (by_rules shown.picks 0) found.0 shown.played finished;
+        },
+      ),
+    )
+
+pub machine_reaches : MachineReachesCompleteOrders
+machine_reaches p sound mode code codes size order complete =
+    let found = core_orders_played p sound mode code codes size order complete.legal in
+    let shown = found.1 in
+    let finished : found.0.finished ≡ true = shown.finished complete in (
+      shown.picks,
+      (
+        found.0,
+        record {
+          run = shown.played;
+          order = shown.order;
+          finished = finished;
+          covered = finished_covered p sound (on_machine mode size shown.picks 0) found.0 shown.played finished;
+        },
+      ),
+    )
+
+can_happen : (p : ProgramShape) → IsSound p → (s : StandingShape) → IsListed p s → IsLeast p s → CanHappen p s
+can_happen p sound s listed least = record {
+  listed = listed;
+  least = least;
+  rules = rules_reach p sound s.order listed.complete;
+  machine = λ mode code codes size. machine_reaches p sound mode code codes size s.order listed.complete;
+}
+
+pub listed_happen : ListedOutcomesCanHappen
+listed_happen p sound found listed least =
+    each_both {P = IsListed p} {Q = IsLeast p} {R = CanHappen p} (can_happen p sound) found listed least

@@ -1,0 +1,10 @@
+-- What is promised, sentence by sentence: whoever relies on it has to read these.
+pub mod Runs
+pub mod SerialOrder
+pub mod BlockAlone
+pub mod Undisturbed
+pub mod Finished
+pub mod Outcomes
+pub mod AsAsked
+-- What only the proofs of the first four use.
+pub mod Isolated

@@ -1,0 +1,76 @@
+-- All that a program can come to: no finished run comes to anything else, and each of it can happen.
+use Rattle.std.specs.Prelude.{◌≡◌, ℕ, true, List}
+use Rattle.std.specs.List.{AllByRecursion}
+use Rattle.qs_objects.specs.declared.held.Ticket.{Ticket}
+use Rattle.qs_program.specs.Program.{ProgramShape}
+use Rattle.qs_program.specs.Sound.{IsSound}
+use Rattle.qs_meaning.specs.Configurations.{IsComplete, outcome_of}
+use Rattle.qs_outcomes.specs.Lists.{HasOne}
+use Rattle.qs_outcomes.specs.Outcomes.{AreAllOutcomes, IsLeast, IsListed, outcome_at}
+use Rattle.qs_outcomes.specs.Standings.{StandingShape}
+use Rattle.qs_syncset.specs.Codes.{ClientCode}
+use Rattle.qs_syncset.specs.declared.mode.Mode.{Mode}
+use Rattle.qs_played.specs.Played.{Played}
+use Rattle.qs_played.specs.declared.schedule.actor.Actor.{Actor}
+use Rattle.qs_core_laws.specs.Core.{AreCodes}
+use Rattle.qs_promises.specs.Finished.{ShowsStates}
+use Rattle.qs_promises.specs.Runs.{IsRun, Way, by_rules, on_machine}
+
+-- one of these comes from the order of the run, as its variables and its states say, and its states are what the run
+-- shows
+abbrev pub IsAmong : ProgramShape → Played → List StandingShape → Type 0
+IsAmong p r found = HasOne (λ s. (outcome_at s ≡ outcome_of p r.order) × ShowsStates p r (outcome_at s).states) found
+
+-- The order is complete, and what is shown are the states to which it comes; so wherever all outcomes are listed, one
+-- of them is that of the run.
+pub record IsCovered (p : ProgramShape) (r : Played) : Type 0 where
+  pub complete : IsComplete p r.order
+  pub states : ShowsStates p r (outcome_of p r.order).states
+  pub listed : (found : List StandingShape) → AreAllOutcomes p found → IsAmong p r found
+
+-- None is missing: every finished run of a checked program, in whichever way it is run, is covered.
+abbrev pub FinishedRunsAreCovered : Type 0
+FinishedRunsAreCovered =
+    (p : ProgramShape) → IsSound p → (way : Way) (r : Played) → IsRun p way r → r.finished ≡ true → IsCovered p r
+
+-- a finished run of the program, in this way, whose order is this one and which is covered
+pub record IsReached (p : ProgramShape) (way : Way) (due : List Ticket) (r : Played) : Type 0 where
+  pub run : IsRun p way r
+  pub order : r.order ≡ due
+  pub finished : r.finished ≡ true
+  pub covered : IsCovered p r
+
+-- some picks lead the plain rules to the end of this order, without a round after them
+abbrev pub RulesReach : ProgramShape → List Ticket → Type 0
+RulesReach p order = (picks : List Actor) × ((r : Played) × IsReached p (by_rules picks 0) order r)
+
+-- and some picks lead the optimised machine there, in this mode and with chunks of this size
+abbrev pub MachineReaches : ProgramShape → Mode → ℕ → List Ticket → Type 0
+MachineReaches p mode size order =
+    (picks : List Actor) × ((r : Played) × IsReached p (on_machine mode size picks 0) order r)
+
+-- for every checked program and every complete order of its blocks
+abbrev pub RulesReachCompleteOrders : Type 0
+RulesReachCompleteOrders =
+    (p : ProgramShape) → IsSound p → (order : List Ticket) → IsComplete p order → RulesReach p order
+
+-- and for every mode, whatever the codes of the program's clients in it, and every chunk size
+abbrev pub MachineReachesCompleteOrders : Type 0
+MachineReachesCompleteOrders =
+    (p : ProgramShape) → IsSound p → (mode : Mode) (code : ℕ → ClientCode) → AreCodes p mode code
+    → (size : ℕ) (order : List Ticket) → IsComplete p order → MachineReaches p mode size order
+
+-- What `outcomes` lists, as its clauses `sound` and `least` say it: with an order that comes to it, the least of the
+-- reduced ones. It can happen: by this order, under the plain rules, and on the optimised machine in every mode.
+pub record CanHappen (p : ProgramShape) (s : StandingShape) : Type 0 where
+  pub listed : IsListed p s
+  pub least : IsLeast p s
+  pub rules : RulesReach p s.order
+  pub machine : (mode : Mode) (code : ℕ → ClientCode) → AreCodes p mode code
+      → (size : ℕ) → MachineReaches p mode size s.order
+
+-- for every checked program and every list of which these clauses hold
+abbrev pub ListedOutcomesCanHappen : Type 0
+ListedOutcomesCanHappen =
+    (p : ProgramShape) → IsSound p → (found : List StandingShape)
+    → AllByRecursion (IsListed p) found → AllByRecursion (IsLeast p) found → AllByRecursion (CanHappen p) found

@@ -1,0 +1,63 @@
+//! The six promises of the project, one law for each, of every run by the plain rules, on the optimised machine and on
+//! threads.
+
+ghost use Rattle.qs_promises.specs.AsAsked.{RunsAreAsAsked};
+ghost use Rattle.qs_promises.specs.BlockAlone.{BlocksAreAsIfAlone, BlocksThatAgreeDoTheSame, OnlyTheOrderDecides};
+ghost use Rattle.qs_promises.specs.Finished.{FinishedRunsAreWhole};
+ghost use Rattle.qs_promises.specs.Isolated.{RunsAreIsolated};
+ghost use Rattle.qs_promises.specs.Outcomes.{
+  FinishedRunsAreCovered,
+  ListedOutcomesCanHappen,
+  MachineReachesCompleteOrders,
+  RulesReachCompleteOrders,
+};
+ghost use Rattle.qs_promises.specs.SerialOrder.{RunsAreInSerialOrder};
+ghost use Rattle.qs_promises.specs.Undisturbed.{BlocksAreUndisturbed};
+
+/// The order of a run's tickets is one in which its blocks can be run one after another, each whole and alone: a block
+/// that is done has done what it does in that serial run, and an open one a beginning of that. It does nothing.
+pub fn runs_are_in_serial_order()
+    ensures serial { RunsAreInSerialOrder }
+{}
+
+/// So what a block does follows from its text, its client's variables as it began, and the states in which the earlier
+/// blocks left its objects: it is what the block does alone, from these. Of one program two runs with one order show
+/// the same, whatever other clients did and however each was run; and two blocks that agree in all three, of whichever
+/// programs, do the same. It does nothing.
+pub fn blocks_are_as_if_alone()
+    ensures alone { BlocksAreAsIfAlone }
+    ensures order { OnlyTheOrderDecides }
+    ensures agree { BlocksThatAgreeDoTheSame }
+{}
+
+/// Between two requests of one block on one object no request of another block runs. It does nothing.
+pub fn blocks_are_undisturbed()
+    ensures undisturbed { BlocksAreUndisturbed }
+{}
+
+/// A finished run holds each block of the program once, and leaves the objects as the serial run does. It does nothing.
+pub fn finished_runs_are_whole()
+    ensures whole { FinishedRunsAreWhole }
+{}
+
+/// No finished run comes to what is not among the outcomes; and to each outcome some picks lead the plain rules, and
+/// the optimised machine in each mode and with each size of chunks, by the order with which it is listed. It does
+/// nothing.
+pub fn outcomes_leave_nothing_out()
+    ensures covered { FinishedRunsAreCovered }
+    ensures reached { RulesReachCompleteOrders }
+    ensures reached_on { MachineReachesCompleteOrders }
+    ensures listed { ListedOutcomesCanHappen }
+{}
+
+/// By the plain rules and on the optimised machine a run shows the state after exactly the picks and the rounds that
+/// were asked for, and on threads it is finished. It does nothing.
+pub fn runs_are_as_asked()
+    ensures asked { RunsAreAsAsked }
+{}
+
+/// Every run is isolated, by one definition for the plain rules, the optimised machine and threads; the first four laws
+/// follow from it. It does nothing.
+pub fn runs_are_isolated()
+    ensures isolated { RunsAreIsolated }
+{}
