@@ -1,1 +1,5 @@
+pub mod Bounded
+pub mod Finished
+pub mod RequestCounts
+pub mod SmallBounds
 pub mod Stuck

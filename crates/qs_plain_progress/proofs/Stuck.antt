@@ -33,7 +33,7 @@ use Rattle.qs_plain_laws.proofs.RunViews.{Awaits, PlainStage, RunView, Runs, Sta
 use Rattle.qs_plain_laws.proofs.ServedRuns.{IsServedRun, ServedRun}
 use Rattle.qs_plain_laws.proofs.ServedRunMoves.{asks_left}
 use Rattle.qs_plain_laws.proofs.Simulation.{Simulates, StandsAt, private, tail}
-use Rattle.qs_plain_progress.specs.Progress.{HasStep, NeverStuck}
+use Rattle.qs_plain_progress.specs.Progress.{CanGoOn, NeverStuck}
 
 -- a handler whose first private queue has an item has a step
 item_steps : (s : Plain) (h : ℕ) (it : Handler) (q : Private) (qs : List Private) (i : QueueItem) (is : List QueueItem) → IsSome (item_step s h it q qs (i ∷ is))
@@ -154,7 +154,7 @@ module _ (p : ProgramShape) (sound : IsSound p) (s : Plain) (k : RunInvariant p 
 
   -- a handler steps whose first private queue is not empty
   handler_steps : (t : Ticket) (us : List Ticket) (g : ℕ) → reserves p t g ≡ true → (w.service g).queue ≡ t ∷ us
-      → (i : QueueItem) × (is : List QueueItem) × (items g t ≡ i ∷ is) → HasStep p s
+      → (i : QueueItem) × (is : List QueueItem) × (items g t ≡ i ∷ is) → CanGoOn p s
   handler_steps t us g e q (i, is, x) =
       let it = handler_at s.handlers g in
       let first = private v.client g (w.service g).wait t in
@@ -174,7 +174,7 @@ module _ (p : ProgramShape) (sound : IsSound p) (s : Plain) (k : RunInvariant p 
   client_there c less = lt-ltb c (length s.clients) (let long = k.clients in omega (arith, less, long))
 
   -- a client steps whose stage has a step
-  client_steps : (c : ℕ) (g : Stage) → c < length p.clients → (client_at s c).stage ≡ g → IsSome (client_step p s c (client_at s c) g) → HasStep p s
+  client_steps : (c : ℕ) (g : Stage) → c < length p.clients → (client_at s c).stage ≡ g → IsSome (client_step p s c (client_at s c) g) → CanGoOn p s
   client_steps c g less e some = (
     actor.Client c,
     lt-ltb c (length p.clients) less,
@@ -182,13 +182,13 @@ module _ (p : ProgramShape) (sound : IsSound p) (s : Plain) (k : RunInvariant p 
         (subst (λ g. IsSome (client_step p s c (client_at s c) g)) (sym e) some),
   )
 
-  in_block_steps : (c : ℕ) (rest : Interaction) → c < length p.clients → k.stance c ≡ Runs rest → HasStep p s
+  in_block_steps : (c : ℕ) (rest : Interaction) → c < length p.clients → k.stance c ≡ Runs rest → CanGoOn p s
   in_block_steps c rest less e = client_steps c (within rest) less (k.stages c less ∙ ap stage_of e) refl
 
   -- a ticket that is the first one left of all
   module _ (t : Ticket) (ts : List Ticket) (among : Among t w.order) (left : (g : ℕ) → Left (t ∷ ts) g) where
     -- where its client waits, the query lies first
-    asked_steps : (r : Request) (next : ℤ → Interaction) → suc t.index ≡ begun_blocks (client_at s t.client) → k.stance t.client ≡ Awaits r next → HasStep p s
+    asked_steps : (r : Request) (next : ℤ → Interaction) → suc t.index ≡ begun_blocks (client_at s t.client) → k.stance t.client ≡ Awaits r next → CanGoOn p s
     asked_steps r next last is =
         let rest = waits_still t r next last is in
         let mine = waits_at t r next among rest in
@@ -202,22 +202,22 @@ module _ (p : ProgramShape) (sound : IsSound p) (s : Plain) (k : RunInvariant p 
 
     -- first at an object
     module _ (h : ℕ) (us : List Ticket) (mine : reserves p t h ≡ true) (first : (w.service h).queue ≡ t ∷ us) where
-      mark_steps : tail v.client h t ≡ item.EndMark ∷ [] → HasStep p s
+      mark_steps : tail v.client h t ≡ item.EndMark ∷ [] → CanGoOn p s
       mark_steps e = handler_steps t us h mine first (some_item ((w.service h).wait t) (tail v.client h t) item.EndMark e)
 
-      by_stance : (g : PlainStage) → k.stance t.client ≡ g → suc t.index ≡ begun_blocks (client_at s t.client) → HasStep p s
+      by_stance : (g : PlainStage) → k.stance t.client ≡ g → suc t.index ≡ begun_blocks (client_at s t.client) → CanGoOn p s
       by_stance (Stands l) is last = mark_steps (rw (← last, is) (rw (eqb_self (suc t.index)) refl))
       by_stance (Runs rest) is last = in_block_steps t.client rest (is_client t among) is
       by_stance (Awaits r next) is last = asked_steps r next last is
 
-      first_steps : HasStep p s
+      first_steps : CanGoOn p s
       first_steps = ⊎_elim
           (λ (last : suc t.index ≡ begun_blocks (client_at s t.client)). by_stance (k.stance t.client) refl last)
           (λ (older : (suc t.index == begun_blocks (client_at s t.client)) ≡ false). mark_steps (rw older refl))
           (num_cases (suc t.index) (begun_blocks (client_at s t.client)))
 
     -- through the objects of its list
-    through : (ks : List ℕ) → ((h : ℕ) → is_in ks h ≡ true → reserves p t h ≡ true) → HasStep p s ⊎ ((h : ℕ) → is_in ks h ≡ true → Left ts h)
+    through : (ks : List ℕ) → ((h : ℕ) → is_in ks h ≡ true → reserves p t h ≡ true) → CanGoOn p s ⊎ ((h : ℕ) → is_in ks h ≡ true → Left ts h)
     through [] mine = inr (λ h e. absurd (cc))
     through (g ∷ ks) mine =
         let here = mine g (rw (eqb_self g) refl) in
@@ -250,7 +250,7 @@ module _ (p : ProgramShape) (sound : IsSound p) (s : Plain) (k : RunInvariant p 
         by_test false e = passed t ts h e (left h)
 
   -- through the order
-  walk : (ts : List Ticket) → ((t : Ticket) → Among t ts → Among t w.order) → ((h : ℕ) → Left ts h) → HasStep p s ⊎ ((h : ℕ) → (w.service h).queue ≡ [])
+  walk : (ts : List Ticket) → ((t : Ticket) → Among t ts → Among t w.order) → ((h : ℕ) → Left ts h) → CanGoOn p s ⊎ ((h : ℕ) → (w.service h).queue ≡ [])
   walk [] inner left = inr (λ h. none_left (left h).served (w.service h).queue (left h).mine)
     where
       none_left : (xs ys : List Ticket) → [] ≡ xs ++ ys → ys ≡ []
@@ -284,20 +284,20 @@ module _ (p : ProgramShape) (sound : IsSound p) (s : Plain) (k : RunInvariant p 
         let rest = waits_still t r next (sym e) is in
         not_over t r next rest (served_all r.object t (none r.object) among (waits_at t r next among rest))
 
-    fate : (c : ℕ) → c < length p.clients → (is_done p c (client_at s c) ≡ true) ⊎ HasStep p s
+    fate : (c : ℕ) → c < length p.clients → (is_done p c (client_at s c) ≡ true) ⊎ CanGoOn p s
     fate c less = by_stance (k.stance c) refl
       where
         out_there : (l : Locals) → k.stance c ≡ Stands l → (client_at s c).stage ≡ out l
         out_there l is = k.stages c less ∙ ap stage_of is
 
-        by_number : (l : Locals) → k.stance c ≡ Stands l → (b : Bool) → nat_lt (begun_blocks (client_at s c)) (blocks_of p c) ≡ b → (is_done p c (client_at s c) ≡ true) ⊎ HasStep p s
+        by_number : (l : Locals) → k.stance c ≡ Stands l → (b : Bool) → nat_lt (begun_blocks (client_at s c)) (blocks_of p c) ≡ b → (is_done p c (client_at s c) ≡ true) ⊎ CanGoOn p s
         by_number l is true e = inr (client_steps c (out l) less (out_there l is) (rw e refl))
         by_number l is false e =
             let most = begun_within c (begun_blocks (client_at s c)) refl in
             let all : begun_blocks (client_at s c) ≡ blocks_of p c = grind (arith, e, most) in
             inl (rw (out_there l is, all) (eqb_self (blocks_of p c)))
 
-        by_stance : (g : PlainStage) → k.stance c ≡ g → (is_done p c (client_at s c) ≡ true) ⊎ HasStep p s
+        by_stance : (g : PlainStage) → k.stance c ≡ g → (is_done p c (client_at s c) ≡ true) ⊎ CanGoOn p s
         by_stance (Stands l) is = by_number l is (nat_lt (begun_blocks (client_at s c)) (blocks_of p c)) refl
         by_stance (Runs rest) is = inr (in_block_steps c rest less is)
         by_stance (Awaits r next) is = absurd (waits_for_none c r next (begun_blocks (client_at s c)) refl is)
@@ -305,15 +305,15 @@ module _ (p : ProgramShape) (sound : IsSound p) (s : Plain) (k : RunInvariant p 
     idle : all_idle s.handlers ≡ true
     idle = all_are_idle s.handlers (λ h. sim.queues h ∙ ap (map (private v.client h (w.service h).wait)) (none h))
 
-    last_case : (is_finished p s ≡ true) ⊎ HasStep p s
-    last_case = elim (each_done p (HasStep p s) s.clients 0 fates) [ inl all ↦ inl (rw (all, idle) refl) | inr some ↦ inr some ]
+    last_case : (is_finished p s ≡ true) ⊎ CanGoOn p s
+    last_case = elim (each_done p (CanGoOn p s) s.clients 0 fates) [ inl all ↦ inl (rw (all, idle) refl) | inr some ↦ inr some ]
       where
-        fates : (i : ℕ) → i < length s.clients → (is_done p (i + 0) (client_at s i) ≡ true) ⊎ HasStep p s
+        fates : (i : ℕ) → i < length s.clients → (is_done p (i + 0) (client_at s i) ≡ true) ⊎ CanGoOn p s
         fates i less =
             let same : i ≡ i + 0 = omega arith in
-            subst (λ c. (is_done p c (client_at s i) ≡ true) ⊎ HasStep p s) same (fate i (let long = k.clients in omega (arith, less, long)))
+            subst (λ c. (is_done p c (client_at s i) ≡ true) ⊎ CanGoOn p s) same (fate i (let long = k.clients in omega (arith, less, long)))
 
-  pub goes_on : (is_finished p s ≡ true) ⊎ HasStep p s
+  pub goes_on : (is_finished p s ≡ true) ⊎ CanGoOn p s
   goes_on = elim (walk w.order (λ t a. a) all_left) [ inl some ↦ inr some | inr none ↦ last_case none ]
 
 pub runs_never_stuck : NeverStuck

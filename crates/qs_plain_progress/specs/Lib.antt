@@ -1,1 +1,3 @@
+pub mod Finishing
 pub mod Progress
+pub mod Steps

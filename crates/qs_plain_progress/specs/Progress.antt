@@ -8,11 +8,11 @@ use Rattle.qs_plain_laws.specs.Plain.{Plain, begin, step}
 use Rattle.qs_plain_laws.specs.PlainSchedule.{is_finished, plays}
 
 -- some client or some handler of the program has a step
-abbrev pub HasStep : ProgramShape → Plain → Type 0
-HasStep p s = (a : Actor) × (names_actor p a ≡ true) × IsSome (step p s a)
+abbrev pub CanGoOn : ProgramShape → Plain → Type 0
+CanGoOn p s = (a : Actor) × (names_actor p a ≡ true) × IsSome (step p s a)
 
 -- For every checked program and every list of actors: after it all is finished, or somebody has a step.
 abbrev pub NeverStuck : Type 0
 NeverStuck =
     (p : ProgramShape) → IsSound p → (actors : List Actor)
-    → (is_finished p (plays p actors (begin p)) ≡ true) ⊎ HasStep p (plays p actors (begin p))
+    → (is_finished p (plays p actors (begin p)) ≡ true) ⊎ CanGoOn p (plays p actors (begin p))

@@ -1,0 +1,33 @@
+-- How many steps a run by the plain rules can take.
+use Rattle.std.specs.Prelude.{◌≤◌, ℕ, ◌+◌, ◌*◌, List, [], ◌∷◌, length, Option, Some, None, sum_by}
+use Rattle.qs_program.specs.Limits.{most_objects, most_requests, most_tickets}
+use Rattle.qs_program.specs.Program.{BlockShape, ProgramShape, block_load}
+use Rattle.qs_program.specs.Sound.{IsSound}
+use Rattle.qs_played.specs.Schedule.{or_stay}
+use Rattle.qs_played.specs.declared.schedule.actor.Actor.{Actor}
+use Rattle.qs_plain_laws.specs.Plain.{Plain, begin, step}
+
+-- 1 for a step, and 0 where an actor has none
+abbrev pub made : Option Plain → ℕ
+made None = 0
+made (Some t) = 1
+
+-- how many actors of a list have a step when their turn comes
+abbrev pub steps_made : ProgramShape → List Actor → Plain → ℕ
+steps_made p [] s = 0
+steps_made p (a ∷ rest) s = made (step p s a) + steps_made p rest (or_stay s (step p s a))
+
+-- a block is entered and ended, each of its requests is logged and served, and each object of its list takes an end mark away
+abbrev pub steps_of_block : BlockShape → ℕ
+steps_of_block b = 2 + 2 * block_load b + length b.reserved
+
+abbrev pub most_steps_of : ProgramShape → ℕ
+most_steps_of p = sum_by (λ c. sum_by steps_of_block c.blocks) p.clients
+
+-- For every checked program and every list of actors.
+abbrev pub StepsAreBounded : Type 0
+StepsAreBounded = (p : ProgramShape) → IsSound p → (actors : List Actor) → steps_made p actors (begin p) ≤ most_steps_of p
+
+-- By the limits of the language that is 205120 at most.
+abbrev pub BoundsAreSmall : Type 0
+BoundsAreSmall = (p : ProgramShape) → IsSound p → most_steps_of p ≤ 2 * most_requests + (2 + most_objects) * most_tickets
