@@ -1,5 +1,7 @@
--- What is told of a text that can't be read: a diagnosis of its first token at fault, or of the place of its fault of form.
-use Rattle.std.specs.Prelude.{◌≡◌, ◌⊎◌, ◌↔◌, ℕ, ◌-◌, IsTrue, List, [], ◌∷◌, ◌++◌, take, Option, Some, None}
+-- What is told of a text that can't be read: a diagnosis of its first token at fault, or of the place of its fault of form. And what a
+-- text's tokens declare.
+use Rattle.std.specs.Prelude.{◌≡◌, ◌⊎◌, ◌↔◌, ℕ, ◌-◌, Bool, true, false, IsTrue, List, [], ◌∷◌, ◌++◌, take, Option, Some, None, Result, Ok, Err}
+use Rattle.std.specs.List.{count_by}
 use Rattle.qs_tokens.specs.declared.token.Token.{Token}
 use Rattle.qs_tokens.specs.declared.token.Token.TheVariants as t
 use Rattle.qs_tokens.specs.declared.lex.TokenFault.{TokenFault}
@@ -42,3 +44,17 @@ pub record IsTokenTold (text : List ℕ) (fault : TokenFault) (old new : List �
   pub span : Span
   pub there : IsFaultAt text (f.Token fault span.start)
   pub said : IsSaidAt text span old new
+
+-- whether a token begins a client, or an object
+abbrev pub is_client : Token → Bool
+is_client t.Client = true
+is_client _ = false
+
+abbrev pub is_object : Token → Bool
+is_object t.Object = true
+is_object _ = false
+
+-- how many clients and how many objects the tokens of a text declare
+abbrev pub declared_in : Result (List Token) TokenFault → ℕ × ℕ
+declared_in (Ok ts) = (count_by is_client ts, count_by is_object ts)
+declared_in (Err f) = (0, 0)

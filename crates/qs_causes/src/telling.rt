@@ -1,13 +1,14 @@
 // The diagnosis of a text that is refused.
 
-ghost use Rattle.std.specs.Prelude.{◌≡◌, ◌≤◌, ◌<◌, ◌↔◌, IsTrue, OnOk, List, [], length, Ok, Err, Some};
+ghost use Rattle.std.specs.Prelude.{◌≡◌, ◌≤◌, ◌<◌, ◌↔◌, IsTrue, OnOk, IfOk, List, [], length, Ok, Err, Some};
+ghost use Rattle.std.specs.List.{count_by};
 ghost use Rattle.qs_tokens.specs.declared.token.Token.{Token};
 ghost use Rattle.qs_tokens.specs.declared.lex.TokenFault.{TokenFault};
 ghost use Rattle.qs_tokens.specs.Tokens.{tokens_of};
 ghost use Rattle.qs_script.specs.Grammar.{IsScript};
 ghost use Rattle.qs_script.specs.Reads.{IsFormPlace, IsScriptText};
 ghost use Rattle.qs_script.specs.declared.tree.Item.{Item};
-ghost use Rattle.qs_causes.specs.ReadTold.{IsFormTold, IsTokenTold, MayEnd};
+ghost use Rattle.qs_causes.specs.ReadTold.{IsFormTold, IsTokenTold, MayEnd, declared_in, is_client, is_object};
 ghost use Rattle.qs_causes.specs.Spans.{ArePlaced, IsFaultAt, Stand, tokens_in};
 ghost use Rattle.qs_causes.specs.CheckTold.{IsCheckTold, IsRefusalTold, IsRefusedAt, IsSaidAt, IsToldAt, span_at};
 
@@ -200,19 +201,40 @@ pub fn tell_check(alloc: Global, out: &mut Vec<u8>, text: &[u8]) -> Result<(), A
     }
 }
 
-/// How many clients and how many objects a script has.
-pub fn actors(alloc: Global, text: &[u8]) -> Result<(u64, u64), AllocError> {
-    let mut clients = 0u64;
-    let mut objects = 0u64;
-    if let Ok(tokens) = placed_tokens(alloc, text) {
-        for placed in &tokens {
-            match placed.token {
-                Token::Client => clients = clients.saturating_add(1),
-                Token::Object => objects = objects.saturating_add(1),
-                _ => {}
-            }
-        }
-        drop(tokens);
+fn begins_client(token: &Token) -> bool
+    ensures value { result ≡ is_client token.now }
+{
+    matches!(token, Token::Client)
+}
+
+fn begins_object(token: &Token) -> bool
+    ensures value { result ≡ is_object token.now }
+{
+    matches!(token, Token::Object)
+}
+
+fn count_clients(tokens: &[Token]) -> usize
+    ensures value { result ≡ count_by is_client tokens.now }
+{
+    tokens.iter().filter(|token| begins_client(token)).count()
+}
+
+fn count_objects(tokens: &[Token]) -> usize
+    ensures value { result ≡ count_by is_object tokens.now }
+{
+    tokens.iter().filter(|token| begins_object(token)).count()
+}
+
+/// How many clients and how many objects the tokens of a text declare; none, where it has no tokens. It fails only where memory runs out.
+pub fn actors(alloc: Global, text: &[u8]) -> Result<(usize, usize), AllocError>
+    ensures exact { IfOk result (λ found. found ≡ declared_in (tokens_of text.now)) }
+{
+    match list_tokens(alloc, text) {
+        Ok(tokens) => Ok((
+            count_clients(tokens.as_slice()),
+            count_objects(tokens.as_slice()),
+        )),
+        Err(ListFault::Memory) => Err(AllocError),
+        Err(ListFault::Token(_)) => Ok((0, 0)),
     }
-    Ok((clients, objects))
 }

@@ -9,13 +9,13 @@ use qs_told::put_all;
 use std::alloc::{AllocError, Global};
 
 // Whether a part of a list of picks is a name, or the number of a client or a handler that is there.
-fn is_there(part: &[u8], clients: u64, objects: u64) -> bool {
+fn is_there(part: &[u8], clients: usize, objects: usize) -> bool {
     let Some(part) = part_of(part) else {
         return false;
     };
     match part.who {
-        Who::Number(Actor::Client(number)) => u64::from(number) < clients,
-        Who::Number(Actor::Handler(number)) => u64::from(number) < objects,
+        Who::Number(Actor::Client(number)) => usize::from(number) < clients,
+        Who::Number(Actor::Handler(number)) => usize::from(number) < objects,
         Who::Name(_) => true,
     }
 }
@@ -43,7 +43,7 @@ pub(crate) fn put_actor<'a>(
     Ok(())
 }
 
-fn put_counts(out: &mut Vec<u8>, clients: u64, objects: u64) -> Result<(), AllocError> {
+fn put_counts(out: &mut Vec<u8>, clients: usize, objects: usize) -> Result<(), AllocError> {
     let mut first = itoa::Buffer::new();
     let mut second = itoa::Buffer::new();
     put_all(
