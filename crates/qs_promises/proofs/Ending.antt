@@ -2,22 +2,25 @@
 -- the run shows is an outcome of the program. What is left to say is that an outcome to which the order comes has the
 -- states that the order leaves. That each complete order is reached follows from the law that each legal order is
 -- played one block after another; and each outcome that is listed has a complete order.
-use Rattle.std.proofs.Common.{◌≡◌, ◌∙◌, ℕ, true, List, sym, ap}
+use Rattle.std.proofs.Common.{refl, subst, ◌++◌, ◌≡◌, ◌∙◌, ℕ, true, List, sym, ap}
 use Rattle.qs_objects.specs.declared.Request.{Request}
 use Rattle.qs_objects.specs.declared.held.Ticket.{Ticket}
 use Rattle.qs_program.specs.Program.{ProgramShape}
 use Rattle.qs_program.specs.Sound.{IsSound}
+use Rattle.qs_meaning.specs.Configurations.{IsComplete, outcome_of}
 use Rattle.qs_meaning.proofs.Each.{each_both}
-use Rattle.qs_outcomes.specs.Outcomes.{IsLeast, IsListed}
+use Rattle.qs_outcomes.specs.Lists.{HasOne}
+use Rattle.qs_outcomes.specs.Outcomes.{IsLeast, IsListed, outcome_at}
 use Rattle.qs_outcomes.specs.Standings.{StandingShape}
 use Rattle.qs_outcomes.proofs.Lists.{has_map}
 use Rattle.qs_played.specs.Isolation.{IsIsolated}
 use Rattle.qs_played.specs.Played.{Played}
 use Rattle.qs_plain_orders.proofs.BlockReached.{orders_played}
 use Rattle.qs_core_orders.proofs.BlocksPlayed.{core_orders_played}
-use Rattle.qs_promises.specs.Finished.{FinishedRunsAreWhole, IsWholeRun}
-use Rattle.qs_promises.specs.Outcomes.{CanHappen, FinishedRunsAreCovered, IsCovered, ListedOutcomesCanHappen, MachineReachesCompleteOrders, RulesReachCompleteOrders}
+use Rattle.qs_promises.specs.Finished.{FinishedRunsAreWhole, IsWholeRun, ShowsStates}
+use Rattle.qs_promises.specs.Outcomes.{CanHappen, IsAmong, FinishedRunsAreCovered, IsCovered, ListedOutcomesCanHappen, MachineReachesCompleteOrders, RulesReachCompleteOrders}
 use Rattle.qs_promises.specs.Runs.{by_rules, on_machine}
+use Rattle.qs_promises.proofs.Codes.{program_codes}
 use Rattle.qs_promises.proofs.Done.{EndsWhole, ends_whole}
 use Rattle.qs_promises.proofs.Isolating.{all_isolated}
 
@@ -36,13 +39,24 @@ pub finished_whole : FinishedRunsAreWhole
 finished_whole p sound way r run finished =
     let x = all_isolated p sound way r run in isolated_whole p r x.0 x.1 finished (ends_whole p sound way r run)
 
+-- an outcome to which the run's order comes is that of the run
+among : (p : ProgramShape) (r : Played) → ShowsStates p r (outcome_of p r.order).states
+    → (order : List Ticket) → r.order ≡ order
+    → (found : List StandingShape) → HasOne (λ s. outcome_at s ≡ outcome_of p order) found → IsAmong p r found
+among p r states order is found has =
+    has_map
+    (λ s same.
+    let mine : outcome_at s ≡ outcome_of p r.order = same ∙ ap (outcome_of p) (sym is) in
+    (mine, λ h within. states h within ∙ ap (λ x. x.states h) (sym mine)))
+    found has
+
 whole_covered : (p : ProgramShape) (r : Played) → IsWholeRun p r → IsCovered p r
 whole_covered p r whole = record {
   complete = whole.complete;
   states = whole.states;
-  listed = λ found all.
-      has_map (λ s same. (same, λ h within. whole.states h within ∙ ap (λ x. x.states h) (sym same))) found
-      (all r.order whole.complete);
+  listed = λ found all. among p r whole.states r.order refl found (all r.order whole.complete);
+  after = λ front rest begins found all.
+      among p r whole.states (front ++ rest) begins found (all rest (subst (IsComplete p) begins whole.complete));
 }
 
 pub finished_covered : FinishedRunsAreCovered
@@ -66,8 +80,9 @@ rules_reach p sound order complete =
     )
 
 pub machine_reaches : MachineReachesCompleteOrders
-machine_reaches p sound mode code codes size order complete =
-    let found = core_orders_played p sound mode code codes size order complete.legal in
+machine_reaches p sound mode size order complete =
+    let codes = program_codes p sound mode in
+    let found = core_orders_played p sound mode codes.0 codes.1 size order complete.legal in
     let shown = found.1 in
     let finished : found.0.finished ≡ true = shown.finished complete in (
       shown.picks,
@@ -87,7 +102,7 @@ can_happen p sound s listed least = record {
   listed = listed;
   least = least;
   rules = rules_reach p sound s.order listed.complete;
-  machine = λ mode code codes size. machine_reaches p sound mode code codes size s.order listed.complete;
+  machine = λ mode size. machine_reaches p sound mode size s.order listed.complete;
 }
 
 pub listed_happen : ListedOutcomesCanHappen

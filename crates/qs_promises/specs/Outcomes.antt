@@ -1,18 +1,16 @@
 -- All that a program can come to: no finished run comes to anything else, and each of it can happen.
-use Rattle.std.specs.Prelude.{◌≡◌, ℕ, true, List}
+use Rattle.std.specs.Prelude.{◌≡◌, ℕ, true, List, ◌++◌}
 use Rattle.std.specs.List.{AllByRecursion}
 use Rattle.qs_objects.specs.declared.held.Ticket.{Ticket}
 use Rattle.qs_program.specs.Program.{ProgramShape}
 use Rattle.qs_program.specs.Sound.{IsSound}
 use Rattle.qs_meaning.specs.Configurations.{IsComplete, outcome_of}
 use Rattle.qs_outcomes.specs.Lists.{HasOne}
-use Rattle.qs_outcomes.specs.Outcomes.{AreAllOutcomes, IsLeast, IsListed, outcome_at}
+use Rattle.qs_outcomes.specs.Outcomes.{AreAllOutcomes, AreAllOutcomesAfter, IsLeast, IsListed, outcome_at}
 use Rattle.qs_outcomes.specs.Standings.{StandingShape}
-use Rattle.qs_syncset.specs.Codes.{ClientCode}
 use Rattle.qs_syncset.specs.declared.mode.Mode.{Mode}
 use Rattle.qs_played.specs.Played.{Played}
 use Rattle.qs_played.specs.declared.schedule.actor.Actor.{Actor}
-use Rattle.qs_core_laws.specs.Core.{AreCodes}
 use Rattle.qs_promises.specs.Finished.{ShowsStates}
 use Rattle.qs_promises.specs.Runs.{IsRun, Way, by_rules, on_machine}
 
@@ -21,12 +19,14 @@ use Rattle.qs_promises.specs.Runs.{IsRun, Way, by_rules, on_machine}
 abbrev pub IsAmong : ProgramShape → Played → List StandingShape → Type 0
 IsAmong p r found = HasOne (λ s. (outcome_at s ≡ outcome_of p r.order) × ShowsStates p r (outcome_at s).states) found
 
--- The order is complete, and what is shown are the states to which it comes; so wherever all outcomes are listed, one
--- of them is that of the run.
+-- The order is complete, and what is shown are the states to which it comes; so wherever all outcomes are listed, or
+-- all after a front with which the order begins, one of them is that of the run.
 pub record IsCovered (p : ProgramShape) (r : Played) : Type 0 where
   pub complete : IsComplete p r.order
   pub states : ShowsStates p r (outcome_of p r.order).states
   pub listed : (found : List StandingShape) → AreAllOutcomes p found → IsAmong p r found
+  pub after : (front rest : List Ticket) → r.order ≡ front ++ rest
+      → (found : List StandingShape) → AreAllOutcomesAfter p front found → IsAmong p r found
 
 -- None is missing: every finished run of a checked program, in whichever way it is run, is covered.
 abbrev pub FinishedRunsAreCovered : Type 0
@@ -54,11 +54,11 @@ abbrev pub RulesReachCompleteOrders : Type 0
 RulesReachCompleteOrders =
     (p : ProgramShape) → IsSound p → (order : List Ticket) → IsComplete p order → RulesReach p order
 
--- and for every mode, whatever the codes of the program's clients in it, and every chunk size
+-- and for every mode and every chunk size
 abbrev pub MachineReachesCompleteOrders : Type 0
 MachineReachesCompleteOrders =
-    (p : ProgramShape) → IsSound p → (mode : Mode) (code : ℕ → ClientCode) → AreCodes p mode code
-    → (size : ℕ) (order : List Ticket) → IsComplete p order → MachineReaches p mode size order
+    (p : ProgramShape) → IsSound p → (mode : Mode) (size : ℕ) (order : List Ticket) → IsComplete p order
+    → MachineReaches p mode size order
 
 -- What `outcomes` lists, as its clauses `sound` and `least` say it: with an order that comes to it, the least of the
 -- reduced ones. It can happen: by this order, under the plain rules, and on the optimised machine in every mode.
@@ -66,8 +66,7 @@ pub record CanHappen (p : ProgramShape) (s : StandingShape) : Type 0 where
   pub listed : IsListed p s
   pub least : IsLeast p s
   pub rules : RulesReach p s.order
-  pub machine : (mode : Mode) (code : ℕ → ClientCode) → AreCodes p mode code
-      → (size : ℕ) → MachineReaches p mode size s.order
+  pub machine : (mode : Mode) (size : ℕ) → MachineReaches p mode size s.order
 
 -- for every checked program and every list of which these clauses hold
 abbrev pub ListedOutcomesCanHappen : Type 0
