@@ -1,6 +1,6 @@
--- Whatever the replies are, a sound block makes at most as many requests in all as its load says. It goes by induction on the statements,
--- and for a repeat by induction on its turns, as for the requests on one object; then the requests are shared out among the objects of the
--- block's list.
+-- Whatever the replies are, a sound block makes at most as many requests in all as its load says. It goes by induction
+-- on the statements, and for a repeat by induction on its turns, as for the requests on one object; then the requests
+-- are shared out among the objects of the block's list.
 use Rattle.std.proofs.Common.{◌≡◌, ◌≤◌, ◌==◌, ℕ, zero, suc, ◌+◌, ◌*◌, ◌-◌, max, Bool, true, false, if◌then◌else◌, ℤ, List, [], ◌∷◌, slice_set, sum_by, refl, arith}
 use Rattle.std.proofs.Math.Nat.{mul-le-mul_left}
 use Rattle.std.proofs.lemmas.List.Sums.{sum_by-cons, sum_by-le-sum_by}
@@ -49,17 +49,22 @@ turns_within (suc k) load n body next one later l =
     (omega arith)
 
 -- before what comes next, and what comes after the innermost repeat
-meaning_within : (body : Statements) (n : ℕ) (next leaves : Next) → ((l : Locals) → AtMost (next l) n) → ((l : Locals) → AtMost (leaves l) n)
+meaning_within : (body : Statements) (n : ℕ) (next leaves : Next) → ((l : Locals) → AtMost (next l) n)
+    → ((l : Locals) → AtMost (leaves l) n)
     → (l : Locals) → AtMost (meaning body next leaves l) (requests_of body + n)
 meaning_within end n next leaves a b l = more (next l) n (0 + n) (a l) (omega arith)
-meaning_within (command c rest) n next leaves a b l =
-    (omega arith, more (meaning rest next leaves l) (requests_of rest + n) ((1 + requests_of rest + n) - 1) (meaning_within rest n next leaves a b l) (omega arith))
+meaning_within (command c rest) n next leaves a b l = (
+  omega arith,
+  more (meaning rest next leaves l) (requests_of rest + n) ((1 + requests_of rest + n) - 1)
+      (meaning_within rest n next leaves a b l) (omega arith),
+)
 meaning_within (query x c rest) n next leaves a b l = (
   omega arith,
   λ v. more (meaning rest next leaves (slice_set l x v)) (requests_of rest + n) ((1 + requests_of rest + n) - 1)
       (meaning_within rest n next leaves a b (slice_set l x v)) (omega arith),
 )
-meaning_within (assign x e rest) n next leaves a b l = meaning_within rest n next leaves a b (slice_set l x (expr_value l e))
+meaning_within (assign x e rest) n next leaves a b l =
+    meaning_within rest n next leaves a b (slice_set l x (expr_value l e))
 meaning_within (choose t has_else first other rest) n next leaves a b l =
     let later : Next = meaning rest next leaves in
     let m : ℕ = requests_of rest + n in
@@ -67,13 +72,16 @@ meaning_within (choose t has_else first other rest) n next leaves a b l =
     let out : (l : Locals) → AtMost (leaves l) m = λ l. more (leaves l) n m (b l) (omega arith) in
     let whole : ℕ = max (requests_of first) (requests_of other) + requests_of rest + n in
     either whole (test_value l t) (meaning first later leaves l) (meaning other later leaves l)
-    (more (meaning first later leaves l) (requests_of first + m) whole (meaning_within first m later leaves after out l) (omega arith))
-    (more (meaning other later leaves l) (requests_of other + m) whole (meaning_within other m later leaves after out l) (omega arith))
+    (more (meaning first later leaves l) (requests_of first + m) whole (meaning_within first m later leaves after out l)
+    (omega arith))
+    (more (meaning other later leaves l) (requests_of other + m) whole (meaning_within other m later leaves after out l)
+    (omega arith))
 meaning_within (again k body rest) n next leaves a b l =
     let later : Next = meaning rest next leaves in
     let m : ℕ = requests_of rest + n in
     let after : (l : Locals) → AtMost (later l) m = meaning_within rest n next leaves a b in
-    more (turns k (λ turn. meaning body turn later) later l) (k * requests_of body + m) (k * requests_of body + requests_of rest + n)
+    more (turns k (λ turn. meaning body turn later) later l) (k * requests_of body + m)
+    (k * requests_of body + requests_of rest + n)
     (turns_within k (requests_of body) m (λ turn. meaning body turn later) later
     (λ p f le w. meaning_within body p f later w (λ l. more (later l) m p (after l) le))
     after l)
@@ -98,7 +106,8 @@ module _ (objects : List Declared) (reserved : List ℕ) where
   all_of body = sum_by (load_of body) reserved
 
   -- a request is on an object of the list
-  one_more : (o : ℕ) (rest : Statements) → is_in reserved o ≡ true → 1 + all_of rest ≤ sum_by (λ h. (if o == h then 1 else 0) + load_of rest h) reserved
+  one_more : (o : ℕ) (rest : Statements) → is_in reserved o ≡ true
+      → 1 + all_of rest ≤ sum_by (λ h. (if o == h then 1 else 0) + load_of rest h) reserved
   one_more o rest e =
       let on : ℕ → ℕ = λ h. if o == h then 1 else 0 in
       let both = sum_of_both on (load_of rest) reserved in
@@ -108,8 +117,10 @@ module _ (objects : List Declared) (reserved : List ℕ) where
 
   in_load : (body : Statements) → IsSoundBody objects reserved body → requests_of body ≤ all_of body
   in_load end sound = omega arith
-  in_load (command c rest) sound = let one = one_more c.object rest sound.0.reserves in let ih = in_load rest sound.1 in omega (arith, one, ih)
-  in_load (query x c rest) sound = let one = one_more c.object rest sound.1.reserves in let ih = in_load rest sound.2 in omega (arith, one, ih)
+  in_load (command c rest) sound =
+      let one = one_more c.object rest sound.0.reserves in let ih = in_load rest sound.1 in omega (arith, one, ih)
+  in_load (query x c rest) sound =
+      let one = one_more c.object rest sound.1.reserves in let ih = in_load rest sound.2 in omega (arith, one, ih)
   in_load (assign x e rest) sound = in_load rest sound.2
   in_load (choose t has_else first other rest) sound =
       let most : ℕ → ℕ = λ h. max (load_of first h) (load_of other h) in
@@ -126,7 +137,9 @@ module _ (objects : List Declared) (reserved : List ℕ) where
   in_load (leave rest) sound = in_load rest sound
 
 -- a sound block's tree
-pub tree_within : (objects : List Declared) (b : BlockShape) (l : Locals) → IsSoundBody objects b.reserved b.body → AtMost (tree_of b.body l) (block_load b)
+pub tree_within : (objects : List Declared) (b : BlockShape) (l : Locals) → IsSoundBody objects b.reserved b.body
+    → AtMost (tree_of b.body l) (block_load b)
 tree_within objects b l sound =
-    more (tree_of b.body l) (requests_of b.body + 0) (block_load b) (meaning_within b.body 0 Done Done (λ l. tt) (λ l. tt) l)
+    more (tree_of b.body l) (requests_of b.body + 0) (block_load b)
+    (meaning_within b.body 0 Done Done (λ l. tt) (λ l. tt) l)
     (let le = in_load objects b.reserved b.body sound in omega (arith, le))

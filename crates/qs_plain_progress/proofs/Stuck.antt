@@ -1,8 +1,8 @@
--- A run by the plain rules is never stuck. The tickets of the order are gone through from the first on, as long as each was served at all of
--- its handlers. The first that is left at some handler is the first in that handler's line. If its private queue has an item, the handler has
--- a step. If it has none, the client is in the ticket's block, and has a step there; or it waits for a query, and the query lies first at the
--- handler that was asked, where all earlier tickets were served too. With no ticket left, nobody waits, so a client with a block left has a
--- step.
+-- A run by the plain rules is never stuck. The tickets of the order are gone through from the first on, as long as each
+-- was served at all of its handlers. The first that is left at some handler is the first in that handler's line. If its
+-- private queue has an item, the handler has a step. If it has none, the client is in the ticket's block, and has a
+-- step there; or it waits for a query, and the query lies first at the handler that was asked, where all earlier
+-- tickets were served too. With no ticket left, nobody waits, so a client with a block left has a step.
 use Rattle.std.proofs.Common.{◌≡◌, ◌<◌, ◌≤◌, ◌∙◌, ◌==◌, ◌⊎◌, ◌||◌, ◌+◌, append-nil, inl, inr, ⊎_elim, ℕ, zero, suc, Bool, true, false, true≢false, if◌then◌else◌, nat_lt, ℤ, List, [], ◌∷◌, ◌++◌, None, IsSome, filter, map, length, get_or, refl, sym, ap, subst, arith}
 use Rattle.std.proofs.lemmas.Bool.{lt-ltb}
 use Rattle.std.specs.List.{AllByRecursion}
@@ -36,13 +36,15 @@ use Rattle.qs_plain_laws.proofs.Simulation.{Simulates, StandsAt, private, tail}
 use Rattle.qs_plain_progress.specs.Progress.{CanGoOn, NeverStuck}
 
 -- a handler whose first private queue has an item has a step
-item_steps : (s : Plain) (h : ℕ) (it : Handler) (q : Private) (qs : List Private) (i : QueueItem) (is : List QueueItem) → IsSome (item_step s h it q qs (i ∷ is))
+item_steps : (s : Plain) (h : ℕ) (it : Handler) (q : Private) (qs : List Private) (i : QueueItem) (is : List QueueItem)
+    → IsSome (item_step s h it q qs (i ∷ is))
 item_steps s h it q qs (item.Command r) is = refl
 item_steps s h it q qs (item.Query r) is = refl
 item_steps s h it q qs item.EndMark is = refl
 
 -- where a list that is all of one part or another is
-head_of_all : {X : Type 0} (xs ys : List X) (y : X) (zs : List X) → y ∷ ys ≡ xs ++ zs → (zs ≡ y ∷ ys) ⊎ ((later : List X) × (xs ≡ y ∷ later) × (ys ≡ later ++ zs))
+head_of_all : {X : Type 0} (xs ys : List X) (y : X) (zs : List X) → y ∷ ys ≡ xs ++ zs
+    → (zs ≡ y ∷ ys) ⊎ ((later : List X) × (xs ≡ y ∷ later) × (ys ≡ later ++ zs))
 head_of_all [] ys y zs e = inl (sym e)
 head_of_all (x ∷ xs) ys y zs e =
     let first : x ≡ y = cc in
@@ -51,7 +53,8 @@ head_of_all (x ∷ xs) ys y zs e =
 
 -- all clients done, or somebody has a step
 each_done : (p : ProgramShape) (H : Type 0) (cs : List Client) (from : ℕ)
-    → ((i : ℕ) → i < length cs → (is_done p (i + from) (get_or cs i no_client) ≡ true) ⊎ H) → (all_done p from cs ≡ true) ⊎ H
+    → ((i : ℕ) → i < length cs → (is_done p (i + from) (get_or cs i no_client) ≡ true) ⊎ H)
+    → (all_done p from cs ≡ true) ⊎ H
 each_done p H [] from each = inl refl
 each_done p H (it ∷ cs) from each =
     elim (each 0 (omega arith)) [
@@ -59,7 +62,9 @@ each_done p H (it ∷ cs) from each =
           elim (each_done p H cs (suc from) (λ i less.
           let same : suc i + from ≡ i + suc from = omega arith in
           subst (λ c. (is_done p c (get_or cs i no_client) ≡ true) ⊎ H) same (each (suc i) (omega (arith, less))))) [
-            | inl rest ↦ inl (let none : 0 + from ≡ from = omega arith in rw (subst (λ c. is_done p c it ≡ true) none first) rest)
+            | inl rest ↦
+                let none : 0 + from ≡ from = omega arith in
+                inl (rw (subst (λ c. is_done p c it ≡ true) none first) rest)
             | inr some ↦ inr some
           ]
       | inr some ↦ inr some
@@ -104,7 +109,9 @@ module _ (p : ProgramShape) (sound : IsSound p) (s : Plain) (k : RunInvariant p 
       let cut : filter (λ t. reserves p t h) (t ∷ ts) ≡ t ∷ filter (λ t. reserves p t h) ts = rw e refl in
       elim (head_of_all left.served (filter (λ t. reserves p t h) ts) t (w.service h).queue (sym cut ∙ left.mine)) [
         | inl is ↦ inl (filter (λ t. reserves p t h) ts, is)
-        | inr x ↦ inr (let o = subst (AllByRecursion (done_of w.page)) x.1 left.over in (o.0, record { served = x.0; over = o.1; mine = x.2 }))
+        | inr x ↦
+            let all = subst (AllByRecursion (done_of w.page)) x.1 left.over in
+            inr (all.0, record { served = x.0; over = all.1; mine = x.2 })
       ]
 
   passed : (t : Ticket) (ts : List Ticket) (h : ℕ) → reserves p t h ≡ false → Left (t ∷ ts) h → Left ts h
@@ -113,7 +120,8 @@ module _ (p : ProgramShape) (sound : IsSound p) (s : Plain) (k : RunInvariant p 
       record { served = left.served; over = left.over; mine = sym cut ∙ left.mine }
 
   -- a ticket of the order is of a client of the program, and its block is one of the client's
-  legal_within : (b : ℕ → ℕ) (ts : List Ticket) (t : Ticket) → LegalFrom p b ts → Among t ts → t.index < blocks_of p t.client
+  legal_within : (b : ℕ → ℕ) (ts : List Ticket) (t : Ticket) → LegalFrom p b ts → Among t ts
+      → t.index < blocks_of p t.client
   legal_within b [] t legal a = absurd a
   legal_within b (u ∷ us) t legal (inl is) = subst (λ (x : Ticket). x.index < blocks_of p x.client) (sym is) legal.1
   legal_within b (u ∷ us) t legal (inr a) = legal_within (put b u.client (suc u.index)) us t legal.2 a
@@ -132,10 +140,14 @@ module _ (p : ProgramShape) (sound : IsSound p) (s : Plain) (k : RunInvariant p 
   begun_within c (suc i) e = legal_within (λ _. 0) w.order (ticket c i) ok.legal (last_among c i e)
 
   -- a query that a client waits for is one of its block's list
-  waits_at : (t : Ticket) (r : Request) (next : ℤ → Interaction) → Among t w.order → (w.page t).rest ≡ Query r next → reserves p t r.object ≡ true
-  waits_at t r next a e = (subst (AsksOnly (reserves p t)) e (asks_left p sound w t (each_among (λ t. IsBlockRecord p t (w.page t)) t w.order ok.pages a))).1
+  waits_at : (t : Ticket) (r : Request) (next : ℤ → Interaction) → Among t w.order → (w.page t).rest ≡ Query r next
+      → reserves p t r.object ≡ true
+  waits_at t r next a e =
+      (subst (AsksOnly (reserves p t)) e
+      (asks_left p sound w t (each_among (λ t. IsBlockRecord p t (w.page t)) t w.order ok.pages a))).1
 
-  waits_still : (t : Ticket) (r : Request) (next : ℤ → Interaction) → suc t.index ≡ begun_blocks (client_at s t.client) → k.stance t.client ≡ Awaits r next
+  waits_still : (t : Ticket) (r : Request) (next : ℤ → Interaction) → suc t.index ≡ begun_blocks (client_at s t.client)
+      → k.stance t.client ≡ Awaits r next
       → (w.page t).rest ≡ Query r next
   waits_still t r next last is =
       subst (λ g. StandsAt w.page t.client g (suc t.index)) is
@@ -149,7 +161,7 @@ module _ (p : ProgramShape) (sound : IsSound p) (s : Plain) (k : RunInvariant p 
   items g t = map item.Command ((w.service g).wait t) ++ tail v.client g t
 
   queue_is : (t : Ticket) (us : List Ticket) (g : ℕ) → (w.service g).queue ≡ t ∷ us
-      → (handler_at s.handlers g).queues ≡ private v.client g (w.service g).wait t ∷ map (private v.client g (w.service g).wait) us
+      → (handler_at s.handlers g).queues ≡ map (private v.client g (w.service g).wait) (t ∷ us)
   queue_is t us g e = sim.queues g ∙ ap (map (private v.client g (w.service g).wait)) e
 
   -- a handler steps whose first private queue is not empty
@@ -174,11 +186,13 @@ module _ (p : ProgramShape) (sound : IsSound p) (s : Plain) (k : RunInvariant p 
   client_there c less = lt-ltb c (length s.clients) (let long = k.clients in omega (arith, less, long))
 
   -- a client steps whose stage has a step
-  client_steps : (c : ℕ) (g : Stage) → c < length p.clients → (client_at s c).stage ≡ g → IsSome (client_step p s c (client_at s c) g) → CanGoOn p s
+  client_steps : (c : ℕ) (g : Stage) → c < length p.clients → (client_at s c).stage ≡ g
+      → IsSome (client_step p s c (client_at s c) g) → CanGoOn p s
   client_steps c g less e some = (
     actor.Client c,
     lt-ltb c (length p.clients) less,
-    subst (λ b. IsSome (if b then client_step p s c (client_at s c) (client_at s c).stage else None)) (sym (client_there c less))
+    subst (λ b. IsSome (if b then client_step p s c (client_at s c) (client_at s c).stage else None))
+        (sym (client_there c less))
         (subst (λ g. IsSome (client_step p s c (client_at s c) g)) (sym e) some),
   )
 
@@ -188,12 +202,15 @@ module _ (p : ProgramShape) (sound : IsSound p) (s : Plain) (k : RunInvariant p 
   -- a ticket that is the first one left of all
   module _ (t : Ticket) (ts : List Ticket) (among : Among t w.order) (left : (g : ℕ) → Left (t ∷ ts) g) where
     -- where its client waits, the query lies first
-    asked_steps : (r : Request) (next : ℤ → Interaction) → suc t.index ≡ begun_blocks (client_at s t.client) → k.stance t.client ≡ Awaits r next → CanGoOn p s
+    asked_steps : (r : Request) (next : ℤ → Interaction) → suc t.index ≡ begun_blocks (client_at s t.client)
+        → k.stance t.client ≡ Awaits r next → CanGoOn p s
     asked_steps r next last is =
         let rest = waits_still t r next last is in
         let mine = waits_at t r next among rest in
         elim (first_or_served t ts r.object mine (left r.object)) [
-          | inl first ↦ handler_steps t first.0 r.object mine first.1 (some_item ((w.service r.object).wait t) (tail v.client r.object t) (item.Query r) query_lies)
+          | inl first ↦
+              handler_steps t first.0 r.object mine first.1
+              (some_item ((w.service r.object).wait t) (tail v.client r.object t) (item.Query r) query_lies)
           | inr over ↦ absurd (not_over t r next rest over.0)
         ]
       where
@@ -203,9 +220,11 @@ module _ (p : ProgramShape) (sound : IsSound p) (s : Plain) (k : RunInvariant p 
     -- first at an object
     module _ (h : ℕ) (us : List Ticket) (mine : reserves p t h ≡ true) (first : (w.service h).queue ≡ t ∷ us) where
       mark_steps : tail v.client h t ≡ item.EndMark ∷ [] → CanGoOn p s
-      mark_steps e = handler_steps t us h mine first (some_item ((w.service h).wait t) (tail v.client h t) item.EndMark e)
+      mark_steps e =
+          handler_steps t us h mine first (some_item ((w.service h).wait t) (tail v.client h t) item.EndMark e)
 
-      by_stance : (g : PlainStage) → k.stance t.client ≡ g → suc t.index ≡ begun_blocks (client_at s t.client) → CanGoOn p s
+      by_stance : (g : PlainStage) → k.stance t.client ≡ g → suc t.index ≡ begun_blocks (client_at s t.client)
+          → CanGoOn p s
       by_stance (Stands l) is last = mark_steps (rw (← last, is) (rw (eqb_self (suc t.index)) refl))
       by_stance (Runs rest) is last = in_block_steps t.client rest (is_client t among) is
       by_stance (Awaits r next) is last = asked_steps r next last is
@@ -217,7 +236,8 @@ module _ (p : ProgramShape) (sound : IsSound p) (s : Plain) (k : RunInvariant p 
           (num_cases (suc t.index) (begun_blocks (client_at s t.client)))
 
     -- through the objects of its list
-    through : (ks : List ℕ) → ((h : ℕ) → is_in ks h ≡ true → reserves p t h ≡ true) → CanGoOn p s ⊎ ((h : ℕ) → is_in ks h ≡ true → Left ts h)
+    through : (ks : List ℕ) → ((h : ℕ) → is_in ks h ≡ true → reserves p t h ≡ true)
+        → CanGoOn p s ⊎ ((h : ℕ) → is_in ks h ≡ true → Left ts h)
     through [] mine = inr (λ h e. absurd (cc))
     through (g ∷ ks) mine =
         let here = mine g (rw (eqb_self g) refl) in
@@ -250,7 +270,8 @@ module _ (p : ProgramShape) (sound : IsSound p) (s : Plain) (k : RunInvariant p 
         by_test false e = passed t ts h e (left h)
 
   -- through the order
-  walk : (ts : List Ticket) → ((t : Ticket) → Among t ts → Among t w.order) → ((h : ℕ) → Left ts h) → CanGoOn p s ⊎ ((h : ℕ) → (w.service h).queue ≡ [])
+  walk : (ts : List Ticket) → ((t : Ticket) → Among t ts → Among t w.order) → ((h : ℕ) → Left ts h)
+      → CanGoOn p s ⊎ ((h : ℕ) → (w.service h).queue ≡ [])
   walk [] inner left = inr (λ h. none_left (left h).served (w.service h).queue (left h).mine)
     where
       none_left : (xs ys : List Ticket) → [] ≡ xs ++ ys → ys ≡ []
@@ -263,10 +284,13 @@ module _ (p : ProgramShape) (sound : IsSound p) (s : Plain) (k : RunInvariant p 
       ]
 
   -- where no ticket is left at an object, those that reserve it are over
-  served_all : (h : ℕ) (t : Ticket) → (w.service h).queue ≡ [] → Among t w.order → reserves p t h ≡ true → done_of w.page t
+  served_all : (h : ℕ) (t : Ticket) → (w.service h).queue ≡ [] → Among t w.order → reserves p t h ≡ true
+      → done_of w.page t
   served_all h t none a e =
-      let past : filter (λ u. reserves p u h) w.order ≡ (w.service h).past = (ok.services h).mine ∙ (ap (λ q. (w.service h).past ++ q) none ∙ append-nil (w.service h).past) in
-      let over : AllByRecursion (done_of w.page) (filter (λ u. reserves p u h) w.order) = subst (AllByRecursion (done_of w.page)) (sym past) (ok.services h).over in
+      let past : filter (λ u. reserves p u h) w.order ≡ (w.service h).past =
+      (ok.services h).mine ∙ (ap (λ q. (w.service h).past ++ q) none ∙ append-nil (w.service h).past) in
+      let over : AllByRecursion (done_of w.page) (filter (λ u. reserves p u h) w.order) =
+      subst (AllByRecursion (done_of w.page)) (sym past) (ok.services h).over in
       each_among (λ u. reserves p u h ≡ true → done_of w.page u) t w.order
       (each_unfiltered (λ u. reserves p u h ≡ true → done_of w.page u) (λ u. reserves p u h) w.order
       (each_map (λ u d m. d) (filter (λ u. reserves p u h) w.order) over)
@@ -275,9 +299,11 @@ module _ (p : ProgramShape) (sound : IsSound p) (s : Plain) (k : RunInvariant p 
 
   -- then a client is done or has a step
   module _ (none : (h : ℕ) → (w.service h).queue ≡ []) where
-    waits_for_none : (c : ℕ) (r : Request) (next : ℤ → Interaction) (n : ℕ) → begun_blocks (client_at s c) ≡ n → k.stance c ≡ Awaits r next → ⊥
+    waits_for_none : (c : ℕ) (r : Request) (next : ℤ → Interaction) (n : ℕ) → begun_blocks (client_at s c) ≡ n
+        → k.stance c ≡ Awaits r next → ⊥
     waits_for_none c r next zero e is =
-        subst (λ n. StandsAt w.page c (Awaits r next) n) e (subst (λ g. StandsAt w.page c g (begun_blocks (client_at s c))) is (sim.stands c))
+        subst (λ n. StandsAt w.page c (Awaits r next) n) e
+        (subst (λ g. StandsAt w.page c g (begun_blocks (client_at s c))) is (sim.stands c))
     waits_for_none c r next (suc i) e is =
         let t = ticket c i in
         let among = last_among c i e in
@@ -290,7 +316,9 @@ module _ (p : ProgramShape) (sound : IsSound p) (s : Plain) (k : RunInvariant p 
         out_there : (l : Locals) → k.stance c ≡ Stands l → (client_at s c).stage ≡ out l
         out_there l is = k.stages c less ∙ ap stage_of is
 
-        by_number : (l : Locals) → k.stance c ≡ Stands l → (b : Bool) → nat_lt (begun_blocks (client_at s c)) (blocks_of p c) ≡ b → (is_done p c (client_at s c) ≡ true) ⊎ CanGoOn p s
+        by_number : (l : Locals) → k.stance c ≡ Stands l → (b : Bool)
+            → nat_lt (begun_blocks (client_at s c)) (blocks_of p c) ≡ b
+            → (is_done p c (client_at s c) ≡ true) ⊎ CanGoOn p s
         by_number l is true e = inr (client_steps c (out l) less (out_there l is) (rw e refl))
         by_number l is false e =
             let most = begun_within c (begun_blocks (client_at s c)) refl in
@@ -306,12 +334,14 @@ module _ (p : ProgramShape) (sound : IsSound p) (s : Plain) (k : RunInvariant p 
     idle = all_are_idle s.handlers (λ h. sim.queues h ∙ ap (map (private v.client h (w.service h).wait)) (none h))
 
     last_case : (is_finished p s ≡ true) ⊎ CanGoOn p s
-    last_case = elim (each_done p (CanGoOn p s) s.clients 0 fates) [ inl all ↦ inl (rw (all, idle) refl) | inr some ↦ inr some ]
+    last_case =
+        elim (each_done p (CanGoOn p s) s.clients 0 fates) [ inl all ↦ inl (rw (all, idle) refl) | inr some ↦ inr some ]
       where
         fates : (i : ℕ) → i < length s.clients → (is_done p (i + 0) (client_at s i) ≡ true) ⊎ CanGoOn p s
         fates i less =
             let same : i ≡ i + 0 = omega arith in
-            subst (λ c. (is_done p c (client_at s i) ≡ true) ⊎ CanGoOn p s) same (fate i (let long = k.clients in omega (arith, less, long)))
+            let inside : i < length p.clients = (let long = k.clients in omega (arith, less, long)) in
+            subst (λ c. (is_done p c (client_at s i) ≡ true) ⊎ CanGoOn p s) same (fate i inside)
 
   pub goes_on : (is_finished p s ≡ true) ⊎ CanGoOn p s
   goes_on = elim (walk w.order (λ t a. a) all_left) [ inl some ↦ inr some | inr none ↦ last_case none ]

@@ -1,3 +1,4 @@
 pub mod Finishing
 pub mod Progress
+pub mod StepExamples
 pub mod Steps
