@@ -1,0 +1,4 @@
+pub mod Chunks
+pub mod FullStages
+pub mod LaneEnds
+pub mod Stuck
