@@ -176,6 +176,8 @@ token_line text place us vs number left h within first cut sum less = record {
   not_after = omega arith;
 }
 
--- the bytes of a line, by where it ends
-pub line_bytes : (text : List ℕ) (place end : ℕ) → end ≡ place + line_end_at text place → take (end - place) (drop place text) ≡ line_from text place
-line_bytes text place end is = let n : end - place ≡ line_end_at text place = omega arith in ap (λ m. take m (drop place text)) n
+-- what is cut of a line, by where it ends
+pub line_cut : (text : List ℕ) (place end : ℕ) (r : Tokens) → end ≡ place + line_end_at text place → tokens_of (take (end - place) (drop place text)) ≡ r
+    → tokens_of (line_from text place) ≡ r
+line_cut text place end r is cut =
+    let n : line_end_at text place ≡ end - place = omega arith in ap (λ m. tokens_of (take m (drop place text))) n ∙ cut

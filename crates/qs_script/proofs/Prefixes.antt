@@ -17,6 +17,7 @@ abbrev pub Eaten : {A : Type 0} → ℕ → Read A → Type 0
 Eaten n (Ok x) = length x.1 < n
 Eaten n (Err left) = left ≤ n
 
+-- any tokens may follow
 abbrev pub Any : List Token → Type 0
 Any ts = Unit {0}
 
@@ -26,11 +27,12 @@ pub data Status {A : Type 0} (End : List Token → Type 0) (g : List Token → R
   whole : (a : A) (zs : List Token) → ((ws : List Token) → g ws ≡ Ok (a, zs ++ ws)) → Status End g
   begun : ((ws : List Token) → left_of (g ws) ≤ length ws) → (rest : List Token) (a : A) → ((tail : List Token) → End tail → g (rest ++ tail) ≡ Ok (a, tail)) → Status End g
 
+-- a reader that leaves no more than it is given, and does one of the three with any tokens so far
 pub record Careful {A : Type 0} (p : List Token → Read A) : Type 0 where
   pub short : (ts : List Token) → left_of (p ts) ≤ length ts
   pub status : (us : List Token) → Status Any (λ ws. p (us ++ ws))
 
--- what reads elements of a list
+-- what reads the elements of a list: it takes a token, and does one of the three with any tokens so far but none
 pub record Element {A : Type 0} (p : List Token → Read A) : Type 0 where
   pub eats : (ts : List Token) → Eaten (length ts) (p ts)
   pub status : (u : Token) (us : List Token) → Status Any (λ ws. p (u ∷ us ++ ws))
