@@ -159,32 +159,32 @@ module _ (settings : Settings) (t : Ticket) (names : List ℕ) (g : ℕ) where
 
 -- a chunk that is sent was in hand
 module _ (settings : Settings) where
-  call_work : (k : ℕ) (hd : Option HeldState) (ck : Option (List Request)) (h : ℕ) (p : Parcel) → chunk_in p ≡ 1 → call_act settings k hd ck ≡ Send h p → (k ≡ h) × (rs : List Request) × (ck ≡ Some rs)
+  pub call_work : (k : ℕ) (hd : Option HeldState) (ck : Option (List Request)) (h : ℕ) (p : Parcel) → chunk_in p ≡ 1 → call_act settings k hd ck ≡ Send h p → (k ≡ h) × (rs : List Request) × (ck ≡ Some rs)
   call_work k (Some x) ck h p one e = let is : parcels.Home x ≡ p = cc in absurd (let none = ap chunk_in is in omega (arith, none, one))
   call_work k None None h p one e = absurd (cc)
   call_work k None (Some rs) h p one e = (cc, rs, refl)
 
-  clears_work : (k : ℕ) (hd : Option HeldState) (ck : Option (List Request)) (other : Act) (h : ℕ) (p : Parcel) → (other ≡ Send h p → ⊥) → chunk_in p ≡ 1
+  pub clears_work : (k : ℕ) (hd : Option HeldState) (ck : Option (List Request)) (other : Act) (h : ℕ) (p : Parcel) → (other ≡ Send h p → ⊥) → chunk_in p ≡ 1
       → clear settings k hd ck other ≡ Send h p → (k ≡ h) × (rs : List Request) × (ck ≡ Some rs)
   clears_work k (Some x) ck other h p never one e = let is : parcels.Home x ≡ p = cc in absurd (let none = ap chunk_in is in omega (arith, none, one))
   clears_work k None None other h p never one e = absurd (never e)
   clears_work k None (Some rs) other h p never one e = (cc, rs, refl)
 
-  sync_no_work : (k h : ℕ) (p : Parcel) → chunk_in p ≡ 1 → Send k parcels.Sync ≡ Send h p → ⊥
+  pub sync_no_work : (k h : ℕ) (p : Parcel) → chunk_in p ≡ 1 → Send k parcels.Sync ≡ Send h p → ⊥
   sync_no_work k h p one e = let is : parcels.Sync ≡ p = cc in let none = ap chunk_in is in omega (arith, none, one)
 
-  end_no_work : (k h : ℕ) (p : Parcel) → chunk_in p ≡ 1 → Send k parcels.End ≡ Send h p → ⊥
+  pub end_no_work : (k h : ℕ) (p : Parcel) → chunk_in p ≡ 1 → Send k parcels.End ≡ Send h p → ⊥
   end_no_work k h p one e = let is : parcels.End ≡ p = cc in let none = ap chunk_in is in omega (arith, none, one)
 
-  finished_no_send : (h : ℕ) (p : Parcel) → Finished ≡ Send h p → ⊥
+  pub finished_no_send : (h : ℕ) (p : Parcel) → Finished ≡ Send h p → ⊥
   finished_no_send h p e = cc
 
-  call_need : (k : ℕ) (hd : Option HeldState) (ck : Option (List Request)) (h : ℕ) → call_act settings k hd ck ≡ NeedChunk h → (k ≡ h) × (ck ≡ None)
+  pub call_need : (k : ℕ) (hd : Option HeldState) (ck : Option (List Request)) (h : ℕ) → call_act settings k hd ck ≡ NeedChunk h → (k ≡ h) × (ck ≡ None)
   call_need k (Some x) ck h e = absurd (cc)
   call_need k None (Some rs) h e = absurd (cc)
   call_need k None None h e = (cc, refl)
 
-  at_same : (m : Client) (h k : ℕ) (o : Option (List Request)) → k ≡ h → m.chunk k ≡ o → m.chunk h ≡ o
+  pub at_same : (m : Client) (h k : ℕ) (o : Option (List Request)) → k ≡ h → m.chunk k ≡ o → m.chunk h ≡ o
   at_same m h k o is e = subst (λ h. m.chunk h ≡ o) is e
 
   module _ (n : ℕ) (t : Ticket) (names : List ℕ) (m : Client) (h g : ℕ) where
@@ -248,7 +248,7 @@ module _ (settings : Settings) where
   needs_none n m (leaves k hs l) h e = absurd (clears_not_need settings k (m.held k) (m.chunk k) parcels.End h e)
 
 -- a place that is not this one
-abbrev Elsewhere : ℕ → ℕ → ℕ → ℕ → Type 0
+abbrev pub Elsewhere : ℕ → ℕ → ℕ → ℕ → Type 0
 Elsewhere c h d g = ((c == d) ≡ false) ⊎ ((h == g) ≡ false)
 
 at_each : (P : ℕ → ℕ → Type 0) (c h : ℕ) → P c h → ((d g : ℕ) → Elsewhere c h d g → P d g) → (d g : ℕ) → P d g
@@ -262,10 +262,10 @@ at_each P c h here there d g =
     (λ (other : (c == d) ≡ false). there d g (inl other))
     (num_cases c d)
 
-lane_here : {A : Type 0} (f : ℕ → ℕ → A) (c h : ℕ) (a : A) → put_lane f c h a c h ≡ a
+pub lane_here : {A : Type 0} (f : ℕ → ℕ → A) (c h : ℕ) (a : A) → put_lane f c h a c h ≡ a
 lane_here f c h a = put_lane_at f c h a c ∙ put_here (λ c. f c h) c a
 
-lane_there : {A : Type 0} (f : ℕ → ℕ → A) (c h : ℕ) (a : A) (d g : ℕ) → Elsewhere c h d g → put_lane f c h a d g ≡ f d g
+pub lane_there : {A : Type 0} (f : ℕ → ℕ → A) (c h : ℕ) (a : A) (d g : ℕ) → Elsewhere c h d g → put_lane f c h a d g ≡ f d g
 lane_there f c h a d g (inl other) = ap (λ (r : ℕ → _). r g) (put_there f c (put (f c) h a) d other)
 lane_there f c h a d g (inr other) = put_lane_there f c h a d g other
 

@@ -1,4 +1,9 @@
+pub mod Bounded
 pub mod Chunks
+pub mod ClientCosts
+pub mod Finished
 pub mod FullStages
 pub mod LaneEnds
+pub mod SmallBounds
 pub mod Stuck
+pub mod Sums

@@ -498,7 +498,7 @@ module _ (p : ProgramShape) (sound : IsSound p) (mode : Mode) (code : ℕ → Cl
   pub goes_on : (is_finished p s ≡ true) ⊎ Goes
   goes_on = elim (walk s.order (λ t a. a) all_left) [ inl some ↦ inr some | inr none ↦ last_case none ]
 
-stands_of : (p : ProgramShape) (code : ℕ → ClientCode) (size : ℕ) (s : Core) → ReachedCore p code size s → CoreStands p code size s
+pub stands_of : (p : ProgramShape) (code : ℕ → ClientCode) (size : ℕ) (s : Core) → ReachedCore p code size s → CoreStands p code size s
 unfolding ReachedCore
 stands_of p code size s r = r
 

@@ -16,6 +16,7 @@ CanGoOn p code size s = (a : Actor) × (names_actor p a ≡ true) × IsSome (cor
 -- For every checked program, mode, chunk size and list of actors: after it all is finished, or somebody has a step.
 abbrev pub CoreNeverStuck : Type 0
 CoreNeverStuck =
-    (p : ProgramShape) → IsSound p → (mode : Mode) (code : ℕ → ClientCode) → AreCodes p mode code → (size : ℕ) (actors : List Actor)
+    (p : ProgramShape) → IsSound p → (mode : Mode) (code : ℕ → ClientCode) → AreCodes p mode code
+    → (size : ℕ) (actors : List Actor)
     → (is_finished p (core_plays code size actors (core_begin p)) ≡ true)
     ⊎ CanGoOn p code size (core_plays code size actors (core_begin p))

@@ -1,1 +1,3 @@
+pub mod CoreFinishing
 pub mod CoreProgress
+pub mod CoreSteps

@@ -93,7 +93,7 @@ one_of_last : (a : Actor) (xs ys : List Actor) → IsOneOf a ys → IsOneOf a (x
 one_of_last a [] ys i = i
 one_of_last a (x ∷ xs) ys i = inr (one_of_last a xs ys i)
 
-in_round : (p : ProgramShape) → HasEveryone p (actors_of p)
+pub in_round : (p : ProgramShape) → HasEveryone p (actors_of p)
 in_round p (actor.Client c) named =
     one_of_first (actor.Client c) (map actor.Client (range_with_len 0 (length p.clients)))
     (map actor.Handler (range_with_len 0 (length p.objects)))

@@ -20,7 +20,7 @@ below m (h ∷ hs) q each e = by_test (q == h) (λ x. x) e (below m hs q each.1)
     by_test false is e later = later e
 
 module _ (objects : List Declared) (few : length objects ≤ 8) where
-  list_few : (b : BlockShape) → IsSoundBlock objects b → length b.reserved ≤ 8
+  pub list_few : (b : BlockShape) → IsSoundBlock objects b → length b.reserved ≤ 8
   list_few b sound =
       let long =
       length-le_from_distinct_below b.reserved (length objects) sound.distinct
