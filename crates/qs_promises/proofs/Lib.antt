@@ -6,3 +6,4 @@ pub mod Codes
 pub mod Done
 pub mod Ending
 pub mod Asked
+pub mod GoingOn

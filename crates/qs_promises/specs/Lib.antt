@@ -6,5 +6,6 @@ pub mod Undisturbed
 pub mod Finished
 pub mod Outcomes
 pub mod AsAsked
+pub mod GoesOn
 -- What only the proofs of the first four use.
 pub mod Isolated

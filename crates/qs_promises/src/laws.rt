@@ -4,6 +4,7 @@
 ghost use Rattle.qs_promises.specs.AsAsked.{RunsAreAsAsked};
 ghost use Rattle.qs_promises.specs.BlockAlone.{BlocksAreAsIfAlone, BlocksThatAgreeDoTheSame, OnlyTheOrderDecides};
 ghost use Rattle.qs_promises.specs.Finished.{FinishedRunsAreWhole};
+ghost use Rattle.qs_promises.specs.GoesOn.{MachinesGoOn, RulesGoOn, RunsGoOn};
 ghost use Rattle.qs_promises.specs.Isolated.{RunsAreIsolated};
 ghost use Rattle.qs_promises.specs.Outcomes.{
   FinishedRunsAreCovered,
@@ -54,6 +55,15 @@ pub fn outcomes_leave_nothing_out()
 /// were asked for, and on threads it is finished. It does nothing.
 pub fn runs_are_as_asked()
     ensures asked { RunsAreAsAsked }
+{}
+
+/// A run can't hang: after any picks and rounds, by the plain rules and on the optimised machine, it has finished, or
+/// some client or some handler of the program has a step. So where none of them has one it has finished; and then none
+/// of them has one. Of threads nothing of the kind is claimed. It does nothing.
+pub fn runs_go_on()
+    ensures goes_on { RunsGoOn }
+    ensures rules { RulesGoOn }
+    ensures machine { MachinesGoOn }
 {}
 
 /// Every run is isolated, by one definition for the plain rules, the optimised machine and threads; the first four laws
