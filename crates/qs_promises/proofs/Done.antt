@@ -77,7 +77,7 @@ rules_end p sound s k legal finished i less =
     (is_out (client_at s t.client).stage) own both.1 both.0
 
 -- what holds of all numbers of a range holds of each
-pub all_of_at : (is : ℕ → Bool) (a n i : ℕ) → all_of is (range_with_len a n) ≡ true → a ≤ i → i < a + n → is i ≡ true
+all_of_at : (is : ℕ → Bool) (a n i : ℕ) → all_of is (range_with_len a n) ≡ true → a ≤ i → i < a + n → is i ≡ true
 all_of_at is a zero i all low high = absurd (omega (arith, low, high))
 all_of_at is a (suc n) i all low high =
     let both = and_cases (is a) (all_of is (range_with_len (a + 1) n)) all in

@@ -7,3 +7,4 @@ pub mod Done
 pub mod Ending
 pub mod Asked
 pub mod GoingOn
+pub mod Rounds

@@ -23,12 +23,12 @@ SomebodyHasStep p step_of = (a : Actor) × (names_actor p a ≡ true) × IsSome 
 abbrev pub NobodyHasStep : {S : Type 0} → ProgramShape → (Actor → Option S) → Type 0
 NobodyHasStep p step_of = (a : Actor) → names_actor p a ≡ true → step_of a ≡ None
 
--- A state, finished or not, with the step of each actor. It is finished, or somebody has a step; so where nobody has
--- one it is finished; and where it is finished nobody has one.
+-- A state, finished or not, with the step of each actor. It is finished, or somebody has a step; so where nobody of the
+-- program has one it is finished; and where it is finished nobody at all has one.
 pub record GoesOn {S : Type 0} (p : ProgramShape) (finished : Bool) (step_of : Actor → Option S) : Type 0 where
   pub never_stuck : (finished ≡ true) ⊎ SomebodyHasStep p step_of
   pub ends : NobodyHasStep p step_of → finished ≡ true
-  pub stays : finished ≡ true → NobodyHasStep p step_of
+  pub stays : finished ≡ true → (a : Actor) → step_of a ≡ None
 
 -- After a run by the plain rules or on the optimised machine, in the state that is shown. On threads only finished runs
 -- are shown; that one is shown is not claimed.
@@ -51,8 +51,8 @@ RulesGoOn =
     (p : ProgramShape) → IsSound p → (actors : List Actor)
     → GoesOn p (is_finished p (plays p actors (begin p))) (step p (plays p actors (begin p)))
 
--- And on the optimised machine, in every mode and with every chunk size: a program has codes in each mode, and by any of
--- them it goes on.
+-- And on the optimised machine, in every mode and with every chunk size: a program has codes in each mode, and by any
+-- of them it goes on.
 pub record MachineGoesOn (p : ProgramShape) (mode : Mode) : Type 0 where
   pub codes : (code : ℕ → ClientCode) × AreCodes p mode code
   pub each : (code : ℕ → ClientCode) → AreCodes p mode code → (size : ℕ) (actors : List Actor)

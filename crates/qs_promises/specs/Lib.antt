@@ -7,5 +7,7 @@ pub mod Finished
 pub mod Outcomes
 pub mod AsAsked
 pub mod GoesOn
+pub mod EnoughRounds
+pub mod EveryBeginning
 -- What only the proofs of the first four use.
 pub mod Isolated

@@ -1,8 +1,16 @@
-//! The six promises of the project, one law for each, of every run by the plain rules, on the optimised machine and on
-//! threads.
+//! The seven promises of the project, one law for each, of every run by the plain rules, on the optimised machine and
+//! on threads. The seventh has two more laws, and claims nothing of threads.
 
+ghost use Rattle.qs_core_progress.specs.CoreSteps.{CoreStepsAreBounded};
+ghost use Rattle.qs_plain_progress.specs.Steps.{StepsAreBounded};
 ghost use Rattle.qs_promises.specs.AsAsked.{RunsAreAsAsked};
 ghost use Rattle.qs_promises.specs.BlockAlone.{BlocksAreAsIfAlone, BlocksThatAgreeDoTheSame, OnlyTheOrderDecides};
+ghost use Rattle.qs_promises.specs.EnoughRounds.{
+  DefaultRoundsAreEnough,
+  DefaultRoundsFinish,
+  EnoughRoundsFinish,
+};
+ghost use Rattle.qs_promises.specs.EveryBeginning.{EveryBeginningLeadsToAnOutcome};
 ghost use Rattle.qs_promises.specs.Finished.{FinishedRunsAreWhole};
 ghost use Rattle.qs_promises.specs.GoesOn.{MachinesGoOn, RulesGoOn, RunsGoOn};
 ghost use Rattle.qs_promises.specs.Isolated.{RunsAreIsolated};
@@ -57,13 +65,30 @@ pub fn runs_are_as_asked()
     ensures asked { RunsAreAsAsked }
 {}
 
-/// A run can't hang: after any picks and rounds, by the plain rules and on the optimised machine, it has finished, or
-/// some client or some handler of the program has a step. So where none of them has one it has finished; and then none
-/// of them has one. Of threads nothing of the kind is claimed. It does nothing.
+/// A run can't hang: by the plain rules and on the optimised machine, after any picks and rounds, it has finished, or
+/// some client or some handler of the program has a step. So where none of them has one it has finished; and where it
+/// has finished nobody has one. Of threads nothing of the kind is claimed. It does nothing.
 pub fn runs_go_on()
     ensures goes_on { RunsGoOn }
     ensures rules { RulesGoOn }
     ensures machine { MachinesGoOn }
+{}
+
+/// The steps that can be made are few, so enough rounds finish a run: by the plain rules and on the optimised machine,
+/// whatever the picks, with as many rounds as the program's blocks have steps. The rounds that a command line plays by
+/// default are enough for every program. It does nothing.
+pub fn enough_rounds_finish()
+    ensures steps { StepsAreBounded }
+    ensures steps_on { CoreStepsAreBounded }
+    ensures finish { EnoughRoundsFinish }
+    ensures few { DefaultRoundsAreEnough }
+    ensures default { DefaultRoundsFinish }
+{}
+
+/// Whatever was picked, there are further picks after which the run has finished and shows an outcome of the program.
+/// It does nothing.
+pub fn every_beginning_leads_to_an_outcome()
+    ensures leads { EveryBeginningLeadsToAnOutcome }
 {}
 
 /// Every run is isolated, by one definition for the plain rules, the optimised machine and threads; the first four laws

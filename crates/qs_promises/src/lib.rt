@@ -1,4 +1,4 @@
-//! What may be relied on of every run: six laws, each of which is composed of what the crates below have proved.
+//! What may be relied on of every run: seven promises, each a law composed of what the crates below have proved.
 #![tactic(auto)]
 
 pub mod laws;
