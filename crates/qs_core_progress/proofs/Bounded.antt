@@ -7,7 +7,7 @@ use Rattle.qs_objects.specs.Journals.{HeldState}
 use Rattle.qs_objects.specs.declared.held.Next.TheVariants as nexts
 use Rattle.qs_objects.specs.declared.held.Ticket.{Ticket}
 use Rattle.qs_objects.proofs.Choices.{num_cases}
-use Rattle.qs_program.specs.Program.{BlockShape, ClientShape, ProgramShape, block_load, blocks_of, client_at, no_block, no_client, text_of}
+use Rattle.qs_program.specs.Program.{BlockShape, ClientShape, ProgramShape, block_load, blocks_of, client_at, no_client, text_of}
 use Rattle.qs_program.specs.Sound.{IsSound, is_in}
 use Rattle.qs_program.specs.Values.{Locals}
 use Rattle.qs_program.proofs.Bounds.{sound_block}
@@ -33,6 +33,8 @@ use Rattle.qs_played.specs.Played.{ticket}
 use Rattle.qs_played.specs.Schedule.{or_stay}
 use Rattle.qs_played.specs.declared.schedule.actor.Actor.{Actor}
 use Rattle.qs_played.specs.declared.schedule.actor.Actor.TheVariants as actor
+use Rattle.qs_plain_progress.specs.Steps.{made}
+use Rattle.qs_plain_progress.proofs.BlocksLeft.{left_all, left_by, left_one}
 use Rattle.qs_plain_progress.proofs.RequestCounts.{AtMost, tree_within}
 use Rattle.qs_protocol.proofs.ActObjects.{await_at, chunk_begun, got_begun, need_at, not_await, not_need, not_send, send_at, sent_begun, settle_begun}
 use Rattle.qs_protocol.proofs.ClientInvariants.{Lined, PlaceOk, Stops}
@@ -47,7 +49,7 @@ use Rattle.qs_core_laws.proofs.CoreInvariant.{CoreInvariant, LaneHistory}
 use Rattle.qs_core_laws.proofs.CoreReached.{stands_reached}
 use Rattle.qs_core_laws.proofs.CoreSteps.{HasInvariant, begun_by, has_more, is_between, step_kept}
 use Rattle.qs_core_laws.proofs.HandlerSteps.{some_is}
-use Rattle.qs_core_progress.specs.CoreSteps.{CoreStepsAreBounded, core_steps_made, core_steps_of_block, made, most_core_steps_of}
+use Rattle.qs_core_progress.specs.CoreSteps.{CoreStepsAreBounded, core_steps_made, core_steps_of_block, most_core_steps_of}
 use Rattle.qs_core_progress.proofs.Chunks.{lane_here, lane_there}
 use Rattle.qs_core_progress.proofs.ClientCosts.{Falls, Needs, chunk_cost, got_falls, hand, hands, held_cost, in_block, need_falls, parcel_cost, place_cost, sent_falls, settle_falls}
 use Rattle.qs_core_progress.proofs.Stuck.{stands_of}
@@ -118,18 +120,7 @@ hand_none m h none none' = ap₂ (λ x c. held_cost x + chunk_cost c) none none'
 
 -- of the blocks from the k-th on
 abbrev left_from : List BlockShape → ℕ → ℕ
-left_from [] k = 0
-left_from (b ∷ bs) zero = core_steps_of_block b + left_from bs zero
-left_from (b ∷ bs) (suc k) = left_from bs k
-
-left_one : (bs : List BlockShape) (k : ℕ) → k < length bs → left_from bs k ≡ core_steps_of_block (get_or bs k no_block) + left_from bs (suc k)
-left_one [] k less = absurd (omega (arith, less))
-left_one (b ∷ bs) zero less = refl
-left_one (b ∷ bs) (suc k) less = left_one bs k (omega (arith, less))
-
-left_all : (bs : List BlockShape) → left_from bs 0 ≡ sum_by core_steps_of_block bs
-left_all [] = refl
-left_all (b ∷ bs) = ap (λ n. core_steps_of_block b + n) (left_all bs) ∙ sym (sum_by-cons core_steps_of_block b bs)
+left_from bs k = left_by core_steps_of_block bs k
 
 total_none : (f : ℕ → ℕ) (hs : List ℕ) → ((h : ℕ) → f h ≡ 0) → total f hs ≡ 0
 total_none f [] none = refl
@@ -369,7 +360,7 @@ module _ (p : ProgramShape) (sound : IsSound p) (mode : Mode) (code : ℕ → Cl
         reserved_less =
             client_moves c less r.client begun_falls.need _ s.down (length names) begun_falls.needs
             (let fits = begun_falls.fits in
-            let one = left_one (client_at p c).blocks b some in
+            let one = left_one core_steps_of_block (client_at p c).blocks b some in
             let long : length names ≡ length (text_of p t).reserved = ap length (reserved_is p sound mode code codes size t) in
             let none : hands names (s.client c) ≡ 0 = empty_hands b l refl at names in
             let old = before in
@@ -493,7 +484,7 @@ module _ (p : ProgramShape) (sound : IsSound p) (mode : Mode) (code : ℕ → Cl
     needs = λ c. tt;
     most =
         (let each = below_same (λ c. sum_by core_steps_of_block (client_at p c).blocks) (λ c. 0 + left_from (client_at p c).blocks 0) (length p.clients)
-        (λ c. let all = left_all (client_at p c).blocks in omega (arith, all)) in
+        (λ c. let all = left_all core_steps_of_block (client_at p c).blocks in omega (arith, all)) in
         let all = below_list (λ (c : ClientShape). sum_by core_steps_of_block c.blocks) p.clients no_client in
         let none = below_none (at_handler p (core_begin p).tickets (core_begin p).handler (core_begin p).down) (length p.objects)
         (λ h. let lanes = below_none (λ c. 0) (length p.clients) (λ c. refl) in omega (arith, lanes)) in

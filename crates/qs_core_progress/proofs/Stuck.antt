@@ -35,6 +35,7 @@ use Rattle.qs_played.specs.Played.{ticket}
 use Rattle.qs_played.specs.declared.schedule.actor.Actor.TheVariants as actor
 use Rattle.qs_played.proofs.Orders.{each_among, legal_among}
 use Rattle.qs_played.proofs.ReservedObjects.{reserved_inside}
+use Rattle.qs_plain_progress.proofs.Stuck.{head_of_all}
 use Rattle.qs_protocol.proofs.ActKinds.{clears_not_need, in_hand_gone, outside_not_need}
 use Rattle.qs_protocol.proofs.ActObjects.{await_at, between_acts, need_at, reserve_at, send_at}
 use Rattle.qs_protocol.proofs.ClientInvariants.{PlaceOk, standing_at}
@@ -56,14 +57,6 @@ use Rattle.qs_core_progress.specs.CoreProgress.{CanGoOn, CoreNeverStuck}
 use Rattle.qs_core_progress.proofs.Chunks.{FourChunks, chunks_in, needs_none, opened, run_four, to_give_back}
 use Rattle.qs_core_progress.proofs.FullStages.{AllFull, run_full}
 use Rattle.qs_core_progress.proofs.LaneEnds.{asks_not_served, gives_up}
-
--- where a list that is all of one part or another is
-head_of_all : {X : Type 0} (xs ys : List X) (y : X) (zs : List X) → y ∷ ys ≡ xs ++ zs → (zs ≡ y ∷ ys) ⊎ ((later : List X) × (xs ≡ y ∷ later) × (ys ≡ later ++ zs))
-head_of_all [] ys y zs e = inl (sym e)
-head_of_all (x ∷ xs) ys y zs e =
-    let first : x ≡ y = cc in
-    let rest : ys ≡ xs ++ zs = cc in
-    inr (xs, ap (λ x. x ∷ xs) first, rest)
 
 front_none : {X : Type 0} (xs ys : List X) → xs ++ ys ≡ [] → xs ≡ []
 front_none [] ys e = refl

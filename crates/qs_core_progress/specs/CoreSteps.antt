@@ -1,24 +1,17 @@
 -- How many steps a run of the optimised machine can take.
-use Rattle.std.specs.Prelude.{◌≤◌, ℕ, ◌+◌, ◌*◌, List, [], ◌∷◌, length, Option, Some, None, sum_by}
+use Rattle.std.specs.Prelude.{◌≤◌, ℕ, ◌+◌, ◌*◌, List, length, sum_by}
 use Rattle.qs_program.specs.Limits.{most_objects, most_requests, most_tickets}
 use Rattle.qs_program.specs.Program.{BlockShape, ProgramShape, block_load}
 use Rattle.qs_program.specs.Sound.{IsSound}
 use Rattle.qs_syncset.specs.declared.mode.Mode.{Mode}
 use Rattle.qs_syncset.specs.Codes.{ClientCode}
-use Rattle.qs_played.specs.Schedule.{or_stay}
 use Rattle.qs_played.specs.declared.schedule.actor.Actor.{Actor}
+use Rattle.qs_plain_progress.specs.Steps.{steps_made_by}
 use Rattle.qs_core_laws.specs.Core.{Core, AreCodes, core_begin, core_step}
-
--- 1 for a step, and 0 where an actor has none
-abbrev pub made : Option Core → ℕ
-made None = 0
-made (Some t) = 1
 
 -- how many actors of a list have a step when their turn comes
 abbrev pub core_steps_made : (ℕ → ClientCode) → ℕ → List Actor → Core → ℕ
-core_steps_made code size [] s = 0
-core_steps_made code size (a ∷ rest) s =
-    made (core_step code size s a) + core_steps_made code size rest (or_stay s (core_step code size s a))
+core_steps_made code size actors s = steps_made_by (core_step code size) actors s
 
 -- A block is reserved; each handler of its list takes its ticket, and an End that is sent. A request wants at most six
 -- steps: a Sync is sent and taken, the object is given and got, and it is sent home and taken.

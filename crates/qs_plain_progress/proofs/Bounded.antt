@@ -13,7 +13,7 @@ use Rattle.qs_objects.specs.Parts.{same}
 use Rattle.qs_objects.specs.declared.held.Ticket.{Ticket}
 use Rattle.qs_objects.specs.declared.Request.{Request}
 use Rattle.qs_objects.proofs.Choices.{not_same, ticket_cases}
-use Rattle.qs_program.specs.Program.{BlockShape, ClientShape, ProgramShape, block_load, blocks_of, client_at as shape_at, no_block, no_client as no_shape, text_of}
+use Rattle.qs_program.specs.Program.{BlockShape, ClientShape, ProgramShape, block_load, blocks_of, client_at as shape_at, no_client as no_shape, text_of}
 use Rattle.qs_program.specs.Sound.{IsSound}
 use Rattle.qs_program.specs.Values.{Locals}
 use Rattle.qs_program.proofs.Bounds.{sound_block}
@@ -30,6 +30,7 @@ use Rattle.qs_plain_laws.specs.declared.item.QueueItem.TheVariants as item
 use Rattle.qs_plain_laws.proofs.PlainPreserved.{RunInvariant, begin_kept, sight_of, step_kept}
 use Rattle.qs_plain_laws.proofs.Simulation.{private}
 use Rattle.qs_plain_progress.specs.Steps.{StepsAreBounded, made, most_steps_of, steps_made, steps_of_block, steps_of_client}
+use Rattle.qs_plain_progress.proofs.BlocksLeft.{left_all, left_by, left_one}
 use Rattle.qs_plain_progress.proofs.RequestCounts.{AtMost, tree_within}
 
 -- ---- the items in private queues
@@ -156,19 +157,7 @@ left_in_block reserved n (waiting next) = 2 * n + length reserved + 1
 
 -- of the blocks from the k-th on
 abbrev left_from : List BlockShape → ℕ → ℕ
-left_from [] k = 0
-left_from (b ∷ bs) zero = steps_of_block b + left_from bs zero
-left_from (b ∷ bs) (suc k) = left_from bs k
-
-left_one : (bs : List BlockShape) (k : ℕ) → k < length bs
-    → left_from bs k ≡ steps_of_block (get_or bs k no_block) + left_from bs (suc k)
-left_one [] k less = absurd (omega (arith, less))
-left_one (b ∷ bs) zero less = refl
-left_one (b ∷ bs) (suc k) less = left_one bs k (omega (arith, less))
-
-left_all : (bs : List BlockShape) → left_from bs 0 ≡ sum_by steps_of_block bs
-left_all [] = refl
-left_all (b ∷ bs) = ap (λ n. steps_of_block b + n) (left_all bs) ∙ sym (sum_by-cons steps_of_block b bs)
+left_from bs k = left_by steps_of_block bs k
 
 module _ (p : ProgramShape) where
   -- in all, where a client stands at a stage
@@ -283,7 +272,7 @@ module _ (p : ProgramShape) (sound : IsSound p) (s : Plain) (k : RunInvariant p 
 
         fewer : (a : ℕ) → ClientLeft p c me a → left_then + 1 ≤ a
         fewer a old =
-            let one = left_one (shape_at p c).blocks (begun_blocks me) more in
+            let one = left_one steps_of_block (shape_at p c).blocks (begun_blocks me) more in
             let most = old.most in
             omega (arith, one, most)
 
@@ -473,7 +462,7 @@ fresh_left p from (c ∷ cs) each =
     let first : shape_at p from ≡ c = subst (λ k. shape_at p k ≡ c) none (each 0 (omega arith)) in
     let next : from + 1 ≡ suc from = omega arith in
     let total = sum_by-cons steps_of_client c cs in
-    let all = ap (λ (c : ClientShape). left_from c.blocks 0) first ∙ left_all c.blocks in (
+    let all = ap (λ (c : ClientShape). left_from c.blocks 0) first ∙ left_all steps_of_block c.blocks in (
       steps_of_client c,
       sum_by steps_of_client cs,
       omega (arith, total),

@@ -1,5 +1,7 @@
+pub mod BlocksLeft
 pub mod Bounded
 pub mod Finished
 pub mod RequestCounts
+pub mod Rounds
 pub mod SmallBounds
 pub mod Stuck

@@ -43,7 +43,7 @@ item_steps s h it q qs (item.Query r) is = refl
 item_steps s h it q qs item.EndMark is = refl
 
 -- where a list that is all of one part or another is
-head_of_all : {X : Type 0} (xs ys : List X) (y : X) (zs : List X) → y ∷ ys ≡ xs ++ zs
+pub head_of_all : {X : Type 0} (xs ys : List X) (y : X) (zs : List X) → y ∷ ys ≡ xs ++ zs
     → (zs ≡ y ∷ ys) ⊎ ((later : List X) × (xs ≡ y ∷ later) × (ys ≡ later ++ zs))
 head_of_all [] ys y zs e = inl (sym e)
 head_of_all (x ∷ xs) ys y zs e =

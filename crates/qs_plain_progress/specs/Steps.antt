@@ -7,15 +7,19 @@ use Rattle.qs_played.specs.Schedule.{most_rounds, or_stay}
 use Rattle.qs_played.specs.declared.schedule.actor.Actor.{Actor}
 use Rattle.qs_plain_laws.specs.Plain.{Plain, begin, step}
 
--- 1 for a step, and 0 where an actor has none
-abbrev pub made : Option Plain → ℕ
-made None = 0
-made (Some t) = 1
+module _ {S : Type 0} where
+  -- 1 for a step, and 0 where an actor has none
+  abbrev pub made : Option S → ℕ
+  made None = 0
+  made (Some t) = 1
 
--- how many actors of a list have a step when their turn comes
+  -- by a machine's step function: how many actors of a list have a step when their turn comes
+  abbrev pub steps_made_by : (S → Actor → Option S) → List Actor → S → ℕ
+  steps_made_by step [] s = 0
+  steps_made_by step (a ∷ rest) s = made (step s a) + steps_made_by step rest (or_stay s (step s a))
+
 abbrev pub steps_made : ProgramShape → List Actor → Plain → ℕ
-steps_made p [] s = 0
-steps_made p (a ∷ rest) s = made (step p s a) + steps_made p rest (or_stay s (step p s a))
+steps_made p actors s = steps_made_by (step p) actors s
 
 -- a block is entered and ended, each of its requests is logged and served, and each object of its list takes an end
 -- mark away
