@@ -73,7 +73,8 @@ lane_more : (ps : List Parcel) (p : Parcel) → lane_cost (ps ++ p ∷ []) ≡ l
 lane_more [] p = omega arith
 lane_more (q ∷ ps) p = let ih = lane_more ps p in omega (arith, ih)
 
-accepted_cost : (v w : Handler) (p : Parcel) → accept_parcel v p ≡ Some w → handler_cost w + 1 ≤ handler_cost v + parcel_cost p
+accepted_cost : (v w : Handler) (p : Parcel) → accept_parcel v p ≡ Some w
+    → handler_cost w + 1 ≤ handler_cost v + parcel_cost p
 accepted_cost (serves t x) w (parcels.Work chunk) e = subst (λ w. handler_cost w + 1 ≤ 2) (some_is _ w e) (omega arith)
 accepted_cost (serves t x) w parcels.Sync e = subst (λ w. handler_cost w + 1 ≤ 2) (some_is _ w e) (omega arith)
 accepted_cost (serves t x) w parcels.End e = subst (λ w. handler_cost w + 1 ≤ 1) (some_is _ w e) (omega arith)
@@ -140,7 +141,8 @@ module _ (p : ProgramShape) where
   transit tickets handler down = below (at_handler tickets handler down) (length p.objects)
 
   module _ (tickets : ℕ → List Ticket) (handler : ℕ → Handler) (down : ℕ → ℕ → List Parcel) (h : ℕ) (inside : h < length p.objects) where
-    lane_changed : (c : ℕ) (ps : List Parcel) → c < clients_in → transit tickets handler (put_lane down c h ps) + lane_cost (down c h) ≡ transit tickets handler down + lane_cost ps
+    lane_changed : (c : ℕ) (ps : List Parcel) → c < clients_in
+        → transit tickets handler (put_lane down c h ps) + lane_cost (down c h) ≡ transit tickets handler down + lane_cost ps
     lane_changed c ps less =
         let outer = below_changed (at_handler tickets handler down) (at_handler tickets handler (put_lane down c h ps)) h (length p.objects) inside
         (λ i other. ap (λ n. length (tickets i) + (handler_cost (handler i) + n))
@@ -150,14 +152,16 @@ module _ (p : ProgramShape) where
         let here : lane_cost (put_lane down c h ps c h) ≡ lane_cost ps = ap lane_cost (lane_here down c h ps) in
         omega (arith, outer, inner, here)
 
-    handler_changed : (v : Handler) → transit tickets (put handler h v) down + handler_cost (handler h) ≡ transit tickets handler down + handler_cost v
+    handler_changed : (v : Handler)
+        → transit tickets (put handler h v) down + handler_cost (handler h) ≡ transit tickets handler down + handler_cost v
     handler_changed v =
         let outer = below_changed (at_handler tickets handler down) (at_handler tickets (put handler h v) down) h (length p.objects) inside
         (λ i other. ap (λ v. length (tickets i) + (handler_cost v + lanes_cost down i)) (put_there handler h v i other)) in
         let here : handler_cost (put handler h v h) ≡ handler_cost v = ap handler_cost (put_here handler h v) in
         omega (arith, outer, here)
 
-    tickets_changed : (ts : List Ticket) → transit (put tickets h ts) handler down + length (tickets h) ≡ transit tickets handler down + length ts
+    tickets_changed : (ts : List Ticket)
+        → transit (put tickets h ts) handler down + length (tickets h) ≡ transit tickets handler down + length ts
     tickets_changed ts =
         let outer = below_changed (at_handler tickets handler down) (at_handler (put tickets h ts) handler down) h (length p.objects) inside
         (λ i other. ap (λ ts. length ts + (handler_cost (handler i) + lanes_cost down i)) (put_there tickets h ts i other)) in
@@ -172,7 +176,8 @@ module _ (p : ProgramShape) where
       let few = below_listed names (length p.objects) in
       omega (arith, both, few)
     where
-      one : (h : ℕ) (b : Bool) → length (if b then tickets h ++ t ∷ [] else tickets h) + (handler_cost (handler h) + lanes_cost down h) ≡ at_handler tickets handler down h + one_if b
+      one : (h : ℕ) (b : Bool)
+          → length (if b then tickets h ++ t ∷ [] else tickets h) + (handler_cost (handler h) + lanes_cost down h) ≡ at_handler tickets handler down h + one_if b
       one h true = let long = length-append (tickets h) (t ∷ []) in omega (arith, long)
       one h false = omega arith
 
@@ -220,8 +225,10 @@ module _ (p : ProgramShape) (sound : IsSound p) (mode : Mode) (code : ℕ → Cl
     one_of false a s' e h = absurd (cc)
 
     -- one client has moved
-    client_moves : (c : ℕ) → c < length p.clients → (m : Client) (need : ℕ) (tickets : ℕ → List Ticket) (down : ℕ → ℕ → List Parcel) (e : ℕ) → Needs m.stage need
-        → cost_of c m need + suc e ≤ cost_of c (s.client c) (left.need c) → transit p tickets s.handler down ≤ in_transit + e
+    client_moves : (c : ℕ) → c < length p.clients
+        → (m : Client) (need : ℕ) (tickets : ℕ → List Ticket) (down : ℕ → ℕ → List Parcel) (e : ℕ) → Needs m.stage need
+        → cost_of c m need + suc e ≤ cost_of c (s.client c) (left.need c)
+        → transit p tickets s.handler down ≤ in_transit + e
         → (l : ℕ) × (suc l ≤ n) × LeftOf (put s.client c m) tickets s.handler down l
     client_moves c less m need tickets down e needs fewer few =
         let all = below_changed (λ d. cost_of d (s.client d) (left.need d)) (λ d. cost_of d (put s.client c m d) (put left.need c need d)) c (length p.clients) less
@@ -244,8 +251,10 @@ module _ (p : ProgramShape) (sound : IsSound p) (mode : Mode) (code : ℕ → Cl
         )
 
     -- in its block
-    acts_in_block : (c : ℕ) → c < length p.clients → (r : Settlement) → r.client.begun ≡ (s.client c).begun → (tickets : ℕ → List Ticket) (down : ℕ → ℕ → List Parcel) (e : ℕ)
-        → Falls (names_of c) r.client (suc e) (place_cost (names_of c) (s.client c) (left.need c) (s.client c).stage) → transit p tickets s.handler down ≤ in_transit + e
+    acts_in_block : (c : ℕ) → c < length p.clients → (r : Settlement) → r.client.begun ≡ (s.client c).begun
+        → (tickets : ℕ → List Ticket) (down : ℕ → ℕ → List Parcel) (e : ℕ)
+        → Falls (names_of c) r.client (suc e) (place_cost (names_of c) (s.client c) (left.need c) (s.client c).stage)
+        → transit p tickets s.handler down ≤ in_transit + e
         → (l : ℕ) × (suc l ≤ n) × LeftOf (put s.client c r.client) tickets s.handler down l
     acts_in_block c less r same_begun tickets down e f few =
         let same : cost_of c r.client f.need ≡ cost_with c r.client f.need (s.client c).begun = ap (λ b. cost_with c r.client f.need b) same_begun in
@@ -261,14 +270,18 @@ module _ (p : ProgramShape) (sound : IsSound p) (mode : Mode) (code : ℕ → Cl
     named : (c h : ℕ) → reserves p (now c) h ≡ true → is_in (names_of c) h ≡ true
     named c h e = subst (λ names. is_in names h ≡ true) (sym (names_are c)) e
 
-    begun_of : (c : ℕ) (act : Act) → asks_for c ≡ act → ((l : Locals) → (s.client c).stage ≡ between l → asks_for c ≡ act → ⊥) → (s.client c).begun ≡ suc ((s.client c).begun - 1)
+    begun_of : (c : ℕ) (act : Act) → asks_for c ≡ act
+        → ((l : Locals) → (s.client c).stage ≡ between l → asks_for c ≡ act → ⊥)
+        → (s.client c).begun ≡ suc ((s.client c).begun - 1)
     begun_of c act e non = begun_by p sound mode code codes size s y g k c act e non
 
-    place : (c : ℕ) → (s.client c).begun ≡ suc ((s.client c).begun - 1) → PlaceOk p (now c) (y.sent (now c)) (y.got (now c)) (s.client c) (y.page (now c)) (s.client c).stage
+    place : (c : ℕ) → (s.client c).begun ≡ suc ((s.client c).begun - 1)
+        → PlaceOk p (now c) (y.sent (now c)) (y.got (now c)) (s.client c) (y.page (now c)) (s.client c).stage
     place c begun = k.places c ((s.client c).begun - 1) begun
 
     module _ (c : ℕ) (less : c < length p.clients) where
-      send_less : (h : ℕ) (parcel : Parcel) (s' : Core) → asks_for c ≡ Send h parcel → core.sends code size s c h parcel ≡ Some s' → Less s' n
+      send_less : (h : ℕ) (parcel : Parcel) (s' : Core) → asks_for c ≡ Send h parcel
+          → core.sends code size s c h parcel ≡ Some s' → Less s' n
       send_less h parcel s' act e =
           let begun = begun_of c (Send h parcel) act (λ l i a. not_send (settings_of code size c) (blocks code size c) (s.client c) l h parcel i a) in
           let at = send_at p (now c) (y.sent (now c)) (y.got (now c)) (settings_of code size c) (blocks code size c) (s.client c) (y.page (now c)) (s.client c).stage (place c begun) h parcel act in
@@ -280,10 +293,13 @@ module _ (p : ProgramShape) (sound : IsSound p) (mode : Mode) (code : ℕ → Cl
           (sent_falls (names_of c) (settings_of code size c) (now c) (reserves p (now c)) (in_line c) (blocks code size c) (s.client c) h (named c h at.0) (left.need c) parcel (left.needs c) act)
           (omega (arith, way, longer)))
 
-      stops : PlaceOk p (now c) (y.sent (now c)) (y.got (now c)) (s.client c) (y.page (now c)) (s.client c).stage → (rest : Synced) → (s.client c).stage ≡ runs rest → Stops rest
-      stops ok rest is = (subst (PlaceOk p (now c) (y.sent (now c)) (y.got (now c)) (s.client c) (y.page (now c))) is ok).1
+      stops : PlaceOk p (now c) (y.sent (now c)) (y.got (now c)) (s.client c) (y.page (now c)) (s.client c).stage
+          → (rest : Synced) → (s.client c).stage ≡ runs rest → Stops rest
+      stops ok rest is =
+          (subst (PlaceOk p (now c) (y.sent (now c)) (y.got (now c)) (s.client c) (y.page (now c))) is ok).1
 
-      get_less : (h : ℕ) (o : Option HeldState) (s' : Core) → asks_for c ≡ Await h → gets code size s c h o ≡ Some s' → Less s' n
+      get_less : (h : ℕ) (o : Option HeldState) (s' : Core) → asks_for c ≡ Await h → gets code size s c h o ≡ Some s'
+          → Less s' n
       get_less h None s' act e = absurd (cc)
       get_less h (Some x) s' act e =
           let begun = begun_of c (Await h) act (λ l i a. not_await (settings_of code size c) (blocks code size c) (s.client c) l h i a) in
@@ -295,7 +311,8 @@ module _ (p : ProgramShape) (sound : IsSound p) (mode : Mode) (code : ℕ → Cl
           (stops (place c begun)) (left.needs c) act)
           (omega arith))
 
-      chunk_less : (h m : ℕ) (s' : Core) → asks_for c ≡ NeedChunk h → takes_chunk code size s c h m ≡ Some s' → Less s' n
+      chunk_less : (h m : ℕ) (s' : Core) → asks_for c ≡ NeedChunk h → takes_chunk code size s c h m ≡ Some s'
+          → Less s' n
       chunk_less h zero s' act e = absurd (cc)
       chunk_less h (suc m) s' act e =
           let begun = begun_of c (NeedChunk h) act (λ l i a. not_need (settings_of code size c) (blocks code size c) (s.client c) l h i a) in
@@ -307,7 +324,8 @@ module _ (p : ProgramShape) (sound : IsSound p) (mode : Mode) (code : ℕ → Cl
           (omega arith))
 
       -- between blocks it has nothing in hand
-      empty_hands : (j : ℕ) (l : Locals) → (s.client c).begun ≡ j → (s.client c).stage ≡ between l → (names : List ℕ) → hands names (s.client c) ≡ 0
+      empty_hands : (j : ℕ) (l : Locals) → (s.client c).begun ≡ j → (s.client c).stage ≡ between l → (names : List ℕ)
+          → hands names (s.client c) ≡ 0
       empty_hands zero l b at names =
           total_none _ names (λ h. let none = (k.idle c b).1 h in hand_none (s.client c) h none.0 none.1)
       empty_hands (suc j) l b at names =
@@ -334,13 +352,16 @@ module _ (p : ProgramShape) (sound : IsSound p) (mode : Mode) (code : ℕ → Cl
             (tree_within p.objects (text_of p t) l (sound_block p c b sound less some).body)
 
         asking : IsAsking (tree_of code size t l)
-        asking = code_asks p mode c (code c) sound (codes.own c less) b (longest (code c).blocks) l some (longest_covers (code c).blocks b)
+        asking =
+            code_asks p mode c (code c) sound (codes.own c less) b (longest (code c).blocks) l some (longest_covers (code c).blocks b)
 
         begun_falls : Falls names r.client 0 (in_block names (block_load (text_of p t)) (record (s.client c) { begun = suc b }))
-        begun_falls = settle_falls names (settings_of code size c) t (tree_of code size t l) (record (s.client c) { begun = suc b }) (block_load (text_of p t)) most asking
+        begun_falls =
+            settle_falls names (settings_of code size c) t (tree_of code size t l) (record (s.client c) { begun = suc b }) (block_load (text_of p t)) most asking
 
         longer : r.client.begun ≡ suc b
-        longer = settle_begun (settings_of code size c) t names (tree_of code size t l) (record (s.client c) { begun = suc b })
+        longer =
+            settle_begun (settings_of code size c) t names (tree_of code size t l) (record (s.client c) { begun = suc b })
 
         last : suc b - 1 ≡ b
         last = omega arith
@@ -349,9 +370,11 @@ module _ (p : ProgramShape) (sound : IsSound p) (mode : Mode) (code : ℕ → Cl
         zero_first x = omega arith
 
         before : cost_of c (s.client c) (left.need c) ≡ left_from (client_at p c).blocks b
-        before = ap (λ pl. place_cost (names_of c) (s.client c) (left.need c) pl + left_from (client_at p c).blocks b) at ∙ zero_first (left_from (client_at p c).blocks b)
+        before =
+            ap (λ pl. place_cost (names_of c) (s.client c) (left.need c) pl + left_from (client_at p c).blocks b) at ∙ zero_first (left_from (client_at p c).blocks b)
 
-        after : (need : ℕ) → cost_of c r.client need ≡ place_cost names r.client need r.client.stage + left_from (client_at p c).blocks (suc b)
+        after : (need : ℕ)
+            → cost_of c r.client need ≡ place_cost names r.client need r.client.stage + left_from (client_at p c).blocks (suc b)
         after need =
             ap (λ b. cost_with c r.client need b) longer
             ∙ ap (λ i. place_cost (reserved_of code size (ticket c i)) r.client need r.client.stage + left_from (client_at p c).blocks (suc b)) last
@@ -368,7 +391,8 @@ module _ (p : ProgramShape) (sound : IsSound p) (mode : Mode) (code : ℕ → Cl
             omega (arith, fits, one, long, none, old, new))
             (reserved_changed p s.tickets s.handler s.down names t)
 
-      reserve_less : (s' : Core) → asks_for c ≡ Reserve → reserves_from code size s c (s.client c).stage ≡ Some s' → Less s' n
+      reserve_less : (s' : Core) → asks_for c ≡ Reserve → reserves_from code size s c (s.client c).stage ≡ Some s'
+          → Less s' n
       reserve_less s' act e =
           let at = is_between p sound mode code codes size s y g k c (s.client c).begun refl act in
           subst (λ s. Less s n) (some_is _ s' (sym (ap (reserves_from code size s c) at.1) ∙ e))
@@ -383,7 +407,8 @@ module _ (p : ProgramShape) (sound : IsSound p) (mode : Mode) (code : ℕ → Cl
 
     -- one handler has moved
     module _ (h : ℕ) (inside : h < length p.objects) where
-      handler_moves : (v : Handler) (tickets : ℕ → List Ticket) (down : ℕ → ℕ → List Parcel) → suc (transit p tickets (put s.handler h v) down) ≤ in_transit
+      handler_moves : (v : Handler) (tickets : ℕ → List Ticket) (down : ℕ → ℕ → List Parcel)
+          → suc (transit p tickets (put s.handler h v) down) ≤ in_transit
           → (l : ℕ) × (suc l ≤ n) × LeftOf s.client tickets (put s.handler h v) down l
       handler_moves v tickets down fewer =
           let most = left.most in (
@@ -392,11 +417,13 @@ module _ (p : ProgramShape) (sound : IsSound p) (mode : Mode) (code : ℕ → Cl
             record { need = left.need; needs = left.needs; most = omega arith },
           )
 
-      ticket_less : (ts : List Ticket) (s' : Core) → s.tickets h ≡ ts → takes_ticket code size s h ts ≡ Some s' → Less s' n
+      ticket_less : (ts : List Ticket) (s' : Core) → s.tickets h ≡ ts → takes_ticket code size s h ts ≡ Some s'
+          → Less s' n
       ticket_less [] s' lies e = absurd (cc)
       ticket_less (t ∷ ts) s' lies e = by_next (accept_next (s.handler h) (nexts.Ticket t)) refl e
         where
-          by_next : (o : Option Handler) → accept_next (s.handler h) (nexts.Ticket t) ≡ o → after_handler code size (with_tickets code size s h ts) h o ≡ Some s' → Less s' n
+          by_next : (o : Option Handler) → accept_next (s.handler h) (nexts.Ticket t) ≡ o
+              → after_handler code size (with_tickets code size s h ts) h o ≡ Some s' → Less s' n
           by_next None o e = absurd (cc)
           by_next (Some v) o e =
               let one = handler_changed p (put s.tickets h ts) s.handler s.down h inside v in
@@ -405,11 +432,13 @@ module _ (p : ProgramShape) (sound : IsSound p) (mode : Mode) (code : ℕ → Cl
               let long = ap length lies in
               subst (λ s. Less s n) (some_is _ s' e) (handler_moves v (put s.tickets h ts) s.down (omega (arith, one, other, same_cost, long)))
 
-      parcel_less : (c : ℕ) (ps : List Parcel) (s' : Core) → c < length p.clients → s.down c h ≡ ps → takes_parcel code size s h c ps ≡ Some s' → Less s' n
+      parcel_less : (c : ℕ) (ps : List Parcel) (s' : Core) → c < length p.clients → s.down c h ≡ ps
+          → takes_parcel code size s h c ps ≡ Some s' → Less s' n
       parcel_less c [] s' less lies e = absurd (cc)
       parcel_less c (parcel ∷ ps) s' less lies e = by_next (accept_parcel (s.handler h) parcel) refl e
         where
-          by_next : (o : Option Handler) → accept_parcel (s.handler h) parcel ≡ o → after_handler code size (with_down code size s c h ps) h o ≡ Some s' → Less s' n
+          by_next : (o : Option Handler) → accept_parcel (s.handler h) parcel ≡ o
+              → after_handler code size (with_down code size s c h ps) h o ≡ Some s' → Less s' n
           by_next None o e = absurd (cc)
           by_next (Some v) o e =
               let one = handler_changed p s.tickets s.handler (put_lane s.down c h ps) h inside v in
@@ -418,25 +447,32 @@ module _ (p : ProgramShape) (sound : IsSound p) (mode : Mode) (code : ℕ → Cl
               let long = ap lane_cost lies in
               subst (λ s. Less s n) (some_is _ s' e) (handler_moves v s.tickets (put_lane s.down c h ps) (omega (arith, one, other, paid, long)))
 
-      gave_less : handler_cost (s.handler h) ≡ 1 → handler_cost (gave (s.handler h)) ≡ 0 → (l : ℕ) × (suc l ≤ n) × LeftOf s.client s.tickets (put s.handler h (gave (s.handler h))) s.down l
+      gave_less : handler_cost (s.handler h) ≡ 1 → handler_cost (gave (s.handler h)) ≡ 0
+          → (l : ℕ) × (suc l ≤ n) × LeftOf s.client s.tickets (put s.handler h (gave (s.handler h))) s.down l
       gave_less before after =
           let one = handler_changed p s.tickets s.handler s.down h inside (gave (s.handler h)) in
           handler_moves (gave (s.handler h)) s.tickets s.down (omega (arith, one, before, after))
 
-      give_less : (t : Ticket) (x : HeldState) (o : Option HeldState) (s' : Core) → s.handler h ≡ gives t x → core.gives code size s h t.client x o ≡ Some s' → Less s' n
-      give_less t x None s' v e = subst (λ s. Less s n) (some_is _ s' e) (gave_less (ap handler_cost v) (ap (λ v. handler_cost (gave v)) v))
+      give_less : (t : Ticket) (x : HeldState) (o : Option HeldState) (s' : Core) → s.handler h ≡ gives t x
+          → core.gives code size s h t.client x o ≡ Some s' → Less s' n
+      give_less t x None s' v e =
+          subst (λ s. Less s n) (some_is _ s' e) (gave_less (ap handler_cost v) (ap (λ v. handler_cost (gave v)) v))
       give_less t x (Some z) s' v e = absurd (cc)
 
-      spare_less : (t : Ticket) (x : HeldState) (m : ℕ) (s' : Core) → s.handler h ≡ spares t x m → gives_chunk code size s h t.client ≡ Some s' → Less s' n
+      spare_less : (t : Ticket) (x : HeldState) (m : ℕ) (s' : Core) → s.handler h ≡ spares t x m
+          → gives_chunk code size s h t.client ≡ Some s' → Less s' n
       spare_less t x m s' v e =
           one_of (nat_lt (s.spare t.client h) spare_room) _ s' e (gave_less (ap handler_cost v) (ap (λ v. handler_cost (gave v)) v))
 
-      handler_less : (v : Handler) (s' : Core) → s.handler h ≡ v → handler_step code size s h (handlers.act_of v) ≡ Some s' → Less s' n
+      handler_less : (v : Handler) (s' : Core) → s.handler h ≡ v
+          → handler_step code size s h (handlers.act_of v) ≡ Some s' → Less s' n
       handler_less (free x) s' v e = ticket_less (s.tickets h) s' refl e
-      handler_less (serves t x) s' v e = parcel_less t.client (s.down t.client h) s' (st.handlers.takes h t.client (ap handlers.act_of v)) refl e
+      handler_less (serves t x) s' v e =
+          parcel_less t.client (s.down t.client h) s' (st.handlers.takes h t.client (ap handlers.act_of v)) refl e
       handler_less (spares t x m) s' v e = spare_less t x m s' v e
       handler_less (gives t x) s' v e = give_less t x (s.up t.client h) s' v e
-      handler_less (away t) s' v e = parcel_less t.client (s.down t.client h) s' (st.handlers.takes h t.client (ap handlers.act_of v)) refl e
+      handler_less (away t) s' v e =
+          parcel_less t.client (s.down t.client h) s' (st.handlers.takes h t.client (ap handlers.act_of v)) refl e
       handler_less (closed x) s' v e = absurd (cc)
 
     step_less : (a : Actor) (s' : Core) → core_step code size s a ≡ Some s' → Less s' n
@@ -464,11 +500,14 @@ module _ (p : ProgramShape) (sound : IsSound p) (mode : Mode) (code : ℕ → Cl
   stands_kept : (s : Core) (k : Kept s) → CoreStands p code size s
   stands_kept s k = stands_of p code size s (stands_reached p sound mode code codes size s k.0.0 k.0.1 k.0.2 k.1)
 
-  steps_within : (actors : List Actor) (s : Core) → Kept s → (n : ℕ) → StepsLeft s n → core_steps_made code size actors s ≤ n
+  steps_within : (actors : List Actor) (s : Core) → Kept s → (n : ℕ) → StepsLeft s n
+      → core_steps_made code size actors s ≤ n
   steps_within [] s k n left = omega arith
-  steps_within (a ∷ rest) s k n left = by_step (core_step code size s a) refl (λ s k n left. steps_within rest s k n left)
+  steps_within (a ∷ rest) s k n left =
+      by_step (core_step code size s a) refl (λ s k n left. steps_within rest s k n left)
     where
-      by_step : (o : Option Core) → core_step code size s a ≡ o → ((s : Core) → Kept s → (n : ℕ) → StepsLeft s n → core_steps_made code size rest s ≤ n)
+      by_step : (o : Option Core) → core_step code size s a ≡ o
+          → ((s : Core) → Kept s → (n : ℕ) → StepsLeft s n → core_steps_made code size rest s ≤ n)
           → made o + core_steps_made code size rest (or_stay s o) ≤ n
       by_step None e later = let same = later s k n left in omega (arith, same)
       by_step (Some s') e later =

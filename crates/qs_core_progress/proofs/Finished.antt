@@ -46,12 +46,14 @@ no_tickets (t ∷ ts) e = absurd (let long : length (t ∷ ts) ≡ 0 = grind (ar
 module _ (p : ProgramShape) (sound : IsSound p) (mode : Mode) (code : ℕ → ClientCode) (codes : AreCodes p mode code) (size : ℕ) where
   module _ (s : Core) (st : CoreStands p code size s) (finished : is_finished p s ≡ true) where
     abbrev both : (all_of (is_done p s) (range_with_len 0 (length p.clients)) ≡ true) × (all_of (is_idle p s) (range_with_len 0 (length p.objects)) ≡ true)
-    both = and_cases (all_of (is_done p s) (range_with_len 0 (length p.clients))) (all_of (is_idle p s) (range_with_len 0 (length p.objects))) finished
+    both =
+        and_cases (all_of (is_done p s) (range_with_len 0 (length p.clients))) (all_of (is_idle p s) (range_with_len 0 (length p.objects))) finished
 
     abbrev asks_for : ℕ → Act
     asks_for c = act_of (settings_of code size c) (blocks code size c) (s.client c)
 
-    done_asks : (c : ℕ) (pl : ClientStage) → (s.client c).stage ≡ pl → is_between pl ≡ true → (s.client c).begun ≡ blocks_of p c → asks_for c ≡ Finished
+    done_asks : (c : ℕ) (pl : ClientStage) → (s.client c).stage ≡ pl → is_between pl ≡ true
+        → (s.client c).begun ≡ blocks_of p c → asks_for c ≡ Finished
     done_asks c (between l) at out all =
         let long = blocks_are p sound mode code codes size c in
         let over : nat_lt (s.client c).begun (blocks code size c) ≡ false = rw (all, long) (grind arith) in
@@ -69,8 +71,10 @@ module _ (p : ProgramShape) (sound : IsSound p) (mode : Mode) (code : ℕ → Cl
         let number = parts.1 in
         ap (client_step code size s c) (done_asks c (s.client c).stage refl parts.0 (grind (arith, number)))
 
-    free_none : (h : ℕ) (v : Handler) → s.handler h ≡ v → is_free v ≡ true → s.tickets h ≡ [] → core_step code size s (actor.Handler h) ≡ None
-    free_none h (free x) is whole none = ap (λ v. handler_step code size s h (handlers.act_of v)) is ∙ ap (takes_ticket code size s h) none
+    free_none : (h : ℕ) (v : Handler) → s.handler h ≡ v → is_free v ≡ true → s.tickets h ≡ []
+        → core_step code size s (actor.Handler h) ≡ None
+    free_none h (free x) is whole none =
+        ap (λ v. handler_step code size s h (handlers.act_of v)) is ∙ ap (takes_ticket code size s h) none
     free_none h (serves t x) is never none = absurd (true≢false (sym never))
     free_none h (spares t x n) is never none = absurd (true≢false (sym never))
     free_none h (gives t x) is never none = absurd (true≢false (sym never))
@@ -78,7 +82,8 @@ module _ (p : ProgramShape) (sound : IsSound p) (mode : Mode) (code : ℕ → Cl
     free_none h (closed x) is never none = absurd (true≢false (sym never))
 
     handler_none : (h : ℕ) (b : Bool) → nat_lt h (length p.objects) ≡ b → core_step code size s (actor.Handler h) ≡ None
-    handler_none h false out = free_none h _ (st.others.handler h (grind (arith, out))) refl (st.others.tickets h (grind (arith, out)))
+    handler_none h false out =
+        free_none h _ (st.others.handler h (grind (arith, out))) refl (st.others.tickets h (grind (arith, out)))
     handler_none h true less =
         let idle = all_at (is_idle p s) 0 (length p.objects) h both.1 (omega arith) (let l : h < length p.objects = grind (arith, less) in omega (arith, l)) in
         let parts = and_cases (is_free (s.handler h) && nat_eq (length (s.tickets h)) 0) (all_of (λ c. nat_eq (length (s.down c h)) 0) (range_with_len 0 (length p.clients))) idle in

@@ -77,19 +77,22 @@ module _ (code : ℕ → ClientCode) (size : ℕ) where
     client_acts c (NeedChunk h) s' e = chunk_keeps c h (s.spare c h) s' e
     client_acts c Finished s' e = absurd (cc)
 
-    after_keeps : (a : Core) (h : ℕ) (o : Option Handler) (s' : Core) → IsFull a → after_handler code size a h o ≡ Some s' → IsFull s'
+    after_keeps : (a : Core) (h : ℕ) (o : Option Handler) (s' : Core) → IsFull a
+        → after_handler code size a h o ≡ Some s' → IsFull s'
     after_keeps a h None s' old e = absurd (cc)
     after_keeps a h (Some v) s' old e = subst IsFull (some_is _ s' e) old
 
     ticket_keeps : (h : ℕ) (ts : List Ticket) (s' : Core) → takes_ticket code size s h ts ≡ Some s' → IsFull s'
     ticket_keeps h [] s' e = absurd (cc)
-    ticket_keeps h (t ∷ ts) s' e = after_keeps (with_tickets code size s h ts) h (accept_next (s.handler h) (nexts.Ticket t)) s' k e
+    ticket_keeps h (t ∷ ts) s' e =
+        after_keeps (with_tickets code size s h ts) h (accept_next (s.handler h) (nexts.Ticket t)) s' k e
 
     parcel_keeps : (h c : ℕ) (ps : List Parcel) (s' : Core) → takes_parcel code size s h c ps ≡ Some s' → IsFull s'
     parcel_keeps h c [] s' e = absurd (cc)
     parcel_keeps h c (p ∷ ps) s' e = after_keeps (with_down code size s c h ps) h (accept_parcel (s.handler h) p) s' k e
 
-    give_keeps : (h c : ℕ) (x : HeldState) (o : Option HeldState) (s' : Core) → core.gives code size s h c x o ≡ Some s' → IsFull s'
+    give_keeps : (h c : ℕ) (x : HeldState) (o : Option HeldState) (s' : Core) → core.gives code size s h c x o ≡ Some s'
+        → IsFull s'
     give_keeps h c x None s' e = subst IsFull (some_is _ s' e) k
     give_keeps h c x (Some z) s' e = absurd (cc)
 
@@ -101,17 +104,21 @@ module _ (code : ℕ → ClientCode) (size : ℕ) where
     handler_keeps h acts.Closed s' e = absurd (cc)
 
     step_full : (a : Actor) (s' : Core) → core_step code size s a ≡ Some s' → IsFull s'
-    step_full (actor.Client c) s' e = client_acts c (act_of (settings_of code size c) (blocks code size c) (s.client c)) s' e
+    step_full (actor.Client c) s' e =
+        client_acts c (act_of (settings_of code size c) (blocks code size c) (s.client c)) s' e
     step_full (actor.Handler h) s' e = handler_keeps h (handlers.act_of (s.handler h)) s' e
 
-  stays_full : (s : Core) (o : Option Core) → ((s' : Core) → o ≡ Some s' → AllFull s'.client) → AllFull s.client → AllFull (or_stay s o).client
+  stays_full : (s : Core) (o : Option Core) → ((s' : Core) → o ≡ Some s' → AllFull s'.client) → AllFull s.client
+      → AllFull (or_stay s o).client
   stays_full s None step k = k
   stays_full s (Some s') step k = step s' refl
 
   plays_full : (actors : List Actor) (s : Core) → AllFull s.client → AllFull (core_plays code size actors s).client
   plays_full [] s k = k
-  plays_full (a ∷ rest) s k = plays_full rest (or_stay s (core_step code size s a)) (stays_full s (core_step code size s a) (λ s' e. step_full s k a s' e) k)
+  plays_full (a ∷ rest) s k =
+      plays_full rest (or_stay s (core_step code size s a)) (stays_full s (core_step code size s a) (λ s' e. step_full s k a s' e) k)
 
   -- after every list of actors
-  pub run_full : (program : ProgramShape) (actors : List Actor) → AllFull (core_plays code size actors (core_begin program)).client
+  pub run_full : (program : ProgramShape) (actors : List Actor)
+      → AllFull (core_plays code size actors (core_begin program)).client
   run_full program actors = plays_full actors (core_begin program) (λ c. tt)

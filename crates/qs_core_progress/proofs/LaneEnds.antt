@@ -27,24 +27,29 @@ gives_not_serves x z (o ∷ gave) l = cc (l.2)
 pub asks_not_served : (t : Ticket) (x z : HeldState) (sent : List Parcel) (gots gave : List HeldState) (es : List Event)
     → ClientLane t false sent gots es asks → HandlerLane t false x sent gave (views.serves z) → ⊥
 asks_not_served t x z [] gots gave es k l = cc (k.1)
-asks_not_served t x z (parcels.Work chunk ∷ sent) gots gave es k l = asks_not_served t (ran_all x t chunk.items) z sent gots gave k.0 k.3 l
+asks_not_served t x z (parcels.Work chunk ∷ sent) gots gave es k l =
+    asks_not_served t (ran_all x t chunk.items) z sent gots gave k.0 k.3 l
 asks_not_served t x z (parcels.Home y ∷ sent) gots gave es k l = k
 asks_not_served t x z (parcels.End ∷ sent) gots gave es k l = cc (k.3)
 asks_not_served t x z (parcels.Sync ∷ []) gots gave es k l = gives_not_serves x z gave l
-asks_not_served t x z (parcels.Sync ∷ (parcels.Home y ∷ sent)) gots gave es k l = asks_not_served t y z sent k.1 l.0 k.3 k.7 l.2
+asks_not_served t x z (parcels.Sync ∷ (parcels.Home y ∷ sent)) gots gave es k l =
+    asks_not_served t y z sent k.1 l.0 k.3 k.7 l.2
 asks_not_served t x z (parcels.Sync ∷ (parcels.Work chunk ∷ sent)) gots gave es k l = k
 asks_not_served t x z (parcels.Sync ∷ (parcels.Sync ∷ sent)) gots gave es k l = k
 asks_not_served t x z (parcels.Sync ∷ (parcels.End ∷ sent)) gots gave es k l = k
 
-gives_last : (x z : HeldState) (gots gave up : List HeldState) → HandlerGives x gave (views.gives z) → gave ≡ gots ++ up → up ≡ []
+gives_last : (x z : HeldState) (gots gave up : List HeldState) → HandlerGives x gave (views.gives z) → gave ≡ gots ++ up
+    → up ≡ []
 gives_last x z gots [] up l e = no_more gots up e
 gives_last x z gots (o ∷ gave) up l e = absurd (cc (l.2))
 
 -- where a handler is to give its object, all that it gave was got
 pub gives_up : (t : Ticket) (x z : HeldState) (received way : List Parcel) (gots gave up : List HeldState) (es : List Event) (c : ObjectStance)
-    → ClientLane t false (received ++ way) gots es c → HandlerLane t false x received gave (views.gives z) → gave ≡ gots ++ up → up ≡ []
+    → ClientLane t false (received ++ way) gots es c → HandlerLane t false x received gave (views.gives z)
+    → gave ≡ gots ++ up → up ≡ []
 gives_up t x z [] way gots gave up es c k l e = absurd (cc (l.1))
-gives_up t x z (parcels.Work chunk ∷ received) way gots gave up es c k l e = gives_up t (ran_all x t chunk.items) z received way gots gave up k.0 c k.3 l e
+gives_up t x z (parcels.Work chunk ∷ received) way gots gave up es c k l e =
+    gives_up t (ran_all x t chunk.items) z received way gots gave up k.0 c k.3 l e
 gives_up t x z (parcels.Home y ∷ received) way gots gave up es c k l e = absurd k
 gives_up t x z (parcels.End ∷ received) way gots gave up es c k l e = absurd (cc (l.2))
 gives_up t x z (parcels.Sync ∷ []) way gots gave up es c k l e = gives_last x z gots gave up l e

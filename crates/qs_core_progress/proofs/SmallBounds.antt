@@ -9,7 +9,8 @@ use Rattle.qs_plain_progress.proofs.SmallBounds.{list_few}
 use Rattle.qs_core_progress.specs.CoreSteps.{CoreBoundsAreSmall, core_steps_of_block}
 
 module _ (objects : List Declared) (few : length objects ≤ 8) where
-  blocks_few : (bs : List BlockShape) → AllByRecursion (IsSoundBlock objects) bs → sum_by core_steps_of_block bs ≤ 6 * sum_by block_load bs + 25 * length bs
+  blocks_few : (bs : List BlockShape) → AllByRecursion (IsSoundBlock objects) bs
+      → sum_by core_steps_of_block bs ≤ 6 * sum_by block_load bs + 25 * length bs
   blocks_few [] each = omega arith
   blocks_few (b ∷ bs) each =
       let one = list_few objects few b each.0 in

@@ -67,7 +67,8 @@ back_none [] ys e = sym e
 back_none (x ∷ xs) ys e = absurd (cc)
 
 -- all numbers of a range pass, or there is something else
-all_or : (is : ℕ → Bool) (H : Type 0) (a n : ℕ) → ((i : ℕ) → a ≤ i → i < a + n → (is i ≡ true) ⊎ H) → (all_of is (range_with_len a n) ≡ true) ⊎ H
+all_or : (is : ℕ → Bool) (H : Type 0) (a n : ℕ) → ((i : ℕ) → a ≤ i → i < a + n → (is i ≡ true) ⊎ H)
+    → (all_of is (range_with_len a n) ≡ true) ⊎ H
 all_or is H a zero each = inl refl
 all_or is H a (suc n) each =
     elim (each a (omega arith) (omega arith)) [
@@ -83,7 +84,8 @@ all_pass : (is : ℕ → Bool) (ns : List ℕ) → ((n : ℕ) → is n ≡ true)
 all_pass is [] each = refl
 all_pass is (n ∷ ns) each = rw (each n) (all_pass is ns each)
 
-serves_takes : (t : Ticket) (x : HeldState) (p : Parcel) → IsTrue (may_stand false p) → IsSome (accept_parcel (serves t x) p)
+serves_takes : (t : Ticket) (x : HeldState) (p : Parcel) → IsTrue (may_stand false p)
+    → IsSome (accept_parcel (serves t x) p)
 serves_takes t x (parcels.Work chunk) stands = refl
 serves_takes t x parcels.Sync stands = refl
 serves_takes t x parcels.End stands = refl
@@ -112,15 +114,18 @@ waits_serves t v (inl w) = ap serving w.1
 waits_serves t v (inr w) = ap serving w
 
 waits_not_over : (t : Ticket) (v : Handler) (lent z : HeldState) → WaitsFor t v → stance v lent ≡ views.over z → ⊥
-waits_not_over t v lent z (inl w) e = let is : views.serves w.0 ≡ views.over z = sym (ap (λ v. stance v lent) w.1) ∙ e in cc
-waits_not_over t v lent z (inr w) e = let is : views.lent lent ≡ views.over z = sym (ap (λ v. stance v lent) w) ∙ e in cc
+waits_not_over t v lent z (inl w) e =
+    let is : views.serves w.0 ≡ views.over z = sym (ap (λ v. stance v lent) w.1) ∙ e in cc
+waits_not_over t v lent z (inr w) e =
+    let is : views.lent lent ≡ views.over z = sym (ap (λ v. stance v lent) w) ∙ e in cc
 
 waits_gives_none : (t : Ticket) (v : Handler) (c : ℕ) → WaitsFor t v → to_give_back v c ≡ 0
 waits_gives_none t v c (inl w) = ap (λ v. to_give_back v c) w.1
 waits_gives_none t v c (inr w) = ap (λ v. to_give_back v c) w
 
 -- who needs a chunk has not left
-need_stays : (p : ProgramShape) (t : Ticket) (settings : Settings) (n : ℕ) (m : Client) (pl : ClientStage) (h : ℕ) → act_at settings n m pl ≡ NeedChunk h → standing_at p t m pl h ≡ gone → ⊥
+need_stays : (p : ProgramShape) (t : Ticket) (settings : Settings) (n : ℕ) (m : Client) (pl : ClientStage) (h : ℕ)
+    → act_at settings n m pl ≡ NeedChunk h → standing_at p t m pl h ≡ gone → ⊥
 need_stays p t settings n m (between l) h e left = outside_not_need (nat_lt m.begun n) h e
 need_stays p t settings n m (runs rest) h e left = in_hand_gone (m.held h) (m.chunk h) left
 need_stays p t settings n m (full k rest) h e left = in_hand_gone (m.held h) (m.chunk h) left
@@ -138,11 +143,14 @@ module _ (p : ProgramShape) (sound : IsSound p) (mode : Mode) (code : ℕ → Cl
   inside : (t : Ticket) (h : ℕ) → reserves p t h ≡ true → h < length p.objects
   inside t h e = reserved_inside p sound t h e
 
-  handler_goes : (t : Ticket) (h : ℕ) → reserves p t h ≡ true → IsSome (handler_step code size s h (handlers.act_of (s.handler h))) → Goes
+  handler_goes : (t : Ticket) (h : ℕ) → reserves p t h ≡ true
+      → IsSome (handler_step code size s h (handlers.act_of (s.handler h))) → Goes
   handler_goes t h e some = (actor.Handler h, lt-ltb h (length p.objects) (inside t h e), some)
 
-  client_goes : (c : ℕ) (act : Act) → c < length p.clients → asks_for c ≡ act → IsSome (client_step code size s c act) → Goes
-  client_goes c act less e some = (actor.Client c, lt-ltb c (length p.clients) less, subst (λ act. IsSome (client_step code size s c act)) (sym e) some)
+  client_goes : (c : ℕ) (act : Act) → c < length p.clients → asks_for c ≡ act → IsSome (client_step code size s c act)
+      → Goes
+  client_goes c act less e some =
+      (actor.Client c, lt-ltb c (length p.clients) less, subst (λ act. IsSome (client_step code size s c act)) (sym e) some)
 
   some_after : (a : Core) (h : ℕ) (o : Option Handler) → IsSome o → IsSome (after_handler code size a h o)
   some_after a h None some = absurd (cc)
@@ -162,10 +170,13 @@ module _ (p : ProgramShape) (sound : IsSound p) (mode : Mode) (code : ℕ → Cl
       let sent = (subst (AllByRecursion (λ t. y.sent t h ≡ (g h).received t ++ (g h).way t)) here o.sent).0 in
       let client = (subst (AllByRecursion (λ t. ClientLane t false (y.sent t h) (y.got t h) (part h (y.page t).trace) (y.stands t h))) here (deeds_ok p s y g k h).lane).0 in
       record {
-        handler = (subst (AllByRecursion (λ t. HandlerLane t false (g h).found ((g h).received t) ((g h).gave t) (stance (s.handler h) (g h).lent))) one o.lane).0;
-        gots = (subst (AllByRecursion (λ (t : Ticket). (g h).gave t ≡ y.got t h ++ as_list (s.up t.client h))) one o.gots).0;
+        handler =
+            (subst (AllByRecursion (λ t. HandlerLane t false (g h).found ((g h).received t) ((g h).gave t) (stance (s.handler h) (g h).lent))) one o.lane).0;
+        gots =
+            (subst (AllByRecursion (λ (t : Ticket). (g h).gave t ≡ y.got t h ++ as_list (s.up t.client h))) one o.gots).0;
         client = subst (λ ps. ClientLane t false ps (y.got t h) (part h (y.page t).trace) (y.stands t h)) sent client;
-        down = o.down t.client ∙ (ap (λ q. flat_map (g h).way (filter (λ (u : Ticket). u.client == t.client) q)) here ∙ first);
+        down =
+            o.down t.client ∙ (ap (λ q. flat_map (g h).way (filter (λ (u : Ticket). u.client == t.client) q)) here ∙ first);
       }
     where
       first : flat_map (g h).way (filter (λ (u : Ticket). u.client == t.client) (t ∷ s.tickets h)) ≡ (g h).way t ++ flat_map (g h).way (filter (λ (u : Ticket). u.client == t.client) (s.tickets h))
@@ -178,7 +189,8 @@ module _ (p : ProgramShape) (sound : IsSound p) (mode : Mode) (code : ℕ → Cl
   abbrev takes : ℕ → ℕ → List Parcel → Type 0
   takes h c ps = IsSome (takes_parcel code size s h c ps)
 
-  by_lane : (t : Ticket) (h : ℕ) → reserves p t h ≡ true → WaitsFor t (s.handler h) → handlers.act_of (s.handler h) ≡ acts.TakeParcel t.client
+  by_lane : (t : Ticket) (h : ℕ) → reserves p t h ≡ true → WaitsFor t (s.handler h)
+      → handlers.act_of (s.handler h) ≡ acts.TakeParcel t.client
       → ((parcel : Parcel) → IsTrue (may_stand (is_away (s.handler h)) parcel) → IsSome (accept_parcel (s.handler h) parcel))
       → (ps : List Parcel) → s.down t.client h ≡ ps → Goes ⊎ Waits h t
   by_lane t h mine waits act accepts [] lies = inr (lies, waits)
@@ -188,7 +200,8 @@ module _ (p : ProgramShape) (sound : IsSound p) (mode : Mode) (code : ℕ → Cl
       inl (handler_goes t h mine (subst (λ act. IsSome (handler_step code size s h act)) (sym act) (subst (takes h t.client) (sym lies) taken)))
 
   -- the first at a handler: the handler has a step, or waits for its client
-  by_handler : (t : Ticket) (us : List Ticket) (h : ℕ) → reserves p t h ≡ true → (v : Handler) → s.handler h ≡ v → serving v ++ s.tickets h ≡ t ∷ us → Goes ⊎ Waits h t
+  by_handler : (t : Ticket) (us : List Ticket) (h : ℕ) → reserves p t h ≡ true → (v : Handler) → s.handler h ≡ v
+      → serving v ++ s.tickets h ≡ t ∷ us → Goes ⊎ Waits h t
   by_handler t us h mine (free x) is first =
       let taken : IsSome (takes_ticket code size s h (t ∷ us)) = subst (λ v. IsSome (after_handler code size (with_tickets code size s h us) h (accept_next v (nexts.Ticket t)))) (sym is) refl in
       inl (handler_goes t h mine (subst (λ v. IsSome (handler_step code size s h (handlers.act_of v))) (sym is) (subst (λ ts. IsSome (takes_ticket code size s h ts)) (sym first) taken)))
@@ -218,11 +231,13 @@ module _ (p : ProgramShape) (sound : IsSound p) (mode : Mode) (code : ℕ → Cl
       inl (handler_goes t h mine (subst (λ v. IsSome (handler_step code size s h (handlers.act_of v))) (sym is) (subst (λ o. IsSome (core.gives code size s h u.client x o)) (sym none) refl)))
   by_handler t us h mine (closed x) is first = absurd ((k.objects h).opened x is)
 
-  first_goes : (t : Ticket) (us : List Ticket) (h : ℕ) → reserves p t h ≡ true → before_it s h ≡ t ∷ us → Goes ⊎ Waits h t
+  first_goes : (t : Ticket) (us : List Ticket) (h : ℕ) → reserves p t h ≡ true → before_it s h ≡ t ∷ us
+      → Goes ⊎ Waits h t
   first_goes t us h mine first = by_handler t us h mine (s.handler h) refl first
 
   -- the client for which a handler waits has not sent its end
-  taken_all : (h : ℕ) (t : Ticket) → Waits h t → ClientLane t false ((g h).received t) (y.got t h) (part h (y.page t).trace) (y.stands t h)
+  taken_all : (h : ℕ) (t : Ticket) → Waits h t
+      → ClientLane t false ((g h).received t) (y.got t h) (part h (y.page t).trace) (y.stands t h)
   taken_all h t w =
       let m = meets h t (waits_serves t (s.handler h) w.1) in
       let none : (g h).way t ≡ [] = front_none ((g h).way t) (flat_map (g h).way (filter (λ (u : Ticket). u.client == t.client) (s.tickets h))) (sym m.down ∙ w.0) in
@@ -236,7 +251,8 @@ module _ (p : ProgramShape) (sound : IsSound p) (mode : Mode) (code : ℕ → Cl
       waits_not_over t (s.handler h) (g h).lent over.0 w.1 over.1
 
   -- so it is in this block
-  waits_in_block : (h : ℕ) (t : Ticket) → Among t s.order → reserves p t h ≡ true → Waits h t → (s.client t.client).begun ≡ suc t.index
+  waits_in_block : (h : ℕ) (t : Ticket) → Among t s.order → reserves p t h ≡ true → Waits h t
+      → (s.client t.client).begun ≡ suc t.index
   waits_in_block h t among mine w =
       let low : suc t.index ≤ (s.client t.client).begun = each_among (λ (t : Ticket). suc t.index ≤ (s.client t.client).begun) t s.order k.below among in
       ⊎_elim
@@ -247,7 +263,8 @@ module _ (p : ProgramShape) (sound : IsSound p) (mode : Mode) (code : ℕ → Cl
       (num_cases (s.client t.client).begun (suc t.index))
 
   is_client : (t : Ticket) → Among t s.order → t.client < length p.clients
-  is_client t among = (each_among (λ (t : Ticket). (t.client < length p.clients) × (t.index < (s.client t.client).begun)) t s.order st.tickets.order among).0
+  is_client t among =
+      (each_among (λ (t : Ticket). (t.client < length p.clients) × (t.index < (s.client t.client).begun)) t s.order st.tickets.order among).0
 
   -- where a client's object is that it waits for
   asked : (h : ℕ) (t : Ticket) → Waits h t → y.stands t h ≡ asks → (x : HeldState) × (s.up t.client h ≡ Some x)
@@ -259,7 +276,8 @@ module _ (p : ProgramShape) (sound : IsSound p) (mode : Mode) (code : ℕ → Cl
       all : ClientLane t false ((g h).received t) (y.got t h) (part h (y.page t).trace) (y.stands t h)
       all = taken_all h t w
 
-      by_where : Where [] (as_list (s.up t.client h)) (y.stands t h) (g h).lent → (x : HeldState) × (s.up t.client h ≡ Some x)
+      by_where : Where [] (as_list (s.up t.client h)) (y.stands t h) (g h).lent
+          → (x : HeldState) × (s.up t.client h ≡ Some x)
       by_where (inl is) = ((g h).lent, as_list_some (s.up t.client h) (g h).lent is.1)
       by_where (inr (inl is)) = absurd (let no : asks ≡ views.holds is.2.0 = sym stands ∙ is.2.1 in cc)
       by_where (inr (inr is)) = absurd (let no = is.2 in cc)
@@ -296,8 +314,10 @@ module _ (p : ProgramShape) (sound : IsSound p) (mode : Mode) (code : ℕ → Cl
       place = k.places c n begun
 
       by_act : (act : Act) → asks_for c ≡ act → ((l : Locals) × ((s.client c).stage ≡ between l)) ⊎ Due c (ticket c n)
-      by_act Reserve e = inl (reserve_at p (ticket c n) (y.sent (ticket c n)) (y.got (ticket c n)) (settings_of code size c) (blocks code size c) (s.client c) (y.page (ticket c n)) (s.client c).stage place e)
-      by_act Finished e = inl (finished_at p (ticket c n) (y.sent (ticket c n)) (y.got (ticket c n)) (settings_of code size c) (blocks code size c) (s.client c) (y.page (ticket c n)) (s.client c).stage place (fulls c) e)
+      by_act Reserve e =
+          inl (reserve_at p (ticket c n) (y.sent (ticket c n)) (y.got (ticket c n)) (settings_of code size c) (blocks code size c) (s.client c) (y.page (ticket c n)) (s.client c).stage place e)
+      by_act Finished e =
+          inl (finished_at p (ticket c n) (y.sent (ticket c n)) (y.got (ticket c n)) (settings_of code size c) (blocks code size c) (s.client c) (y.page (ticket c n)) (s.client c).stage place (fulls c) e)
       by_act (Send h parcel) e =
           let at = send_at p (ticket c n) (y.sent (ticket c n)) (y.got (ticket c n)) (settings_of code size c) (blocks code size c) (s.client c) (y.page (ticket c n)) (s.client c).stage place h parcel e in
           inr (record { object = h; mine = at.0; stays = λ left. at.1 (sym (k.stands c n begun h) ∙ left); deed = sending parcel e })
@@ -310,7 +330,8 @@ module _ (p : ProgramShape) (sound : IsSound p) (mode : Mode) (code : ℕ → Cl
           inr (record {
             object = h;
             mine = mine;
-            stays = λ left. need_stays p (ticket c n) (settings_of code size c) (blocks code size c) (s.client c) (s.client c).stage h e (sym (k.stands c n begun h) ∙ left);
+            stays =
+                λ left. need_stays p (ticket c n) (settings_of code size c) (blocks code size c) (s.client c) (s.client c).stage h e (sym (k.stands c n begun h) ∙ left);
             deed = needing e;
           })
 
@@ -331,7 +352,8 @@ module _ (p : ProgramShape) (sound : IsSound p) (mode : Mode) (code : ℕ → Cl
           let way : chunks_in (s.down t.client h) ≡ 0 = ap chunks_in w.0 in
           let back : to_give_back (s.handler h) t.client ≡ 0 = waits_gives_none t (s.handler h) t.client w.1 in
           absurd (omega (arith, all, hand, way, back, none))
-      by_spare (suc n) some = client_goes t.client (NeedChunk h) less e (subst (λ n. IsSome (takes_chunk code size s t.client h n)) (sym some) refl)
+      by_spare (suc n) some =
+          client_goes t.client (NeedChunk h) less e (subst (λ n. IsSome (takes_chunk code size s t.client h n)) (sym some) refl)
 
   -- from some tickets on: at an object those before that have left it, and those that are left are before it
   record Left (ts : List Ticket) (h : ℕ) : Type 0 where
@@ -381,10 +403,12 @@ module _ (p : ProgramShape) (sound : IsSound p) (mode : Mode) (code : ℕ → Cl
         ]
 
     here_goes : (h : ℕ) (us : List Ticket) → reserves p t h ≡ true → before_it s h ≡ t ∷ us → Goes
-    here_goes h us mine first = elim (first_goes t us h mine first) [ inl goes ↦ goes | inr waits ↦ waits_goes h mine waits ]
+    here_goes h us mine first =
+        elim (first_goes t us h mine first) [ inl goes ↦ goes | inr waits ↦ waits_goes h mine waits ]
 
     -- through the objects of its list
-    through : (ks : List ℕ) → ((h : ℕ) → is_in ks h ≡ true → reserves p t h ≡ true) → Goes ⊎ ((h : ℕ) → is_in ks h ≡ true → Left ts h)
+    through : (ks : List ℕ) → ((h : ℕ) → is_in ks h ≡ true → reserves p t h ≡ true)
+        → Goes ⊎ ((h : ℕ) → is_in ks h ≡ true → Left ts h)
     through [] mine = inr (λ h e. absurd (cc))
     through (j ∷ ks) mine =
         let here = mine j (rw (eqb_self j) refl) in
@@ -417,7 +441,8 @@ module _ (p : ProgramShape) (sound : IsSound p) (mode : Mode) (code : ℕ → Cl
         by_test false e = passed t ts h e (left h)
 
   -- through the order
-  walk : (ts : List Ticket) → ((t : Ticket) → Among t ts → Among t s.order) → ((h : ℕ) → Left ts h) → Goes ⊎ ((h : ℕ) → before_it s h ≡ [])
+  walk : (ts : List Ticket) → ((t : Ticket) → Among t ts → Among t s.order) → ((h : ℕ) → Left ts h)
+      → Goes ⊎ ((h : ℕ) → before_it s h ≡ [])
   walk [] inner left = inr (λ h. back_none (left h).served (before_it s h) (left h).mine)
   walk (t ∷ ts) inner left =
       elim (through t ts (inner t (inl refl)) left (text_of p t).reserved (λ h e. e)) [
@@ -464,7 +489,8 @@ module _ (p : ProgramShape) (sound : IsSound p) (mode : Mode) (code : ℕ → Cl
             let all : (s.client c).begun ≡ blocks_of p c = grind (arith, e, most, long) in
             inl (rw (out.1, all) (eqb_self (blocks_of p c)))
 
-    rests : (h : ℕ) (v : Handler) → s.handler h ≡ v → serving v ++ s.tickets h ≡ [] → (is_free (s.handler h) ≡ true) × (s.tickets h ≡ [])
+    rests : (h : ℕ) (v : Handler) → s.handler h ≡ v → serving v ++ s.tickets h ≡ []
+        → (is_free (s.handler h) ≡ true) × (s.tickets h ≡ [])
     rests h (free x) is e = (ap is_free is, e)
     rests h (serves t x) is e = absurd (cc)
     rests h (spares t x n) is e = absurd (cc)
@@ -473,7 +499,8 @@ module _ (p : ProgramShape) (sound : IsSound p) (mode : Mode) (code : ℕ → Cl
     rests h (closed x) is e = absurd ((k.objects h).opened x is)
 
     lane_empty : (h c : ℕ) → s.down c h ≡ []
-    lane_empty h c = (k.objects h).down c ∙ ap (λ q. flat_map (g h).way (filter (λ (t : Ticket). t.client == c) q)) (none h)
+    lane_empty h c =
+        (k.objects h).down c ∙ ap (λ q. flat_map (g h).way (filter (λ (t : Ticket). t.client == c) q)) (none h)
 
     idle : (h : ℕ) → is_idle p s h ≡ true
     idle h =
@@ -491,7 +518,8 @@ module _ (p : ProgramShape) (sound : IsSound p) (mode : Mode) (code : ℕ → Cl
   pub goes_on : (is_finished p s ≡ true) ⊎ Goes
   goes_on = elim (walk s.order (λ t a. a) all_left) [ inl some ↦ inr some | inr none ↦ last_case none ]
 
-pub stands_of : (p : ProgramShape) (code : ℕ → ClientCode) (size : ℕ) (s : Core) → ReachedCore p code size s → CoreStands p code size s
+pub stands_of : (p : ProgramShape) (code : ℕ → ClientCode) (size : ℕ) (s : Core) → ReachedCore p code size s
+    → CoreStands p code size s
 unfolding ReachedCore
 stands_of p code size s r = r
 

@@ -32,7 +32,8 @@ total_apart f g k (h ∷ hs) same out =
     tail true e = absurd (true≢false e)
     tail false e = e
 
-pub total_changed : (may : ℕ → Bool) (f g : ℕ → ℕ) (k : ℕ) (hs : List ℕ) → Lined may hs → SameApart k f g → is_in hs k ≡ true → total g hs + f k ≡ total f hs + g k
+pub total_changed : (may : ℕ → Bool) (f g : ℕ → ℕ) (k : ℕ) (hs : List ℕ) → Lined may hs → SameApart k f g
+    → is_in hs k ≡ true → total g hs + f k ≡ total f hs + g k
 total_changed may f g k [] lined same e = absurd (cc)
 total_changed may f g k (h ∷ hs) lined same e =
     ⊎_elim
@@ -93,7 +94,8 @@ below_listed [] n = let none = zeros n in omega (arith, none)
     zeros : (n : ℕ) → below (λ i. 0) n ≡ 0
     zeros zero = refl
     zeros (suc n) = let ih = zeros n in omega (arith, ih)
-below_listed (h ∷ hs) n = let both = split n in let one = once n in let others = below_listed hs n in omega (arith, both, one, others)
+below_listed (h ∷ hs) n =
+    let both = split n in let one = once n in let others = below_listed hs n in omega (arith, both, one, others)
   where
     either : (a b : Bool) → one_if (a || b) ≤ one_if (a) + one_if (b)
     either true true = omega arith
@@ -101,13 +103,15 @@ below_listed (h ∷ hs) n = let both = split n in let one = once n in let others
     either false true = omega arith
     either false false = omega arith
 
-    split : (n : ℕ) → below (λ i. one_if (is_in (h ∷ hs) i)) n ≤ below (λ i. one_if (h == i)) n + below (λ i. one_if (is_in hs i)) n
+    split : (n : ℕ)
+        → below (λ i. one_if (is_in (h ∷ hs) i)) n ≤ below (λ i. one_if (h == i)) n + below (λ i. one_if (is_in hs i)) n
     split zero = omega arith
     split (suc n) = let ih = split n in let one = either (h == n) (is_in hs n) in omega (arith, ih, one)
 
     none_yet : (n : ℕ) → n ≤ h → below (λ i. one_if (h == i)) n ≡ 0
     none_yet zero low = refl
-    none_yet (suc n) low = let ih = none_yet n (omega (arith, low)) in let one : one_if (h == n) ≡ 0 = apart (h == n) refl in omega (arith, ih, one)
+    none_yet (suc n) low =
+        let ih = none_yet n (omega (arith, low)) in let one : one_if (h == n) ≡ 0 = apart (h == n) refl in omega (arith, ih, one)
       where
         apart : (b : Bool) → (h == n) ≡ b → one_if (b) ≡ 0
         apart true e = absurd (let is : h ≡ n = grind (arith, e) in omega (arith, is, low))
