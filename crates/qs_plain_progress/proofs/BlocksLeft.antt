@@ -1,4 +1,5 @@
--- What is left of a client's blocks from one of them on, where each block counts for some number: that block's, and what is left after it.
+-- What is left of a client's blocks from one of them on, where each block counts for some number: that block's, and
+-- what is left after it.
 use Rattle.std.proofs.Common.{◌≡◌, ◌<◌, ◌∙◌, ◌+◌, ℕ, zero, suc, List, [], ◌∷◌, length, get_or, sum_by, refl, sym, ap, arith}
 use Rattle.std.proofs.lemmas.List.Sums.{sum_by-cons}
 use Rattle.qs_program.specs.Program.{BlockShape, no_block}
@@ -10,7 +11,8 @@ module _ (each : BlockShape → ℕ) where
   left_by (b ∷ bs) zero = each b + left_by bs zero
   left_by (b ∷ bs) (suc k) = left_by bs k
 
-  pub left_one : (bs : List BlockShape) (k : ℕ) → k < length bs → left_by bs k ≡ each (get_or bs k no_block) + left_by bs (suc k)
+  pub left_one : (bs : List BlockShape) (k : ℕ) → k < length bs
+      → left_by bs k ≡ each (get_or bs k no_block) + left_by bs (suc k)
   left_one [] k less = absurd (omega (arith, less))
   left_one (b ∷ bs) zero less = refl
   left_one (b ∷ bs) (suc k) less = left_one bs k (omega (arith, less))

@@ -1,7 +1,8 @@
 -- Enough rounds finish every machine that is never stuck, stays where it is finished, and makes no more steps than a
 -- bound. In a list in which everyone has a turn, as a round is, and before which all is not finished, somebody has a
--- step: for somebody could go on at its beginning, and either one before him had a step or he finds the state as it was.
--- So as many steps were made as there were such lists; but there are no more than the bound, and one more could follow.
+-- step: for somebody could go on at its beginning, and either one before him had a step or he finds the state as it
+-- was. So as many steps were made as there were such lists; but there are no more than the bound, and one more could
+-- follow.
 use Rattle.std.proofs.Common.{◌≡◌, ◌<◌, ◌≤◌, ◌∙◌, ◌⊎◌, inl, inr, ⊎_elim, ℕ, zero, suc, ◌+◌, ◌==◌, Bool, true, false, true≢false, List, [], ◌∷◌, ◌++◌, Option, None, Some, IsSome, map, length, append_assoc, append-nil, flat_map, refl, sym, ap, subst, arith}
 use Rattle.std.specs.List.{AllByRecursion, range_with_len}
 use Rattle.qs_objects.proofs.Choices.{apart_eqb, num_cases}
@@ -19,7 +20,9 @@ one_of_numbers : (f : ℕ → Actor) (from n c : ℕ) → from ≤ c → c < fro
 one_of_numbers f from zero c low high = absurd (omega (arith, low, high))
 one_of_numbers f from (suc n) c low high = ⊎_elim
     (λ (is : c ≡ from). inl (ap f is))
-    (λ (other : (c == from) ≡ false). inr (one_of_numbers f (from + 1) n c (let differs = apart_eqb c from other in omega (arith, low, differs)) (omega (arith, high))))
+    (λ (other : (c == from) ≡ false). inr
+    (one_of_numbers f (from + 1) n c (let differs = apart_eqb c from other in omega (arith, low, differs))
+    (omega (arith, high))))
     (num_cases c from)
 
 one_of_first : (a : Actor) (xs ys : List Actor) → IsOneOf a xs → IsOneOf a (xs ++ ys)
@@ -33,10 +36,12 @@ one_of_last a (x ∷ xs) ys i = inr (one_of_last a xs ys i)
 
 in_round : (p : ProgramShape) → HasEveryone p (actors_of p)
 in_round p (actor.Client c) named =
-    one_of_first (actor.Client c) (map actor.Client (range_with_len 0 (length p.clients))) (map actor.Handler (range_with_len 0 (length p.objects)))
+    one_of_first (actor.Client c) (map actor.Client (range_with_len 0 (length p.clients)))
+    (map actor.Handler (range_with_len 0 (length p.objects)))
     (one_of_numbers actor.Client 0 (length p.clients) c (omega arith) (grind (arith, named)))
 in_round p (actor.Handler h) named =
-    one_of_last (actor.Handler h) (map actor.Client (range_with_len 0 (length p.clients))) (map actor.Handler (range_with_len 0 (length p.objects)))
+    one_of_last (actor.Handler h) (map actor.Client (range_with_len 0 (length p.clients)))
+    (map actor.Handler (range_with_len 0 (length p.objects)))
     (one_of_numbers actor.Handler 0 (length p.objects) h (omega arith) (grind (arith, named)))
 
 -- ---- steps in lists of actors
@@ -46,7 +51,8 @@ module _ {S : Type 0} (p : ProgramShape) (step : S → Actor → Option S) where
   one_made None some = absurd (true≢false (sym some))
   one_made (Some t) some = refl
 
-  some_made : (s : S) (a : Actor) (actors : List Actor) → IsOneOf a actors → IsSome (step s a) → 1 ≤ steps_made_by step actors s
+  some_made : (s : S) (a : Actor) (actors : List Actor) → IsOneOf a actors → IsSome (step s a)
+      → 1 ≤ steps_made_by step actors s
   some_made s a [] i some = absurd i
   some_made s a (b ∷ rest) i some = by_step (step s b) refl (some_made s a rest)
     where
@@ -84,10 +90,12 @@ module _ {S : Type 0} (p : ProgramShape) (step : S → Actor → Option S) where
     count actors = steps_made_by step actors begin
 
     module _ (stay : (actors : List Actor) → IsOver actors → (a : Actor) → step (after actors) a ≡ None)
-        (stuck : (actors : List Actor) → IsOver actors ⊎ ((a : Actor) × (names_actor p a ≡ true) × IsSome (step (after actors) a)))
+        (stuck : (actors : List Actor)
+        → IsOver actors ⊎ ((a : Actor) × (names_actor p a ≡ true) × IsSome (step (after actors) a)))
         (most : ℕ) (bounded : (actors : List Actor) → count actors ≤ most) where
       still_over : (xs ys : List Actor) → IsOver xs → IsOver (xs ++ ys)
-      still_over xs ys is = subst (λ s. over s ≡ true) (sym (plays_joined xs ys begin ∙ plays_nothing (after xs) ys (stay xs is))) is
+      still_over xs ys is =
+          subst (λ s. over s ≡ true) (sym (plays_joined xs ys begin ∙ plays_nothing (after xs) ys (stay xs is))) is
 
       -- after a list in which everyone has a turn all is finished, or a step was made
       one_turn : (xs turn : List Actor) → HasEveryone p turn
