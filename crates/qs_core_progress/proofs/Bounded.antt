@@ -1,5 +1,6 @@
--- A run of the optimised machine makes no more steps than its blocks have. What is left is counted: of the block that each client is in
--- (`ClientCosts`), of its blocks to come, and of what handlers have still to take and to give. Each step leaves one less.
+-- A run of the optimised machine makes no more steps than its blocks have. What is left is counted: of the block that
+-- each client is in (`ClientCosts`), of its blocks to come, and of what handlers have still to take and to give. Each
+-- step leaves one less.
 use Rattle.std.proofs.Common.{◌≡◌, ◌<◌, ◌≤◌, ◌∙◌, ◌+◌, ◌-◌, ◌==◌, ℕ, zero, suc, nat_lt, Bool, true, false, if◌then◌else◌, List, [], ◌∷◌, ◌++◌, Option, Some, None, length, get_or, sum_by, refl, sym, ap, ap₂, subst, ⊎_elim, inl, inr, arith}
 use Rattle.std.proofs.lemmas.List.{length-append}
 use Rattle.std.proofs.lemmas.List.Sums.{sum_by-cons}

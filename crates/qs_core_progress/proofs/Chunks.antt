@@ -1,6 +1,7 @@
--- The chunks of each lane are four in all: in the client's hand, in the lane, in the handler's hand, and empty in the spare queue. So where
--- a client finds none that is empty, there is one in the lane or with the handler; and where a handler gives one back, there is room for it.
--- Each step keeps this. A step changes what is counted of one lane; elsewhere the counts stay.
+-- The chunks of each lane are four in all: in the client's hand, in the lane, in the handler's hand, and empty in the
+-- spare queue. So where a client finds none that is empty, there is one in the lane or with the handler; and where a
+-- handler gives one back, there is room for it. Each step keeps this. A step changes what is counted of one lane;
+-- elsewhere the counts stay.
 use Rattle.std.proofs.Common.{◌≡◌, ◌⊎◌, ◌+◌, ◌-◌, inl, inr, ℕ, zero, suc, nat_lt, ◌==◌, ◌&&◌, is_some, Bool, true, false, if◌then◌else◌, List, [], ◌∷◌, ◌++◌, length, refl, sym, ap, ◌∙◌, subst, ⊎_elim, Option, Some, None, ℤ, arith}
 use Rattle.qs_objects.specs.Journals.{HeldState, run_one}
 use Rattle.qs_objects.specs.declared.held.Ticket.{Ticket}

@@ -1,7 +1,8 @@
--- How many steps are left of the block that a client of the optimised machine is in, its own and those that handlers make of what it sends. Each
--- request that it can still make counts six: a query wants at most a Sync, the object and its way home, and a command at most a chunk. An
--- object that it holds counts two, for its way home; an open chunk three; and each object of the list two, for its end. What a client does to
--- its own values takes nothing more, and each of its acts, with what a handler makes of the parcel, is paid.
+-- How many steps are left of the block that a client of the optimised machine is in, its own and those that handlers
+-- make of what it sends. Each request that it can still make counts six: a query wants at most a Sync, the object and
+-- its way home, and a command at most a chunk. An object that it holds counts two, for its way home; an open chunk
+-- three; and each object of the list two, for its end. What a client does to its own values takes nothing more, and
+-- each of its acts, with what a handler makes of the parcel, is paid.
 use Rattle.std.proofs.Common.{◌≡◌, ◌≤◌, ◌+◌, ◌*◌, ◌-◌, ◌==◌, ◌&&◌, is_some, nat_lt, ℕ, suc, ℤ, Bool, true, false, if◌then◌else◌, List, [], ◌∷◌, ◌++◌, Option, Some, None, length, refl, sym, ap, subst, arith}
 use Rattle.qs_objects.specs.Journals.{HeldState, run_one}
 use Rattle.qs_objects.specs.declared.held.Ticket.{Ticket}

@@ -1,5 +1,6 @@
--- Where all is finished nobody has a step: each client stands behind its last block, and each handler is free with no ticket before it. So
--- enough rounds finish, as for every machine that is never stuck and makes few steps (`Rounds` of `qs_plain_progress`).
+-- Where all is finished nobody has a step: each client stands behind its last block, and each handler is free with no
+-- ticket before it. So enough rounds finish, as for every machine that is never stuck and makes few steps (`Rounds` of
+-- `qs_plain_progress`).
 use Rattle.std.proofs.Common.{◌≡◌, ◌<◌, ◌≤◌, ◌∙◌, ◌&&◌, ⊎_elim, ℕ, zero, suc, ◌+◌, ◌==◌, Bool, true, false, true≢false, if◌then◌else◌, nat_eq, nat_lt, List, [], ◌∷◌, None, length, refl, sym, ap, subst, arith}
 use Rattle.std.specs.List.{range_with_len}
 use Rattle.qs_objects.specs.declared.held.Ticket.{Ticket}
@@ -16,7 +17,7 @@ use Rattle.qs_client_run.specs.declared.act.Act.{Act}
 use Rattle.qs_client_run.specs.declared.act.Act.TheVariants.{Reserve, Finished}
 use Rattle.qs_played.specs.declared.schedule.actor.Actor.{Actor}
 use Rattle.qs_played.specs.declared.schedule.actor.Actor.TheVariants as actor
-use Rattle.qs_plain_progress.proofs.Rounds.{enough}
+use Rattle.qs_plain_progress.proofs.Rounds.{enough_rounds}
 use Rattle.qs_protocol.proofs.ActObjects.{between_acts}
 use Rattle.qs_core_laws.specs.Core.{Core, AreCodes, blocks, client_step, core_begin, core_step, handler_step, settings_of, takes_ticket}
 use Rattle.qs_core_laws.specs.CoreReached.{CoreStands}
@@ -97,7 +98,8 @@ module _ (p : ProgramShape) (sound : IsSound p) (mode : Mode) (code : ℕ → Cl
 pub core_finished_stay : CoreFinishedRunsStay
 core_finished_stay p sound mode code codes size actors finished a =
     let s = core_plays code size actors (core_begin p) in
-    nobody_steps p sound mode code codes size s (stands_of p code size s (reached_keeps p sound mode code codes size actors)) finished a
+    let stands = stands_of p code size s (reached_keeps p sound mode code codes size actors) in
+    nobody_steps p sound mode code codes size s stands finished a
 
 pub core_rounds_finish : CoreEnoughRoundsFinish
 unfolding core_scheduled
@@ -106,5 +108,7 @@ core_rounds_finish p sound mode size picks rounds many shown played =
     let code = run.0 in
     let codes = run.1 in
     ap (λ r. r.finished) run.2
-    ∙ enough p (core_step code size) (core_begin p) (is_finished p) (λ actors over. core_finished_stay p sound mode code codes size actors over)
-    (core_runs_never_stuck p sound mode code codes size) (most_core_steps_of p) (core_steps_bounded p sound mode code codes size) picks rounds many
+    ∙ enough_rounds p (core_step code size) (core_begin p) (is_finished p)
+    (λ actors over. core_finished_stay p sound mode code codes size actors over)
+    (core_runs_never_stuck p sound mode code codes size)
+    (most_core_steps_of p) (core_steps_bounded p sound mode code codes size) picks rounds many

@@ -1,5 +1,6 @@
--- In each state that the optimised machine comes to, a client that stands with a full chunk has that chunk. So a client without an act is
--- between two blocks. Each step of a client keeps it, by the lemmas on clients, and a handler's step changes no client.
+-- In each state that the optimised machine comes to, a client that stands with a full chunk has that chunk. So a client
+-- without an act is between two blocks. Each step of a client keeps it, by the lemmas on clients, and a handler's step
+-- changes no client.
 use Rattle.std.proofs.Common.{◌≡◌, ◌-◌, ℕ, zero, suc, nat_lt, Bool, true, false, if◌then◌else◌, List, [], ◌∷◌, length, refl, subst, Option, Some, None}
 use Rattle.qs_objects.specs.Journals.{HeldState}
 use Rattle.qs_objects.specs.declared.held.Ticket.{Ticket}

@@ -1,6 +1,6 @@
--- Both ends of a lane, compared, where the handler has taken all that was sent. A client that asked for the object was heard: the handler
--- does not serve on. A handler that is to give its object has given nothing that still lies there. The proofs go by induction on what the
--- handler received, where each Sync is met by an object that was given.
+-- Both ends of a lane, compared, where the handler has taken all that was sent. A client that asked for the object was
+-- heard: the handler does not serve on. A handler that is to give its object has given nothing that still lies there.
+-- The proofs go by induction on what the handler received, where each Sync is met by an object that was given.
 use Rattle.std.proofs.Common.{◌≡◌, false, List, [], ◌∷◌, ◌++◌, sym, ap, ◌∙◌}
 use Rattle.qs_objects.specs.Journals.{HeldState}
 use Rattle.qs_objects.specs.declared.held.Event.{Event}

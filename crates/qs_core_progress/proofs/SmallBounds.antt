@@ -1,4 +1,5 @@
--- The steps of a checked program's blocks in the optimised machine are few: its load is limited, it has few blocks, and a list names few objects.
+-- The steps of a checked program's blocks in the optimised machine are few: its load is limited, it has few blocks, and
+-- a list names few objects.
 use Rattle.std.proofs.Common.{◌≤◌, ◌+◌, ◌*◌, List, [], ◌∷◌, length, sum_by, arith}
 use Rattle.std.proofs.lemmas.List.Sums.{sum_by-cons}
 use Rattle.std.specs.List.{AllByRecursion}

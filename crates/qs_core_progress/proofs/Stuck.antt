@@ -1,8 +1,9 @@
--- A run of the optimised machine is never stuck. The tickets of the order are gone through from the first on, as long as each was served at all of
--- its handlers. The first that is left at some handler is the first there. If that handler has a step, all is well. If it has none, it waits
--- for a parcel, and the lane from the ticket's client is empty; so the client has not sent its end, and is in this block. Whatever it does
--- next there is at a handler where it has not sent its end either, so the ticket is first there too: that handler has a step, or the lane to it
--- is empty, and then the client has one. With no ticket left nothing lies anywhere, so a client with a block left has a step.
+-- A run of the optimised machine is never stuck. The tickets of the order are gone through from the first on, as long
+-- as each was served at all of its handlers. The first that is left at some handler is the first there. If that handler
+-- has a step, all is well. If it has none, it waits for a parcel, and the lane from the ticket's client is empty; so
+-- the client has not sent its end, and is in this block. Whatever it does next there is at a handler where it has not
+-- sent its end either, so the ticket is first there too: that handler has a step, or the lane to it is empty, and then
+-- the client has one. With no ticket left nothing lies anywhere, so a client with a block left has a step.
 use Rattle.std.proofs.Common.{◌≡◌, ◌<◌, ◌≤◌, ◌∙◌, ◌==◌, ◌⊎◌, ◌||◌, ◌+◌, append-nil, inl, inr, ⊎_elim, ℕ, zero, suc, Bool, true, false, true≢false, if◌then◌else◌, nat_lt, nat_eq, List, [], ◌∷◌, ◌++◌, Option, Some, None, IsSome, IsTrue, filter, flat_map, length, refl, sym, ap, subst, arith}
 use Rattle.std.proofs.lemmas.Bool.{lt-ltb}
 use Rattle.std.specs.List.{AllByRecursion, range_with_len}

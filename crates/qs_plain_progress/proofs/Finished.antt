@@ -9,7 +9,7 @@ use Rattle.qs_plain_laws.specs.PlainSchedule.{all_done, all_idle, is_done, is_fi
 use Rattle.qs_plain_progress.specs.Finishing.{EnoughRoundsFinish, FairRunsFinish, FinishedRunsStay}
 use Rattle.qs_plain_progress.specs.Steps.{most_steps_of}
 use Rattle.qs_plain_progress.proofs.Bounded.{steps_bounded}
-use Rattle.qs_plain_progress.proofs.Rounds.{enough, enough_turns}
+use Rattle.qs_plain_progress.proofs.Rounds.{enough_rounds, enough_turns}
 use Rattle.qs_plain_progress.proofs.Stuck.{runs_never_stuck}
 
 done_at : (p : ProgramShape) (cs : List Client) (from c : ℕ) → c < length cs → all_done p from cs ≡ true
@@ -64,10 +64,11 @@ pub rounds_finish : EnoughRoundsFinish
 unfolding scheduled
 rounds_finish p sound picks rounds many shown played =
     ap (λ r. r.finished) played.2
-    ∙ enough p (step p) (begin p) (is_finished p) (λ actors over. finished_stay p (plays p actors (begin p)) over)
+    ∙ enough_rounds p (step p) (begin p) (is_finished p)
+    (λ actors over. finished_stay p (plays p actors (begin p)) over)
     (runs_never_stuck p sound) (most_steps_of p) (steps_bounded p sound) picks rounds many
 
 pub fair_finish : FairRunsFinish
 fair_finish p sound turns each many =
     enough_turns p (step p) (begin p) (is_finished p) (λ actors over. finished_stay p (plays p actors (begin p)) over)
-    (runs_never_stuck p sound) (most_steps_of p) (steps_bounded p sound) turns each many
+    (runs_never_stuck p sound) (most_steps_of p) (steps_bounded p sound) [] turns each many

@@ -1,8 +1,8 @@
 -- Enough rounds finish every machine that is never stuck, stays where it is finished, and makes no more steps than a
--- bound. In a list in which everyone has a turn, as a round is, and before which all is not finished, somebody has a
--- step: for somebody could go on at its beginning, and either one before him had a step or he finds the state as it
--- was. So as many steps were made as there were such lists; but there are no more than the bound, and one more could
--- follow.
+-- bound. In a list in which everyone has a turn, and before which all is not finished, somebody has a step: for somebody
+-- could go on at its beginning, and either one before him had a step or he finds the state as it was. So as many steps
+-- were made as there were such lists; but there are no more than the bound, and one more could follow. A round is such a
+-- list.
 use Rattle.std.proofs.Common.{◌≡◌, ◌<◌, ◌≤◌, ◌∙◌, ◌⊎◌, inl, inr, ⊎_elim, ℕ, zero, suc, ◌+◌, ◌==◌, Bool, true, false, true≢false, List, [], ◌∷◌, ◌++◌, Option, None, Some, IsSome, map, length, append_assoc, append-nil, flat_map, refl, sym, ap, subst, arith}
 use Rattle.std.specs.List.{AllByRecursion, range_with_len}
 use Rattle.qs_objects.proofs.Choices.{apart_eqb, num_cases}
@@ -20,9 +20,9 @@ one_of_numbers : (f : ℕ → Actor) (from n c : ℕ) → from ≤ c → c < fro
 one_of_numbers f from zero c low high = absurd (omega (arith, low, high))
 one_of_numbers f from (suc n) c low high = ⊎_elim
     (λ (is : c ≡ from). inl (ap f is))
-    (λ (other : (c == from) ≡ false). inr
-    (one_of_numbers f (from + 1) n c (let differs = apart_eqb c from other in omega (arith, low, differs))
-    (omega (arith, high))))
+    (λ (other : (c == from) ≡ false).
+    let differs = apart_eqb c from other in
+    inr (one_of_numbers f (from + 1) n c (omega (arith, low, differs)) (omega (arith, high))))
     (num_cases c from)
 
 one_of_first : (a : Actor) (xs ys : List Actor) → IsOneOf a xs → IsOneOf a (xs ++ ys)
@@ -35,14 +35,47 @@ one_of_last a [] ys i = i
 one_of_last a (x ∷ xs) ys i = inr (one_of_last a xs ys i)
 
 in_round : (p : ProgramShape) → HasEveryone p (actors_of p)
-in_round p (actor.Client c) named =
-    one_of_first (actor.Client c) (map actor.Client (range_with_len 0 (length p.clients)))
-    (map actor.Handler (range_with_len 0 (length p.objects)))
-    (one_of_numbers actor.Client 0 (length p.clients) c (omega arith) (grind (arith, named)))
-in_round p (actor.Handler h) named =
-    one_of_last (actor.Handler h) (map actor.Client (range_with_len 0 (length p.clients)))
-    (map actor.Handler (range_with_len 0 (length p.objects)))
-    (one_of_numbers actor.Handler 0 (length p.objects) h (omega arith) (grind (arith, named)))
+in_round p a named = by_kind a named
+  where
+    clients : List Actor
+    clients = map actor.Client (range_with_len 0 (length p.clients))
+
+    handlers : List Actor
+    handlers = map actor.Handler (range_with_len 0 (length p.objects))
+
+    by_kind : (a : Actor) → names_actor p a ≡ true → IsOneOf a (clients ++ handlers)
+    by_kind (actor.Client c) named =
+        one_of_first (actor.Client c) clients handlers
+        (one_of_numbers actor.Client 0 (length p.clients) c (omega arith) (grind (arith, named)))
+    by_kind (actor.Handler h) named =
+        one_of_last (actor.Handler h) clients handlers
+        (one_of_numbers actor.Handler 0 (length p.objects) h (omega arith) (grind (arith, named)))
+
+-- ---- rounds as a list of lists
+
+abbrev joined : List (List Actor) → List Actor
+joined turns = flat_map (λ turn. turn) turns
+
+abbrev repeated : ℕ → List Actor → List (List Actor)
+repeated zero turn = []
+repeated (suc n) turn = turn ∷ repeated n turn
+
+one_before : (n : ℕ) (turn : List Actor) → turn ++ rounds_of n turn ≡ rounds_of (suc n) turn
+one_before zero turn = append-nil turn
+one_before (suc n) turn =
+    sym (append_assoc turn (rounds_of n turn) turn) ∙ ap (λ xs. xs ++ turn) (one_before n turn)
+
+rounds_joined : (n : ℕ) (turn : List Actor) → joined (repeated n turn) ≡ rounds_of n turn
+rounds_joined zero turn = refl
+rounds_joined (suc n) turn = ap (λ xs. turn ++ xs) (rounds_joined n turn) ∙ one_before n turn
+
+repeated_all : (P : List Actor → Type 0) (n : ℕ) (turn : List Actor) → P turn → AllByRecursion P (repeated n turn)
+repeated_all P zero turn one = tt
+repeated_all P (suc n) turn one = (one, repeated_all P n turn one)
+
+repeated_many : (n : ℕ) (turn : List Actor) → length (repeated n turn) ≡ n
+repeated_many zero turn = refl
+repeated_many (suc n) turn = ap suc (repeated_many n turn)
 
 -- ---- steps in lists of actors
 
@@ -77,7 +110,7 @@ module _ {S : Type 0} (p : ProgramShape) (step : S → Actor → Option S) where
   plays_nothing s [] none = refl
   plays_nothing s (a ∷ rest) none = ap (λ o. plays_by step rest (or_stay s o)) (none a) ∙ plays_nothing s rest none
 
-  -- ---- rounds
+  -- ---- enough lists in which everyone has a turn, and enough rounds
 
   module _ (begin : S) (over : S → Bool) where
     abbrev after : List Actor → S
@@ -109,9 +142,6 @@ module _ {S : Type 0} (p : ProgramShape) (step : S → Actor → Option S) where
             omega (arith, both, one))
       ]
 
-      abbrev joined : List (List Actor) → List Actor
-      joined turns = flat_map (λ turn. turn) turns
-
       turns_on : (xs : List Actor) (turns : List (List Actor)) → AllByRecursion (HasEveryone p) turns
           → IsOver (xs ++ joined turns) ⊎ (length turns + count xs ≤ count (xs ++ joined turns))
       turns_on xs [] each = inr (subst (λ ys. 0 + count xs ≤ count ys) (sym (append-nil xs)) (omega arith))
@@ -127,19 +157,6 @@ module _ {S : Type 0} (p : ProgramShape) (step : S → Actor → Option S) where
                 ]
           ])
 
-      rounds_on : (picks : List Actor) (n : ℕ) → IsOver (schedule p picks n) ⊎ (n ≤ count (schedule p picks n))
-      rounds_on picks zero = inr (omega arith)
-      rounds_on picks (suc n) =
-          subst (λ xs. IsOver xs ⊎ (suc n ≤ count xs)) (append_assoc picks (rounds_of n (actors_of p)) (actors_of p))
-          (elim (rounds_on picks n) [
-            | inl is ↦ inl (still_over (schedule p picks n) (actors_of p) is)
-            | inr many ↦
-                elim (one_turn (schedule p picks n) (actors_of p) (in_round p)) [
-                  | inl is ↦ inl is
-                  | inr more ↦ inr (omega (arith, many, more))
-                ]
-          ])
-
       -- with as many steps as there can be, nobody has one more
       none_more : (xs : List Actor) → most ≤ count xs → IsOver xs
       none_more xs many = elim (stuck xs) [
@@ -152,15 +169,17 @@ module _ {S : Type 0} (p : ProgramShape) (step : S → Actor → Option S) where
             omega (arith, joined, one, few, many))
       ]
 
-      pub enough : (picks : List Actor) (n : ℕ) → most ≤ n → IsOver (schedule p picks n)
-      enough picks n many = elim (rounds_on picks n) [
+      -- after any picks
+      pub enough_turns : (picks : List Actor) (turns : List (List Actor)) → AllByRecursion (HasEveryone p) turns
+          → most ≤ length turns → IsOver (picks ++ joined turns)
+      enough_turns picks turns each many = elim (turns_on picks turns each) [
         | inl is ↦ is
-        | inr more ↦ none_more (schedule p picks n) (omega (arith, many, more))
+        | inr more ↦ none_more (picks ++ joined turns) (omega (arith, many, more))
       ]
 
-      pub enough_turns : (turns : List (List Actor)) → AllByRecursion (HasEveryone p) turns → most ≤ length turns
-          → IsOver (joined turns)
-      enough_turns turns each many = elim (turns_on [] turns each) [
-        | inl is ↦ is
-        | inr more ↦ none_more (joined turns) (omega (arith, many, more))
-      ]
+      pub enough_rounds : (picks : List Actor) (n : ℕ) → most ≤ n → IsOver (schedule p picks n)
+      enough_rounds picks n many =
+          let long = repeated_many n (actors_of p) in
+          subst (λ rounds. IsOver (picks ++ rounds)) (rounds_joined n (actors_of p))
+          (enough_turns picks (repeated n (actors_of p)) (repeated_all (HasEveryone p) n (actors_of p) (in_round p))
+          (omega (arith, long, many)))
