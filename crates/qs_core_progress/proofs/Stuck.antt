@@ -4,7 +4,7 @@
 -- the client has not sent its end, and is in this block. Whatever it does next there is at a handler where it has not
 -- sent its end either, so the ticket is first there too: that handler has a step, or the lane to it is empty, and then
 -- the client has one. With no ticket left nothing lies anywhere, so a client with a block left has a step.
-use Rattle.std.proofs.Common.{◌≡◌, ◌<◌, ◌≤◌, ◌∙◌, ◌==◌, ◌⊎◌, ◌||◌, ◌+◌, append-nil, inl, inr, ⊎_elim, ℕ, zero, suc, Bool, true, false, true≢false, if◌then◌else◌, nat_lt, nat_eq, List, [], ◌∷◌, ◌++◌, Option, Some, None, IsSome, IsTrue, filter, flat_map, length, refl, sym, ap, subst, arith}
+use Rattle.std.proofs.Common.{◌≡◌, ◌<◌, ◌≤◌, ◌∙◌, ◌==◌, ◌⊎◌, ◌+◌, append-nil, inl, inr, ⊎_elim, ℕ, zero, suc, Bool, true, false, if◌then◌else◌, nat_lt, nat_eq, List, [], ◌∷◌, ◌++◌, Option, Some, None, IsSome, IsTrue, filter, flat_map, length, refl, sym, ap, subst, arith}
 use Rattle.std.proofs.lemmas.Bool.{lt-ltb}
 use Rattle.std.specs.List.{AllByRecursion, range_with_len}
 use Rattle.qs_objects.specs.Journals.{HeldState}
@@ -12,11 +12,10 @@ use Rattle.qs_objects.specs.Parts.{part}
 use Rattle.qs_objects.specs.declared.held.Ticket.{Ticket}
 use Rattle.qs_objects.specs.declared.held.Next.TheVariants as nexts
 use Rattle.qs_objects.proofs.Choices.{apart_eqb, eqb_self, num_cases}
-use Rattle.qs_program.specs.Program.{ProgramShape, blocks_of, text_of}
-use Rattle.qs_program.specs.Sound.{IsSound, is_in}
+use Rattle.qs_program.specs.Program.{ProgramShape, blocks_of}
+use Rattle.qs_program.specs.Sound.{IsSound}
 use Rattle.qs_program.specs.Values.{Locals}
 use Rattle.qs_meaning.specs.Following.{reserves}
-use Rattle.qs_meaning.proofs.Each.{each_map, each_unfiltered, every}
 use Rattle.qs_meaning.proofs.Histories.{Among}
 use Rattle.qs_syncset.specs.declared.mode.Mode.{Mode}
 use Rattle.qs_syncset.specs.Codes.{ClientCode}
@@ -36,7 +35,7 @@ use Rattle.qs_played.specs.Played.{ticket}
 use Rattle.qs_played.specs.declared.schedule.actor.Actor.TheVariants as actor
 use Rattle.qs_played.proofs.Orders.{each_among, legal_among}
 use Rattle.qs_played.proofs.ReservedObjects.{reserved_inside}
-use Rattle.qs_plain_progress.proofs.Stuck.{head_of_all}
+use Rattle.qs_plain_progress.proofs.FirstLeft.{IsFirstLeft, all_over, goes_or_none}
 use Rattle.qs_protocol.proofs.ActKinds.{clears_not_need, in_hand_gone, outside_not_need}
 use Rattle.qs_protocol.proofs.ActObjects.{await_at, between_acts, need_at, reserve_at, send_at}
 use Rattle.qs_protocol.proofs.ClientInvariants.{PlaceOk, standing_at}
@@ -62,10 +61,6 @@ use Rattle.qs_core_progress.proofs.LaneEnds.{asks_not_served, gives_up}
 front_none : {X : Type 0} (xs ys : List X) → xs ++ ys ≡ [] → xs ≡ []
 front_none [] ys e = refl
 front_none (x ∷ xs) ys e = absurd (cc)
-
-back_none : {X : Type 0} (xs ys : List X) → [] ≡ xs ++ ys → ys ≡ []
-back_none [] ys e = sym e
-back_none (x ∷ xs) ys e = absurd (cc)
 
 -- all numbers of a range pass, or there is something else
 all_or : (is : ℕ → Bool) (H : Type 0) (a n : ℕ) → ((i : ℕ) → a ≤ i → i < a + n → (is i ≡ true) ⊎ H)
@@ -356,41 +351,21 @@ module _ (p : ProgramShape) (sound : IsSound p) (mode : Mode) (code : ℕ → Cl
       by_spare (suc n) some =
           client_goes t.client (NeedChunk h) less e (subst (λ n. IsSome (takes_chunk code size s t.client h n)) (sym some) refl)
 
-  -- from some tickets on: at an object those before that have left it, and those that are left are before it
-  record Left (ts : List Ticket) (h : ℕ) : Type 0 where
-    pub served : List Ticket
-    pub over : AllByRecursion (λ t. y.stands t h ≡ gone) served
-    pub mine : filter (λ t. reserves p t h) ts ≡ served ++ before_it s h
-
-  all_left : (h : ℕ) → Left s.order h
-  all_left h = record { served = (g h).past; over = past_left p sound s y g k h; mine = (k.objects h).split }
-
-  -- the first ticket is the first before its object, or was served there
-  first_or_served : (t : Ticket) (ts : List Ticket) (h : ℕ) → reserves p t h ≡ true → Left (t ∷ ts) h
-      → ((us : List Ticket) × (before_it s h ≡ t ∷ us)) ⊎ ((y.stands t h ≡ gone) × Left ts h)
-  first_or_served t ts h e left =
-      let cut : filter (λ t. reserves p t h) (t ∷ ts) ≡ t ∷ filter (λ t. reserves p t h) ts = rw e refl in
-      elim (head_of_all left.served (filter (λ t. reserves p t h) ts) t (before_it s h) (sym cut ∙ left.mine)) [
-        | inl is ↦ inl (filter (λ t. reserves p t h) ts, is)
-        | inr x ↦ inr (let o = subst (AllByRecursion (λ t. y.stands t h ≡ gone)) x.1 left.over in (o.0, record { served = x.0; over = o.1; mine = x.2 }))
-      ]
-
-  passed : (t : Ticket) (ts : List Ticket) (h : ℕ) → reserves p t h ≡ false → Left (t ∷ ts) h → Left ts h
-  passed t ts h e left =
-      let cut : filter (λ t. reserves p t h) (t ∷ ts) ≡ filter (λ t. reserves p t h) ts = rw e refl in
-      record { served = left.served; over = left.over; mine = sym cut ∙ left.mine }
+  -- whether a ticket is over at an object: its client has left it
+  abbrev IsOver : ℕ → Ticket → Type 0
+  IsOver h t = y.stands t h ≡ gone
 
   -- a ticket that is the first one left of all
-  module _ (t : Ticket) (ts : List Ticket) (among : Among t s.order) (left : (h : ℕ) → Left (t ∷ ts) h) where
+  module _ (t : Ticket) (among : Among t s.order) (left : IsFirstLeft p (before_it s) IsOver t) where
     due_goes : Due t.client t → Goes
     due_goes d =
-        elim (first_or_served t ts d.object d.mine (left d.object)) [
+        elim (left d.object d.mine) [
           | inl first ↦
               elim (first_goes t first.0 d.object d.mine first.1) [
                 | inl goes ↦ goes
                 | inr waits ↦ deed_goes d.object t (is_client t among) waits d.deed
               ]
-          | inr over ↦ absurd (d.stays over.0)
+          | inr over ↦ absurd (d.stays over)
         ]
 
     -- its client has not left where a handler waits for it
@@ -407,60 +382,11 @@ module _ (p : ProgramShape) (sound : IsSound p) (mode : Mode) (code : ℕ → Cl
     here_goes h us mine first =
         elim (first_goes t us h mine first) [ inl goes ↦ goes | inr waits ↦ waits_goes h mine waits ]
 
-    -- through the objects of its list
-    through : (ks : List ℕ) → ((h : ℕ) → is_in ks h ≡ true → reserves p t h ≡ true)
-        → Goes ⊎ ((h : ℕ) → is_in ks h ≡ true → Left ts h)
-    through [] mine = inr (λ h e. absurd (cc))
-    through (j ∷ ks) mine =
-        let here = mine j (rw (eqb_self j) refl) in
-        elim (first_or_served t ts j here (left j)) [
-          | inl first ↦ inl (here_goes j first.0 here first.1)
-          | inr over ↦
-              elim (through ks (λ h e. mine h (later h (j == h) e))) [
-                | inl found ↦ inl found
-                | inr others ↦ inr (λ h e. ⊎_elim
-                    (λ (is : j ≡ h). subst (Left ts) is over.1)
-                    (λ (other : (j == h) ≡ false). others h (rest_of h (j == h) other e))
-                    (num_cases j h))
-              ]
-        ]
-      where
-        later : (h : ℕ) (b : Bool) → is_in ks h ≡ true → (b || is_in ks h) ≡ true
-        later h true e = refl
-        later h false e = e
-
-        rest_of : (h : ℕ) (b : Bool) → b ≡ false → (b || is_in ks h) ≡ true → is_in ks h ≡ true
-        rest_of h true apart e = absurd (true≢false apart)
-        rest_of h false apart e = e
-
-    -- served at all of them, it is left behind
-    all_passed : ((h : ℕ) → is_in (text_of p t).reserved h ≡ true → Left ts h) → (h : ℕ) → Left ts h
-    all_passed each h = by_test (reserves p t h) refl
-      where
-        by_test : (b : Bool) → reserves p t h ≡ b → Left ts h
-        by_test true e = each h e
-        by_test false e = passed t ts h e (left h)
-
-  -- through the order
-  walk : (ts : List Ticket) → ((t : Ticket) → Among t ts → Among t s.order) → ((h : ℕ) → Left ts h)
-      → Goes ⊎ ((h : ℕ) → before_it s h ≡ [])
-  walk [] inner left = inr (λ h. back_none (left h).served (before_it s h) (left h).mine)
-  walk (t ∷ ts) inner left =
-      elim (through t ts (inner t (inl refl)) left (text_of p t).reserved (λ h e. e)) [
-        | inl found ↦ inl found
-        | inr each ↦ walk ts (λ u a. inner u (inr a)) (all_passed t ts (inner t (inl refl)) left each)
-      ]
-
   -- where no ticket is left at an object, those that reserve it have left it
   served_all : (h : ℕ) (t : Ticket) → before_it s h ≡ [] → Among t s.order → reserves p t h ≡ true → y.stands t h ≡ gone
-  served_all h t none a e =
-      let past : filter (λ u. reserves p u h) s.order ≡ (g h).past = (k.objects h).split ∙ (ap (λ q. (g h).past ++ q) none ∙ append-nil (g h).past) in
-      let over : AllByRecursion (λ u. y.stands u h ≡ gone) (filter (λ u. reserves p u h) s.order) = subst (AllByRecursion (λ u. y.stands u h ≡ gone)) (sym past) (past_left p sound s y g k h) in
-      each_among (λ u. reserves p u h ≡ true → y.stands u h ≡ gone) t s.order
-      (each_unfiltered (λ u. reserves p u h ≡ true → y.stands u h ≡ gone) (λ u. reserves p u h) s.order
-      (each_map (λ u d m. d) (filter (λ u. reserves p u h) s.order) over)
-      (every (λ u apart some. absurd (true≢false (sym some ∙ apart))) s.order))
-      a e
+  served_all h t none a mine =
+      all_over p (before_it s) IsOver s.order (λ h. (g h).past)
+      (past_left p sound s y g k) (λ h. (k.objects h).split) h t none a mine
 
   -- then all is done, or a client has a step
   module _ (none : (h : ℕ) → before_it s h ≡ []) where
@@ -517,7 +443,12 @@ module _ (p : ProgramShape) (sound : IsSound p) (mode : Mode) (code : ℕ → Cl
         elim (all_or (is_done p s) Goes 0 (length p.clients) (λ c low high. fate c (omega (arith, high)))) [ inl all ↦ inl (rw (all, idles) refl) | inr some ↦ inr some ]
 
   pub goes_on : (is_finished p s ≡ true) ⊎ Goes
-  goes_on = elim (walk s.order (λ t a. a) all_left) [ inl some ↦ inr some | inr none ↦ last_case none ]
+  goes_on =
+      elim (goes_or_none p (before_it s) IsOver s.order (λ h. (g h).past)
+      (past_left p sound s y g k) (λ h. (k.objects h).split) Goes here_goes) [
+        | inl some ↦ inr some
+        | inr none ↦ last_case none
+      ]
 
 pub stands_of : (p : ProgramShape) (code : ℕ → ClientCode) (size : ℕ) (s : Core) → ReachedCore p code size s
     → CoreStands p code size s

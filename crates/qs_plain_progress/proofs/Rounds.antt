@@ -1,8 +1,8 @@
 -- Enough rounds finish every machine that is never stuck, stays where it is finished, and makes no more steps than a
--- bound. In a list in which everyone has a turn, and before which all is not finished, somebody has a step: for somebody
--- could go on at its beginning, and either one before him had a step or he finds the state as it was. So as many steps
--- were made as there were such lists; but there are no more than the bound, and one more could follow. A round is such a
--- list.
+-- bound. In a list in which everyone has a turn, and before which all is not finished, somebody has a step: for
+-- somebody could go on at its beginning, and either one before him had a step or he finds the state as it was. So as
+-- many steps were made as there were such lists; but there are no more than the bound, and one more could follow. A
+-- round is such a list.
 use Rattle.std.proofs.Common.{◌≡◌, ◌<◌, ◌≤◌, ◌∙◌, ◌⊎◌, inl, inr, ⊎_elim, ℕ, zero, suc, ◌+◌, ◌==◌, Bool, true, false, true≢false, List, [], ◌∷◌, ◌++◌, Option, None, Some, IsSome, map, length, append_assoc, append-nil, flat_map, refl, sym, ap, subst, arith}
 use Rattle.std.specs.List.{AllByRecursion, range_with_len}
 use Rattle.qs_objects.proofs.Choices.{apart_eqb, num_cases}
@@ -163,10 +163,10 @@ module _ {S : Type 0} (p : ProgramShape) (step : S → Actor → Option S) where
         | inl is ↦ is
         | inr (a, named, some) ↦
             absurd
-            (let joined = steps_joined xs (a ∷ []) begin in
+            (let both = steps_joined xs (a ∷ []) begin in
             let one = one_made (step (after xs) a) some in
             let few = bounded (xs ++ a ∷ []) in
-            omega (arith, joined, one, few, many))
+            omega (arith, both, one, few, many))
       ]
 
       -- after any picks

@@ -3,21 +3,19 @@
 -- private queue has an item, the handler has a step. If it has none, the client is in the ticket's block, and has a
 -- step there; or it waits for a query, and the query lies first at the handler that was asked, where all earlier
 -- tickets were served too. With no ticket left, nobody waits, so a client with a block left has a step.
-use Rattle.std.proofs.Common.{◌≡◌, ◌<◌, ◌≤◌, ◌∙◌, ◌==◌, ◌⊎◌, ◌||◌, ◌+◌, append-nil, inl, inr, ⊎_elim, ℕ, zero, suc, Bool, true, false, true≢false, if◌then◌else◌, nat_lt, ℤ, List, [], ◌∷◌, ◌++◌, None, IsSome, filter, map, length, get_or, refl, sym, ap, subst, arith}
+use Rattle.std.proofs.Common.{◌≡◌, ◌<◌, ◌≤◌, ◌∙◌, ◌==◌, ◌⊎◌, ◌+◌, inl, inr, ⊎_elim, ℕ, zero, suc, Bool, true, false, if◌then◌else◌, nat_lt, ℤ, List, [], ◌∷◌, ◌++◌, None, IsSome, map, length, get_or, refl, sym, ap, subst, arith}
 use Rattle.std.proofs.lemmas.Bool.{lt-ltb}
-use Rattle.std.specs.List.{AllByRecursion}
 use Rattle.qs_objects.specs.declared.held.Ticket.{Ticket}
 use Rattle.qs_objects.specs.declared.Request.{Request}
 use Rattle.qs_objects.proofs.Choices.{eqb_self, num_cases}
 use Rattle.qs_program.specs.Program.{ProgramShape, blocks_of, text_of}
-use Rattle.qs_program.specs.Sound.{IsSound, is_in}
+use Rattle.qs_program.specs.Sound.{IsSound}
 use Rattle.qs_program.specs.Values.{Locals}
 use Rattle.qs_meaning.specs.BlockRecords.{IsBlockRecord, IsDone}
 use Rattle.qs_meaning.specs.Following.{AsksOnly, reserves}
 use Rattle.qs_meaning.specs.Interaction.{Interaction, Query}
 use Rattle.qs_meaning.specs.Serial.{LegalFrom}
 use Rattle.qs_meaning.specs.Solo.{put}
-use Rattle.qs_meaning.proofs.Each.{each_map, each_unfiltered, every}
 use Rattle.qs_meaning.proofs.Histories.{Among, done_of}
 use Rattle.qs_played.specs.Played.{ticket}
 use Rattle.qs_played.specs.Schedule.{names_actor}
@@ -34,6 +32,7 @@ use Rattle.qs_plain_laws.proofs.ServedRuns.{IsServedRun, ServedRun}
 use Rattle.qs_plain_laws.proofs.ServedRunMoves.{asks_left}
 use Rattle.qs_plain_laws.proofs.Simulation.{Simulates, StandsAt, private, tail}
 use Rattle.qs_plain_progress.specs.Progress.{CanGoOn, NeverStuck}
+use Rattle.qs_plain_progress.proofs.FirstLeft.{IsFirstLeft, all_over, goes_or_none}
 
 -- a handler whose first private queue has an item has a step
 item_steps : (s : Plain) (h : ℕ) (it : Handler) (q : Private) (qs : List Private) (i : QueueItem) (is : List QueueItem)
@@ -41,15 +40,6 @@ item_steps : (s : Plain) (h : ℕ) (it : Handler) (q : Private) (qs : List Priva
 item_steps s h it q qs (item.Command r) is = refl
 item_steps s h it q qs (item.Query r) is = refl
 item_steps s h it q qs item.EndMark is = refl
-
--- where a list that is all of one part or another is
-pub head_of_all : {X : Type 0} (xs ys : List X) (y : X) (zs : List X) → y ∷ ys ≡ xs ++ zs
-    → (zs ≡ y ∷ ys) ⊎ ((later : List X) × (xs ≡ y ∷ later) × (ys ≡ later ++ zs))
-head_of_all [] ys y zs e = inl (sym e)
-head_of_all (x ∷ xs) ys y zs e =
-    let first : x ≡ y = cc in
-    let rest : ys ≡ xs ++ zs = cc in
-    inr (xs, ap (λ x. x ∷ xs) first, rest)
 
 -- all clients done, or somebody has a step
 each_done : (p : ProgramShape) (H : Type 0) (cs : List Client) (from : ℕ)
@@ -87,37 +77,18 @@ module _ (p : ProgramShape) (sound : IsSound p) (s : Plain) (k : RunInvariant p 
   abbrev sim : Simulates v w
   sim = k.kept.2
 
-  -- from some tickets on: at an object those before that were all served, and those that are left are the last of them
-  record Left (ts : List Ticket) (h : ℕ) : Type 0 where
-    pub served : List Ticket
-    pub over : AllByRecursion (done_of w.page) served
-    pub mine : filter (λ t. reserves p t h) ts ≡ served ++ (w.service h).queue
+  -- the tickets that are left at an object, and whether one is over
+  abbrev line : ℕ → List Ticket
+  line h = (w.service h).queue
 
-  all_left : (h : ℕ) → Left w.order h
-  all_left h = record { served = (w.service h).past; over = (ok.services h).over; mine = (ok.services h).mine }
+  abbrev IsOver : ℕ → Ticket → Type 0
+  IsOver h t = done_of w.page t
 
   inside : (t : Ticket) (h : ℕ) → reserves p t h ≡ true → h < length p.objects
   inside t h e = in_list p (text_of p t).reserved h (reserved_list p sound t).within e
 
   handler_named : (t : Ticket) (h : ℕ) → reserves p t h ≡ true → names_actor p (actor.Handler h) ≡ true
   handler_named t h e = lt-ltb h (length p.objects) (inside t h e)
-
-  -- the first ticket is the first in its object's line, or was served there
-  first_or_served : (t : Ticket) (ts : List Ticket) (h : ℕ) → reserves p t h ≡ true → Left (t ∷ ts) h
-      → ((us : List Ticket) × ((w.service h).queue ≡ t ∷ us)) ⊎ (done_of w.page t × Left ts h)
-  first_or_served t ts h e left =
-      let cut : filter (λ t. reserves p t h) (t ∷ ts) ≡ t ∷ filter (λ t. reserves p t h) ts = rw e refl in
-      elim (head_of_all left.served (filter (λ t. reserves p t h) ts) t (w.service h).queue (sym cut ∙ left.mine)) [
-        | inl is ↦ inl (filter (λ t. reserves p t h) ts, is)
-        | inr x ↦
-            let all = subst (AllByRecursion (done_of w.page)) x.1 left.over in
-            inr (all.0, record { served = x.0; over = all.1; mine = x.2 })
-      ]
-
-  passed : (t : Ticket) (ts : List Ticket) (h : ℕ) → reserves p t h ≡ false → Left (t ∷ ts) h → Left ts h
-  passed t ts h e left =
-      let cut : filter (λ t. reserves p t h) (t ∷ ts) ≡ filter (λ t. reserves p t h) ts = rw e refl in
-      record { served = left.served; over = left.over; mine = sym cut ∙ left.mine }
 
   -- a ticket of the order is of a client of the program, and its block is one of the client's
   legal_within : (b : ℕ → ℕ) (ts : List Ticket) (t : Ticket) → LegalFrom p b ts → Among t ts
@@ -200,18 +171,18 @@ module _ (p : ProgramShape) (sound : IsSound p) (s : Plain) (k : RunInvariant p 
   in_block_steps c rest less e = client_steps c (within rest) less (k.stages c less ∙ ap stage_of e) refl
 
   -- a ticket that is the first one left of all
-  module _ (t : Ticket) (ts : List Ticket) (among : Among t w.order) (left : (g : ℕ) → Left (t ∷ ts) g) where
+  module _ (t : Ticket) (among : Among t w.order) (left : IsFirstLeft p line IsOver t) where
     -- where its client waits, the query lies first
     asked_steps : (r : Request) (next : ℤ → Interaction) → suc t.index ≡ begun_blocks (client_at s t.client)
         → k.stance t.client ≡ Awaits r next → CanGoOn p s
     asked_steps r next last is =
         let rest = waits_still t r next last is in
         let mine = waits_at t r next among rest in
-        elim (first_or_served t ts r.object mine (left r.object)) [
+        elim (left r.object mine) [
           | inl first ↦
               handler_steps t first.0 r.object mine first.1
               (some_item ((w.service r.object).wait t) (tail v.client r.object t) (item.Query r) query_lies)
-          | inr over ↦ absurd (not_over t r next rest over.0)
+          | inr over ↦ absurd (not_over t r next rest over)
         ]
       where
         query_lies : tail v.client r.object t ≡ item.Query r ∷ []
@@ -235,69 +206,12 @@ module _ (p : ProgramShape) (sound : IsSound p) (s : Plain) (k : RunInvariant p 
           (λ (older : (suc t.index == begun_blocks (client_at s t.client)) ≡ false). mark_steps (rw older refl))
           (num_cases (suc t.index) (begun_blocks (client_at s t.client)))
 
-    -- through the objects of its list
-    through : (ks : List ℕ) → ((h : ℕ) → is_in ks h ≡ true → reserves p t h ≡ true)
-        → CanGoOn p s ⊎ ((h : ℕ) → is_in ks h ≡ true → Left ts h)
-    through [] mine = inr (λ h e. absurd (cc))
-    through (g ∷ ks) mine =
-        let here = mine g (rw (eqb_self g) refl) in
-        elim (first_or_served t ts g here (left g)) [
-          | inl first ↦ inl (first_steps g first.0 here first.1)
-          | inr over ↦
-              elim (through ks (λ h e. mine h (later h (g == h) e))) [
-                | inl found ↦ inl found
-                | inr others ↦ inr (λ h e. ⊎_elim
-                    (λ (is : g ≡ h). subst (Left ts) is over.1)
-                    (λ (other : (g == h) ≡ false). others h (rest_of h (g == h) other e))
-                    (num_cases g h))
-              ]
-        ]
-      where
-        later : (h : ℕ) (b : Bool) → is_in ks h ≡ true → (b || is_in ks h) ≡ true
-        later h true e = refl
-        later h false e = e
+  served_all : (h : ℕ) (t : Ticket) → line h ≡ [] → Among t w.order → reserves p t h ≡ true → done_of w.page t
+  served_all h t none a mine =
+      all_over p line IsOver w.order (λ h. (w.service h).past)
+      (λ h. (ok.services h).over) (λ h. (ok.services h).mine) h t none a mine
 
-        rest_of : (h : ℕ) (b : Bool) → b ≡ false → (b || is_in ks h) ≡ true → is_in ks h ≡ true
-        rest_of h true apart e = absurd (true≢false apart)
-        rest_of h false apart e = e
-
-    -- served at all of them, it is left behind
-    all_passed : ((h : ℕ) → is_in (text_of p t).reserved h ≡ true → Left ts h) → (h : ℕ) → Left ts h
-    all_passed each h = by_test (reserves p t h) refl
-      where
-        by_test : (b : Bool) → reserves p t h ≡ b → Left ts h
-        by_test true e = each h e
-        by_test false e = passed t ts h e (left h)
-
-  -- through the order
-  walk : (ts : List Ticket) → ((t : Ticket) → Among t ts → Among t w.order) → ((h : ℕ) → Left ts h)
-      → CanGoOn p s ⊎ ((h : ℕ) → (w.service h).queue ≡ [])
-  walk [] inner left = inr (λ h. none_left (left h).served (w.service h).queue (left h).mine)
-    where
-      none_left : (xs ys : List Ticket) → [] ≡ xs ++ ys → ys ≡ []
-      none_left [] ys e = sym e
-      none_left (x ∷ xs) ys e = absurd (cc)
-  walk (t ∷ ts) inner left =
-      elim (through t ts (inner t (inl refl)) left (text_of p t).reserved (λ h e. e)) [
-        | inl found ↦ inl found
-        | inr each ↦ walk ts (λ u a. inner u (inr a)) (all_passed t ts (inner t (inl refl)) left each)
-      ]
-
-  -- where no ticket is left at an object, those that reserve it are over
-  served_all : (h : ℕ) (t : Ticket) → (w.service h).queue ≡ [] → Among t w.order → reserves p t h ≡ true
-      → done_of w.page t
-  served_all h t none a e =
-      let past : filter (λ u. reserves p u h) w.order ≡ (w.service h).past =
-      (ok.services h).mine ∙ (ap (λ q. (w.service h).past ++ q) none ∙ append-nil (w.service h).past) in
-      let over : AllByRecursion (done_of w.page) (filter (λ u. reserves p u h) w.order) =
-      subst (AllByRecursion (done_of w.page)) (sym past) (ok.services h).over in
-      each_among (λ u. reserves p u h ≡ true → done_of w.page u) t w.order
-      (each_unfiltered (λ u. reserves p u h ≡ true → done_of w.page u) (λ u. reserves p u h) w.order
-      (each_map (λ u d m. d) (filter (λ u. reserves p u h) w.order) over)
-      (every (λ u apart some. absurd (true≢false (sym some ∙ apart))) w.order))
-      a e
-
-  -- then a client is done or has a step
+  -- where no ticket is left a client is done or has a step
   module _ (none : (h : ℕ) → (w.service h).queue ≡ []) where
     waits_for_none : (c : ℕ) (r : Request) (next : ℤ → Interaction) (n : ℕ) → begun_blocks (client_at s c) ≡ n
         → k.stance c ≡ Awaits r next → ⊥
@@ -344,7 +258,12 @@ module _ (p : ProgramShape) (sound : IsSound p) (s : Plain) (k : RunInvariant p 
             subst (λ c. (is_done p c (client_at s i) ≡ true) ⊎ CanGoOn p s) same (fate i inside)
 
   pub goes_on : (is_finished p s ≡ true) ⊎ CanGoOn p s
-  goes_on = elim (walk w.order (λ t a. a) all_left) [ inl some ↦ inr some | inr none ↦ last_case none ]
+  goes_on =
+      elim (goes_or_none p line IsOver w.order (λ h. (w.service h).past)
+      (λ h. (ok.services h).over) (λ h. (ok.services h).mine) (CanGoOn p s) first_steps) [
+        | inl some ↦ inr some
+        | inr none ↦ last_case none
+      ]
 
 pub runs_never_stuck : NeverStuck
 runs_never_stuck p sound actors = goes_on p sound (plays p actors (begin p)) (run_kept p sound actors)
